@@ -1,0 +1,6 @@
+//! Bytes, decimal numbers and lines.
+#![tactic(auto)]
+
+pub mod bytes;
+
+pub use bytes::Bytes;
