@@ -1,0 +1,41 @@
+-- What a text says that is read as a number.
+use Rattle.std.specs.Prelude.{◌≡◌, ◌≢◌, ℕ, ◌<◌, ◌≤◌, ◌⊎◌, ◌==◌, if◌then◌else◌, List, [], length, slice_index, codes, ℤ, FitsSigned, Option, Some, None, Result, Ok, Err}
+use mir.Syntax.{w64}
+use Rattle.std.specs.Char.{IsAsciiDigit}
+use Rattle.wiz_base.specs.declared.fault.NumberFault.{NumberFault}
+use Rattle.wiz_base.specs.declared.fault.NumberFault.TheVariants.{Empty, NotDigit, LeadingZero, TooLarge}
+use Rattle.wiz_base.specs.Decimals.{decimal_text, number_text}
+
+-- where the digits begin: behind a `-`, if the text begins with one
+abbrev pub digits_begin : List ℕ → ℕ
+digits_begin text = if slice_index text 0 == 45 then 1 else 0
+
+-- the bytes from one place on are digits, up to another
+abbrev pub AreDigits : List ℕ → ℕ → ℕ → Type 0
+AreDigits text low high = (k : ℕ) → low ≤ k → k < high → IsAsciiDigit (slice_index text k)
+
+-- the first byte behind the sign that is no digit stands there, or it is the end behind a lone `-`
+pub record IsFirstNotDigit (text : List ℕ) (at : ℕ) : Type 0 where
+  pub behind : digits_begin text ≤ at
+  pub before : AreDigits text (digits_begin text) at
+  pub here : ¬ (IsAsciiDigit (slice_index text at))
+  pub within : (at < length text) ⊎ (text ≡ codes "-")
+
+-- digits stand behind the sign, the first is a 0, and the text is more than that
+pub record HasLeadingZero (text : List ℕ) : Type 0 where
+  pub digits : AreDigits text (digits_begin text) (length text)
+  pub zero : slice_index text (digits_begin text) ≡ 48
+  pub more : text ≢ codes "0"
+
+-- the number that is spelled so, or the one reason why there is none among the 64-bit ones
+abbrev pub IsReading : List ℕ → Result ℤ NumberFault → Type 0
+IsReading text (Ok value) = text ≡ number_text value
+IsReading text (Err Empty) = text ≡ []
+IsReading text (Err (NotDigit at)) = IsFirstNotDigit text at
+IsReading text (Err LeadingZero) = HasLeadingZero text
+IsReading text (Err TooLarge) = (value : ℤ) × (text ≡ number_text value) × ¬ (FitsSigned w64 value)
+
+-- the number from 0 up to `most` that is spelled so, and none exactly where there is no such number
+abbrev pub IsDecimalUpTo : List ℕ → ℕ → Option ℕ → Type 0
+IsDecimalUpTo text most (Some value) = (text ≡ decimal_text value) × (value ≤ most)
+IsDecimalUpTo text most None = (value : ℕ) → value ≤ most → text ≢ decimal_text value
