@@ -1,0 +1,141 @@
+-- The replies that are allowed to a call, after the events before it.
+-- (MPI 3.1, "Multiple Completions", "Probe and Cancel".)
+use Rattle.std.specs.Prelude.{◌≡◌, ◌+◌, ◌<◌, ℕ, ℤ, List, [], ◌∷◌, Option, Some, None, Bool, true, false, not, ◌&&◌, ◌||◌, if◌then◌else◌, nat_lt, map, length, slice_get, slice_index, is_some, IsTrue}
+use Rattle.std.specs.List.{list_any, list_all}
+use Rattle.mpi_call.specs.declared.call.Call.{Call}
+use Rattle.mpi_call.specs.declared.call.Call.TheVariants.{Send, Post, Enter, Take, Peek, Abort, Trap, End}
+use Rattle.mpi_call.specs.declared.call.Halt.{Halt}
+use Rattle.mpi_call.specs.declared.call.Halt.TheVariants.{Truncated, Stuck}
+use Rattle.mpi_call.specs.declared.call.Source.{Source}
+use Rattle.mpi_call.specs.declared.call.Tag.{Tag}
+use Rattle.mpi_call.specs.declared.call.TakeMode.{TakeMode}
+use Rattle.mpi_call.specs.declared.call.TakeMode.TheVariants.{All, Any as AnyOne, Several, TestAll, TestAny, TestSeveral}
+use Rattle.mpi_call.specs.declared.reply.Got.{Got}
+use Rattle.mpi_call.specs.declared.reply.Got.TheVariants.{Sent, Nothing, Message, Joined, Made}
+use Rattle.mpi_call.specs.declared.reply.Item.{Item}
+use Rattle.mpi_call.specs.declared.reply.Reply.{Reply}
+use Rattle.mpi_call.specs.declared.reply.Reply.TheVariants.{Done, Took, NotYet, Peeked, Stopped}
+use Rattle.mpi_call.specs.Acceptance.{accepts}
+use Rattle.run_model.specs.declared.event.Event.{Event}
+use Rattle.run_model.specs.Lists.{world}
+use Rattle.run_model.specs.Views.{View, Next, view_of, replies_in, starts_of, start_at}
+use Rattle.run_model.specs.Pairs.{Name, named, pairs_of, partner_of}
+use Rattle.run_model.specs.Shape.{is_test}
+use Rattle.run_model.specs.Readiness.{is_ready, AreGots}
+use Rattle.run_model.specs.Due.{due}
+
+-- for each listed start, whether it is ready
+abbrev pub flags_of : ℕ → List Event → View → ℕ → List ℕ → List Bool
+flags_of n before own me starts = map (λ k. is_ready n before own me k (start_at own k)) starts
+
+abbrev pub takes_all : TakeMode → Bool
+takes_all All = true
+takes_all TestAll = true
+takes_all mode = false
+
+-- a mode's condition: every listed start is ready, or one is
+abbrev pub holds : TakeMode → List Bool → Bool
+holds mode flags = if takes_all mode then list_all (λ x. x) flags else list_any (λ x. x) flags
+
+abbrev pub true_places : ℕ → List Bool → List ℕ
+true_places at [] = []
+true_places at (flag ∷ flags) = if flag then at ∷ true_places (at + 1) flags else true_places (at + 1) flags
+
+abbrev pub IsOne : List Bool → List ℕ → Type 0
+IsOne flags indices = (index : ℕ) × (indices ≡ index ∷ []) × (slice_get flags index ≡ Some true)
+
+-- the chosen starts, by their places: any one that is ready, or all that are, rising
+abbrev pub AreChosen : TakeMode → List Bool → List ℕ → Type 0
+AreChosen AnyOne flags indices = IsOne flags indices
+AreChosen TestAny flags indices = IsOne flags indices
+AreChosen mode flags indices = indices ≡ true_places 0 flags
+
+abbrev pub is_long : Option Call → Got → Bool
+is_long (Some (Post comm source tag room)) (Message sender start t ints) = nat_lt room (length ints)
+is_long call got = false
+
+-- the first chosen receive whose message is longer than its room
+abbrev pub first_long : View → List ℕ → List Item → Option ℕ
+first_long own starts [] = None
+first_long own starts (item ∷ items) =
+    if is_long (start_at own (slice_index starts item.index)) item.got
+    then Some (slice_index starts item.index) else first_long own starts items
+
+abbrev pub taken_reply : ℕ → Option ℕ → List Item → Reply
+taken_reply me None items = Took items
+taken_reply me (Some k) items = Stopped (Truncated me k)
+
+pub record IsTaken (n : ℕ) (before : List Event) (own : View) (me : ℕ) (starts : List ℕ) (mode : TakeMode) (reply : Reply) : Type 0 where
+  pub items : List Item
+  pub chosen : AreChosen mode (flags_of n before own me starts) (map (λ (item : Item). item.index) items)
+  pub gots : AreGots n before own me starts items
+  pub reply_is : reply ≡ taken_reply me (first_long own starts items) items
+
+-- a probe finds an unpaired Send that it accepts, with no earlier unpaired one of that sender that it accepts
+pub record IsPeeked (before : List Event) (me comm : ℕ) (source : Source) (tag : Tag) (reply : Reply) : Type 0 where
+  pub send : Name
+  pub c : ℕ
+  pub dest : ℕ
+  pub t : ℕ
+  pub ints : List ℤ
+  pub sent : named before send ≡ Some (Send c dest t ints)
+  pub accepted : accepts me comm source tag send.0 (Send c dest t ints) ≡ true
+  pub unpaired : partner_of (pairs_of before) send ≡ None
+  pub first : (start : ℕ) (call : Call) → start < send.1 → named before (send.0, start) ≡ Some call → accepts me comm source tag send.0 call ≡ true → IsTrue (is_some (partner_of (pairs_of before) (send.0, start)))
+  pub reply_is : reply ≡ Peeked send.0 send.1 t (length ints)
+
+abbrev pub open_in : List (Name × Name) → ℕ → ℕ → Source → Tag → ℕ → ℕ → List Call → Bool
+open_in pairs me comm source tag sender start [] = false
+open_in pairs me comm source tag sender start (call ∷ calls) =
+    (accepts me comm source tag sender call && not (is_some (partner_of pairs (sender, start))))
+    || open_in pairs me comm source tag sender (start + 1) calls
+
+-- there is an unpaired Send that the probe accepts
+abbrev pub has_open : ℕ → List Event → ℕ → ℕ → Source → Tag → Bool
+has_open n before me comm source tag =
+    list_any (λ sender. open_in (pairs_of before) me comm source tag sender 0 (starts_of (view_of before sender))) (world n 0)
+
+-- where no halt is due, the call is answered at once, other than by Stuck
+abbrev pub is_prompt : ℕ → List Event → View → ℕ → Call → Bool
+is_prompt n before own me (Take starts mode) = is_test mode || holds mode (flags_of n before own me starts)
+is_prompt n before own me (Peek comm source tag wait) = not wait || has_open n before me comm source tag
+is_prompt n before own me call = true
+
+abbrev pub can_go : ℕ → List Event → View → ℕ → Call → Bool
+can_go n before own me call = is_some (due n before own me call) || is_prompt n before own me call
+
+-- no live rank's next call can go
+abbrev pub IsStuck : Next → ℕ → List Event → Type 0
+IsStuck next n before =
+    (rank : ℕ) (call : Call) → rank < n → next n rank (replies_in (view_of before rank)) ≡ Some call
+    → can_go n before (view_of before rank) rank call ≡ false
+
+-- the reply where the condition fails: NotYet to a test; Stuck, where nothing can go, to a call that waits
+abbrev pub IsHeld : Bool → Type 0 → Reply → Type 0
+IsHeld true stuck reply = reply ≡ NotYet
+IsHeld false stuck reply = stuck × (reply ≡ Stopped Stuck)
+
+abbrev pub IsTakeAnswer : Bool → Type 0 → ℕ → List Event → View → ℕ → List ℕ → TakeMode → Reply → Type 0
+IsTakeAnswer true stuck n before own me starts mode reply = IsTaken n before own me starts mode reply
+IsTakeAnswer false stuck n before own me starts mode reply = IsHeld (is_test mode) stuck reply
+
+abbrev pub IsPeekAnswer : Bool → Type 0 → List Event → ℕ → ℕ → Source → Tag → Bool → Reply → Type 0
+IsPeekAnswer true stuck before me comm source tag wait reply = IsPeeked before me comm source tag reply
+IsPeekAnswer false stuck before me comm source tag wait reply = IsHeld (not wait) stuck reply
+
+-- the replies where no halt is due
+abbrev pub IsAnswer : Type 0 → ℕ → List Event → View → ℕ → Call → Reply → Type 0
+IsAnswer stuck n before own me (Take starts mode) reply =
+    IsTakeAnswer (holds mode (flags_of n before own me starts)) stuck n before own me starts mode reply
+IsAnswer stuck n before own me (Peek comm source tag wait) reply =
+    IsPeekAnswer (has_open n before me comm source tag) stuck before me comm source tag wait reply
+IsAnswer stuck n before own me call reply = reply ≡ Done
+
+abbrev pub IsAllowedBy : Option Halt → Type 0 → ℕ → List Event → View → ℕ → Call → Reply → Type 0
+IsAllowedBy (Some halt) stuck n before own me call reply = reply ≡ Stopped halt
+IsAllowedBy None stuck n before own me call reply = IsAnswer stuck n before own me call reply
+
+-- the allowed replies to the call of rank `me`
+abbrev pub IsAllowed : Next → ℕ → List Event → ℕ → Call → Reply → Type 0
+IsAllowed next n before me call reply =
+    IsAllowedBy (due n before (view_of before me) me call) (IsStuck next n before) n before (view_of before me) me call reply

@@ -1,0 +1,11 @@
+pub mod Lists
+pub mod Views
+pub mod Communicators
+pub mod Inputs
+pub mod Pairs
+pub mod Shape
+pub mod Readiness
+pub mod Due
+pub mod Allowed
+pub mod Run
+pub mod Program

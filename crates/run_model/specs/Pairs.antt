@@ -1,0 +1,79 @@
+-- Which sends and receives are paired, and the five conditions on pairs.
+-- (MPI 3.1, Point-to-Point Communication, "Semantics of Point-to-Point Communication": order and progress.)
+use Rattle.std.specs.Prelude.{◌≡◌, ◌<◌, ◌⊎◌, ℕ, List, [], ◌∷◌, ◌++◌, Option, Some, None, Bool, true, false, ◌&&◌, ◌==◌, if◌then◌else◌, is_some, length, slice_get, take}
+use Rattle.mpi_call.specs.declared.call.Call.{Call}
+use Rattle.mpi_call.specs.declared.call.Call.TheVariants.{Send, Post, Enter, Take, Peek, Abort, Trap, End}
+use Rattle.mpi_call.specs.Acceptance.{accepts}
+use Rattle.run_model.specs.declared.event.Event.{Event}
+use Rattle.run_model.specs.Views.{view_of, starts_of, start_at, is_start}
+
+-- the name of a start: its rank and its number there
+abbrev pub Name : Type 0
+Name = ℕ × ℕ
+
+abbrev pub same_name : Name → Name → Bool
+same_name a b = (a.0 == b.0) && (a.1 == b.1)
+
+-- the call that a name names
+abbrev pub named : List Event → Name → Option Call
+named events name = start_at (view_of events name.0) name.1
+
+abbrev pub name_of_start : List Event → Option Event → Option Name
+name_of_start before None = None
+name_of_start before (Some event) =
+    if is_start (event.call, event.reply) then Some (event.rank, length (starts_of (view_of before event.rank))) else None
+
+-- the name of the start at a position
+abbrev pub name_at : List Event → ℕ → Option Name
+name_at events at = name_of_start (take at events) (slice_get events at)
+
+abbrev pub pair_with : Option Name → Name → List (Name × Name)
+pair_with None later = []
+pair_with (Some earlier) later = (earlier, later) ∷ []
+
+-- the pair that an event makes with the start at its mate's position, the earlier one first
+abbrev pub pair_of : List Event → Event → List (Name × Name)
+pair_of before event = elim event.mate [
+  | None ↦ []
+  | Some at ↦ pair_with (name_at before at) (event.rank, length (starts_of (view_of before event.rank)))
+]
+
+abbrev pub pairs_from : List Event → List Event → List (Name × Name)
+pairs_from before [] = []
+pairs_from before (event ∷ events) = pair_of before event ++ pairs_from (before ++ event ∷ []) events
+
+abbrev pub pairs_of : List Event → List (Name × Name)
+pairs_of events = pairs_from [] events
+
+abbrev pub partner_of : List (Name × Name) → Name → Option Name
+partner_of [] name = None
+partner_of (pair ∷ pairs) name =
+    if same_name pair.0 name then Some pair.1 else if same_name pair.1 name then Some pair.0 else partner_of pairs name
+
+abbrev pub post_accepts : ℕ → Call → ℕ → Call → Bool
+post_accepts rank (Post comm source tag room) sender call = accepts rank comm source tag sender call
+post_accepts rank other sender call = false
+
+-- `post` names a Post that accepts the Send that `send` names; N looks starts up
+pub record Takes (N : Name → Option Call) (post send : Name) : Type 0 where
+  pub post_call : Call
+  pub send_call : Call
+  pub post_is : N post ≡ Some post_call
+  pub send_is : N send ≡ Some send_call
+  pub accepted : post_accepts post.0 post_call send.0 send_call ≡ true
+
+-- the five conditions. Earlier starts of one rank are those with lower numbers.
+-- pair: a pair is a Send and a Post that accepts it
+-- single: a start is in one pair at most: its partner has no other partner
+-- sends: the paired Send's rank has no earlier unpaired Send that the Post accepts
+-- posts: the paired Post's rank has no earlier unpaired Post that accepts the Send
+-- closed: no unpaired Post accepts an unpaired Send
+pub record AreMatched (N : Name → Option Call) (pairs : List (Name × Name)) : Type 0 where
+  pub pair : (a b : Name) → partner_of pairs a ≡ Some b → Takes N a b ⊎ Takes N b a
+  pub single : (a b : Name) → partner_of pairs a ≡ Some b → partner_of pairs b ≡ Some a
+  pub sends : (post send : Name) → partner_of pairs post ≡ Some send → (start : ℕ) → start < send.1 → Takes N post (send.0, start) → is_some (partner_of pairs (send.0, start)) ≡ true
+  pub posts : (post send : Name) → partner_of pairs post ≡ Some send → (start : ℕ) → start < post.1 → Takes N (post.0, start) send → is_some (partner_of pairs (post.0, start)) ≡ true
+  pub closed : (post send : Name) → Takes N post send → partner_of pairs post ≡ None → partner_of pairs send ≡ None → ⊥
+
+abbrev pub IsMatched : List Event → Type 0
+IsMatched events = AreMatched (named events) (pairs_of events)

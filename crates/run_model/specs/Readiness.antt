@@ -1,0 +1,74 @@
+-- Which starts are ready, and what a ready start gives.
+-- (MPI 3.1, "Communication Completion"; Collective Communication.)
+use Rattle.std.specs.Prelude.{◌≡◌, ℕ, ℤ, List, [], ◌∷◌, Option, Some, None, Bool, true, false, ◌==◌, Ok, is_some, slice_index}
+use Rattle.mpi_call.specs.declared.call.Call.{Call}
+use Rattle.mpi_call.specs.declared.call.Call.TheVariants.{Send, Post, Enter, Take, Peek, Abort, Trap, End}
+use Rattle.mpi_call.specs.declared.call.Source.{Source}
+use Rattle.mpi_call.specs.declared.call.Source.TheVariants.{Any, From, Null}
+use Rattle.mpi_call.specs.declared.reply.Got.{Got}
+use Rattle.mpi_call.specs.declared.reply.Got.TheVariants.{Sent, Nothing, Message, Joined, Made}
+use Rattle.mpi_call.specs.declared.reply.Item.{Item}
+use Rattle.mpi_call.specs.Calls.{comm_of, makes}
+use Rattle.mpi_call.specs.Collectives.{is_uncoloured, members_made, result_of}
+use Rattle.run_model.specs.declared.event.Event.{Event}
+use Rattle.run_model.specs.Views.{View, view_of, start_at}
+use Rattle.run_model.specs.Communicators.{members_in}
+use Rattle.run_model.specs.Inputs.{inputs_of, is_gathered}
+use Rattle.run_model.specs.Pairs.{Name, named, pairs_of, partner_of}
+
+-- start k of rank `me`: a Send and a receive from the null process at once, another receive when it is paired,
+-- a collective when each member that it needs has entered
+abbrev pub is_ready : ℕ → List Event → View → ℕ → ℕ → Option Call → Bool
+is_ready n before own me k None = false
+is_ready n before own me k (Some (Send comm dest tag ints)) = true
+is_ready n before own me k (Some (Post comm Null tag room)) = true
+is_ready n before own me k (Some (Post comm source tag room)) = is_some (partner_of (pairs_of before) (me, k))
+is_ready n before own me k (Some (Enter comm kind root op count ints)) =
+    is_gathered (inputs_of n (view_of before) own me k (Enter comm kind root op count ints))
+is_ready n before own me k (Some call) = false
+
+-- the paired Send's message
+pub record IsMessage (before : List Event) (me k : ℕ) (got : Got) : Type 0 where
+  pub send : Name
+  pub comm : ℕ
+  pub dest : ℕ
+  pub tag : ℕ
+  pub ints : List ℤ
+  pub paired : partner_of (pairs_of before) (me, k) ≡ Some send
+  pub sent : named before send ≡ Some (Send comm dest tag ints)
+  pub got_is : got ≡ Message send.0 send.1 tag ints
+
+-- a new communicator: some number above 0, with the members of the table
+pub record IsMade (n : ℕ) (own : View) (me : ℕ) (enter : Call) (inputs : List (List ℤ)) (got : Got) : Type 0 where
+  pub comm : ℕ
+  pub is_new : (comm == 0) ≡ false
+  pub got_is : got ≡ Made comm (members_made enter (members_in n own (comm_of enter)) inputs me)
+
+-- by whether the collective makes a communicator, and whether its colour is undefined
+abbrev pub IsFrom : Bool → Bool → ℕ → View → ℕ → Call → List (List ℤ) → Got → Type 0
+IsFrom true true n own me enter inputs got = got ≡ Made 0 []
+IsFrom true false n own me enter inputs got = IsMade n own me enter inputs got
+IsFrom false uncoloured n own me enter inputs got =
+    got ≡ Joined (result_of enter (members_in n own (comm_of enter)) inputs me)
+
+pub record IsCollected (n : ℕ) (before : List Event) (own : View) (me k : ℕ) (enter : Call) (got : Got) : Type 0 where
+  pub inputs : List (List ℤ)
+  pub gathered : inputs_of n (view_of before) own me k enter ≡ Ok inputs
+  pub given : IsFrom (makes enter) (is_uncoloured enter) n own me enter inputs got
+
+-- what the ready start k of rank `me` gives
+abbrev pub IsGot : ℕ → List Event → View → ℕ → ℕ → Option Call → Got → Type 0
+IsGot n before own me k None got = ⊥
+IsGot n before own me k (Some (Send comm dest tag ints)) got = got ≡ Sent
+IsGot n before own me k (Some (Post comm Null tag room)) got = got ≡ Nothing
+IsGot n before own me k (Some (Post comm source tag room)) got = IsMessage before me k got
+IsGot n before own me k (Some (Enter comm kind root op count ints)) got =
+    IsCollected n before own me k (Enter comm kind root op count ints) got
+IsGot n before own me k (Some call) got = ⊥
+
+-- each item gives what its start gives
+abbrev pub AreGots : ℕ → List Event → View → ℕ → List ℕ → List Item → Type 0
+AreGots n before own me starts [] = Unit {0}
+AreGots n before own me starts (item ∷ items) =
+    IsGot n before own me (slice_index starts item.index) (start_at own (slice_index starts item.index)) item.got
+    × AreGots n before own me starts items

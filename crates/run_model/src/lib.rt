@@ -1,0 +1,12 @@
+//! Histories of events, programs and the ranks that run them, and the definition of the runs that the matching rules
+//! allow.
+//!
+//! The definitions stand in `specs/`: what ranks have seen (`Views`), communicators and instances of collectives
+//! (`Communicators`, `Inputs`), pairs of sends and receives (`Pairs`), readiness (`Readiness`), halts that are due (`Due`),
+//! allowed replies (`Allowed`), runs (`Run`), and what every program keeps (`Program`).
+#![tactic(auto)]
+
+pub mod event;
+pub mod history;
+pub mod lists;
+pub mod program;
