@@ -1,15 +1,15 @@
 -- The halts that are due whatever else could be answered.
-use Rattle.std.specs.Prelude.{◌≡◌, ◌+◌, ℕ, List, [], ◌∷◌, Option, Some, None, Bool, true, false, not, ◌&&◌, ◌||◌, if◌then◌else◌, nat_le, length, is_some}
+use Rattle.std.specs.Prelude.{◌+◌, ℕ, List, [], ◌∷◌, Option, Some, None, Bool, false, not, ◌&&◌, ◌||◌, if◌then◌else◌, nat_le, length, is_some}
 use Rattle.std.specs.List.{list_any}
 use Rattle.mpi_call.specs.declared.call.Call.{Call}
-use Rattle.mpi_call.specs.declared.call.Call.TheVariants.{Send, Post, Enter, Take, Peek, Abort, Trap, End}
+use Rattle.mpi_call.specs.declared.call.Call.TheVariants.{Enter, Take, Abort, Trap}
 use Rattle.mpi_call.specs.declared.call.Halt.{Halt}
-use Rattle.mpi_call.specs.declared.call.Halt.TheVariants.{Aborted, Trapped, Truncated, Mismatched, BadRequest, Limit, Stuck}
+use Rattle.mpi_call.specs.declared.call.Halt.TheVariants.{Aborted, Trapped, Mismatched, BadRequest, Limit}
 use Rattle.mpi_call.specs.declared.reply.Got.{Got}
 use Rattle.mpi_call.specs.declared.reply.Got.TheVariants.{Sent, Nothing, Message, Joined, Made}
 use Rattle.mpi_call.specs.declared.reply.Item.{Item}
 use Rattle.mpi_call.specs.declared.reply.Reply.{Reply}
-use Rattle.mpi_call.specs.declared.reply.Reply.TheVariants.{Done, Took, NotYet, Peeked, Stopped}
+use Rattle.mpi_call.specs.declared.reply.Reply.TheVariants.{Took, Stopped}
 use Rattle.mpi_call.specs.Calls.{comm_of, ints_of, listed_by}
 use Rattle.mpi_call.specs.Collectives.{agree}
 use Rattle.run_model.specs.declared.event.Event.{Event}

@@ -1,6 +1,6 @@
 -- What the members that a collective's result needs have entered, or the first of them that has not entered yet.
 -- V is what each rank has seen, `own` what the rank itself has.
-use Rattle.std.specs.Prelude.{◌≡◌, ℕ, ℤ, List, [], ◌∷◌, Option, Some, None, Bool, true, false, if◌then◌else◌, Result, Ok, Err}
+use Rattle.std.specs.Prelude.{ℕ, ℤ, List, [], ◌∷◌, Option, Some, None, Bool, true, false, if◌then◌else◌, Result, Ok, Err}
 use Rattle.mpi_call.specs.declared.call.Call.{Call}
 use Rattle.mpi_call.specs.Calls.{comm_of, ints_of}
 use Rattle.mpi_call.specs.Collectives.{needs}

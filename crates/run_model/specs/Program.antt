@@ -1,14 +1,14 @@
 -- What every program keeps, and what a rank that runs one stands for.
-use Rattle.std.specs.Prelude.{◌≡◌, ◌<◌, ◌≤◌, ◌^◌, ◌↔◌, ℕ, List, [], ◌∷◌, ◌++◌, Option, Some, None, Bool, true, false, All, IsTrue, IfSome, length, is_some, Result, Ok, Err}
+use Rattle.std.specs.Prelude.{◌≡◌, ◌<◌, ◌≤◌, ◌^◌, ◌↔◌, ℕ, List, [], ◌++◌, Option, Some, None, Bool, true, false, All, IfSome, length}
 use Rattle.std.specs.List.{list_any}
 use Rattle.mpi_call.specs.declared.call.Call.{Call}
-use Rattle.mpi_call.specs.declared.call.Call.TheVariants.{Send, Post, Enter, Take, Peek, Abort, Trap, End}
+use Rattle.mpi_call.specs.declared.call.Call.TheVariants.{Send, Post, Enter, Take, Peek, End}
 use Rattle.mpi_call.specs.declared.call.Source.{Source}
-use Rattle.mpi_call.specs.declared.call.Source.TheVariants.{Any, From, Null}
+use Rattle.mpi_call.specs.declared.call.Source.TheVariants.{From}
 use Rattle.mpi_call.specs.declared.call.Tag.{Tag}
-use Rattle.mpi_call.specs.declared.call.Tag.TheVariants.{Any as AnyTag, Is}
+use Rattle.mpi_call.specs.declared.call.Tag.TheVariants.{Is}
 use Rattle.mpi_call.specs.declared.reply.Reply.{Reply}
-use Rattle.mpi_call.specs.declared.reply.Reply.TheVariants.{Done, Took, NotYet, Peeked, Stopped}
+use Rattle.mpi_call.specs.declared.reply.Reply.TheVariants.{Done, Stopped}
 use Rattle.mpi_call.specs.Collectives.{IsEnterOf, result_length}
 use Rattle.run_model.specs.declared.event.Event.{Event}
 use Rattle.run_model.specs.declared.program.Want.{Want}

@@ -2,9 +2,8 @@
 -- (MPI 3.1, "Communication Completion"; Collective Communication.)
 use Rattle.std.specs.Prelude.{◌≡◌, ℕ, ℤ, List, [], ◌∷◌, Option, Some, None, Bool, true, false, ◌==◌, Ok, is_some, slice_index}
 use Rattle.mpi_call.specs.declared.call.Call.{Call}
-use Rattle.mpi_call.specs.declared.call.Call.TheVariants.{Send, Post, Enter, Take, Peek, Abort, Trap, End}
-use Rattle.mpi_call.specs.declared.call.Source.{Source}
-use Rattle.mpi_call.specs.declared.call.Source.TheVariants.{Any, From, Null}
+use Rattle.mpi_call.specs.declared.call.Call.TheVariants.{Send, Post, Enter}
+use Rattle.mpi_call.specs.declared.call.Source.TheVariants.{Null}
 use Rattle.mpi_call.specs.declared.reply.Got.{Got}
 use Rattle.mpi_call.specs.declared.reply.Got.TheVariants.{Sent, Nothing, Message, Joined, Made}
 use Rattle.mpi_call.specs.declared.reply.Item.{Item}

@@ -1,9 +1,9 @@
 -- What ranks have seen, and the starts in it.
-use Rattle.std.specs.Prelude.{◌≡◌, ℕ, List, [], ◌∷◌, ◌++◌, Option, Bool, true, false, ◌&&◌, ◌==◌, if◌then◌else◌, map, slice_get, slice_index}
+use Rattle.std.specs.Prelude.{ℕ, List, [], ◌∷◌, ◌++◌, Option, Bool, true, false, ◌&&◌, ◌==◌, if◌then◌else◌, map, slice_get, slice_index}
 use Rattle.mpi_call.specs.declared.call.Call.{Call}
 use Rattle.mpi_call.specs.declared.reply.Item.{Item}
 use Rattle.mpi_call.specs.declared.reply.Reply.{Reply}
-use Rattle.mpi_call.specs.declared.reply.Reply.TheVariants.{Done, Took, NotYet, Peeked, Stopped}
+use Rattle.mpi_call.specs.declared.reply.Reply.TheVariants.{Done, Took}
 use Rattle.mpi_call.specs.Calls.{is_starting, listed_by}
 use Rattle.run_model.specs.declared.event.Event.{Event}
 
