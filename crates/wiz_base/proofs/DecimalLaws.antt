@@ -1,10 +1,10 @@
 -- Laws of numbers as decimal text, for what is written and read above.
-use Rattle.std.proofs.Common.{◌≡◌, ◌≢◌, ℕ, zero, suc, ◌+◌, ◌*◌, ◌/◌, ◌%◌, ◌^◌, ◌<◌, ◌≤◌, ◌⊎◌, inl, inr, Bool, true, false, if◌then◌else◌, List, [], ◌∷◌, ◌++◌, map, length, get_or, refl, sym, ◌∙◌, ap, subst, arith, append_assoc, length-append, eqb}
-use Rattle.std.specs.Prelude.{◌==◌, slice_index, All, ℤ, pos, negsuc}
+use Rattle.std.proofs.Common.{◌≡◌, ◌≢◌, ℕ, zero, suc, ◌+◌, ◌*◌, ◌/◌, ◌%◌, ◌^◌, ◌<◌, ◌≤◌, inl, inr, false, List, [], ◌∷◌, ◌++◌, map, length, get_or, refl, sym, ◌∙◌, ap, arith, append_assoc, length-append}
+use Rattle.std.specs.Prelude.{◌==◌, All}
 use Rattle.std.specs.Int.Digits.{digits_of}
 use Rattle.std.specs.Str.Parse.{AllDigits, digits_value, digits_value_after}
 use Rattle.std.specs.Char.{digit_value, IsAsciiDigit}
-use Rattle.std.proofs.lemmas.Bool.{ne_eqb, cases_lt, cases_eq}
+use Rattle.std.proofs.lemmas.Bool.{ne_eqb, cases_lt}
 use Rattle.std.proofs.lemmas.List.{map-append, append-nil, length-map}
 use Rattle.std.proofs.lemmas.List.Elements.{All-from_get_or}
 use Rattle.std.proofs.Math.ListN.{get_or-append}
@@ -12,7 +12,7 @@ use Rattle.std.proofs.lemmas.Nat.{div-mul-add, mod-mul-add}
 use Rattle.std.proofs.lemmas.Str.Parse.{digit_from_value, digit_at}
 use Rattle.std.proofs.lemmas.Int.Digits.{digits_of_step, length-digits_of-le, digits_push, digits_value_push}
 use Rattle.std.proofs.lemmas.Str.{digit_value_digit}
-use Rattle.wiz_base.specs.Decimals.{decimal_text, number_text}
+use Rattle.wiz_base.specs.Decimals.{decimal_text}
 
 -- a number above 0 is its digits
 decimal_text-digits_of : (n : ℕ) → 0 < n → decimal_text n ≡ map (λ digit. 48 + digit) (digits_of 10 n)
@@ -69,19 +69,19 @@ digit_value-byte d below = omega (arith, digit_value_digit (48 + d) (omega arith
 pub decimal_text-is : (n : ℕ) → IsDecimalOf n (decimal_text n)
 decimal_text-is n = decimal_text_by_steps IsDecimalOf
     (λ n below. let byte : digit_value (48 + n) ≡ n = digit_value-byte n below in record {
-        digits = (omega arith, tt);
-        value = omega arith;
-        some = omega arith;
-        first = λ above. omega arith;
+      digits = (omega arith, tt);
+      value = omega arith;
+      some = omega arith;
+      first = λ above. omega arith;
     })
     (λ n front above is.
-        let byte : digit_value (48 + n % 10) ≡ n % 10 = digit_value-byte (n % 10) (omega arith) in
-        record {
-            digits = digits_push 10 front (48 + n % 10) is.digits (omega arith);
-            value = digits_value_push 10 front (48 + n % 10) ∙ (let v : digits_value 10 front ≡ n / 10 = is.value in omega arith);
-            some = omega (arith, length-append front ((48 + n % 10) ∷ []));
-            first = λ _. rw (get_or-append front ((48 + n % 10) ∷ []) 0 0 is.some) (is.first (omega arith));
-        })
+    let byte : digit_value (48 + n % 10) ≡ n % 10 = digit_value-byte (n % 10) (omega arith) in
+    record {
+      digits = digits_push 10 front (48 + n % 10) is.digits (omega arith);
+      value = digits_value_push 10 front (48 + n % 10) ∙ (let v : digits_value 10 front ≡ n / 10 = is.value in omega arith);
+      some = omega (arith, length-append front ((48 + n % 10) ∷ []));
+      first = λ _. rw (get_or-append front ((48 + n % 10) ∷ []) 0 0 is.some) (is.first (omega arith));
+    })
     n
 
 -- digits behind those of a number above 0
@@ -93,7 +93,7 @@ decimal_text-grown v front (c ∷ cs) above is (digit, digits) =
     let last : (v * 10 + digit_value c) % 10 ≡ digit_value c = mod-mul-add v 10 (digit_value c) digit in
     let same : 48 + digit_value c ≡ c = omega arith in
     let step : decimal_text (v * 10 + digit_value c) ≡ front ++ c ∷ [] =
-        decimal_text-step (v * 10 + digit_value c) (omega arith) ∙ rw (tenth, last, same, is) refl in
+    decimal_text-step (v * 10 + digit_value c) (omega arith) ∙ rw (tenth, last, same, is) refl in
     decimal_text-grown (v * 10 + digit_value c) (front ++ c ∷ []) cs (omega arith) step digits ∙ append_assoc front (c ∷ []) cs
 
 -- digits with no 0 before others are the text of the number that they make
@@ -108,7 +108,7 @@ decimal_text-digits_value (c ∷ (d ∷ cs)) (digit, digits) some lead =
     let same : 48 + (0 * 10 + digit_value c) ≡ c = omega arith in
     let large : c ≢ 48 = λ e. absurd (omega (arith, lead e)) in
     decimal_text-grown (0 * 10 + digit_value c) (c ∷ []) (d ∷ cs) (omega arith)
-        (decimal_text-digit (0 * 10 + digit_value c) (omega arith) ∙ rw same refl) digits
+    (decimal_text-digit (0 * 10 + digit_value c) (omega arith) ∙ rw same refl) digits
 
 -- two numbers never have one text
 pub decimal_text_injective : (m n : ℕ) → decimal_text m ≡ decimal_text n → m ≡ n

@@ -21,7 +21,7 @@ above_one left at fits = omega (arith, decimal_text-nonempty left)
 pub digit_fits : (left at : ℕ) → 10 ≤ left → length (decimal_text left) ≤ at → length (decimal_text (left / 10)) ≤ at - 1
 digit_fits left at above fits =
     let more : length (decimal_text left) ≡ length (decimal_text (left / 10)) + 1 =
-        ap length (decimal_text-step left above) ∙ length-append (decimal_text (left / 10)) ((48 + left % 10) ∷ []) in
+    ap length (decimal_text-step left above) ∙ length-append (decimal_text (left / 10)) ((48 + left % 10) ∷ []) in
     omega arith
 
 -- one digit more
@@ -30,7 +30,7 @@ pub digit_written : (left at : ℕ) (room text : List ℕ) → 10 ≤ left → 0
 digit_written left at room text above some within written =
     let here : at - 1 + 1 ≡ at = omega arith in
     rw (here, drop-set room at (48 + left % 10) within, ← written, decimal_text-step left above)
-       (sym (append_assoc (decimal_text (left / 10)) ((48 + left % 10) ∷ []) (drop (at + 1) room)))
+    (sym (append_assoc (decimal_text (left / 10)) ((48 + left % 10) ∷ []) (drop (at + 1) room)))
 
 -- and the last one
 pub last_written : (left at : ℕ) (room text : List ℕ) → left < 10 → at < length room → decimal_text left ++ drop (at + 1) room ≡ text

@@ -1,9 +1,10 @@
 //! Whole numbers as decimal text.
-ghost use Rattle.std.specs.Prelude.{◌≡◌, ◌++◌, ◌+◌, ◌<◌, ◌≤◌, ◌⊎◌, OnOk, OnErr, SomeIff, length, slice_index, drop};
+ghost use Rattle.std.specs.Prelude.{◌≡◌, ◌++◌, ◌+◌, ◌<◌, ◌≤◌, ◌⊎◌, OnOk, OnErr, SomeIff, FitsSigned, length, slice_index, drop};
+ghost use Rattle.std.specs.Int.{w64};
 ghost use Rattle.std.specs.Char.{IsAsciiDigit};
 ghost use Rattle.std.specs.Str.Parse.{AllDigits, digits_value};
 ghost use Rattle.wiz_base.specs.Decimals.{decimal_text, number_text};
-ghost use Rattle.wiz_base.specs.Readings.{AreDigits, IsDecimalUpTo, IsReading};
+ghost use Rattle.wiz_base.specs.Readings.{AreDigits, IsDecimalUpTo, IsReading, digits_begin, with_sign};
 
 use crate::bytes::Bytes;
 use crate::fault::NumberFault;
@@ -17,7 +18,7 @@ pub fn number_i64(text: &[u8]) -> Result<i64, NumberFault>
     if text.is_empty() {
         return Err(NumberFault::Empty);
     }
-    let begin = if text[0] == b'-' { 1 } else { 0 };
+    let begin = digits_begin(text);
     let at = digits_end(text, begin);
     if at < text.len() || at == begin {
         return Err(NumberFault::NotDigit { at });
@@ -25,11 +26,7 @@ pub fn number_i64(text: &[u8]) -> Result<i64, NumberFault>
     if text[begin] == b'0' && text.len() > 1 {
         return Err(NumberFault::LeadingZero);
     }
-    let Some(size) = value_up_to(&text[begin..], u64::MAX) else {
-        return Err(NumberFault::TooLarge);
-    };
-    let value = if begin == 1 { 0i64.checked_sub_unsigned(size) } else { 0i64.checked_add_unsigned(size) };
-    value.ok_or(NumberFault::TooLarge)
+    signed_value(begin == 1, &text[begin..]).ok_or(NumberFault::TooLarge)
 }
 
 /// Reads `0`, or a digit 1 to 9 and further digits, as a number of at most `most`. Takes no memory.
@@ -45,6 +42,14 @@ pub fn decimal(text: &[u8], most: u64) -> Option<u64>
     value_up_to(text, most)
 }
 
+/// Where the digits begin: behind a leading `-`.
+fn digits_begin(text: &[u8]) -> usize
+    requires { 0 < length text.now }
+    ensures { result ≡ digits_begin text.now }
+{
+    if text[0] == b'-' { 1 } else { 0 }
+}
+
 /// Where the first byte from `begin` on stands that is no digit, or the text's length.
 fn digits_end(text: &[u8], begin: usize) -> usize
     requires { begin ≤ length text.now }
@@ -58,6 +63,20 @@ fn digits_end(text: &[u8], begin: usize) -> usize
         at += 1;
     }
     at
+}
+
+/// What a sign and digits make, where that is a number of 64 bits.
+fn signed_value(negative: bool, digits: &[u8]) -> Option<i64>
+    requires { AllDigits 10 digits.now }
+    ensures { let value = with_sign negative (digits_value 10 digits.now)
+        in SomeIff result (FitsSigned w64 value) value }
+{
+    let size = value_up_to(digits, u64::MAX)?;
+    if negative {
+        0i64.checked_sub_unsigned(size)
+    } else {
+        0i64.checked_add_unsigned(size)
+    }
 }
 
 /// What digits make, where that is at most `most`.

@@ -1,4 +1,4 @@
-use Rattle.std.proofs.Common.{◌≡◌, ◌++◌, ◌∷◌, [], ◌+◌, ◌-◌, ◌%◌, ◌<◌, ◌≤◌, length, drop, arith}
+use Rattle.std.proofs.Common.{◌+◌, ◌%◌, length, arith}
 use Rattle.std.proofs.lemmas.List.{length-set}
 use Rattle.wiz_base.specs.Decimals.{decimal_text}
 use Rattle.wiz_base.proofs.FillLemmas.{first_fits, all_written, above_one, digit_fits, digit_written, last_written}
