@@ -1,5 +1,5 @@
 -- What a text says that is read as a number.
-use Rattle.std.specs.Prelude.{◌≡◌, ◌≢◌, ℕ, ◌<◌, ◌≤◌, ◌⊎◌, ◌==◌, if◌then◌else◌, List, [], length, slice_index, codes, ℤ, FitsSigned, Option, Some, None, Result, Ok, Err}
+use Rattle.std.specs.Prelude.{◌≡◌, ◌≢◌, ℕ, ◌<◌, ◌≤◌, ◌⊎◌, ◌==◌, if◌then◌else◌, List, [], length, slice_index, codes, Bool, true, false, ℤ, pos, neg_ℤ, FitsSigned, Option, Some, None, Result, Ok, Err}
 use mir.Syntax.{w64}
 use Rattle.std.specs.Char.{IsAsciiDigit}
 use Rattle.wiz_base.specs.declared.fault.NumberFault.{NumberFault}
@@ -13,6 +13,11 @@ digits_begin text = if slice_index text 0 == 45 then 1 else 0
 -- the bytes from one place on are digits, up to another
 abbrev pub AreDigits : List ℕ → ℕ → ℕ → Type 0
 AreDigits text low high = (k : ℕ) → low ≤ k → k < high → IsAsciiDigit (slice_index text k)
+
+-- a number of that size, below 0 where so said
+abbrev pub with_sign : Bool → ℕ → ℤ
+with_sign true size = neg_ℤ (pos size)
+with_sign false size = pos size
 
 -- the first byte behind the sign that is no digit stands there, or it is the end behind a lone `-`
 pub record IsFirstNotDigit (text : List ℕ) (at : ℕ) : Type 0 where

@@ -119,3 +119,11 @@ impl Eq for Bytes {
 
     ghost laws = { Prim.search (comparing, rules) };
 }
+
+/// Appends a text, all or nothing.
+pub fn push_text(out: &mut Bytes, text: &[u8]) -> Result<(), AllocError>
+    ensures ok { OnOk result (out.new ≡ out.old ++ text.now) }
+    ensures err { OnErr result (out.new ≡ out.old) }
+{
+    out.extend(text)
+}
