@@ -1,9 +1,8 @@
 -- The calls and entries that replay handles so far.
-use Rattle.std.specs.Prelude.{◌≡◌, ℕ, List, [], ◌∷◌, Option, Some, Bool, true, false, ◌&&◌, All}
+use Rattle.std.specs.Prelude.{◌≡◌, ℕ, List, [], ◌∷◌, Some, Bool, true, false, All}
 use Rattle.std.specs.List.{list_all}
 use Rattle.mpi_call.specs.declared.call.Call.{Call}
-use Rattle.mpi_call.specs.declared.call.Call.TheVariants.{Send, Post, Enter, Take, Peek, Abort, Trap, End}
-use Rattle.mpi_call.specs.declared.call.TakeMode.{TakeMode}
+use Rattle.mpi_call.specs.declared.call.Call.TheVariants.{Send, Post, Take, Trap, End}
 use Rattle.mpi_call.specs.declared.call.TakeMode.TheVariants.{All as TakeAll}
 use Rattle.mpi_call.specs.declared.reply.Reply.{Reply}
 use Rattle.run_model.specs.Views.{Next}

@@ -1,0 +1,5 @@
+pub mod Built
+pub mod Fits
+pub mod Filling
+pub mod Breaks
+pub mod Replays

@@ -1,0 +1,4 @@
+//! Replay of one group of ranks from its log.
+#![tactic(auto)]
+
+pub mod step;
