@@ -1,0 +1,4 @@
+pub mod FitsLemmas
+pub mod LogLemmas
+pub mod ShapeLemmas
+pub mod ReplaysLemmas

@@ -1,10 +1,11 @@
 -- The calls and entries that replay handles so far.
-use Rattle.std.specs.Prelude.{◌≡◌, ℕ, List, [], ◌∷◌, Some, Bool, true, false, All}
+use Rattle.std.specs.Prelude.{◌≡◌, ℕ, List, [], ◌∷◌, Option, Some, Bool, true, false, not, ◌&&◌, All}
 use Rattle.std.specs.List.{list_all}
 use Rattle.mpi_call.specs.declared.call.Call.{Call}
 use Rattle.mpi_call.specs.declared.call.Call.TheVariants.{Send, Post, Take, Trap, End}
 use Rattle.mpi_call.specs.declared.call.TakeMode.TheVariants.{All as TakeAll}
 use Rattle.mpi_call.specs.declared.reply.Reply.{Reply}
+use Rattle.mpi_call.specs.Acceptance.{source_agrees}
 use Rattle.run_model.specs.Views.{Next}
 use Rattle.srr_entry.specs.declared.entry.Mark.{Mark}
 use Rattle.srr_entry.specs.declared.entry.Mark.TheVariants.{Inside}
@@ -45,3 +46,8 @@ is_small entry = false
 -- the lists of a log hold such entries alone
 abbrev pub AreSmall : List (List Entry) → Type 0
 AreSmall lists = All (λ entries. list_all is_small entries ≡ true) lists
+
+-- what such an entry asks of the start that it completes: a receive from that source that was not taken
+abbrev pub inside_fits : Option Call → Bool → ℕ → Bool
+inside_fits (Some (Post comm from tag room)) taken source = not taken && source_agrees from source
+inside_fits found taken source = false

@@ -3,3 +3,5 @@ pub mod Fits
 pub mod Filling
 pub mod Breaks
 pub mod Replays
+pub mod Rounds
+pub mod Stands

@@ -1,4 +1,9 @@
 //! Replay of one group of ranks from its log.
 #![tactic(auto)]
 
+mod answer;
+mod counts;
+mod find;
+pub mod replay;
+pub mod replayed;
 pub mod step;

@@ -1,0 +1,38 @@
+-- Logs that can be replayed, and rounds over the ranks of a group.
+use Rattle.std.specs.Prelude.{◌≡◌, ◌<◌, ◌≤◌, ◌≢◌, ℕ, List, [], ◌∷◌, ◌++◌, Bool, true, false, All, length, slice_index}
+use Rattle.std.specs.List.{slice_index_or}
+use Rattle.mpi_call.specs.Collectives.{is_distinct, is_member}
+use Rattle.run_model.specs.declared.event.Event.{Event}
+use Rattle.run_model.specs.Lists.{are_below}
+use Rattle.run_model.specs.Program.{Standing, IsAfter}
+use Rattle.run_model.specs.Views.{Next, view_of}
+use Rattle.srr_entry.specs.declared.log.Log.{Log}
+use Rattle.srr_replay.specs.Built.{AreSmall}
+use Rattle.srr_replay.specs.Replays.{Stop, IsStep}
+
+-- 1 to 64 ranks, a group of distinct ranks below their number, a list of entries for each, no longer than a log holds
+pub record IsReplayable (log : Log) : Type 0 where
+  pub few : log.ranks ≤ 64
+  pub some : 0 < length log.group
+  pub below : are_below log.ranks log.group ≡ true
+  pub distinct : is_distinct log.group ≡ true
+  pub as_many : length log.lists ≡ length log.group
+  pub short : All (λ entries. length entries ≤ 999064) log.lists
+  pub small : AreSmall log.lists
+
+-- each number counts the calls of its rank
+abbrev pub AreCounts : ℕ → List Event → List ℕ → Type 0
+AreCounts n events counts = (length counts ≡ n) × ((rank : ℕ) → rank < n → slice_index counts rank ≡ length (view_of events rank))
+
+-- the events grew by one of the rank, or by none
+abbrev pub GrowsBy : ℕ → List Event → List Event → Bool → Type 0
+GrowsBy rank before after false = after ≡ before
+GrowsBy rank before after true = (event : Event) × (event.rank ≡ rank) × (after ≡ before ++ event ∷ [])
+
+abbrev pub HasNoStep : Next → Log → Stop → List Event → ℕ → Type 0
+HasNoStep next log stop events rank = (event : Event) → event.rank ≡ rank → IsStep next log stop events event → ⊥
+
+-- one run for each rank of the group, each after its rank's events
+pub record RunAll {P R : Type 0} (standing : R → Standing P) (program : P) (log : Log) (events : List Event) (runs : List R) : Type 0 where
+  pub as_many : length runs ≡ length log.group
+  pub each : (k : ℕ) (run : R) → k < length log.group → IsAfter program log.ranks (slice_index log.group k) events (standing (slice_index_or runs k run))

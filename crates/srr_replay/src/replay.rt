@@ -1,0 +1,139 @@
+//! A replay, one event at a time.
+ghost use Rattle.std.specs.Prelude.{◌≡◌, ◌++◌, ◌∷◌, ◌<◌, ◌≤◌, [], OnOk, OnErr, IfOk, length, Some, true};
+ghost use Rattle.mpi_call.specs.Collectives.{is_member};
+ghost use Rattle.mpi_call.specs.declared.reply.Reply.{Reply};
+ghost use Rattle.run_model.specs.Program.{MayGive};
+ghost use Rattle.run_model.specs.Views.{view_of, replies_in};
+ghost use Rattle.srr_replay.specs.Built.{AsksBuilt};
+ghost use Rattle.srr_replay.specs.Replays.{answer_of, events_after, event_of, Replays};
+ghost use Rattle.srr_replay.specs.Rounds.{IsReplayable};
+ghost use Rattle.srr_replay.specs.declared.step.Step.TheVariants.{Replied};
+
+use crate::answer;
+use crate::answer::Asked;
+use crate::counts::Counts;
+use crate::step::Step;
+use mpi_call::call::Call;
+use mpi_call::reply::Reply;
+use mpi_call::{call, reply};
+use run_model::event::Event;
+use run_model::history::History;
+use run_model::program::Program;
+use srr_entry::log::Log;
+use std::alloc::{AllocError, Global};
+use std::marker::Model;
+
+/// A replay of a log's group with a program. Contracts see the program, the log, the breakpoint and the events so far.
+#[derive(Drop)]
+pub struct Replay<'a, P: Program> {
+    program: &'a P,
+    log: &'a Log,
+    stop: Option<(u8, u32)>,
+    events: History,
+    /// How many calls each rank of the run has made: its next call's number, and its next entry's place.
+    counts: Counts,
+    alloc: Global,
+}
+
+impl<'a, P: Program> Model for Replay<'a, P> {
+    ghost use Rattle.srr_replay.specs.Built.{AsksBuilt};
+    ghost use Rattle.srr_replay.specs.Replays.{ReplayState, Replays};
+    ghost use Rattle.srr_replay.specs.Rounds.{AreCounts, IsReplayable};
+
+    ghost Value = { ReplayState P };
+
+    ghost view = { λ r. record { program = r.program.now; log = r.log.now; stop = r.stop; events = r.events.events } };
+
+    ghost invariant = { λ r. IsReplayable r.log.now × AsksBuilt (P.next r.program.now) × Replays (P.next r.program.now) r.log.now r.stop r.events.events × AreCounts r.log.now.ranks r.events.events r.counts };
+}
+
+impl<'a, P: Program> Replay<'a, P> {
+    /// A replay without events. It stops the rank of `stop` before its call with that number; a rank outside the group
+    /// stops nobody.
+    pub fn new(
+        alloc: Global,
+        program: &'a P,
+        log: &'a Log,
+        stop: Option<(u8, u32)>,
+    ) -> Result<Self, AllocError>
+        requires log { IsReplayable log.now }
+        requires built { AsksBuilt (P.next program.now) }
+        ensures { IfOk result (λ r. r ≡ record { program = program.now; log = log.now; stop = stop; events = [] }) }
+    {
+        let counts = Counts::new(alloc, log.ranks)?;
+        Ok(Replay {
+            program,
+            log,
+            stop,
+            events: History::new(alloc),
+            counts,
+            alloc,
+        })
+    }
+
+    /// One attempt of a rank of the group with its next call. Only a reply makes an event.
+    pub fn attempt(&mut self, rank: u8, call: &Call) -> Result<Step, AllocError>
+        requires member { is_member self.old.log.group rank ≡ true }
+        requires next { P.next self.old.program self.old.log.ranks rank (replies_in (view_of self.old.events rank)) ≡ Some call.now }
+        ensures answer { IfOk result (λ step. step ≡ answer_of self.old.log self.old.stop (view_of self.old.events) (view_of self.old.events rank) rank call.now) }
+        ensures events { IfOk result (λ step. self.new ≡ record self.old { events = events_after self.old.events rank call.now step }) }
+        ensures shape { IfOk result (λ step. (reply : Reply) → step ≡ Replied reply → MayGive (P.next self.old.program) self.old.log.ranks rank (replies_in (view_of self.old.events rank)) reply) }
+        ensures err { OnErr result (self.new ≡ self.old) }
+    {
+        let number = self.counts.get(rank);
+        let asked = Asked { rank, number, call };
+        let step = answer::answer(
+            self.alloc,
+            self.log,
+            &self.stop,
+            self.events.as_slice(),
+            &asked,
+        )?;
+        if let Step::Replied(reply) = &step {
+            self.append(rank, call, reply)?;
+            return Ok(step);
+        }
+        Ok(step)
+    }
+
+    /// Adds the event of a reply.
+    fn append(&mut self, rank: u8, call: &Call, reply: &Reply) -> Result<(), AllocError>
+        requires member { is_member self.old.log.group rank ≡ true }
+        requires next { P.next self.old.program self.old.log.ranks rank (replies_in (view_of self.old.events rank)) ≡ Some call.now }
+        requires answer { answer_of self.old.log self.old.stop (view_of self.old.events) (view_of self.old.events rank) rank call.now ≡ Replied reply.now }
+        ensures ok { OnOk result (self.new ≡ record self.old { events = self.old.events ++ event_of rank call.now reply.now ∷ [] }) }
+        ensures err { OnErr result (self.new ≡ self.old) }
+    {
+        // A log's bounds keep the events far below this.
+        if self.events.len() >= u32::MAX {
+            return Err(AllocError);
+        }
+        let reply = reply::copy_of(reply)?;
+        let call = call::copy_of(call)?;
+        self.events.reserve(1)?;
+        self.events.push(Event {
+            rank,
+            call,
+            reply,
+            mate: None,
+        });
+        self.counts.rise(rank);
+        Ok(())
+    }
+
+    /// The events so far. Takes no memory.
+    pub fn events(&self) -> &History
+        ensures events { result.now.events ≡ self.now.events }
+        ensures replays { Replays (P.next self.now.program) self.now.log self.now.stop self.now.events }
+    {
+        &self.events
+    }
+
+    /// The events so far, handed out. Takes no memory.
+    pub fn into_events(self) -> History
+        ensures events { result.events ≡ self.entry.events }
+        ensures replays { Replays (P.next self.entry.program) self.entry.log self.entry.stop result.events }
+    {
+        self.events
+    }
+}
