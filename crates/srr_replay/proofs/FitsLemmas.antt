@@ -1,10 +1,9 @@
 -- When an entry of one receive from inside the group fits.
 use Rattle.std.proofs.Common.{◌≡◌, ℕ, List, [], ◌∷◌, Option, Some, None, Bool, true, false, not, ◌&&◌, refl, ◌==◌}
 use Rattle.mpi_call.specs.declared.call.Call.{Call}
-use Rattle.mpi_call.specs.declared.call.Call.TheVariants.{Send, Post, Enter, Take, Peek, Abort, Trap, End}
+use Rattle.mpi_call.specs.declared.call.Call.TheVariants.{Send, Post, Take}
 use Rattle.mpi_call.specs.declared.call.Source.TheVariants.{Any, From, Null}
 use Rattle.mpi_call.specs.declared.call.TakeMode.TheVariants.{All}
-use Rattle.mpi_call.specs.Acceptance.{source_agrees}
 use Rattle.mpi_call.specs.Collectives.{is_member}
 use Rattle.run_model.specs.Views.{View, start_at, taken_of}
 use Rattle.srr_entry.specs.declared.entry.Entry.TheVariants.{Took}

@@ -2,3 +2,4 @@ pub mod FitsLemmas
 pub mod LogLemmas
 pub mod ShapeLemmas
 pub mod ReplaysLemmas
+pub mod RoundsLemmas

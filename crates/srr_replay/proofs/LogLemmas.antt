@@ -1,5 +1,5 @@
 -- The entries and the ranks of a log.
-use Rattle.std.proofs.Common.{◌≡◌, ◌<◌, ◌+◌, ℕ, zero, suc, List, [], ◌∷◌, ◌==◌, ◌⊎◌, Option, Some, None, Bool, true, false, ◌&&◌, inl, inr, refl, slice_get, subst, sym, arith, All, nat_lt}
+use Rattle.std.proofs.Common.{◌≡◌, ◌<◌, ℕ, zero, suc, List, [], ◌∷◌, ◌==◌, Some, Bool, true, false, ◌&&◌, inl, inr, refl, slice_get, subst, arith, nat_lt}
 use Rattle.std.specs.List.{list_all}
 use Rattle.std.proofs.lemmas.Bool.{eqb-true, ltb-true}
 use Rattle.mpi_call.specs.Collectives.{is_member}

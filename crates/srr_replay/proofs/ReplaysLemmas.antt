@@ -1,19 +1,18 @@
 -- What every replay keeps.
-use Rattle.std.proofs.Common.{◌≡◌, ◌≢◌, ◌<◌, ◌+◌, ℕ, List, [], ◌∷◌, ◌++◌, ◌==◌, ◌⊎◌, inl, inr, Some, None, true, false, refl, sym, ◌∙◌, subst, length, slice_index, length-append, arith, get_or-set_same, get_or-set_other, set, length-set}
+use Rattle.std.proofs.Common.{◌≡◌, ◌≢◌, ◌<◌, ◌+◌, ℕ, List, [], ◌∷◌, ◌++◌, ◌==◌, inl, inr, Some, true, refl, sym, ◌∙◌, subst, length, slice_index, length-append, arith, get_or-set_same, get_or-set_other, set, length-set}
 use Rattle.std.proofs.lemmas.Bool.{eqb-true, eq-eqb}
 use Rattle.mpi_call.specs.declared.call.Call.{Call}
 use Rattle.mpi_call.specs.declared.reply.Reply.{Reply}
 use Rattle.mpi_call.specs.Collectives.{is_member}
 use Rattle.run_model.specs.declared.event.Event.{Event}
-use Rattle.run_model.specs.Lists.{Along}
 use Rattle.run_model.specs.Program.{IsSeen, IsViewOf, MayGive}
-use Rattle.run_model.specs.Views.{View, Next, view_of, replies_in}
+use Rattle.run_model.specs.Views.{Next, view_of, replies_in}
 use Rattle.run_model.proofs.Along.{Along-snoc, Along-keeps}
 use Rattle.run_model.proofs.Views.{test_cases, view_of-own, view_of-other}
 use Rattle.srr_entry.specs.declared.log.Log.{Log}
 use Rattle.srr_replay.specs.declared.step.Step.TheVariants.{Replied}
 use Rattle.srr_replay.specs.Built.{AreSmall}
-use Rattle.srr_replay.specs.Replays.{Stop, IsStep, Replays, answer_of, event_of, events_after}
+use Rattle.srr_replay.specs.Replays.{Stop, IsStep, Replays, answer_of, event_of}
 use Rattle.srr_replay.specs.Rounds.{AreCounts}
 use Rattle.srr_replay.proofs.LogLemmas.{AreSmall-for}
 use Rattle.srr_replay.proofs.ShapeLemmas.{answer_shaped}

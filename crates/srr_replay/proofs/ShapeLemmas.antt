@@ -1,33 +1,28 @@
 -- A reply that stands for an entry has the shape of its call.
-use Rattle.std.proofs.Common.{◌≡◌, ℕ, ℤ, List, [], ◌∷◌, ◌==◌, ◌⊎◌, Option, Some, None, Bool, true, false, not, ◌&&◌, inl, inr, refl, sym, ◌∙◌, ap, length, slice_get, slice_index, map, nat_le, Ok, Err}
+use Rattle.std.proofs.Common.{◌≡◌, ℕ, ℤ, List, [], ◌∷◌, ◌==◌, Option, Some, None, Bool, true, false, ◌&&◌, inl, inr, refl, length, slice_get, slice_index, map, nat_le, Ok}
 use Rattle.std.specs.List.{list_all}
 use Rattle.mpi_call.specs.declared.call.Call.{Call}
-use Rattle.mpi_call.specs.declared.call.Call.TheVariants.{Send, Post, Enter, Take, Peek, Abort, Trap, End}
-use Rattle.mpi_call.specs.declared.call.Source.{Source}
+use Rattle.mpi_call.specs.declared.call.Call.TheVariants.{Send, Post, Take, Peek, End}
 use Rattle.mpi_call.specs.declared.call.Source.TheVariants.{Any, From, Null}
-use Rattle.mpi_call.specs.declared.call.Tag.{Tag}
 use Rattle.mpi_call.specs.declared.call.TakeMode.{TakeMode}
 use Rattle.mpi_call.specs.declared.reply.Got.TheVariants.{Message}
-use Rattle.mpi_call.specs.declared.reply.Item.{Item}
 use Rattle.mpi_call.specs.declared.reply.Reply.{Reply}
 use Rattle.mpi_call.specs.declared.reply.Reply.TheVariants.{Done, Took as ReplyTook}
-use Rattle.mpi_call.specs.Acceptance.{accepts, source_agrees, tag_agrees}
-use Rattle.mpi_call.specs.Calls.{ints_of}
+use Rattle.mpi_call.specs.Acceptance.{accepts, tag_agrees}
 use Rattle.run_model.specs.Shape.{can_take, got_fits, has_count, has_shape, rises}
 use Rattle.run_model.specs.Views.{View, start_at}
 use Rattle.run_model.proofs.Views.{test_cases}
 use Rattle.srr_entry.specs.declared.entry.Entry.{Entry}
-use Rattle.srr_entry.specs.declared.entry.Entry.TheVariants.{Sent, Posted, Entered, Ended, Took, NotYet, PeekedInside, PeekedOutside, Stopped}
+use Rattle.srr_entry.specs.declared.entry.Entry.TheVariants.{Sent, Posted, Ended, Took}
 use Rattle.srr_entry.specs.declared.entry.Mark.{Mark}
-use Rattle.srr_entry.specs.declared.entry.Mark.TheVariants.{Sent as MarkSent, Nothing, Inside, Outside, Inner, Outer, Made, MadeOutside}
+use Rattle.srr_entry.specs.declared.entry.Mark.TheVariants.{Inside}
 use Rattle.srr_entry.specs.declared.entry.Marked.{Marked}
 use Rattle.srr_entry.specs.declared.log.Log.{Log}
 use Rattle.srr_entry.specs.Entries.{entries_for}
-use Rattle.srr_replay.specs.declared.step.Step.{Step}
 use Rattle.srr_replay.specs.declared.step.Step.TheVariants.{Replied}
-use Rattle.srr_replay.specs.Breaks.{broken, break_send, or_found, send_fits}
+use Rattle.srr_replay.specs.Breaks.{break_send, or_found, send_fits}
 use Rattle.srr_replay.specs.Built.{is_inside, is_small}
-use Rattle.srr_replay.specs.Filling.{filled, as_took, message_from, push_item}
+use Rattle.srr_replay.specs.Filling.{as_took, message_from, push_item}
 use Rattle.srr_replay.specs.Fits.{fits, mark_fits, marks_fit}
 use Rattle.srr_replay.specs.Replays.{Stop, answer_of, entry_answer, is_break, judged}
 use Rattle.srr_replay.proofs.LogLemmas.{both, list_all-get}

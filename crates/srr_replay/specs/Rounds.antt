@@ -1,7 +1,7 @@
 -- Logs that can be replayed, and rounds over the ranks of a group.
-use Rattle.std.specs.Prelude.{◌≡◌, ◌<◌, ◌≤◌, ◌≢◌, ℕ, List, [], ◌∷◌, ◌++◌, Bool, true, false, All, length, slice_index}
+use Rattle.std.specs.Prelude.{◌≡◌, ◌<◌, ◌≤◌, ℕ, List, [], ◌∷◌, ◌++◌, Bool, true, false, All, length, slice_index}
 use Rattle.std.specs.List.{slice_index_or}
-use Rattle.mpi_call.specs.Collectives.{is_distinct, is_member}
+use Rattle.mpi_call.specs.Collectives.{is_distinct}
 use Rattle.run_model.specs.declared.event.Event.{Event}
 use Rattle.run_model.specs.Lists.{are_below}
 use Rattle.run_model.specs.Program.{Standing, IsAfter}

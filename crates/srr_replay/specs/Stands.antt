@@ -1,12 +1,10 @@
 -- Where each rank stands in a replay, and what a whole replay gives.
-use Rattle.std.specs.Prelude.{◌≡◌, ◌<◌, ◌≤◌, ℕ, List, [], ◌∷◌, Option, Some, None, All, map, length}
+use Rattle.std.specs.Prelude.{◌≡◌, ℕ, List, Option, Some, None, map}
 use Rattle.mpi_call.specs.declared.call.Call.{Call}
 use Rattle.mpi_call.specs.declared.reply.Reply.{Reply}
-use Rattle.mpi_call.specs.Collectives.{is_member}
 use Rattle.run_model.specs.declared.event.Event.{Event}
 use Rattle.run_model.specs.declared.lists.Variable.{Variable}
 use Rattle.run_model.specs.Views.{Next, view_of, replies_in}
-use Rattle.srr_entry.specs.declared.entry.Entry.{Entry}
 use Rattle.srr_entry.specs.declared.log.Log.{Log}
 use Rattle.srr_replay.specs.declared.step.Step.{Step}
 use Rattle.srr_replay.specs.declared.step.Step.TheVariants.{Replied, Wait, LogEnded, AtBreak, Diverged}

@@ -6,4 +6,5 @@ mod counts;
 mod find;
 pub mod replay;
 pub mod replayed;
+pub mod serial;
 pub mod step;

@@ -121,6 +121,13 @@ impl<'a, P: Program> Replay<'a, P> {
         Ok(())
     }
 
+    /// The number of events so far. Takes no memory.
+    pub fn len(&self) -> u32
+        ensures { result ≡ length self.now.events }
+    {
+        self.events.len()
+    }
+
     /// The events so far. Takes no memory.
     pub fn events(&self) -> &History
         ensures events { result.now.events ≡ self.now.events }

@@ -1,4 +1,4 @@
-use Rattle.std.proofs.Common.{◌≡◌, sym, ◌∙◌}
+use Rattle.std.proofs.Common.{sym}
 use Rattle.srr_replay.proofs.FitsLemmas.{fits-inside}
 use Rattle.srr_replay.proofs.answer.may_take.Goals as goal
 

@@ -1,4 +1,4 @@
-use Rattle.std.proofs.Common.{◌≡◌, length, slice_get}
+use Rattle.std.proofs.Common.{◌≡◌, length}
 use Rattle.run_model.specs.Views.{view_of, start_at}
 use Rattle.srr_replay.proofs.find.find_start.Given as goal
 

@@ -1,6 +1,5 @@
-use Rattle.std.proofs.Common.{◌≡◌, ◌<◌, ◌≤◌, ◌+◌, sym, ◌∙◌, ap, arith, length, slice_index, true}
+use Rattle.std.proofs.Common.{◌≡◌, arith, true}
 use Rattle.mpi_call.specs.Collectives.{is_member}
-use Rattle.run_model.specs.Views.{view_of}
 use Rattle.run_model.proofs.Views.{length-view_of}
 use Rattle.srr_replay.proofs.LogLemmas.{below_at}
 use Rattle.srr_replay.proofs.ReplaysLemmas.{Replays-after, AreCounts-after}

@@ -1,4 +1,4 @@
-use Rattle.std.proofs.Common.{◌≡◌, ◌<◌, ◌≤◌, ◌+◌, sym, ◌∙◌, ap, arith, length, true}
+use Rattle.std.proofs.Common.{◌≡◌, sym, ◌∙◌, arith, true}
 use Rattle.mpi_call.specs.Collectives.{is_member}
 use Rattle.srr_replay.proofs.LogLemmas.{below_at, AreSmall-for}
 use Rattle.srr_replay.proofs.ReplaysLemmas.{MayGive-Replays}

@@ -1,0 +1,161 @@
+-- The runs of the ranks beside a replay, and rounds over them.
+use Rattle.std.proofs.Common.{◌≡◌, ◌≢◌, ◌<◌, ◌≤◌, ◌+◌, ◌==◌, ◌⊎◌, ℕ, zero, suc, List, [], ◌∷◌, ◌++◌, Some, None, Bool, true, false, inl, inr, refl, ap, sym, ◌∙◌, map, length, length-append, length-set, slice_index, set, get_or-set_same, get_or-set_other, take, arith}
+use Rattle.std.proofs.lemmas.List.{take_more, map-append}
+use Rattle.std.proofs.lemmas.Bool.{eqb-true, eq-eqb}
+use Rattle.mpi_call.specs.declared.call.Call.{Call}
+use Rattle.mpi_call.specs.declared.reply.Reply.{Reply}
+use Rattle.mpi_call.specs.Collectives.{is_distinct, is_member}
+use Rattle.run_model.specs.declared.event.Event.{Event}
+use Rattle.run_model.specs.Program.{Standing, IsAfter}
+use Rattle.run_model.specs.Views.{Next, view_of, replies_in}
+use Rattle.run_model.proofs.Views.{test_cases, view_of-own, view_of-other}
+use Rattle.srr_entry.specs.declared.log.Log.{Log}
+use Rattle.srr_replay.specs.declared.step.Step.TheVariants.{Replied}
+use Rattle.srr_replay.specs.Replays.{Stop, IsExhausted, answer_of, event_of}
+use Rattle.srr_replay.specs.Rounds.{GrowsBy, HasNoStep, RunAll}
+
+snoc-map : {A B : Type 0} (f : A → B) (xs : List A) (x : A) → map f (xs ++ x ∷ []) ≡ map f xs ++ f x ∷ []
+snoc-map f [] x = refl
+snoc-map f (y ∷ xs) x = ap (λ l. f y ∷ l) (snoc-map f xs x)
+
+-- the replies after one more event of the rank
+pub replies_in-after : (events : List Event) (rank : ℕ) (call : Call) (reply : Reply) → replies_in (view_of (events ++ event_of rank call reply ∷ []) rank) ≡ replies_in (view_of events rank) ++ reply ∷ []
+replies_in-after events rank call reply =
+    rw (view_of-own events (event_of rank call reply)) (snoc-map _ (view_of events rank) (call, reply))
+
+-- a run that was given the reply
+pub IsAfter-given : {P : Type 0} (program : P) (n rank : ℕ) (events : List Event) (call : Call) (reply : Reply) (before after : Standing P) → IsAfter program n rank events before → after ≡ record before { replies = before.replies ++ reply ∷ []; asked = false } → IsAfter program n rank (events ++ event_of rank call reply ∷ []) after
+IsAfter-given program n rank events call reply before after h e =
+    rw e (record {
+      same_program = h.same_program;
+      ranks = h.ranks;
+      rank_is = h.rank_is;
+      replies_are = rw (replies_in-after events rank call reply, h.replies_are) refl;
+    })
+
+-- a run whose call was handed out
+pub IsAfter-asked : {P : Type 0} (program : P) (n rank : ℕ) (events : List Event) (before after : Standing P) → IsAfter program n rank events before → after ≡ record before { asked = true } → IsAfter program n rank events after
+IsAfter-asked program n rank events before after h e =
+    rw e (record { same_program = h.same_program; ranks = h.ranks; rank_is = h.rank_is; replies_are = h.replies_are })
+
+-- a rank that has ended has no step, nor has one whose call was answered otherwise
+pub HasNoStep-ended : (next : Next) (log : Log) (stop : Stop) (events : List Event) (rank : ℕ) → next log.ranks rank (replies_in (view_of events rank)) ≡ None → HasNoStep next log stop events rank
+HasNoStep-ended next log stop events rank h event same step =
+    let asked : next log.ranks rank (replies_in (view_of events rank)) ≡ Some event.call = rw same at step.call in
+    cc
+
+pub HasNoStep-answered : (next : Next) (log : Log) (stop : Stop) (events : List Event) (rank : ℕ) (call : Call) → next log.ranks rank (replies_in (view_of events rank)) ≡ Some call → ((reply : Reply) → answer_of log stop (view_of events) (view_of events rank) rank call ≡ Replied reply → ⊥) → HasNoStep next log stop events rank
+HasNoStep-answered next log stop events rank call h other event same step =
+    let asked : next log.ranks rank (replies_in (view_of events rank)) ≡ Some event.call = rw same at step.call in
+    let some : Some event.call ≡ Some call = sym asked ∙ h in
+    let is : event.call ≡ call = cc in
+    other event.reply (rw (same, is) at step.reply)
+
+number_cases : (a b : ℕ) → (a ≡ b) ⊎ (a ≢ b)
+number_cases a b = elim (test_cases (a == b)) [ inl h ↦ inl (eqb-true a b h) | inr h ↦ inr (λ e. let t : (a == b) ≡ true = eq-eqb a b e in cc) ]
+
+-- another rank's replies are as before
+replies_in-other : (rank other : ℕ) (before after : List Event) (moved : Bool) → GrowsBy rank before after moved → other ≢ rank → replies_in (view_of after other) ≡ replies_in (view_of before other)
+replies_in-other rank other before after false grows ne = rw grows refl
+replies_in-other rank other before after true grows ne =
+    elim (test_cases (grows.0.rank == other)) [
+      | inl h ↦ absurd (ne (sym (eqb-true grows.0.rank other h) ∙ grows.1))
+      | inr h ↦ rw (grows.2, view_of-other before grows.0 other h) refl
+    ]
+
+-- the member at a place is a member
+pub member_of : (group : List ℕ) (k : ℕ) → k < length group → is_member group (slice_index group k) ≡ true
+member_of [] k lt = absurd (omega (arith, lt))
+member_of (x ∷ group) zero lt = rw (eq-eqb x x refl) refl
+member_of (x ∷ group) (suc k) lt =
+    elim (test_cases (x == slice_index group k)) [
+      | inl h ↦ rw h refl
+      | inr h ↦ rw h (member_of group k (omega (arith, lt)))
+    ]
+
+distinct_later : (x : ℕ) (group : List ℕ) → is_distinct (x ∷ group) ≡ true → is_distinct group ≡ true
+distinct_later x group distinct =
+    elim (test_cases (is_member group x)) [
+      | inl h ↦ let no = rw h at distinct in absurd (cc)
+      | inr h ↦ rw h at distinct
+    ]
+
+not_later : (x : ℕ) (group : List ℕ) (k : ℕ) → is_distinct (x ∷ group) ≡ true → k < length group → x ≡ slice_index group k → ⊥
+not_later x group k distinct lt same =
+    let member : is_member group x ≡ true = rw same (member_of group k lt) in
+    let no = rw member at distinct in
+    absurd (cc)
+
+-- no rank stands at two places
+pub distinct_at : (group : List ℕ) (j k : ℕ) → is_distinct group ≡ true → j < length group → k < length group → slice_index group j ≡ slice_index group k → j ≡ k
+distinct_at [] j k distinct lt lt' same = absurd (omega (arith, lt))
+distinct_at (x ∷ group) zero zero distinct lt lt' same = refl
+distinct_at (x ∷ group) zero (suc k) distinct lt lt' same =
+    absurd (not_later x group k distinct (omega (arith, lt')) same)
+distinct_at (x ∷ group) (suc j) zero distinct lt lt' same =
+    absurd (not_later x group j distinct (omega (arith, lt)) (sym same))
+distinct_at (x ∷ group) (suc j) (suc k) distinct lt lt' same =
+    ap suc (distinct_at group j k (distinct_later x group distinct) (omega (arith, lt)) (omega (arith, lt')) same)
+
+-- the runs after one of them was tried
+pub RunAll-set : {P R : Type 0} (standing : R → Standing P) (program : P) (log : Log) (before after : List Event) (runs : List R) (k : ℕ) (run : R) (moved : Bool) → RunAll standing program log before runs → is_distinct log.group ≡ true → k < length log.group → GrowsBy (slice_index log.group k) before after moved → IsAfter program log.ranks (slice_index log.group k) after (standing run) → RunAll standing program log after (set runs k run)
+RunAll-set {P} {R} standing program log before after runs k run moved all distinct lt grows stands =
+    record {
+      as_many = length-set runs k run ∙ all.as_many;
+      each = λ j d below. elim (number_cases j k) [
+        | inl same ↦
+            let within : k < length runs = omega (arith, all.as_many, lt) in
+            rw (same, get_or-set_same runs k run d within) stands
+        | inr other ↦
+            let was = all.each j d below in
+            rw (get_or-set_other runs k j run d other)
+            (record {
+              same_program = was.same_program;
+              ranks = was.ranks;
+              rank_is = was.rank_is;
+              replies_are = was.replies_are ∙ sym (replies_in-other (slice_index log.group k) (slice_index log.group j) before after moved grows (λ e. other (distinct_at log.group j k distinct below lt e)));
+            })
+      ];
+    }
+
+-- a member stands somewhere
+pub member_at : (group : List ℕ) (rank : ℕ) → is_member group rank ≡ true → (k : ℕ) × (k < length group) × (slice_index group k ≡ rank)
+member_at [] rank h = absurd (cc)
+member_at (x ∷ group) rank h =
+    elim (test_cases (x == rank)) [
+      | inl e ↦ (0, omega arith, eqb-true x rank e)
+      | inr e ↦
+          let later : is_member group rank ≡ true = rw e at h in
+          let found = member_at group rank later in
+          (suc found.0, omega (arith, found.1), found.2)
+    ]
+
+-- where none of those listed has a step, no rank has
+pub IsExhausted-each : (next : Next) (log : Log) (stop : Stop) (events : List Event) → ((k : ℕ) → k < length log.group → HasNoStep next log stop events (slice_index log.group k)) → IsExhausted next log stop events
+IsExhausted-each next log stop events each event step =
+    let found = member_at log.group event.rank step.member in
+    each found.0 found.1 event (sym found.2) step
+
+pub longer : (rank : ℕ) (before after : List Event) → GrowsBy rank before after true → length before < length after
+longer rank before after grows = rw (grows.2, length-append) (omega arith)
+
+pub no_shorter : (moved : Bool) (start now : List Event) → (moved ≡ true → length start < length now) → (moved ≡ false → now ≡ start) → length start ≤ length now
+no_shorter true start now grown still = let h = grown refl in omega (arith, h)
+no_shorter false start now grown still = rw (still refl) (omega arith)
+
+-- the runs after one of them was asked
+pub RunAll-kept : {P R : Type 0} (standing : R → Standing P) (program : P) (log : Log) (events : List Event) (runs : List R) (k : ℕ) (run : R) → RunAll standing program log events runs → k < length log.group → IsAfter program log.ranks (slice_index log.group k) events (standing run) → RunAll standing program log events (set runs k run)
+RunAll-kept {P} {R} standing program log events runs k run all lt stands =
+    record {
+      as_many = length-set runs k run ∙ all.as_many;
+      each = λ j d below. elim (number_cases j k) [
+        | inl same ↦
+            let within : k < length runs = omega (arith, all.as_many, lt) in
+            rw (same, get_or-set_same runs k run d within) stands
+        | inr other ↦ rw (get_or-set_other runs k j run d other) (all.each j d below)
+      ];
+    }
+
+-- one element more of a list that was mapped so far
+pub map_take-more : {Y : Type 0} (f : ℕ → Y) (xs : List ℕ) (k : ℕ) → k < length xs → map f (take (k + 1) xs) ≡ map f (take k xs) ++ f (slice_index xs k) ∷ []
+map_take-more f xs k lt = ap (map f) (take_more xs k 0 lt) ∙ map-append f (take k xs) (slice_index xs k ∷ [])

@@ -1,0 +1,16 @@
+use Rattle.std.proofs.Common.{◌≡◌, ◌<◌, ℕ, length, true, false, slice_index}
+use Rattle.srr_replay.specs.Rounds.{HasNoStep, RunAll}
+use Rattle.srr_replay.proofs.serial.round.Given as goal
+
+abbrev pub invariant-loop-k : goal.invariant-loop-k
+invariant-loop-k g l =
+    record {
+      program : l.replay.program ≡ l.fn.replay.program;
+      log : l.replay.log ≡ l.fn.replay.log;
+      stop : l.replay.stop ≡ l.fn.replay.stop;
+      runs : RunAll g.R.RankRun.standing l.replay.program l.replay.log l.replay.events l.runs;
+      grown : l.moved ≡ true → length l.fn.replay.events < length l.replay.events;
+      still : l.moved ≡ false → l.replay.events ≡ l.fn.replay.events;
+      rests : l.moved ≡ false → (j : ℕ) → j < l.k
+          → HasNoStep (g.P.Program.next l.fn.replay.program) l.fn.replay.log l.fn.replay.stop l.replay.events (slice_index l.fn.replay.log.group j);
+    }

@@ -1,0 +1,13 @@
+use Rattle.std.proofs.Common.{◌≡◌, ◌++◌, ◌∷◌, [], refl}
+use Rattle.srr_replay.specs.Replays.{event_of}
+use Rattle.srr_replay.proofs.RoundsLemmas.{IsAfter-given, IsAfter-asked}
+use Rattle.srr_replay.proofs.serial.try_rank.Goals as goal
+
+pub returns-in-Replied-clause-run : goal.returns-in-Replied-clause-run
+returns-in-Replied-clause-run g c =
+    let events_is : c.attempt.new.self.events ≡ c.args.replay.now.events ++ event_of c.args.rank c.in-Ask.call c.in-Replied.reply ∷ [] =
+    rw (c.in_ok-reply.ensures.events, c.in-Replied.is) refl in
+    rw events_is
+    (IsAfter-given _ _ _ _ _ _ _ _
+    (IsAfter-asked _ _ _ _ _ _ c.requires.run c.in_ok-want.ensures.ok)
+    c.in_ok-give-in-Replied.ensures.ok)
