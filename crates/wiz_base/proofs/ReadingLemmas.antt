@@ -118,6 +118,6 @@ pub reads_signed : (text : List ℕ) (begin : ℕ) (result : Option ℤ) → beg
     → (let value = with_sign (begin == 1) (digits_value 10 (take (length text - begin) (drop begin text))) in SomeIff result (FitsSigned w64 value) value)
     → IsReading text (ok_or result TooLarge)
 reads_signed text begin (Some value) is digits some lead (fits, value_is) =
-    spelled text begin is digits some lead ∙ ap number_text (rw (← rest_is text begin) (sym value_is))
+    (spelled text begin is digits some lead ∙ ap number_text (rw (← rest_is text begin) (sym value_is)), rw value_is fits)
 reads_signed text begin None is digits some lead large =
     (with_sign (begin == 1) (digits_value 10 (drop begin text)), spelled text begin is digits some lead, rw (rest_is text begin) at large)

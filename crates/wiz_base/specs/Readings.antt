@@ -34,7 +34,7 @@ pub record HasLeadingZero (text : List ℕ) : Type 0 where
 
 -- the number that is spelled so, or the one reason why there is none among the 64-bit ones
 abbrev pub IsReading : List ℕ → Result ℤ NumberFault → Type 0
-IsReading text (Ok value) = text ≡ number_text value
+IsReading text (Ok value) = (text ≡ number_text value) × FitsSigned w64 value
 IsReading text (Err Empty) = text ≡ []
 IsReading text (Err (NotDigit at)) = IsFirstNotDigit text at
 IsReading text (Err LeadingZero) = HasLeadingZero text
