@@ -10,3 +10,6 @@ pub use bytes::{Bytes, push_text};
 pub use cursor::Cursor;
 pub use fault::NumberFault;
 pub use number::{decimal, number_i64, push_decimal, push_number};
+
+#[cfg(test)]
+mod tests;

@@ -1,5 +1,5 @@
 //! Whole numbers as decimal text.
-ghost use Rattle.std.specs.Prelude.{◌≡◌, ◌++◌, ◌+◌, ◌<◌, ◌≤◌, ◌⊎◌, OnOk, OnErr, SomeIff, FitsSigned, length, slice_index, drop};
+ghost use Rattle.std.specs.Prelude.{◌≡◌, ◌++◌, ◌<◌, ◌≤◌, OnOk, OnErr, SomeIff, FitsSigned, length, slice_index, drop};
 ghost use Rattle.std.specs.Int.{w64};
 ghost use Rattle.std.specs.Char.{IsAsciiDigit};
 ghost use Rattle.std.specs.Str.Parse.{AllDigits, digits_value};
