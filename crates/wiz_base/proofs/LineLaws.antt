@@ -36,3 +36,9 @@ line-read text line rest left (Some found) none is (none', inr (all, some, end))
 line-read [] [] rest left None none is (empty, end) = absurd (cc)
 line-read [] (c ∷ cs) rest left None none is (empty, end) = absurd (cc)
 line-read (d ∷ ds) line rest left None none is (empty, end) = absurd (cc)
+
+-- and a last piece without a newline is read whole
+pub last_line-read : (text left : List ℕ) (read : Option (List ℕ)) → HasNoNewline text → text ≢ [] → IsLine text read left → (read ≡ Some text) × (left ≡ [])
+last_line-read text left (Some found) none some (none', inl is') = absurd (no_ended_line found left text none is')
+last_line-read text left (Some found) none some (none', inr (all, some', end)) = (ap Some (sym all), end)
+last_line-read text left None none some (empty, end) = absurd (some empty)

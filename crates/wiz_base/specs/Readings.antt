@@ -40,6 +40,10 @@ IsReading text (Err (NotDigit at)) = IsFirstNotDigit text at
 IsReading text (Err LeadingZero) = HasLeadingZero text
 IsReading text (Err TooLarge) = (value : ℤ) × (text ≡ number_text value) × ¬ (FitsSigned w64 value)
 
+-- some number from 0 on is spelled so
+abbrev pub IsDecimal : List ℕ → Type 0
+IsDecimal text = (value : ℕ) × (text ≡ decimal_text value)
+
 -- the number from 0 up to `most` that is spelled so, and none exactly where there is no such number
 abbrev pub IsDecimalUpTo : List ℕ → ℕ → Option ℕ → Type 0
 IsDecimalUpTo text most (Some value) = (text ≡ decimal_text value) × (value ≤ most)

@@ -31,6 +31,15 @@ fn numbers_are_read(rt: HostRuntime) {
     ] {
         assert_eq!(rt; decimal(text.as_bytes(), 64), expected);
     }
+    for (text, expected) in [
+        ("0", true),
+        ("99999999999999999999999", true),
+        ("00", false),
+        ("", false),
+        ("1 ", false),
+    ] {
+        assert_eq!(rt; is_decimal(text.as_bytes()), expected);
+    }
 }
 
 #[test]
@@ -59,8 +68,10 @@ fn lines_are_taken(rt: HostRuntime) {
     for expected in [Some("ab"), Some(""), Some("c"), None] {
         assert_eq!(rt; all.line(), expected.map(|line| line.as_bytes()));
     }
-    let mut ended = Cursor::new(b"ab\nc");
+    let mut ended = Cursor::new(b"xy\nab\nc");
+    assert_eq!(rt; ended.take(3), Some(b"xy\n".as_slice()));
     assert_eq!(rt; ended.ended_line(), Some(b"ab".as_slice()));
     assert_eq!(rt; ended.ended_line(), None);
+    assert_eq!(rt; ended.take(2), None);
     assert_eq!(rt; ended.rest(), b"c".as_slice());
 }
