@@ -1,18 +1,18 @@
 -- Laws of numbers as decimal text, for what is written and read above.
-use Rattle.std.proofs.Common.{◌≡◌, ◌≢◌, ℕ, zero, suc, ◌+◌, ◌*◌, ◌/◌, ◌%◌, ◌^◌, ◌<◌, ◌≤◌, inl, inr, false, List, [], ◌∷◌, ◌++◌, map, length, get_or, refl, sym, ◌∙◌, ap, arith, append_assoc, length-append}
-use Rattle.std.specs.Prelude.{◌==◌, All}
+use Rattle.std.proofs.Common.{◌≡◌, ◌≢◌, ℕ, zero, suc, ◌+◌, ◌*◌, ◌/◌, ◌%◌, ◌^◌, ◌<◌, ◌≤◌, ◌⊎◌, inl, inr, false, List, [], ◌∷◌, ◌++◌, map, length, get_or, refl, sym, ◌∙◌, ap, arith, append_assoc, length-append}
+use Rattle.std.specs.Prelude.{◌==◌, All, slice_index, ℤ, pos, negsuc}
 use Rattle.std.specs.Int.Digits.{digits_of}
 use Rattle.std.specs.Str.Parse.{AllDigits, digits_value, digits_value_after}
 use Rattle.std.specs.Char.{digit_value, IsAsciiDigit}
 use Rattle.std.proofs.lemmas.Bool.{ne_eqb, cases_lt}
 use Rattle.std.proofs.lemmas.List.{map-append, append-nil, length-map}
-use Rattle.std.proofs.lemmas.List.Elements.{All-from_get_or}
+use Rattle.std.proofs.lemmas.List.Elements.{All-from_get_or, All-weaker, All-cons}
 use Rattle.std.proofs.Math.ListN.{get_or-append}
 use Rattle.std.proofs.lemmas.Nat.{div-mul-add, mod-mul-add}
 use Rattle.std.proofs.lemmas.Str.Parse.{digit_from_value, digit_at}
 use Rattle.std.proofs.lemmas.Int.Digits.{digits_of_step, length-digits_of-le, digits_push, digits_value_push}
 use Rattle.std.proofs.lemmas.Str.{digit_value_digit}
-use Rattle.wiz_base.specs.Decimals.{decimal_text}
+use Rattle.wiz_base.specs.Decimals.{decimal_text, number_text}
 
 -- a number above 0 is its digits
 decimal_text-digits_of : (n : ℕ) → 0 < n → decimal_text n ≡ map (λ digit. 48 + digit) (digits_of 10 n)
@@ -127,3 +127,71 @@ unfolding decimal_text
 length-decimal_text-le k zero some below = some
 length-decimal_text-le k (suc n) some below =
     rw (decimal_text-digits_of (suc n) (omega arith), length-map) (length-digits_of-le 10 k (suc n) (omega arith) below)
+
+-- digits end where no digit follows
+digits_and_rest : (ds ds' rest rest' : List ℕ) → AllDigits 10 ds → AllDigits 10 ds' → ¬ (IsAsciiDigit (slice_index rest 0)) → ¬ (IsAsciiDigit (slice_index rest' 0))
+    → ds ++ rest ≡ ds' ++ rest' → (ds ≡ ds') × (rest ≡ rest')
+digits_and_rest [] [] rest rest' all all' other other' e = (refl, e)
+digits_and_rest [] (c ∷ cs) rest rest' all (digit, all') other other' e =
+    let first : slice_index rest 0 ≡ c = ap (λ text. slice_index text 0) e in
+    absurd (other (rw first (digit_from_value c digit)))
+digits_and_rest (c ∷ cs) [] rest rest' (digit, all) all' other other' e =
+    let first : c ≡ slice_index rest' 0 = ap (λ text. slice_index text 0) e in
+    absurd (other' (rw (← first) (digit_from_value c digit)))
+digits_and_rest (c ∷ cs) (d ∷ ds) rest rest' (digit, all) (digit', all') other other' e =
+    let same : (cs ≡ ds) × (rest ≡ rest') = digits_and_rest cs ds rest rest' all all' other other' (cc) in
+    let first : c ≡ d = cc in
+    let others = same.0 in
+    (cc, same.1)
+
+-- a number and what stands behind it are told apart, where that begins with no digit
+pub decimal_text-and_rest : (m n : ℕ) (rest rest' : List ℕ) → ¬ (IsAsciiDigit (slice_index rest 0)) → ¬ (IsAsciiDigit (slice_index rest' 0))
+    → decimal_text m ++ rest ≡ decimal_text n ++ rest' → (m ≡ n) × (rest ≡ rest')
+decimal_text-and_rest m n rest rest' other other' e =
+    let same = digits_and_rest (decimal_text m) (decimal_text n) rest rest' (decimal_text-is m).digits (decimal_text-is n).digits other other' e in
+    (decimal_text_injective m n same.0, same.1)
+
+-- a sign is no digit
+first_is_digit : (n : ℕ) (rest tail : List ℕ) → decimal_text n ++ rest ≡ 45 ∷ tail → ⊥
+first_is_digit n rest tail e =
+    let some = decimal_text-nonempty n in
+    let range : IsAsciiDigit (get_or (decimal_text n) 0 0) = decimal_text-bytes n 0 0 some in
+    let first : get_or (decimal_text n) 0 0 ≡ 45 = sym (get_or-append (decimal_text n) rest 0 0 some) ∙ ap (λ text. get_or text 0 0) e in
+    omega (arith, range.0)
+
+-- the same of numbers that may be below 0
+pub number_text-and_rest : (y z : ℤ) (rest rest' : List ℕ) → ¬ (IsAsciiDigit (slice_index rest 0)) → ¬ (IsAsciiDigit (slice_index rest' 0))
+    → number_text y ++ rest ≡ number_text z ++ rest' → (y ≡ z) × (rest ≡ rest')
+number_text-and_rest (pos m) (pos n) rest rest' other other' e =
+    let same = decimal_text-and_rest m n rest rest' other other' e in
+    (ap pos same.0, same.1)
+number_text-and_rest (pos m) (negsuc n) rest rest' other other' e = absurd (first_is_digit m rest _ e)
+number_text-and_rest (negsuc m) (pos n) rest rest' other other' e = absurd (first_is_digit n rest' _ (sym e))
+number_text-and_rest (negsuc m) (negsuc n) rest rest' other other' e =
+    let same : (suc m ≡ suc n) × (rest ≡ rest') = decimal_text-and_rest (suc m) (suc n) rest rest' other other' (cc) in
+    let size : m ≡ n = let s = same.0 in omega arith in
+    (ap negsuc size, same.1)
+
+pub number_text_injective : (y z : ℤ) → number_text y ≡ number_text z → y ≡ z
+number_text_injective y z e =
+    let none : ¬ (IsAsciiDigit (slice_index [] 0)) = λ range. omega (arith, range.0) in
+    (number_text-and_rest y z [] [] none none (ap (λ text. text ++ []) e)).0
+
+-- each byte is a digit or `-`
+pub number_text-bytes : (z : ℤ) → All (λ byte. (byte ≡ 45) ⊎ IsAsciiDigit byte) (number_text z)
+number_text-bytes (pos n) = All-weaker IsAsciiDigit (λ byte. (byte ≡ 45) ⊎ IsAsciiDigit byte) (λ byte digit. inr digit) (decimal_text n) (decimal_text-bytes n)
+number_text-bytes (negsuc n) =
+    All-cons (λ byte. (byte ≡ 45) ⊎ IsAsciiDigit byte) 45 (decimal_text (suc n)) (inl refl) (All-weaker IsAsciiDigit (λ byte. (byte ≡ 45) ⊎ IsAsciiDigit byte) (λ byte digit. inr digit) (decimal_text (suc n)) (decimal_text-bytes (suc n)))
+
+pub number_text-nonempty : (z : ℤ) → 0 < length (number_text z)
+number_text-nonempty (pos n) = decimal_text-nonempty n
+number_text-nonempty (negsuc n) = omega arith
+
+-- a byte that is neither a digit nor `-` stands in no number: no blank, no newline, no `.`, `:`, `,` or `=`
+pub number_text-excludes : (z : ℤ) (byte : ℕ) → byte ≢ 45 → ¬ (IsAsciiDigit byte) → All (λ c. c ≢ byte) (number_text z)
+number_text-excludes z byte minus other =
+    All-weaker (λ c. (c ≡ 45) ⊎ IsAsciiDigit c) (λ c. c ≢ byte) (λ c either e. elim either [ inl sign ↦ minus (sym e ∙ sign) | inr digit ↦ other (rw e at digit) ]) (number_text z) (number_text-bytes z)
+
+pub decimal_text-excludes : (n byte : ℕ) → ¬ (IsAsciiDigit byte) → All (λ c. c ≢ byte) (decimal_text n)
+decimal_text-excludes n byte other =
+    All-weaker IsAsciiDigit (λ c. c ≢ byte) (λ c digit e. other (rw e at digit)) (decimal_text n) (decimal_text-bytes n)

@@ -4,7 +4,7 @@ use Rattle.std.specs.Prelude.{◌==◌, slice_index, ok_or, SomeIff, FitsSigned,
 use Rattle.std.specs.Int.{w64}
 use Rattle.std.proofs.lemmas.List.{get_or-drop, length-drop}
 use Rattle.std.proofs.Math.Seq.{take-length}
-use Rattle.std.proofs.lemmas.Bool.{cases_Bool, cases_eq, eqb-true}
+use Rattle.std.proofs.lemmas.Bool.{cases_Bool, cases_eq, cases_lt, eqb-true}
 use Rattle.std.specs.Str.Parse.{AllDigits, digits_value}
 use Rattle.std.specs.Char.{digit_value, IsAsciiDigit}
 use Rattle.std.proofs.lemmas.Int.Digits.{digits_value_more}
@@ -13,7 +13,7 @@ use Rattle.std.proofs.lemmas.Str.{digit_value_digit}
 use Rattle.wiz_base.specs.Decimals.{decimal_text, number_text}
 use Rattle.wiz_base.specs.declared.fault.NumberFault.TheVariants.{TooLarge}
 use Rattle.wiz_base.proofs.DecimalLaws.{decimal_text-digit, decimal_text-is, decimal_text-bytes, decimal_text-nonempty, decimal_text-digits_value}
-use Rattle.wiz_base.specs.Readings.{digits_begin, with_sign, AreDigits, IsReading, IsDecimalUpTo}
+use Rattle.wiz_base.specs.Readings.{digits_begin, with_sign, AreDigits, IsReading, IsDecimal, IsDecimalUpTo}
 
 -- one more digit
 pub digits_value-step : (ds : List ℕ) (i : ℕ) → AllDigits 10 ds → i < length ds → digits_value 10 (take (i + 1) ds) ≡ digits_value 10 (take i ds) * 10 + (get_or ds i 0 - 48)
@@ -66,18 +66,34 @@ not_leading_zero text (suc value) zero_first more e =
     let first' : get_or (decimal_text (suc value)) 0 0 ≡ 48 = rw e at zero_first in
     omega arith
 
+-- so a text that begins with a 0 is that
+pub one_digit : (text : List ℕ) (value : ℕ) → slice_index text 0 ≡ 48 → 0 < length text → text ≡ decimal_text value → length text ≡ 1
+one_digit text value zero_first some e = elim (cases_lt 1 (length text)) [
+  | inl more ↦ absurd (not_leading_zero text value zero_first more e)
+  | inr less ↦ omega arith
+]
+
 -- what the code's test says of a leading 0
 pub only_zero : (byte len : ℕ) → 0 < len → ((byte ≡ 48) × (len ≤ 1)) ⊎ (byte ≡ 48 → ⊥) → byte ≡ 48 → len ≡ 1
 only_zero byte len some (inl (zero_first, short)) e = omega arith
 only_zero byte len some (inr other) e = absurd (other e)
 
--- digits that make a number up to a bound, read
-pub reads_decimal : (text : List ℕ) (most : ℕ) (result : Option ℕ) → AllDigits 10 text → 0 < length text → (slice_index text 0 ≡ 48 → length text ≡ 1)
+-- digits with no 0 before others are the text of some number
+pub is_decimal_text : (text : List ℕ) → AllDigits 10 text → 0 < length text → (slice_index text 0 ≡ 48 → length text ≡ 1) → IsDecimal text
+is_decimal_text text digits some lead = (digits_value 10 text, sym (decimal_text-digits_value text digits some lead))
+
+-- the text of a number is digits
+pub AllDigits-decimal : (text : List ℕ) → IsDecimal text → AllDigits 10 text
+AllDigits-decimal text (value, is) = rw is (decimal_text-is value).digits
+
+-- such a text, read up to a bound
+pub reads_decimal : (text : List ℕ) (most : ℕ) (result : Option ℕ) → IsDecimal text
     → SomeIff result (digits_value 10 text ≤ most) (digits_value 10 text) → IsDecimalUpTo text most result
-reads_decimal text most (Some value) digits some lead (fits, is) = (rw is (sym (decimal_text-digits_value text digits some lead)), rw is fits)
-reads_decimal text most None digits some lead large = λ value fits e.
-    let is : digits_value 10 text ≡ value = rw e (decimal_text-is value).value in
-    large (omega arith)
+reads_decimal text most (Some found) (value, is) (fits, found_is) =
+    let same : digits_value 10 text ≡ value = ap (digits_value 10) is ∙ (decimal_text-is value).value in
+    (rw (found_is, same) is, omega arith)
+reads_decimal text most None (value, is) large = λ other fits e.
+    large (let same : digits_value 10 text ≡ other = ap (digits_value 10) e ∙ (decimal_text-is other).value in omega arith)
 
 -- a number below 0
 pub number_text-negative : (n : ℕ) → 0 < n → number_text (neg_ℤ (pos n)) ≡ 45 ∷ decimal_text n
@@ -118,6 +134,6 @@ pub reads_signed : (text : List ℕ) (begin : ℕ) (result : Option ℤ) → beg
     → (let value = with_sign (begin == 1) (digits_value 10 (take (length text - begin) (drop begin text))) in SomeIff result (FitsSigned w64 value) value)
     → IsReading text (ok_or result TooLarge)
 reads_signed text begin (Some value) is digits some lead (fits, value_is) =
-    spelled text begin is digits some lead ∙ ap number_text (rw (← rest_is text begin) (sym value_is))
+    (spelled text begin is digits some lead ∙ ap number_text (rw (← rest_is text begin) (sym value_is)), rw value_is fits)
 reads_signed text begin None is digits some lead large =
     (with_sign (begin == 1) (digits_value 10 (drop begin text)), spelled text begin is digits some lead, rw (rest_is text begin) at large)

@@ -1,5 +1,5 @@
 -- Lines of a text: what stands between newlines.
-use Rattle.std.specs.Prelude.{◌≡◌, ◌≢◌, ℕ, ◌⊎◌, List, [], ◌∷◌, ◌++◌, All, Option, Some, None}
+use Rattle.std.specs.Prelude.{◌≡◌, ◌≢◌, ℕ, ◌⊎◌, List, [], ◌∷◌, ◌++◌, ◌<◌, length, All, Option, Some, None}
 
 -- no byte is a newline
 abbrev pub HasNoNewline : List ℕ → Type 0
@@ -15,3 +15,8 @@ abbrev pub IsLine : List ℕ → Option (List ℕ) → List ℕ → Type 0
 IsLine text (Some line) rest = HasNoNewline line
     × ((text ≡ line ++ 10 ∷ rest) ⊎ ((text ≡ line) × (text ≢ []) × (rest ≡ [])))
 IsLine text None rest = (text ≡ []) × (rest ≡ [])
+
+-- the text is so many bytes and the rest; or it has fewer, and all is left
+abbrev pub IsTaken : List ℕ → ℕ → Option (List ℕ) → List ℕ → Type 0
+IsTaken text count (Some bytes) rest = (text ≡ bytes ++ rest) × (length bytes ≡ count)
+IsTaken text count None rest = (length text < count) × (rest ≡ text)

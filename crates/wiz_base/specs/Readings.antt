@@ -34,11 +34,15 @@ pub record HasLeadingZero (text : List ℕ) : Type 0 where
 
 -- the number that is spelled so, or the one reason why there is none among the 64-bit ones
 abbrev pub IsReading : List ℕ → Result ℤ NumberFault → Type 0
-IsReading text (Ok value) = text ≡ number_text value
+IsReading text (Ok value) = (text ≡ number_text value) × FitsSigned w64 value
 IsReading text (Err Empty) = text ≡ []
 IsReading text (Err (NotDigit at)) = IsFirstNotDigit text at
 IsReading text (Err LeadingZero) = HasLeadingZero text
 IsReading text (Err TooLarge) = (value : ℤ) × (text ≡ number_text value) × ¬ (FitsSigned w64 value)
+
+-- some number from 0 on is spelled so
+abbrev pub IsDecimal : List ℕ → Type 0
+IsDecimal text = (value : ℕ) × (text ≡ decimal_text value)
 
 -- the number from 0 up to `most` that is spelled so, and none exactly where there is no such number
 abbrev pub IsDecimalUpTo : List ℕ → ℕ → Option ℕ → Type 0

@@ -1,12 +1,12 @@
 //! Line by line through a text.
 ghost use Rattle.std.specs.Prelude.{◌≡◌, ◌<◌, ⊤, MatchOption, option_copied, slice_index, take, length};
-ghost use Rattle.wiz_base.specs.Lines.{HasNoNewline, IsEndedLine, IsLine};
+ghost use Rattle.wiz_base.specs.Lines.{HasNoNewline, IsEndedLine, IsLine, IsTaken};
 
 use std::marker::Model;
 
 /// The rest of a text, which is read a line at a time. Contracts see the bytes that are left.
 /// Nothing here takes memory.
-#[derive(Drop, Debug)]
+#[derive(Drop)]
 pub struct Cursor<'a> {
     rest: &'a [u8],
 }
@@ -54,6 +54,19 @@ impl<'a> Cursor<'a> {
         let end = first_newline(text)?;
         self.rest = &text[end + 1..];
         Some(&text[..end])
+    }
+
+    /// The next `count` bytes. Where fewer are left, all is left as it was.
+    pub fn take(&mut self, count: usize) -> Option<&'a [u8]>
+        ensures { IsTaken self.old count (option_copied result) self.new }
+    {
+        let text = self.rest;
+        if text.len() < count {
+            return None;
+        }
+        let (taken, rest) = text.split_at(count);
+        self.rest = rest;
+        Some(taken)
     }
 }
 

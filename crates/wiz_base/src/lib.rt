@@ -9,4 +9,7 @@ pub mod number;
 pub use bytes::{Bytes, push_text};
 pub use cursor::Cursor;
 pub use fault::NumberFault;
-pub use number::{decimal, number_i64, push_decimal, push_number};
+pub use number::{decimal, is_decimal, number_i64, push_decimal, push_number};
+
+#[cfg(test)]
+mod tests;

@@ -1,10 +1,10 @@
 //! Whole numbers as decimal text.
-ghost use Rattle.std.specs.Prelude.{◌≡◌, ◌++◌, ◌+◌, ◌<◌, ◌≤◌, ◌⊎◌, OnOk, OnErr, SomeIff, FitsSigned, length, slice_index, drop};
+ghost use Rattle.std.specs.Prelude.{◌≡◌, ◌↔◌, ◌++◌, ◌<◌, ◌≤◌, OnOk, OnErr, IsTrue, SomeIff, FitsSigned, length, slice_index, drop};
 ghost use Rattle.std.specs.Int.{w64};
 ghost use Rattle.std.specs.Char.{IsAsciiDigit};
 ghost use Rattle.std.specs.Str.Parse.{AllDigits, digits_value};
 ghost use Rattle.wiz_base.specs.Decimals.{decimal_text, number_text};
-ghost use Rattle.wiz_base.specs.Readings.{AreDigits, IsDecimalUpTo, IsReading, digits_begin, with_sign};
+ghost use Rattle.wiz_base.specs.Readings.{AreDigits, IsDecimal, IsDecimalUpTo, IsReading, digits_begin, with_sign};
 
 use crate::bytes::Bytes;
 use crate::fault::NumberFault;
@@ -33,13 +33,20 @@ pub fn number_i64(text: &[u8]) -> Result<i64, NumberFault>
 pub fn decimal(text: &[u8], most: u64) -> Option<u64>
     ensures { IsDecimalUpTo text.now most result }
 {
-    if text.is_empty() || digits_end(text, 0) < text.len() {
-        return None;
-    }
-    if text[0] == b'0' && text.len() > 1 {
+    if !is_decimal(text) {
         return None;
     }
     value_up_to(text, most)
+}
+
+/// Whether a text is `0`, or a digit 1 to 9 and further digits, however many. Takes no memory.
+pub fn is_decimal(text: &[u8]) -> bool
+    ensures { IsTrue result ↔ IsDecimal text.now }
+{
+    if text.is_empty() || digits_end(text, 0) < text.len() {
+        return false;
+    }
+    text[0] != b'0' || text.len() == 1
 }
 
 /// Where the digits begin: behind a leading `-`.

@@ -1,0 +1,7 @@
+-- What a table of files shows.
+use Rattle.std.specs.BTreeMap.{get_by_text}
+use Rattle.wiz_io.specs.declared.file_table.FileTable.{FileTable}
+use Rattle.wiz_io.specs.Files.{Files}
+
+abbrev pub files_of : FileTable → Files
+files_of table = λ name. get_by_text table.files name
