@@ -1,0 +1,3 @@
+pub mod Courses
+pub mod CourseLaws
+pub mod SmallCalls

@@ -1,0 +1,4 @@
+//! The command line tool as a function of its words and files.
+#![tactic(auto)]
+
+pub mod small_program;
