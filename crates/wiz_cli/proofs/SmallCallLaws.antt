@@ -2,7 +2,7 @@
 use Rattle.std.proofs.Common.{◌≡◌, ◌<◌, ◌⊎◌, inl, inr, ℕ, suc, ℤ, List, [], ◌∷◌, ◌++◌, Option, Some, None, Bool, true, false, nat_lt, refl, ap, subst}
 use Rattle.mpi_call.specs.declared.call.Call.{Call}
 use Rattle.mpi_call.specs.declared.call.Call.TheVariants.{Send, Post, Trap, End}
-use Rattle.mpi_call.specs.declared.call.Fault.TheVariants.{BadRank, BadTag}
+use Rattle.mpi_call.specs.declared.call.Fault.{Fault}
 use Rattle.mpi_call.specs.declared.call.Source.TheVariants.{From}
 use Rattle.mpi_call.specs.declared.call.Tag.TheVariants.{Is}
 use Rattle.mpi_call.specs.declared.reply.Reply.{Reply}
@@ -10,7 +10,7 @@ use Rattle.mpi_call.specs.declared.reply.Reply.TheVariants.{Done, Took, NotYet, 
 use Rattle.wiz_cli.specs.declared.small_program.SmallStep.{SmallStep}
 use Rattle.wiz_cli.specs.declared.small_program.SmallStep.TheVariants.{Set, Print, Send as SendStep, Receive as ReceiveStep}
 use Rattle.wiz_cli.specs.declared.small_program.SmallProgram.{SmallProgram}
-use Rattle.wiz_cli.specs.Courses.{Course, asks, over, after, call_in, when_done, message_in, received, with_message, completing, checked, line_of, course_of, steps_for, rank_course, next_of}
+use Rattle.wiz_cli.specs.Courses.{Course, asks, over, after, call_in, when_done, message_in, received, with_message, completing, fault_in, checked, line_of, course_of, steps_for, rank_course, next_of}
 use Rattle.wiz_cli.specs.CourseLaws.{test_cases}
 use Rattle.wiz_cli.specs.SmallCalls.{is_small_call, AsksSmall}
 
@@ -30,15 +30,9 @@ with_message_small : (printed : List ℕ) (x : ℤ) (go : ℤ → Course) (found
 with_message_small printed x go None small = tt
 with_message_small printed x go (Some ints) small = small (received x ints)
 
-checked_small : (n rank tag : ℕ) (x : ℤ) (printed : List ℕ) (c : Course) → AllSmall c → AllSmall (checked n rank tag x printed c)
-checked_small n rank tag x printed c small =
-    elim (test_cases (nat_lt rank n)) [
-      | inl below ↦ elim (test_cases (nat_lt tag 2147483648)) [
-          | inl fits ↦ rw (below, fits) small
-          | inr large ↦ rw (below, large) (refl, λ reply. tt)
-        ]
-      | inr above ↦ rw above (refl, λ reply. tt)
-    ]
+checked_small : (fault : Option Fault) (x : ℤ) (printed : List ℕ) (c : Course) → AllSmall c → AllSmall (checked fault x printed c)
+checked_small None x printed c small = small
+checked_small (Some fault) x printed c small = (refl, λ reply. tt)
 
 steps_small : (n : ℕ) (steps : List SmallStep) (x : ℤ) (printed : List ℕ) (starts : ℕ) → AllSmall (course_of n steps x printed starts)
 steps_small n [] x printed starts = (refl, λ reply. tt)
@@ -46,11 +40,11 @@ steps_small n (Set value ∷ steps) x printed starts = steps_small n steps value
 steps_small n (Print ∷ steps) x printed starts = steps_small n steps x (printed ++ line_of x) starts
 steps_small n (SendStep dest tag ∷ steps) x printed starts =
     let go : Course = course_of n steps x printed (suc starts) in
-    checked_small n dest tag x printed (asks (Send 0 dest tag (x ∷ [])) x printed (when_done printed go))
+    checked_small (fault_in n dest tag) x printed (asks (Send 0 dest tag (x ∷ [])) x printed (when_done printed go))
     (refl, λ reply. when_done_small printed go reply (steps_small n steps x printed (suc starts)))
 steps_small n (ReceiveStep source tag ∷ steps) x printed starts =
     let go : ℤ → Course = λ x. course_of n steps x printed (suc starts) in
-    checked_small n source tag x printed (asks (Post 0 (From source) (Is tag) 1) x printed (when_done printed (completing starts x printed go)))
+    checked_small (fault_in n source tag) x printed (asks (Post 0 (From source) (Is tag) 1) x printed (when_done printed (completing starts x printed go)))
     (refl, λ reply. when_done_small printed (completing starts x printed go) reply
     (refl, λ took. with_message_small printed x go (message_in took) (λ x. steps_small n steps x printed (suc starts))))
 

@@ -25,7 +25,7 @@ use Rattle.run_model.specs.Program.{IsSeen, IsViewOf, IsRankOf, ends, EndsExactl
 use Rattle.wiz_cli.specs.declared.small_program.SmallStep.{SmallStep}
 use Rattle.wiz_cli.specs.declared.small_program.SmallStep.TheVariants.{Set, Print, Send as SendStep, Receive as ReceiveStep}
 use Rattle.wiz_cli.specs.declared.small_program.SmallProgram.{SmallProgram}
-use Rattle.wiz_cli.specs.Courses.{Course, asks, over, after, call_in, printed_in, when_done, ints_in, message_in, received, with_message, completing, last_call, checked, line_of, course_of, steps_for, rank_course, next_of, output_of}
+use Rattle.wiz_cli.specs.Courses.{Course, asks, over, after, call_in, printed_in, when_done, ints_in, message_in, received, with_message, completing, last_call, fault_in, checked, line_of, course_of, steps_for, rank_course, next_of, output_of}
 
 pub test_cases : (b : Bool) → (b ≡ true) ⊎ (b ≡ false)
 test_cases true = inl refl
@@ -78,15 +78,20 @@ slice_get-last : {A : Type 0} (xs : List A) (x : A) → slice_get (xs ++ x ∷ [
 slice_get-last [] x = refl
 slice_get-last (y ∷ xs) x = slice_get-last xs x
 
-checked_keeps : (n me rank tag : ℕ) (own : View) (x : ℤ) (printed : List ℕ) (c : Course) → (rank < n → tag < 2 ^ 31 → Keeps n me own c) → Keeps n me own (checked n rank tag x printed c)
-checked_keeps n me rank tag own x printed c keeps =
+-- where there is no fault, the rank and the tag are in bounds
+fault_in-none : (n rank tag : ℕ) → fault_in n rank tag ≡ None → (rank < n) × (tag < 2 ^ 31)
+fault_in-none n rank tag none =
     elim (test_cases (nat_lt rank n)) [
       | inl below ↦ elim (test_cases (nat_lt tag 2147483648)) [
-          | inl small ↦ rw (below, small) (keeps (ltb-true rank n below) (ltb-true tag 2147483648 small))
-          | inr large ↦ rw (below, large) (last_keeps n me own (Trap BadTag) x printed tt tt (trap_ends n me own BadTag))
+          | inl small ↦ (ltb-true rank n below, ltb-true tag 2147483648 small)
+          | inr large ↦ let some : Some BadTag ≡ None = rw (below, large) at none in absurd (cc)
         ]
-      | inr above ↦ rw above (last_keeps n me own (Trap BadRank) x printed tt tt (trap_ends n me own BadRank))
+      | inr above ↦ let some : Some BadRank ≡ None = rw above at none in absurd (cc)
     ]
+
+checked_keeps : (n me : ℕ) (fault : Option Fault) (own : View) (x : ℤ) (printed : List ℕ) (c : Course) → (fault ≡ None → Keeps n me own c) → Keeps n me own (checked fault x printed c)
+checked_keeps n me None own x printed c keeps = keeps refl
+checked_keeps n me (Some fault) own x printed c keeps = last_keeps n me own (Trap fault) x printed tt tt (trap_ends n me own fault)
 
 send_keeps : (n me dest tag : ℕ) (own : View) (x : ℤ) (printed : List ℕ) (c : Course) → dest < n → tag < 2 ^ 31 → Keeps n me (own ++ (Send 0 dest tag (x ∷ []), Done) ∷ []) c → Keeps n me own (asks (Send 0 dest tag (x ∷ [])) x printed (when_done printed c))
 send_keeps n me dest tag own x printed c below small keeps = ((below, small, omega arith), tt, by_reply)
@@ -162,8 +167,9 @@ steps_keep n me (Set value ∷ steps) x printed starts own counted = steps_keep 
 steps_keep n me (Print ∷ steps) x printed starts own counted = steps_keep n me steps x (printed ++ line_of x) starts own counted
 steps_keep n me (SendStep dest tag ∷ steps) x printed starts own counted =
     let call : Call = Send 0 dest tag (x ∷ []) in
-    checked_keeps n me dest tag own x printed _ (λ below small.
-    send_keeps n me dest tag own x printed _ below small
+    checked_keeps n me (fault_in n dest tag) own x printed _ (λ none.
+    let bounds = fault_in-none n dest tag none in
+    send_keeps n me dest tag own x printed _ bounds.0 bounds.1
     (steps_keep n me steps x printed (suc starts) (own ++ (call, Done) ∷ []) (rw starts_of-append (omega (arith, length-append (starts_of own) (call ∷ []))))))
 steps_keep n me (ReceiveStep source tag ∷ steps) x printed starts own counted =
     let post : Call = Post 0 (From source) (Is tag) 1 in
@@ -171,8 +177,9 @@ steps_keep n me (ReceiveStep source tag ∷ steps) x printed starts own counted 
     let starts_are : starts_of posted ≡ starts_of own ++ post ∷ [] = starts_of-append own ((post, Done) ∷ []) in
     let start : start_at posted starts ≡ Some post = rw (starts_are, ← counted) (slice_get-last (starts_of own) post) in
     let made : starts < length posted = omega (arith, length-append own ((post, Done) ∷ []), length-starts_of-le own) in
-    checked_keeps n me source tag own x printed _ (λ below small.
-    post_keeps n me source tag own x printed _ below small
+    checked_keeps n me (fault_in n source tag) own x printed _ (λ none.
+    let bounds = fault_in-none n source tag none in
+    post_keeps n me source tag own x printed _ bounds.0 bounds.1
     (completing_keeps n me starts source tag posted x printed _ start made (λ reply x.
     steps_keep n me steps x printed (suc starts) (posted ++ (Take (starts ∷ []) TakeAll, reply) ∷ [])
     (rw (starts_of-append, append-nil, starts_are) (omega (arith, length-append (starts_of own) (post ∷ [])))))))
@@ -274,15 +281,9 @@ with_message_grows printed x go (Some ints) grows = grows (received x ints)
 completing_grows : (k : ℕ) (x : ℤ) (printed : List ℕ) (go : ℤ → Course) → ((x : ℤ) → GrowsFrom printed (go x)) → GrowsFrom printed (completing k x printed go)
 completing_grows k x printed go grows = (prefix-refl printed, λ reply. with_message_grows printed x go (message_in reply) grows)
 
-checked_grows : (n rank tag : ℕ) (x : ℤ) (printed : List ℕ) (c : Course) → GrowsFrom printed c → GrowsFrom printed (checked n rank tag x printed c)
-checked_grows n rank tag x printed c grows =
-    elim (test_cases (nat_lt rank n)) [
-      | inl below ↦ elim (test_cases (nat_lt tag 2147483648)) [
-          | inl small ↦ rw (below, small) grows
-          | inr large ↦ rw (below, large) (last_grows (Trap BadTag) x printed)
-        ]
-      | inr above ↦ rw above (last_grows (Trap BadRank) x printed)
-    ]
+checked_grows : (fault : Option Fault) (x : ℤ) (printed : List ℕ) (c : Course) → GrowsFrom printed c → GrowsFrom printed (checked fault x printed c)
+checked_grows None x printed c grows = grows
+checked_grows (Some fault) x printed c grows = last_grows (Trap fault) x printed
 
 steps_grow : (n : ℕ) (steps : List SmallStep) (x : ℤ) (printed : List ℕ) (starts : ℕ) → GrowsFrom printed (course_of n steps x printed starts)
 steps_grow n [] x printed starts = last_grows End x printed
@@ -292,11 +293,11 @@ steps_grow n (Print ∷ steps) x printed starts =
     (prefix-trans printed (printed ++ line_of x) _ (prefix-append printed (line_of x)) later.0, later.1)
 steps_grow n (SendStep dest tag ∷ steps) x printed starts =
     let go : Course = course_of n steps x printed (suc starts) in
-    checked_grows n dest tag x printed (asks (Send 0 dest tag (x ∷ [])) x printed (when_done printed go))
+    checked_grows (fault_in n dest tag) x printed (asks (Send 0 dest tag (x ∷ [])) x printed (when_done printed go))
     (prefix-refl printed, λ reply. when_done_grows printed go reply (steps_grow n steps x printed (suc starts)))
 steps_grow n (ReceiveStep source tag ∷ steps) x printed starts =
     let go : ℤ → Course = λ x. course_of n steps x printed (suc starts) in
-    checked_grows n source tag x printed (asks (Post 0 (From source) (Is tag) 1) x printed (when_done printed (completing starts x printed go)))
+    checked_grows (fault_in n source tag) x printed (asks (Post 0 (From source) (Is tag) 1) x printed (when_done printed (completing starts x printed go)))
     (prefix-refl printed, λ reply. when_done_grows printed (completing starts x printed go) reply (completing_grows starts x printed go (λ x. steps_grow n steps x printed (suc starts))))
 
 grows_after : (c : Course) (replies : List Reply) → Grows c → GrowsFrom (printed_in c) (after c replies)

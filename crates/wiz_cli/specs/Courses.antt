@@ -80,12 +80,13 @@ completing k x printed go = asks (Take (k ∷ []) All) x printed (λ reply. with
 abbrev pub last_call : Call → ℤ → List ℕ → Course
 last_call call x printed = asks call x printed (λ reply. over printed)
 
--- the rank of a destination or a source is tested first, then the tag
-abbrev pub checked : ℕ → ℕ → ℕ → ℤ → List ℕ → Course → Course
-checked n rank tag x printed go =
-    if nat_lt rank n
-    then (if nat_lt tag 2147483648 then go else last_call (Trap BadTag) x printed)
-    else last_call (Trap BadRank) x printed
+-- the first fault of a call: the rank of its destination or source is tested first, then its tag
+abbrev pub fault_in : ℕ → ℕ → ℕ → Option Fault
+fault_in n rank tag = if nat_lt rank n then (if nat_lt tag 2147483648 then None else Some BadTag) else Some BadRank
+
+abbrev pub checked : Option Fault → ℤ → List ℕ → Course → Course
+checked (Some fault) x printed go = last_call (Trap fault) x printed
+checked None x printed go = go
 
 abbrev pub line_of : ℤ → List ℕ
 line_of x = number_text x ++ 10 ∷ []
@@ -96,10 +97,10 @@ course_of n [] x printed starts = last_call End x printed
 course_of n (Set value ∷ steps) x printed starts = course_of n steps value printed starts
 course_of n (Print ∷ steps) x printed starts = course_of n steps x (printed ++ line_of x) starts
 course_of n (SendStep dest tag ∷ steps) x printed starts =
-    checked n dest tag x printed
+    checked (fault_in n dest tag) x printed
     (asks (Send 0 dest tag (x ∷ [])) x printed (when_done printed (course_of n steps x printed (suc starts))))
 course_of n (ReceiveStep source tag ∷ steps) x printed starts =
-    checked n source tag x printed
+    checked (fault_in n source tag) x printed
     (asks (Post 0 (From source) (Is tag) 1) x printed
     (when_done printed (completing starts x printed (λ x. course_of n steps x printed (suc starts)))))
 

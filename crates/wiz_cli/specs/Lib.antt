@@ -1,3 +1,4 @@
 pub mod Courses
 pub mod CourseLaws
 pub mod SmallCalls
+pub mod States

@@ -2,3 +2,5 @@
 #![tactic(auto)]
 
 pub mod small_program;
+pub mod small_rank;
+mod small_state;
