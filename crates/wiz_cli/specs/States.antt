@@ -1,5 +1,5 @@
 -- What is left of a rank's course in the state between two calls.
-use Rattle.std.specs.Prelude.{◌≡◌, ◌≢◌, ◌+◌, ◌≤◌, ◌<◌, ◌^◌, ℕ, suc, ℤ, List, [], ◌∷◌, Option, Some, None, drop, length, option_map}
+use Rattle.std.specs.Prelude.{◌≡◌, ◌≢◌, ◌+◌, ◌≤◌, ◌<◌, ◌^◌, ℕ, suc, ℤ, List, [], ◌∷◌, Option, Some, None, Bool, true, drop, length, option_map}
 use Rattle.mpi_call.specs.declared.call.Call.{Call}
 use Rattle.mpi_call.specs.declared.call.Call.TheVariants.{Trap}
 use Rattle.mpi_call.specs.declared.call.Fault.{Fault}
@@ -7,10 +7,11 @@ use Rattle.mpi_call.specs.declared.reply.Item.{Item}
 use Rattle.mpi_call.specs.declared.reply.Reply.{Reply}
 use Rattle.wiz_cli.specs.declared.small_program.SmallStep.{SmallStep}
 use Rattle.wiz_cli.specs.declared.small_program.SmallStep.TheVariants.{Set, Print}
+use Rattle.wiz_cli.specs.declared.small_program.SmallProgram.{SmallProgram}
 use Rattle.wiz_cli.specs.declared.small_state.SmallPlace.{SmallPlace}
 use Rattle.wiz_cli.specs.declared.small_state.SmallPlace.TheVariants.{Before, Posted, Over}
 use Rattle.wiz_cli.specs.declared.small_state.SmallState.{SmallState}
-use Rattle.wiz_cli.specs.Courses.{Course, over, completing, course_of, message_in, received}
+use Rattle.wiz_cli.specs.Courses.{Course, over, after, completing, course_of, rank_course, message_in, received}
 
 -- the course from a place on, with these steps left
 abbrev pub course_at : ℕ → SmallPlace → List SmallStep → ℤ → List ℕ → ℕ → Course
@@ -56,3 +57,9 @@ IsOnly items None = length items ≢ 1
 abbrev pub call_for : Option Fault → Call → Call
 call_for (Some fault) call = Trap fault
 call_for None call = call
+
+-- a rank of a program in this state, which got these replies; where its call was handed out, it comes next
+pub record IsRankAt (program : SmallProgram) (n rank : ℕ) (replies : List Reply) (asked : Bool) (state : SmallState) : Type 0 where
+  pub follows : after (rank_course program n rank) replies ≡ rest_of n state
+  pub sized : IsSized state
+  pub settled : asked ≡ true → IsSettled state

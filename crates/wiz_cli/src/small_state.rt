@@ -126,6 +126,7 @@ impl SmallState {
         ensures rest { (n : ℕ) → rest_of n self.new ≡ rest_of n self.old }
         ensures sized { IsSized self.new }
         ensures steps { self.new.steps.items ≡ self.old.steps.items }
+        ensures still { IsSettled self.old → IsSettled self.new }
         ensures moved { IfOk result (λ moved. MatchBool moved (self.new.at ≡ self.old.at + 1) (IsSettled self.new)) }
     {
         let SmallPlace::Before = self.place else {
@@ -151,6 +152,7 @@ impl SmallState {
         requires { IsSized self.old }
         ensures rest { (n : ℕ) → rest_of n self.new ≡ rest_of n self.old }
         ensures sized { IsSized self.new }
+        ensures still { IsSettled self.old → IsSettled self.new }
         ensures settled { OnOk result (IsSettled self.new) }
     {
         while self.pass(alloc)? {}
