@@ -1,1 +1,2 @@
 pub mod SmallCallLaws
+pub mod TokenLaws
