@@ -1,12 +1,18 @@
 -- Laws of tokens: a text has one list of them at most, and how one token is found.
-use Rattle.std.proofs.Common.{◌≡◌, ◌<◌, ◌≤◌, ◌⊎◌, inl, inr, ℕ, zero, suc, List, [], ◌∷◌, ◌++◌, Bool, true, false, ◌&&◌, ◌||◌, ◌==◌, if◌then◌else◌, nat_le, refl, ap, sym, ◌∙◌, subst, arith, append_assoc}
+use Rattle.std.proofs.Common.{◌≡◌, ◌<◌, ◌≤◌, ◌⊎◌, inl, inr, ℕ, zero, suc, List, [], ◌∷◌, ◌++◌, Bool, true, false, ◌&&◌, ◌||◌, ◌==◌, if◌then◌else◌, nat_le, ◌+◌, ◌-◌, length, get_or, slice_index, take, drop, map, refl, ap, sym, ◌∙◌, subst, arith, append_assoc, length-drop}
 use Rattle.std.specs.Prelude.{codes, not}
 use Rattle.std.specs.List.{list_any, list_all}
-use Rattle.std.proofs.lemmas.Bool.{eqb-true}
-use Rattle.std.proofs.lemmas.List.{append-nil, append_cancel_left}
+use Rattle.std.proofs.lemmas.Bool.{eqb-true, le-leb}
+use Rattle.std.proofs.Math.Seq.{take-length}
+use Rattle.std.proofs.Math.Dec.{eqb-suc-zero}
+use Rattle.std.proofs.lemmas.List.{append-nil, append_cancel_left, get_or-map, length-map, take_more, take-append-drop}
+use Rattle.std.proofs.lemmas.List.Sums.{AllPass-from_list_all, list_all-from_AllPass}
+use Rattle.std.specs.Char.{IsAsciiDigit}
+use Rattle.wiz_base.specs.Decimals.{decimal_text}
+use Rattle.wiz_base.proofs.DecimalLaws.{decimal_text-bytes, decimal_text-nonempty}
 use Rattle.std.proofs.lemmas.List.Folds.{list_all-append}
 use Rattle.wiz_cli.specs.Tokens.{is_blank, is_name_byte, is_word, is_text, is_inside, is_mark, is_token, same_bytes, marks, words, IsNext, AreTokens}
-use Rattle.wiz_cli.specs.Reading.{skipped, is_known, goes_on, IsBehind, NeverBegins}
+use Rattle.wiz_cli.specs.Reading.{skipped, is_known, goes_on, EndsThere, IsRun, IsBehind, NeverBegins}
 use Rattle.wiz_cli.specs.CourseLaws.{test_cases}
 
 -- 1. bytes
@@ -298,10 +304,6 @@ skipped-is (byte ∷ bytes) =
     ]
 
 -- a known token is the next one where it stands and does not go on
-abbrev pub EndsThere : List ℕ → List ℕ → Type 0
-EndsThere token [] = Unit {0}
-EndsThere token (next ∷ rest) = goes_on token next ≡ false
-
 pub IsNext-known : (text token rest : List ℕ) → is_known token ≡ true → skipped text ≡ token ++ rest → EndsThere token rest → IsNext text token rest
 IsNext-known text token rest known is ends =
     let found = skipped-is text in
@@ -379,3 +381,127 @@ never_front a b text never more tokens = never (b ++ more) (rw append_assoc at t
 
 pub never_then : (a b : List (List ℕ)) (text mid : List ℕ) → IsBehind a text mid → NeverBegins b mid → NeverBegins (a ++ b) text
 never_then a b text mid behind never more tokens = never more (behind_same a (b ++ more) text mid behind (rw append_assoc at tokens))
+
+-- 5. a token that is looked for; `found` is the text behind its first blanks
+
+pub missing : (text found token rest : List ℕ) → found ≡ skipped text → ((rest : List ℕ) → found ≡ token ++ rest → ⊥) → IsNext text token rest → ⊥
+missing text found token rest is none next = none rest (is ∙ skipped-next text token rest next)
+
+pub grown : (text found token behind rest : List ℕ) → is_known token ≡ true → found ≡ skipped text → found ≡ token ++ behind → (EndsThere token behind → ⊥) → IsNext text token rest → ⊥
+grown text found token behind rest known is begins on next =
+    let same : rest ≡ behind = append_cancel_left token rest behind (sym (skipped-next text token rest next) ∙ sym is ∙ begins) in
+    on (subst (λ z. EndsThere token z) same (IsNext-ends text token rest known next))
+
+-- blanks alone are left exactly where nothing is left behind them
+pub ended : (text : List ℕ) → (length (skipped text) == 0) ≡ list_all is_blank text
+ended [] = refl
+ended (byte ∷ bytes) =
+    elim (test_cases (is_blank byte)) [
+      | inl blank ↦ rw blank (ended bytes)
+      | inr none ↦ rw none (eqb-suc-zero (length bytes))
+    ]
+
+-- 6. a list of tokens that are looked for, one after the other
+
+pub known_at : {B : Type 0} (f : B → List ℕ) (xs : List B) (i : ℕ) (d : B) → i < length xs → list_all is_known (map f xs) ≡ true → is_known (f (get_or xs i d)) ≡ true
+known_at f xs i d within all =
+    subst (λ z. is_known z ≡ true) (get_or-map f xs i d (f d) within)
+    (AllPass-from_list_all is_known (map f xs) all i (f d) (rw length-map within))
+
+take_passed : {B : Type 0} (f : B → List ℕ) (xs : List B) (i : ℕ) (d : B) → i < length xs → take (i + 1) (map f xs) ≡ take i (map f xs) ++ f (get_or xs i d) ∷ []
+take_passed f xs i d within =
+    take_more (map f xs) i (f d) (rw length-map within) ∙ ap (λ z. take i (map f xs) ++ z ∷ []) (get_or-map f xs i d (f d) within)
+
+pub passed_one : {B : Type 0} (f : B → List ℕ) (xs : List B) (i : ℕ) (d : B) (text mid rest : List ℕ) → i < length xs → IsBehind (take i (map f xs)) text mid → IsNext mid (f (get_or xs i d)) rest → IsBehind (take (i + 1) (map f xs)) text rest
+passed_one f xs i d text mid rest within behind next =
+    subst (λ z. IsBehind z text rest) (sym (take_passed f xs i d within))
+    (behind_then (take i (map f xs)) (f (get_or xs i d) ∷ []) text mid rest behind (behind_one (f (get_or xs i d)) mid rest next))
+
+pub stopped_at : {B : Type 0} (f : B → List ℕ) (xs : List B) (i : ℕ) (d : B) (text mid : List ℕ) → i < length xs → IsBehind (take i (map f xs)) text mid → ((rest : List ℕ) → IsNext mid (f (get_or xs i d)) rest → ⊥) → NeverBegins (map f xs) text
+stopped_at f xs i d text mid within behind none =
+    let never : NeverBegins (take i (map f xs) ++ f (get_or xs i d) ∷ []) text = never_then (take i (map f xs)) (f (get_or xs i d) ∷ []) text mid behind (never_one (f (get_or xs i d)) mid none) in
+    let all : take (i + 1) (map f xs) ++ drop (i + 1) (map f xs) ≡ map f xs = take-append-drop (i + 1) (map f xs) in
+    subst (λ z. NeverBegins z text) (ap (λ z. z ++ drop (i + 1) (map f xs)) (sym (take_passed f xs i d within)) ∙ all)
+    (never_front (take i (map f xs) ++ f (get_or xs i d) ∷ []) (drop (i + 1) (map f xs)) text never)
+
+-- 7. a number that is looked for
+
+abbrev StartsNoName : List ℕ → Type 0
+StartsNoName [] = Unit {0}
+StartsNoName (byte ∷ bytes) = is_name_byte byte ≡ false
+
+run_names : (text : List ℕ) (end : ℕ) → end ≤ length text → ((k : ℕ) → k < end → is_name_byte (slice_index text k) ≡ true) → list_all is_name_byte (take end text) ≡ true
+run_names text zero within names = refl
+run_names [] (suc end) within names = absurd (omega arith)
+run_names (byte ∷ bytes) (suc end) within names =
+    and_true (is_name_byte byte) _ (names 0 (omega arith))
+    ∙ run_names bytes end (omega arith) (λ k below. names (suc k) (omega arith))
+
+run_stop : (text : List ℕ) (end : ℕ) → (end < length text → is_name_byte (slice_index text end) ≡ false) → StartsNoName (drop end text)
+run_stop [] zero stop = tt
+run_stop [] (suc end) stop = tt
+run_stop (byte ∷ bytes) zero stop = stop (omega arith)
+run_stop (byte ∷ bytes) (suc end) stop = run_stop bytes end (λ within. stop (omega arith))
+
+runs_same : (a x b y : List ℕ) → a ++ x ≡ b ++ y → list_all is_name_byte a ≡ true → list_all is_name_byte b ≡ true → StartsNoName x → StartsNoName y → a ≡ b
+runs_same [] x [] y same one two left right = refl
+runs_same [] x (c ∷ b) y same one two left right =
+    let off : is_name_byte c ≡ false = subst StartsNoName same left in
+    let no : false ≡ true = sym off ∙ and_first (is_name_byte c) (list_all is_name_byte b) two in absurd (cc)
+runs_same (c ∷ a) x [] y same one two left right =
+    let off : is_name_byte c ≡ false = subst StartsNoName (sym same) right in
+    let no : false ≡ true = sym off ∙ and_first (is_name_byte c) (list_all is_name_byte a) one in absurd (cc)
+runs_same (c ∷ a) x (d ∷ b) y same one two left right =
+    let head : c ≡ d = cc in
+    let tail : a ++ x ≡ b ++ y = cc in
+    let rest : a ≡ b = runs_same a x b y tail (and_second (is_name_byte c) (list_all is_name_byte a) one) (and_second (is_name_byte d) (list_all is_name_byte b) two) left right in cc
+
+digit_name : (byte : ℕ) → IsAsciiDigit byte → is_name_byte byte ≡ true
+digit_name byte digit =
+    or_first (nat_le 48 byte && nat_le byte 57) _ (and_true (nat_le 48 byte) (nat_le byte 57) (le-leb 48 byte digit.0) ∙ le-leb byte 57 digit.1)
+  where
+    or_first : (a b : Bool) → a ≡ true → (a || b) ≡ true
+    or_first true b h = refl
+    or_first false b h = absurd (cc)
+
+word_all : (bytes : List ℕ) → 0 < length bytes → list_all is_name_byte bytes ≡ true → is_word bytes ≡ true
+word_all [] some all = absurd (omega arith)
+word_all (byte ∷ bytes) some all = all
+
+decimal_names : (number : ℕ) → list_all is_name_byte (decimal_text number) ≡ true
+decimal_names number = list_all-from_AllPass is_name_byte (decimal_text number) (λ k d within. digit_name _ (decimal_text-bytes number k d within))
+
+decimal_known : (number : ℕ) → is_known (decimal_text number) ≡ true
+decimal_known number =
+    let word : is_word (decimal_text number) ≡ true = word_all (decimal_text number) (decimal_text-nonempty number) (decimal_names number) in
+    rw word refl
+
+-- a token of names ends where no name goes on
+goes_on-word : (token : List ℕ) (next : ℕ) → 0 < length token → list_all is_name_byte token ≡ true → goes_on token next ≡ is_name_byte next
+goes_on-word [] next some all = absurd (omega arith)
+goes_on-word (byte ∷ bytes) next some all = goes_on-name byte bytes next (and_first (is_name_byte byte) (list_all is_name_byte bytes) all)
+
+ends_word : (token rest : List ℕ) → 0 < length token → list_all is_name_byte token ≡ true → StartsNoName rest → EndsThere token rest
+ends_word token [] some all stop = tt
+ends_word token (next ∷ rest) some all stop = goes_on-word token next some all ∙ stop
+
+stops_word : (token rest : List ℕ) → 0 < length token → list_all is_name_byte token ≡ true → EndsThere token rest → StartsNoName rest
+stops_word token [] some all ends = tt
+stops_word token (next ∷ rest) some all ends = sym (goes_on-word token next some all) ∙ ends
+
+pub number_found : (text found : List ℕ) (end number : ℕ) → found ≡ skipped text → IsRun found end → take end found ≡ decimal_text number → IsNext text (decimal_text number) (drop end found)
+number_found text found end number is run same =
+    IsNext-known text (decimal_text number) (drop end found) (decimal_known number)
+    (sym is ∙ sym (take-append-drop end found) ∙ ap (λ z. z ++ drop end found) same)
+    (ends_word (decimal_text number) (drop end found) (decimal_text-nonempty number) (decimal_names number) (run_stop found end run.stop))
+
+pub number_run : (text found rest : List ℕ) (end number : ℕ) → found ≡ skipped text → IsRun found end → IsNext text (decimal_text number) rest → take end found ≡ decimal_text number
+number_run text found rest end number is run next =
+    runs_same (take end found) (drop end found) (decimal_text number) rest
+    (take-append-drop end found ∙ is ∙ skipped-next text (decimal_text number) rest next)
+    (run_names found end run.within run.names) (decimal_names number) (run_stop found end run.stop)
+    (stops_word (decimal_text number) rest (decimal_text-nonempty number) (decimal_names number)
+    (IsNext-ends text (decimal_text number) rest (decimal_known number) next))
+
+pub take_rest : (text : List ℕ) (at : ℕ) → take (length text - at) (drop at text) ≡ drop at text
+take_rest text at = ap (λ n. take n (drop at text)) (sym (length-drop at text)) ∙ take-length (drop at text)

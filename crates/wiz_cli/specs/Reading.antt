@@ -14,11 +14,15 @@ is_known bytes = is_word bytes || list_any (same_bytes bytes) (words (codes "( )
 
 -- the next byte makes such a token longer
 abbrev pub goes_on : List ℕ → ℕ → Bool
-goes_on [] next = false
-goes_on (first ∷ bytes) next =
-    if is_name_byte first then is_name_byte next
-    else if first == 61 then same_bytes bytes [] && (next == 61)
-    else (first == 38) && ((next == 38) || (next == 61))
+goes_on token next =
+    if is_name_byte (slice_index token 0) then is_name_byte next
+    else if slice_index token 0 == 61 then (length token == 1) && (next == 61)
+    else (slice_index token 0 == 38) && ((next == 38) || (next == 61))
+
+-- the text behind a token does not make it longer
+abbrev pub EndsThere : List ℕ → List ℕ → Type 0
+EndsThere token [] = Unit {0}
+EndsThere token (next ∷ rest) = goes_on token next ≡ false
 
 -- the bytes of names before this place, and none there
 pub record IsRun (text : List ℕ) (end : ℕ) : Type 0 where

@@ -1,6 +1,8 @@
 //! The command line tool as a function of its words and files.
 #![tactic(auto)]
 
+pub mod small_fault;
 pub mod small_program;
 pub mod small_rank;
+mod small_source;
 mod small_state;
