@@ -1,2 +1,3 @@
 pub mod SmallCallLaws
 pub mod TokenLaws
+pub mod ReadingLaws

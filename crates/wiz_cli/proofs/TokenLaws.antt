@@ -1,5 +1,5 @@
 -- Laws of tokens: a text has one list of them at most, and how one token is found.
-use Rattle.std.proofs.Common.{◌≡◌, ◌<◌, ◌≤◌, ◌⊎◌, inl, inr, ℕ, zero, suc, List, [], ◌∷◌, ◌++◌, Bool, true, false, ◌&&◌, ◌||◌, ◌==◌, if◌then◌else◌, nat_le, ◌+◌, ◌-◌, length, get_or, slice_index, take, drop, map, refl, ap, sym, ◌∙◌, subst, arith, append_assoc, length-drop}
+use Rattle.std.proofs.Common.{◌≡◌, ◌<◌, ◌≤◌, ◌⊎◌, inl, inr, ℕ, zero, suc, List, [], ◌∷◌, ◌++◌, Bool, true, false, ◌&&◌, ◌||◌, ◌==◌, if◌then◌else◌, nat_le, ◌+◌, ◌-◌, length, get_or, slice_index, take, drop, map, refl, ap, sym, ◌∙◌, subst, arith, append_assoc, length-append, length-drop}
 use Rattle.std.specs.Prelude.{codes, not}
 use Rattle.std.specs.List.{list_any, list_all}
 use Rattle.std.proofs.lemmas.Bool.{eqb-true, le-leb}
@@ -347,16 +347,20 @@ blank_no_token text (byte ∷ bytes) rest all next =
     let no : [] ≡ byte ∷ (bytes ++ rest) = sym (skipped-blank text all) ∙ skipped-next text (byte ∷ bytes) rest next in absurd (cc)
 
 pub behind_none : (text : List ℕ) → IsBehind [] text text
-behind_none text = record { back = λ more tokens. tokens; on = λ all tokens. (all, refl, tokens) }
+behind_none text = record { back = λ more tokens. tokens; on = λ all tokens. (all, refl, tokens); shorter = omega arith }
 
 pub behind_one : (token text rest : List ℕ) → IsNext text token rest → IsBehind (token ∷ []) text rest
-behind_one token text rest next = record { back = λ more tokens. (rest, next, tokens); on = on }
+behind_one token text rest next = record { back = λ more tokens. (rest, next, tokens); on = on; shorter = shorter token next }
   where
     on : (all : List (List ℕ)) → AreTokens text all → (more : List (List ℕ)) × (all ≡ (token ∷ []) ++ more) × AreTokens rest more
     on [] tokens = absurd (blank_no_token text token rest tokens next)
     on (other ∷ all) (behind, is, tokens) =
         let one = IsNext-one text token rest other behind next is in
         (all, ap (λ z. z ∷ all) (sym one.0), subst (λ z. AreTokens z all) (sym one.1) tokens)
+    shorter : (token : List ℕ) → IsNext text token rest → length rest + 1 ≤ length text
+    shorter [] next = let no : false ≡ true = sym no_empty_token ∙ next.proper in absurd (cc)
+    shorter (byte ∷ bytes) next =
+        omega (arith, ap length next.is, length-append next.blanks ((byte ∷ bytes) ++ rest), length-append (byte ∷ bytes) rest)
 
 pub behind_then : (a b : List (List ℕ)) (text mid rest : List ℕ) → IsBehind a text mid → IsBehind b mid rest → IsBehind (a ++ b) text rest
 behind_then a b text mid rest one two = record {
@@ -365,6 +369,7 @@ behind_then a b text mid rest one two = record {
       let (middle, first, at) = one.on all tokens in
       let (more, second, left) = two.on middle at in
       (more, first ∙ ap (λ z. a ++ z) second ∙ sym (append_assoc a b more), left);
+  shorter = omega (arith, one.shorter, two.shorter, length-append a b);
 }
 
 -- behind the first tokens come the others

@@ -4,5 +4,6 @@
 pub mod small_fault;
 pub mod small_program;
 pub mod small_rank;
-mod small_source;
+pub mod small_source;
 mod small_state;
+mod small_tokens;

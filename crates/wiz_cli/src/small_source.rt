@@ -1,152 +1,200 @@
-//! The text of a program of the small form, token by token.
-ghost use Rattle.std.specs.Prelude.{◌≡◌, ◌++◌, ℕ, List, IsTrue, MatchBool, MatchOption, map, false};
+//! Programs of the small form, read from their text.
+ghost use Rattle.std.specs.Prelude.{◌≡◌, ◌≤◌, ◌++◌, ◌∷◌, [], OnOk, IfOk, IfErr, IsTrue, codes, length, map};
 ghost use Rattle.std.specs.List.{list_all};
-ghost use Rattle.wiz_base.specs.Decimals.{decimal_text};
-ghost use Rattle.wiz_cli.specs.Reading.{EndsThere, IsBehind, IsRun, NeverBegins, goes_on, is_known, skipped};
-ghost use Rattle.wiz_cli.specs.SmallTexts.{IsNumber};
-ghost use Rattle.wiz_cli.specs.Tokens.{IsNext, is_blank, is_name_byte};
+ghost use Rattle.wiz_cli.specs.declared.small_fault.SmallFault.TheVariants.{NotBuilt, NoMemory};
+ghost use Rattle.wiz_cli.specs.declared.small_program.SmallProgram.{SmallProgram};
+ghost use Rattle.wiz_cli.specs.Reading.{AreNumbers, ChoiceHasNumbers, IsFound, IsReading, IsStepOf, ProgramHasNumbers, start_tokens, test_tokens, block_tokens, is_known, main_tokens, number_tokens, tail_tokens, transfer_tokens};
+ghost use Rattle.wiz_cli.specs.SmallTexts.{AllHaveNumbers, BodyHasNumbers, ChoicesHaveNumbers, HasNumbers, IsNumber, IsSmallText, body_tokens, choice_tokens, program_tokens, step_tokens};
 
-use std::marker::Model;
-use wiz_base::decimal;
+use crate::small_fault::SmallFault;
+use crate::small_program::{Choices, SmallBody, SmallChoice, SmallProgram, SmallStep, Steps};
+use crate::small_tokens::Source;
+use std::alloc::Global;
 
-/// The largest number of a text.
-const LARGEST: u64 = 2147483647;
-
-/// What is left of a text. Contracts see its bytes. Nothing here takes memory.
-#[derive(Drop)]
-pub struct Source<'a> {
-    rest: &'a [u8],
-}
-
-impl<'a> Model for Source<'a> {
-    ghost use Rattle.std.specs.Prelude.{List, ℕ};
-
-    ghost Value = { List ℕ };
-
-    ghost view = { λ s. s.rest.now };
-}
-
-/// Whether a byte stands between tokens.
-fn is_blank(byte: u8) -> bool
-    ensures { result ≡ is_blank byte }
+/// Reads the program that a text spells, in time linear in the text. Texts of programs have at most 65,536 bytes.
+pub fn read_small(alloc: Global, text: &[u8]) -> Result<SmallProgram, SmallFault>
+    requires { length text.now ≤ 65536 }
+    ensures program { IfOk result (λ program. IsSmallText text.now program) }
+    ensures refused { result ≡ Err NotBuilt → (program : SmallProgram) → IsSmallText text.now program → ⊥ }
 {
-    byte == b'\t' || byte == b'\n' || byte == b'\r' || byte == b' '
+    let mut source = Source::new(text);
+    let program = read_program(alloc, &mut source)?;
+    if !source.is_at_end() {
+        return Err(SmallFault::NotBuilt);
+    }
+    Ok(program)
 }
 
-/// Whether a byte stands in names and numbers.
-fn is_name_byte(byte: u8) -> bool
-    ensures { result ≡ is_name_byte byte }
+/// Reads all tokens of a program.
+fn read_program(alloc: Global, source: &mut Source) -> Result<SmallProgram, SmallFault>
+    ensures { IsReading program_tokens ProgramHasNumbers source.old result source.new }
 {
-    byte.is_ascii_alphanumeric() || byte == b'_'
+    let initial = read_start(source).ok_or(SmallFault::NotBuilt)?;
+    let choices = read_choices(alloc, source)?;
+    source.tokens(&["0", ";", "}"]).ok_or(SmallFault::NotBuilt)?;
+    Ok(SmallProgram {
+        initial: initial as i32,
+        choices,
+    })
 }
 
-/// The text behind its first blanks.
-fn skip_blanks(text: &[u8]) -> &[u8]
-    ensures { result.now ≡ skipped text.now }
+/// Reads what stands before the choices.
+fn read_start(source: &mut Source) -> Option<u32>
+    ensures { IsFound start_tokens IsNumber source.old result source.new }
 {
-    let mut rest = text;
-    while let [first, after @ ..] = rest {
-        if !is_blank(*first) {
-            break;
-        }
-        rest = after;
-    }
-    rest
+    source.tokens(&["int", "main", "(", "void", ")", "{", "int", "r", ",", "x", "="])?;
+    read_number(
+        source,
+        &[";", "MPI_Comm_rank", "(", "MPI_COMM_WORLD", ",", "&", "r", ")", ";"],
+    )
 }
 
-/// How many bytes of names the text begins with.
-fn run_end(text: &[u8]) -> usize
-    ensures { IsRun text.now result }
+/// Reads choices up to and with the `return`.
+fn read_choices(alloc: Global, source: &mut Source) -> Result<Choices, SmallFault>
+    ensures { IsReading main_tokens ChoicesHaveNumbers source.old result source.new }
 {
-    let mut end = 0;
-    while end < text.len() && is_name_byte(text[end]) {
-        end += 1;
+    let mut choices = Choices::new(alloc);
+    while !source.token(b"return") {
+        let choice = read_choice(alloc, source)?;
+        add_choice(&mut choices, choice)?;
     }
-    end
+    Ok(choices)
 }
 
-/// Whether the next byte makes a token longer.
-fn goes_on(token: &[u8], next: u8) -> bool
-    ensures { result ≡ goes_on token.now next }
+fn read_choice(alloc: Global, source: &mut Source) -> Result<SmallChoice, SmallFault>
+    ensures { IsReading choice_tokens ChoiceHasNumbers source.old result source.new }
 {
-    if token.is_empty() {
-        return false;
-    }
-    if is_name_byte(token[0]) {
-        return is_name_byte(next);
-    }
-    match token[0] {
-        b'=' => token.len() == 1 && next == b'=',
-        b'&' => next == b'&' || next == b'=',
-        _ => false,
-    }
+    let rank = read_test(source).ok_or(SmallFault::NotBuilt)?;
+    let body = read_body(alloc, source)?;
+    Ok(SmallChoice { rank, body })
 }
 
-/// Whether the text behind a token does not make it longer.
-fn ends_there(token: &[u8], rest: &[u8]) -> bool
-    ensures { MatchBool result (EndsThere token.now rest.now) (EndsThere token.now rest.now → ⊥) }
+/// Reads the test of a rank.
+fn read_test(source: &mut Source) -> Option<u32>
+    ensures { IsFound test_tokens IsNumber source.old result source.new }
 {
-    rest.is_empty() || !goes_on(token, rest[0])
+    source.tokens(&["if", "(", "r", "=="])?;
+    read_number(source, &[")"])
 }
 
-/// The text behind a token, where the text begins with it.
-fn behind<'a>(text: &'a [u8], token: &[u8]) -> Option<&'a [u8]>
-    ensures { MatchOption result ((rest : List ℕ) → text.now ≡ token.now ++ rest → ⊥) (λ rest. text.now ≡ token.now ++ rest.now) }
+fn read_body(alloc: Global, source: &mut Source) -> Result<SmallBody, SmallFault>
+    ensures { IsReading body_tokens BodyHasNumbers source.old result source.new }
 {
-    text.strip_prefix(token)
+    if source.token(b"{") {
+        return Ok(SmallBody::Block(read_steps(alloc, source)?));
+    }
+    let step = read_step(source).ok_or(SmallFault::NotBuilt)?;
+    Ok(SmallBody::Single(step))
 }
 
-impl<'a> Source<'a> {
-    pub fn new(text: &'a [u8]) -> Self
-        ensures { result ≡ text.now }
-    {
-        Source { rest: text }
+/// Reads steps up to and with the closing brace.
+fn read_steps(alloc: Global, source: &mut Source) -> Result<Steps, SmallFault>
+    ensures { IsReading block_tokens AllHaveNumbers source.old result source.new }
+{
+    let mut steps = Steps::new(alloc);
+    while !source.token(b"}") {
+        let step = read_step(source).ok_or(SmallFault::NotBuilt)?;
+        add_step(&mut steps, step)?;
     }
+    Ok(steps)
+}
 
-    /// Whether this token comes next; then it is passed.
-    pub fn token(&mut self, token: &[u8]) -> bool
-        requires { IsTrue (is_known token.now) }
-        ensures found { MatchBool result (IsNext self.old token.now self.new) ((rest : List ℕ) → IsNext self.old token.now rest → ⊥) }
-        ensures left { result ≡ false → self.new ≡ self.old }
-    {
-        let Some(rest) = behind(skip_blanks(self.rest), token) else {
-            return false;
-        };
-        if !ends_there(token, rest) {
-            return false;
-        }
-        self.rest = rest;
-        true
+fn read_step(source: &mut Source) -> Option<SmallStep>
+    ensures { IsFound step_tokens HasNumbers source.old result source.new }
+{
+    if source.token(b"x") {
+        return read_set(source);
     }
-
-    /// Passes these tokens, where they come next.
-    pub fn tokens(&mut self, tokens: &[&str]) -> Option<()>
-        requires { IsTrue (list_all is_known (map (λ t. t.now) tokens.now)) }
-        ensures { MatchOption result (NeverBegins (map (λ t. t.now) tokens.now) self.old) (λ _. IsBehind (map (λ t. t.now) tokens.now) self.old self.new) }
-    {
-        for token in tokens {
-            if !self.token(token.as_bytes()) {
-                return None;
-            }
-        }
-        Some(())
+    if source.token(b"printf") {
+        return read_print(source);
     }
-
-    /// Passes a number, where one comes next.
-    pub fn number(&mut self) -> Option<u32>
-        ensures { MatchOption result ((number : ℕ) (rest : List ℕ) → IsNumber number → IsNext self.old (decimal_text number) rest → ⊥) (λ number. IsNumber number × IsNext self.old (decimal_text number) self.new) }
-    {
-        let text = skip_blanks(self.rest);
-        let end = run_end(text);
-        let number = decimal(&text[..end], LARGEST)?;
-        self.rest = &text[end..];
-        Some(number as u32)
+    if source.token(b"MPI_Send") {
+        return read_send(source);
     }
+    if source.token(b"MPI_Recv") {
+        return read_receive(source);
+    }
+    None
+}
 
-    /// Whether blanks alone are left.
-    pub fn is_at_end(&self) -> bool
-        ensures { result ≡ list_all is_blank self.now }
-    {
-        skip_blanks(self.rest).is_empty()
+/// Reads an assignment behind its `x`.
+fn read_set(source: &mut Source) -> Option<SmallStep>
+    ensures { IsFound tail_tokens (IsStepOf (codes "x")) source.old result source.new }
+{
+    source.tokens(&["="])?;
+    let value = read_number(source, &[";"])?;
+    Some(SmallStep::Set {
+        value: value as i32,
+    })
+}
+
+/// Reads a printf behind its name.
+fn read_print(source: &mut Source) -> Option<SmallStep>
+    ensures { IsFound tail_tokens (IsStepOf (codes "printf")) source.old result source.new }
+{
+    source.tokens(&["(", "\"%d\\n\"", ",", "x", ")", ";"])?;
+    Some(SmallStep::Print)
+}
+
+/// Reads a send behind its name.
+fn read_send(source: &mut Source) -> Option<SmallStep>
+    ensures { IsFound tail_tokens (IsStepOf (codes "MPI_Send")) source.old result source.new }
+{
+    let (dest, tag) = read_transfer(source, &[",", "MPI_COMM_WORLD", ")", ";"])?;
+    Some(SmallStep::Send { dest, tag })
+}
+
+/// Reads a receive behind its name.
+fn read_receive(source: &mut Source) -> Option<SmallStep>
+    ensures { IsFound tail_tokens (IsStepOf (codes "MPI_Recv")) source.old result source.new }
+{
+    let (source_rank, tag) = read_transfer(
+        source,
+        &[",", "MPI_COMM_WORLD", ",", "MPI_STATUS_IGNORE", ")", ";"],
+    )?;
+    Some(SmallStep::Receive {
+        source: source_rank,
+        tag,
+    })
+}
+
+/// Reads the arguments of a send or a receive, and these tokens behind the tag: the other rank and the tag.
+fn read_transfer(source: &mut Source, ending: &[&str]) -> Option<(u32, u32)>
+    requires { IsTrue (list_all is_known (map (λ t. t.now) ending.now)) }
+    ensures { IsFound (transfer_tokens (map (λ t. t.now) ending.now)) AreNumbers source.old result source.new }
+{
+    source.tokens(&["(", "&", "x", ",", "1", ",", "MPI_INT", ","])?;
+    let rank = read_number(source, &[","])?;
+    let tag = read_number(source, ending)?;
+    Some((rank, tag))
+}
+
+/// Reads a number and the tokens behind it.
+fn read_number(source: &mut Source, ending: &[&str]) -> Option<u32>
+    requires { IsTrue (list_all is_known (map (λ t. t.now) ending.now)) }
+    ensures { IsFound (number_tokens (map (λ t. t.now) ending.now)) IsNumber source.old result source.new }
+{
+    let number = source.number()?;
+    source.tokens(ending)?;
+    Some(number)
+}
+
+fn add_step(steps: &mut Steps, step: SmallStep) -> Result<(), SmallFault>
+    ensures ok { OnOk result (steps.new ≡ steps.old ++ step ∷ []) }
+    ensures err { IfErr result (λ fault. fault ≡ NoMemory) }
+{
+    match steps.push(step) {
+        Ok(()) => Ok(()),
+        Err(_) => Err(SmallFault::NoMemory),
+    }
+}
+
+fn add_choice(choices: &mut Choices, choice: SmallChoice) -> Result<(), SmallFault>
+    ensures ok { OnOk result (choices.new ≡ choices.old ++ choice ∷ []) }
+    ensures err { IfErr result (λ fault. fault ≡ NoMemory) }
+{
+    match choices.push(choice) {
+        Ok(()) => Ok(()),
+        Err(_) => Err(SmallFault::NoMemory),
     }
 }

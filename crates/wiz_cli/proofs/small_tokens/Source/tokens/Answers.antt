@@ -2,7 +2,7 @@ use Rattle.std.proofs.Common.{◌≡◌, List, ℕ, true, sym, ◌∙◌, ap, su
 use Rattle.wiz_cli.specs.Reading.{is_known}
 use Rattle.wiz_cli.specs.Tokens.{IsNext}
 use Rattle.wiz_cli.proofs.TokenLaws.{known_at, passed_one, stopped_at}
-use Rattle.wiz_cli.proofs.small_source.Source.tokens.Goals as goal
+use Rattle.wiz_cli.proofs.small_tokens.Source.tokens.Goals as goal
 
 pub token-requires : goal.token-requires
 token-requires c =

@@ -1,7 +1,7 @@
 use Rattle.std.proofs.Common.{sym, ◌∙◌, ap}
 use Rattle.wiz_cli.specs.Reading.{skipped}
 use Rattle.wiz_cli.proofs.TokenLaws.{IsNext-known, grown, missing}
-use Rattle.wiz_cli.proofs.small_source.Source.token.Goals as goal
+use Rattle.wiz_cli.proofs.small_tokens.Source.token.Goals as goal
 
 pub returns-in_default-clause-found : goal.returns-in_default-clause-found
 returns-in_default-clause-found c = λ rest next.

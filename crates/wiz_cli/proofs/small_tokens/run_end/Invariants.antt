@@ -1,6 +1,6 @@
 use Rattle.std.proofs.Common.{◌≡◌, ◌≤◌, ◌<◌, ◌-◌, ℕ, length, slice_index, true}
 use Rattle.wiz_cli.specs.Tokens.{is_name_byte}
-use Rattle.wiz_cli.proofs.small_source.run_end.Given as goal
+use Rattle.wiz_cli.proofs.small_tokens.run_end.Given as goal
 
 abbrev pub invariant-loop-end : goal.invariant-loop-end
 invariant-loop-end l = record {

@@ -3,7 +3,7 @@ use Rattle.wiz_base.specs.Decimals.{decimal_text}
 use Rattle.wiz_cli.specs.Reading.{skipped}
 use Rattle.wiz_cli.specs.Tokens.{IsNext}
 use Rattle.wiz_cli.proofs.TokenLaws.{number_found, number_run, take_rest}
-use Rattle.wiz_cli.proofs.small_source.Source.number.Goals as goal
+use Rattle.wiz_cli.proofs.small_tokens.Source.number.Goals as goal
 
 pub returns-in_err-number : goal.returns-in_err-number
 returns-in_err-number c = rw c.from_residual.ensures (λ number rest least next.
