@@ -1,0 +1,3 @@
+pub mod SmallCallLaws
+pub mod TokenLaws
+pub mod ReadingLaws

@@ -1,2 +1,9 @@
 pub mod CallTexts
+pub mod Courses
+pub mod CourseLaws
+pub mod Reading
+pub mod SmallCalls
+pub mod SmallTexts
+pub mod States
+pub mod Tokens
 pub mod TraceTexts

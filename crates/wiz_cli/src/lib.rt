@@ -2,4 +2,10 @@
 #![tactic(auto)]
 
 mod call_text;
+pub mod small_fault;
+pub mod small_program;
+pub mod small_rank;
+pub mod small_source;
+mod small_state;
+mod small_tokens;
 pub mod trace;

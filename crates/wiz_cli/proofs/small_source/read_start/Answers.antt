@@ -1,0 +1,14 @@
+use Rattle.std.specs.Prelude.{codes}
+use Rattle.wiz_cli.specs.Reading.{number_tokens}
+use Rattle.wiz_cli.specs.SmallTexts.{IsNumber}
+use Rattle.wiz_cli.specs.Tokens.{words}
+use Rattle.wiz_cli.proofs.ReadingLaws.{found_then, none_front}
+use Rattle.wiz_cli.proofs.small_source.read_start.Goals as goal
+
+pub returns-in_err-tokens : goal.returns-in_err-tokens
+returns-in_err-tokens c = rw c.from_residual.ensures
+    (none_front (words (codes "int main ( void ) { int r , x =")) (number_tokens (words (codes "; MPI_Comm_rank ( MPI_COMM_WORLD , & r ) ;"))) IsNumber c.args.source.now c.in_err-tokens.ensures)
+
+pub returns : goal.returns
+returns c = found_then (words (codes "int main ( void ) { int r , x =")) (number_tokens (words (codes "; MPI_Comm_rank ( MPI_COMM_WORLD , & r ) ;"))) IsNumber
+    c.args.source.now c.tokens.new.self c.read_number.new.source c.read_number.result c.in_ok-tokens.ensures c.read_number.ensures

@@ -1,0 +1,13 @@
+use Rattle.std.proofs.Common.{length}
+use Rattle.wiz_cli.specs.Reading.{IsBehind}
+use Rattle.wiz_cli.specs.SmallTexts.{AllHaveNumbers, steps_tokens}
+use Rattle.wiz_cli.proofs.small_source.read_steps.Given as goal
+
+abbrev pub invariant-loop : goal.invariant-loop
+invariant-loop l = record {
+  behind : IsBehind (steps_tokens l.steps) l.initial.source l.source;
+  good : AllHaveNumbers l.steps;
+}
+
+abbrev pub decreases-loop : goal.decreases-loop
+decreases-loop l = length l.source
