@@ -1,0 +1,197 @@
+//! The text of an entry.
+ghost use Rattle.std.specs.Prelude.{◌≡◌, ◌∷◌, ◌++◌, OnOk, OnErr, map};
+ghost use Rattle.mpi_call.specs.Halts.{fault_number};
+ghost use Rattle.srr_log.specs.EntryText.{each_behind, by_commas, ints_text, name_text, mark_text, item_text, halt_number, halt_details, entry_line};
+ghost use Rattle.wiz_base.specs.Decimals.{decimal_text, number_text};
+
+use mpi_call::call::{Fault, Halt};
+use srr_entry::entry::{Entry, Mark, Marked};
+use std::alloc::{AllocError, Global};
+use wiz_base::{Bytes, push_decimal, push_number, push_text};
+
+/// Appends an entry's line without its newline, all or nothing. The line is built apart, so this takes its length twice.
+pub fn entry_text(alloc: Global, out: &mut Bytes, entry: &Entry) -> Result<(), AllocError>
+    ensures ok { OnOk result (out.new ≡ out.old ++ entry_line entry.now) }
+    ensures err { OnErr result (out.new ≡ out.old) }
+{
+    let mut line = Bytes::new(alloc);
+    push_entry(&mut line, entry)?;
+    out.extend(line.as_slice())
+}
+
+fn push_entry(out: &mut Bytes, entry: &Entry) -> Result<(), AllocError>
+    ensures { OnOk result (out.new ≡ out.old ++ entry_line entry.now) }
+{
+    match entry {
+        Entry::Sent => push_text(out, b"s"),
+        Entry::Posted => push_text(out, b"p"),
+        Entry::Entered => push_text(out, b"e"),
+        Entry::Ended => push_text(out, b"z"),
+        Entry::Took(items) => {
+            push_text(out, b"t")?;
+            push_items(out, items.as_slice())
+        }
+        Entry::NotYet => push_text(out, b"n"),
+        Entry::PeekedInside { source, start } => {
+            push_text(out, b"k ")?;
+            push_name(out, *source, *start)
+        }
+        Entry::PeekedOutside {
+            source,
+            start,
+            tag,
+            count,
+        } => {
+            push_text(out, b"k ")?;
+            push_name(out, *source, *start)?;
+            push_behind(out, b'.', *tag)?;
+            push_behind(out, b':', *count)
+        }
+        Entry::Stopped(halt) => {
+            push_text(out, b"x ")?;
+            push_decimal(out, halt_number(halt) as u64)?;
+            push_details(out, halt)
+        }
+    }
+}
+
+/// A mark and a number.
+fn push_behind(out: &mut Bytes, mark: u8, number: u32) -> Result<(), AllocError>
+    ensures { OnOk result (out.new ≡ out.old ++ mark ∷ decimal_text number) }
+{
+    push_text(out, &[mark])?;
+    push_decimal(out, number as u64)
+}
+
+fn push_name(out: &mut Bytes, source: u8, start: u32) -> Result<(), AllocError>
+    ensures { OnOk result (out.new ≡ out.old ++ name_text source start) }
+{
+    push_decimal(out, source as u64)?;
+    push_behind(out, b'.', start)
+}
+
+/// Each item behind a blank.
+fn push_items(out: &mut Bytes, items: &[Marked]) -> Result<(), AllocError>
+    ensures { OnOk result (out.new ≡ out.old ++ each_behind 32 (map item_text items.now)) }
+{
+    let mut rest = items;
+    while let [item, after @ ..] = rest {
+        push_behind(out, b' ', item.index)?;
+        push_text(out, b"=")?;
+        push_mark(out, &item.mark)?;
+        rest = after;
+    }
+    Ok(())
+}
+
+fn push_mark(out: &mut Bytes, mark: &Mark) -> Result<(), AllocError>
+    ensures { OnOk result (out.new ≡ out.old ++ mark_text mark.now) }
+{
+    match mark {
+        Mark::Sent => push_text(out, b"s"),
+        Mark::Nothing => push_text(out, b"n"),
+        Mark::Inside { source, start } => push_name(out, *source, *start),
+        Mark::Outside {
+            source,
+            start,
+            tag,
+            ints,
+        } => {
+            push_name(out, *source, *start)?;
+            push_behind(out, b'.', *tag)?;
+            push_text(out, b":")?;
+            push_ints(out, ints.as_slice())
+        }
+        Mark::Inner => push_text(out, b"c"),
+        Mark::Outer { ints } => {
+            push_text(out, b"c:")?;
+            push_ints(out, ints.as_slice())
+        }
+        Mark::Made { comm } => {
+            push_text(out, b"m.")?;
+            push_decimal(out, *comm as u64)
+        }
+        Mark::MadeOutside { comm, members } => {
+            push_text(out, b"m.")?;
+            push_decimal(out, *comm as u64)?;
+            push_text(out, b":")?;
+            push_members(out, members.as_slice())
+        }
+    }
+}
+
+/// Ints with commas between.
+fn push_ints(out: &mut Bytes, ints: &[i32]) -> Result<(), AllocError>
+    ensures { OnOk result (out.new ≡ out.old ++ ints_text ints.now) }
+{
+    let [first, others @ ..] = ints else {
+        return Ok(());
+    };
+    push_number(out, *first as i64)?;
+    let mut rest = others;
+    while let [int, after @ ..] = rest {
+        push_text(out, b",")?;
+        push_number(out, *int as i64)?;
+        rest = after;
+    }
+    Ok(())
+}
+
+/// Ranks with commas between.
+fn push_members(out: &mut Bytes, members: &[u8]) -> Result<(), AllocError>
+    ensures { OnOk result (out.new ≡ out.old ++ by_commas (map decimal_text members.now)) }
+{
+    let [first, others @ ..] = members else {
+        return Ok(());
+    };
+    push_decimal(out, *first as u64)?;
+    let mut rest = others;
+    while let [member, after @ ..] = rest {
+        push_behind(out, b',', *member as u32)?;
+        rest = after;
+    }
+    Ok(())
+}
+
+fn halt_number(halt: &Halt) -> u8
+    ensures { result ≡ halt_number halt.now }
+{
+    match halt {
+        Halt::Aborted { .. } => 1,
+        Halt::Trapped { .. } => 2,
+        Halt::Truncated { .. } => 3,
+        Halt::Mismatched { .. } => 4,
+        Halt::BadRequest { .. } => 5,
+        Halt::Limit => 6,
+        Halt::Stuck => 7,
+    }
+}
+
+fn fault_number(fault: Fault) -> u8
+    ensures { result ≡ fault_number fault }
+{
+    fault as u8 + 1
+}
+
+/// What a halt names, each behind a blank.
+fn push_details(out: &mut Bytes, halt: &Halt) -> Result<(), AllocError>
+    ensures { OnOk result (out.new ≡ out.old ++ halt_details halt.now) }
+{
+    match halt {
+        Halt::Aborted { rank, code } => {
+            push_behind(out, b' ', *rank as u32)?;
+            push_text(out, b" ")?;
+            push_number(out, *code as i64)
+        }
+        Halt::Trapped { rank, fault } => {
+            push_behind(out, b' ', *rank as u32)?;
+            push_behind(out, b' ', fault_number(*fault) as u32)
+        }
+        Halt::Truncated { rank, start } | Halt::BadRequest { rank, start } => {
+            push_behind(out, b' ', *rank as u32)?;
+            push_behind(out, b' ', *start)
+        }
+        Halt::Mismatched { rank } => push_behind(out, b' ', *rank as u32),
+        Halt::Limit | Halt::Stuck => Ok(()),
+    }
+}
