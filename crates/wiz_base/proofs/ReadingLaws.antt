@@ -1,10 +1,12 @@
 -- The reading of a text as a number is one: each refusal comes exactly where its words say, and a number that is
 -- written is read back.
-use Rattle.std.proofs.Common.{◌≡◌, ℕ, zero, suc, ◌<◌, ◌≤◌, inl, inr, List, [], ◌∷◌, length, get_or, Option, Some, None, Result, Ok, Err, refl, sym, ◌∙◌, ap, arith}
+use Rattle.std.proofs.Common.{◌≡◌, ℕ, zero, suc, ◌<◌, ◌≤◌, ◌⊎◌, inl, inr, List, [], ◌∷◌, length, get_or, Option, Some, None, Result, Ok, Err, refl, sym, ◌∙◌, ap, arith}
 use Rattle.std.specs.Prelude.{slice_index, codes, ℤ, pos, negsuc, FitsSigned}
 use Rattle.std.specs.Int.{w64}
 use Rattle.std.specs.Char.{IsAsciiDigit}
-use Rattle.std.proofs.lemmas.Bool.{cases_order, ne_eqb}
+use Rattle.std.proofs.lemmas.Bool.{cases_order, cases_eq, cases_lt, ne_eqb}
+use Rattle.std.proofs.lemmas.List.{get_or_past}
+use Rattle.wiz_base.proofs.ReadingLemmas.{spelled}
 use Rattle.wiz_base.specs.declared.fault.NumberFault.{NumberFault}
 use Rattle.wiz_base.specs.declared.fault.NumberFault.TheVariants.{Empty, NotDigit, LeadingZero, TooLarge}
 use Rattle.wiz_base.specs.Decimals.{decimal_text, number_text}
@@ -116,3 +118,30 @@ IsReading-number text value r is fits reading = IsReading-unique text r (Ok valu
 pub IsDecimalUpTo-number : (text : List ℕ) (most value : ℕ) (r : Option ℕ) → text ≡ decimal_text value → value ≤ most → IsDecimalUpTo text most r → r ≡ Some value
 IsDecimalUpTo-number text most value (Some found) is fits (is', fits') = ap Some (decimal_text_injective found value (sym is' ∙ is))
 IsDecimalUpTo-number text most value None is fits none = absurd (none value fits is)
+
+-- the grammar of numbers: `0`, or an optional `-`, a digit 1 to 9 and further digits
+pub record IsNonzeroNumber (text : List ℕ) : Type 0 where
+  pub digits : AreDigits text (digits_begin text) (length text)
+  pub first : 48 < slice_index text (digits_begin text)
+
+abbrev pub IsNumber : List ℕ → Type 0
+IsNumber text = (text ≡ codes "0") ⊎ IsNonzeroNumber text
+
+-- has exactly the texts of numbers
+pub number_text-IsNumber : (text : List ℕ) (value : ℤ) → text ≡ number_text value → IsNumber text
+number_text-IsNumber text value is =
+    let shape : IsNumberShape text = shape_of_number value text is in
+    let digit : IsAsciiDigit (slice_index text (digits_begin text)) = shape.digits (digits_begin text) (omega arith) shape.some in
+    elim (cases_eq (slice_index text (digits_begin text)) 48) [
+      | inl zero_first ↦ inl (shape.lead zero_first)
+      | inr other ↦ inr record { digits = shape.digits; first = omega (arith, digit.0) }
+    ]
+
+pub IsNumber-number_text : (text : List ℕ) → IsNumber text → (value : ℤ) × (text ≡ number_text value)
+IsNumber-number_text text (inl is) = (pos 0, is ∙ sym (decimal_text-digit 0 (omega arith)))
+IsNumber-number_text text (inr number) =
+    let some : digits_begin text < length text = elim (cases_lt (digits_begin text) (length text)) [
+      | inl within ↦ within
+      | inr past ↦ absurd (let none : slice_index text (digits_begin text) ≡ 0 = get_or_past text (digits_begin text) 0 past in omega (arith, number.first))
+    ] in
+    (_, spelled text (digits_begin text) refl number.digits some (λ zero_first. absurd (omega (arith, number.first))))

@@ -108,7 +108,7 @@ above_zero ds some is lead = elim (cases_eq (digits_value 10 ds) 0) [
 ]
 
 -- sign and digits are the text of what they make
-spelled : (text : List ℕ) (begin : ℕ) → begin ≡ digits_begin text → AreDigits text begin (length text) → begin < length text
+pub spelled : (text : List ℕ) (begin : ℕ) → begin ≡ digits_begin text → AreDigits text begin (length text) → begin < length text
     → (slice_index text begin ≡ 48 → length text ≡ 1)
     → text ≡ number_text (with_sign (begin == 1) (digits_value 10 (drop begin text)))
 spelled [] begin is digits some lead = absurd (omega arith)

@@ -72,7 +72,8 @@ impl<'a> Cursor<'a> {
 
 /// Where the first newline stands.
 fn first_newline(text: &[u8]) -> Option<usize>
-    ensures none { MatchOption result (HasNoNewline text.now) (λ at. HasNoNewline (take at text.now)) }
+    ensures none { MatchOption result (HasNoNewline text.now)
+        (λ at. HasNoNewline (take at text.now)) }
     ensures within { MatchOption result ⊤ (λ at. at < length text.now) }
     ensures here { MatchOption result ⊤ (λ at. slice_index text.now at ≡ 10) }
 {

@@ -5,7 +5,7 @@ use Rattle.wiz_io.specs.declared.fault.ReadFault.TheVariants.{Missing, TooLong, 
 use Rattle.wiz_io.specs.declared.fault.WriteFault.{WriteFault}
 use Rattle.wiz_io.specs.declared.fault.WriteFault.TheVariants.{Failed as WriteFailed, NoMemory as WriteNoMemory}
 use Rattle.wiz_io.specs.declared.memory.MemoryStore.{MemoryStore}
-use Rattle.wiz_io.specs.Calls.{Calls, one_more, with_one_more}
+use Rattle.wiz_io.specs.Calls.{Calls, no_calls, one_more, with_one_more}
 use Rattle.wiz_io.specs.Files.{Files}
 use Rattle.wiz_io.specs.FileTable.{files_of}
 
@@ -23,6 +23,10 @@ memory_of store = record {
   read_faults = store.read_faults;
   write_faults = store.write_faults;
 }
+
+-- these files, no call and no fault so far
+abbrev pub new_memory : Files → Memory
+new_memory files = record { files = files; calls = no_calls; read_faults = 0; write_faults = 0 }
 
 -- after a read: one more call, and one more fault where it failed
 abbrev pub read_faults_after : ℕ → Result (List ℕ) ReadFault → ℕ

@@ -27,7 +27,8 @@ impl FileTable {
 
     /// Sets a file.
     pub fn set(&mut self, name: &str, bytes: &[u8]) -> Result<(), AllocError>
-        ensures ok { OnOk result (SetsFile (files_of self.old) (files_of self.new) name.now bytes.now) }
+        ensures ok { OnOk result
+            (SetsFile (files_of self.old) (files_of self.new) name.now bytes.now) }
         ensures err { OnErr result (files_of self.new ≡ files_of self.old) }
     {
         let key = String::from_str(self.alloc, name)?;

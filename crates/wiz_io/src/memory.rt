@@ -2,7 +2,7 @@
 ghost use Rattle.std.specs.Prelude.{◌≡◌, ◌≢◌, ◌↔◌, ◌++◌, ◌≤◌, [], None, Some, ℕ, List, OnOk, OnErr, IsErrOf, option_copied};
 ghost use Rattle.wiz_io.specs.Calls.{IsNextFailing, no_calls, with_failing};
 ghost use Rattle.wiz_io.specs.Files.{IsRead, SetsFile};
-ghost use Rattle.wiz_io.specs.Memory.{memory_of, after_read, after_write};
+ghost use Rattle.wiz_io.specs.Memory.{memory_of, new_memory, after_read, after_write};
 ghost use Rattle.wiz_io.specs.Output.{after_put};
 
 use crate::calls::Failures;
@@ -26,9 +26,7 @@ pub struct MemoryStore {
 impl MemoryStore {
     pub fn new(alloc: Global) -> Self
         ensures files { (name : List ℕ) → (memory_of result).files name ≡ None }
-        ensures calls { (memory_of result).calls ≡ no_calls }
-        ensures read_faults { (memory_of result).read_faults ≡ 0 }
-        ensures write_faults { (memory_of result).write_faults ≡ 0 }
+        ensures rest { memory_of result ≡ new_memory (memory_of result).files }
     {
         MemoryStore {
             table: FileTable::new(alloc),
@@ -38,20 +36,24 @@ impl MemoryStore {
         }
     }
 
-    /// Sets a file, and is no call that may be named.
+    /// Sets a file. It is not counted among the calls.
     pub fn add(&mut self, name: &str, bytes: &[u8]) -> Result<(), AllocError>
-        ensures ok { OnOk result (SetsFile (memory_of self.old).files (memory_of self.new).files name.now bytes.now) }
+        ensures ok { OnOk result
+            (SetsFile (memory_of self.old).files (memory_of self.new).files name.now bytes.now) }
         ensures err { OnErr result ((memory_of self.new).files ≡ (memory_of self.old).files) }
-        ensures rest { memory_of self.new ≡ record (memory_of self.old) { files = (memory_of self.new).files } }
+        ensures rest { memory_of self.new
+            ≡ record (memory_of self.old) { files = (memory_of self.new).files } }
     {
         self.table.set(name, bytes)
     }
 
     /// Names a call, by its number from 0 over all reads and writes: it will answer `Failed`.
     pub fn fail(&mut self, call: u32) -> Result<(), AllocError>
-        ensures ok { OnOk result ((memory_of self.new).calls ≡ with_failing (memory_of self.old).calls call) }
+        ensures ok { OnOk result
+            ((memory_of self.new).calls ≡ with_failing (memory_of self.old).calls call) }
         ensures err { OnErr result ((memory_of self.new).calls ≡ (memory_of self.old).calls) }
-        ensures rest { memory_of self.new ≡ record (memory_of self.old) { calls = (memory_of self.new).calls } }
+        ensures rest { memory_of self.new
+            ≡ record (memory_of self.old) { calls = (memory_of self.new).calls } }
     {
         self.failures.name(call)
     }
@@ -87,12 +89,14 @@ impl Store for MemoryStore {
 
     /// Fails exactly where the call was named. A refused write leaves the file as it was.
     fn write(&mut self, name: &str, bytes: &[u8]) -> Result<(), WriteFault>
-        ensures fails { IsErrOf result WriteFault.Failed ↔ IsNextFailing (memory_of self.old).calls }
+        ensures fails { IsErrOf result WriteFault.Failed
+            ↔ IsNextFailing (memory_of self.old).calls }
         ensures written { OnOk result ((memory_of self.new).files name.now ≡ Some bytes.now) }
         ensures others { (other : List ℕ) → other ≢ name.now
             → (memory_of self.new).files other ≡ (memory_of self.old).files other }
         ensures err { OnErr result ((memory_of self.new).files ≡ (memory_of self.old).files) }
-        ensures rest { memory_of self.new ≡ after_write (memory_of self.old) (memory_of self.new).files result }
+        ensures rest { memory_of self.new
+            ≡ after_write (memory_of self.old) (memory_of self.new).files result }
         ensures later { (memory_of self.old).write_faults ≤ (memory_of self.new).write_faults }
     {
         if self.failures.is_next_failing() {
@@ -133,7 +137,8 @@ impl MemorySink {
 
     /// Names a put, by its number from 0: it will answer `Failed`.
     pub fn fail(&mut self, call: u32) -> Result<(), AllocError>
-        ensures ok { OnOk result (self.new ≡ record self.old { calls = with_failing self.old.calls call }) }
+        ensures ok { OnOk result
+            (self.new ≡ record self.old { calls = with_failing self.old.calls call }) }
         ensures err { OnErr result (self.new ≡ self.old) }
     {
         self.failures.name(call)

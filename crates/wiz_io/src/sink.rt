@@ -16,6 +16,7 @@ pub trait Sink {
     /// Appends a piece. After a refusal a part of it at its front may be out.
     fn put(&mut self, bytes: &[u8]) -> Result<(), PutFault>
         ensures put { HasPut (written self.old) (written self.new) bytes.now result }
-        ensures cause { IsErrOf result PutFault.Failed → HasRisen (faults self.old) (faults self.new) }
+        ensures cause { IsErrOf result PutFault.Failed
+            → HasRisen (faults self.old) (faults self.new) }
         ensures later { faults self.old ≤ faults self.new };
 }

@@ -18,9 +18,10 @@ pub trait Store {
 
     /// The bytes of a file of at most `limit` bytes.
     fn read(&mut self, name: &str, limit: u64) -> Result<Bytes, ReadFault>
-        ensures read { IfSome (files self.old) (λ files. IsRead (files name.now) limit result) }
+        ensures read { IfSome (files self.old) (λ told. IsRead (told name.now) limit result) }
         ensures files { files self.new ≡ files self.old }
-        ensures cause { IsErrOf result ReadFault.Failed → HasRisen (read_faults self.old) (read_faults self.new) }
+        ensures cause { IsErrOf result ReadFault.Failed
+            → HasRisen (read_faults self.old) (read_faults self.new) }
         ensures later { read_faults self.old ≤ read_faults self.new }
         ensures writes { write_faults self.new ≡ write_faults self.old };
 
@@ -28,7 +29,8 @@ pub trait Store {
     fn write(&mut self, name: &str, bytes: &[u8]) -> Result<(), WriteFault>
         ensures written { OnOk result (HasFile (files self.new) name.now bytes.now) }
         ensures others { ChangesOnly (files self.old) (files self.new) name.now }
-        ensures cause { IsErrOf result WriteFault.Failed → HasRisen (write_faults self.old) (write_faults self.new) }
+        ensures cause { IsErrOf result WriteFault.Failed
+            → HasRisen (write_faults self.old) (write_faults self.new) }
         ensures later { write_faults self.old ≤ write_faults self.new }
         ensures reads { read_faults self.new ≡ read_faults self.old };
 }

@@ -28,7 +28,8 @@ impl SureStore {
 
     /// Sets a file.
     pub fn add(&mut self, name: &str, bytes: &[u8]) -> Result<(), AllocError>
-        ensures ok { OnOk result (SetsFile (sure_files self.old) (sure_files self.new) name.now bytes.now) }
+        ensures ok { OnOk result
+            (SetsFile (sure_files self.old) (sure_files self.new) name.now bytes.now) }
         ensures err { OnErr result (sure_files self.new ≡ sure_files self.old) }
     {
         self.table.set(name, bytes)
@@ -60,7 +61,8 @@ impl Store for SureStore {
     /// A refused write leaves the file as it was.
     fn write(&mut self, name: &str, bytes: &[u8]) -> Result<(), WriteFault>
         ensures written { OnOk result (sure_files self.new name.now ≡ Some bytes.now) }
-        ensures others { (other : List ℕ) → other ≢ name.now → sure_files self.new other ≡ sure_files self.old other }
+        ensures others { (other : List ℕ) → other ≢ name.now
+            → sure_files self.new other ≡ sure_files self.old other }
         ensures err { OnErr result (sure_files self.new ≡ sure_files self.old) }
         ensures no_fault { IsErrOf result WriteFault.Failed → ⊥ }
     {
