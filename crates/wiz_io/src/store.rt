@@ -1,5 +1,5 @@
 //! Files that are read and written whole.
-ghost use Rattle.std.specs.Prelude.{◌≡◌, ◌≤◌, ℕ, Option, OnOk, IfSome, IsErrOf};
+ghost use Rattle.std.specs.Prelude.{◌≡◌, ◌≤◌, ℕ, Option, OnOk, IfOk, IfSome, IsErrOf, length};
 ghost use Rattle.wiz_io.specs.Files.{Files, HasRisen, IsRead, ChangesOnly, HasFile};
 
 use crate::fault::{ReadFault, WriteFault};
@@ -19,6 +19,7 @@ pub trait Store {
     /// The bytes of a file of at most `limit` bytes.
     fn read(&mut self, name: &str, limit: u64) -> Result<Bytes, ReadFault>
         ensures read { IfSome (files self.old) (λ told. IsRead (told name.now) limit result) }
+        ensures short { IfOk result (λ bytes. length bytes ≤ limit) }
         ensures files { files self.new ≡ files self.old }
         ensures cause { IsErrOf result ReadFault.Failed
             → HasRisen (read_faults self.old) (read_faults self.new) }
