@@ -1,1 +1,4 @@
+pub mod FoldLemmas
+pub mod InputLemmas
+pub mod MemberLemmas
 mod Rows
