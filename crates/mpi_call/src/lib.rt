@@ -12,3 +12,4 @@ pub mod needs;
 pub mod operations;
 pub mod reply;
 pub mod results;
+pub mod splits;
