@@ -1,5 +1,5 @@
 -- How long the ints are that a result is made of.
-use Rattle.std.proofs.Common.{◌≡◌, ℕ, suc, ◌+◌, ◌*◌, ◌<◌, ◌≤◌, min, ℤ, List, [], length, get_or, take, Bool, true, false, ◌&&◌, ◌||◌, sym, refl, subst, ap, ◌∙◌, arith, Option, Some, None}
+use Rattle.std.proofs.Common.{◌≡◌, ℕ, suc, ◌+◌, ◌*◌, ◌<◌, ◌≤◌, min, ℤ, List, [], length, get_or, take, Bool, true, false, ◌&&◌, sym, refl, subst, ap, ◌∙◌, arith, Option, Some, None}
 use Rattle.std.proofs.lemmas.Bool.{eq-eqb, le-leb}
 use Rattle.std.proofs.lemmas.List.{get_or_default, get_or-take, length-take}
 use Rattle.std.proofs.Math.Nat.{mul-le-mul_right}
@@ -11,7 +11,7 @@ use Rattle.mpi_call.specs.Results.{root_input, AreInputsOf}
 use Rattle.mpi_call.specs.declared.call.Call.{Call}
 use Rattle.mpi_call.specs.declared.call.Call.TheVariants.{Enter}
 use Rattle.mpi_call.specs.declared.call.Kind.{Kind}
-use Rattle.mpi_call.specs.declared.call.Kind.TheVariants.{Bcast, Reduce, Allreduce, Gather, Scatter, Alltoall, Scan}
+use Rattle.mpi_call.specs.declared.call.Kind.TheVariants.{Reduce, Allreduce, Scatter, Alltoall, Scan}
 use Rattle.mpi_call.specs.declared.call.Op.{Op}
 
 -- a needed member's ints are as long as that member enters

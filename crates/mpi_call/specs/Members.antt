@@ -1,6 +1,6 @@
 -- The members of a communicator: a list of ranks of the world, in the order of their ranks in the communicator.
 -- (MPI 3.1, Groups, Contexts, Communicators, and Caching, "Groups" and "Communicators".)
-use Rattle.std.specs.Prelude.{ℕ, suc, List, [], ◌∷◌, Bool, false, true, ◌==◌, if◌then◌else◌}
+use Rattle.std.specs.Prelude.{ℕ, List, [], ◌∷◌, Bool, false, true, ◌==◌, if◌then◌else◌}
 use Rattle.std.specs.List.{list_any, position_or_len}
 
 abbrev pub is_member : List ℕ → ℕ → Bool

@@ -1,6 +1,6 @@
 -- The predefined reduction operations on `MPI_INT`, and their fold.
 -- (MPI 3.1, Collective Communication, "Predefined Reduction Operations".)
-use Rattle.std.specs.Prelude.{ℕ, zero, suc, ℤ, pos, List, [], ◌∷◌, Bool, true, false, not, ◌&&◌, ◌||◌, if◌then◌else◌, map, unwrap_or, bit_and, bit_or, bit_xor}
+use Rattle.std.specs.Prelude.{ℕ, ℤ, pos, List, Bool, true, false, not, ◌&&◌, ◌||◌, if◌then◌else◌, map, unwrap_or, bit_and, bit_or, bit_xor}
 use Rattle.std.specs.Int.{w32, cast_unsigned, cast_signed, int_max, int_min, int_wrapping_add, int_wrapping_mul}
 use Rattle.std.specs.List.{range_with_len, reduce, slice_index_or}
 use Rattle.std.specs.Ordering.{int_eq}

@@ -1,5 +1,4 @@
-use Rattle.std.proofs.Common.{◌≡◌, ◌<◌, ◌≤◌, length, get_or, true, arith}
-use Rattle.std.specs.Prelude.{◌==◌}
+use Rattle.std.proofs.Common.{◌≡◌, length, arith}
 use Rattle.mpi_call.proofs.MemberLemmas.{place_of_is}
 use Rattle.mpi_call.proofs.members.place_of.Goals as goal
 

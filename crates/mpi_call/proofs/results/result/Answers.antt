@@ -1,4 +1,4 @@
-use Rattle.std.proofs.Common.{◌≡◌, ℕ, ◌+◌, ◌<◌, List, length, arith, ap, sym, ◌∙◌, take}
+use Rattle.std.proofs.Common.{◌≡◌, ℕ, ◌+◌, ◌<◌, List, length, arith, ap, sym, ◌∙◌}
 use Rattle.std.proofs.lemmas.List.{length-take-le}
 use Rattle.mpi_call.proofs.InputLemmas.{allreduce_long, reduce_long, alltoall_long, scan_long, scatter_long}
 use Rattle.mpi_call.proofs.MemberLemmas.{place_of-within}

@@ -1,4 +1,4 @@
-use Rattle.std.proofs.Common.{rules, ◌≡◌, OnOk, ℤ}
+use Rattle.std.proofs.Common.{rules, ℤ}
 use Rattle.std.proofs.lemmas.Result.{on_ok_weaker}
 use Rattle.mpi_call.proofs.SortLemmas.{by_key_from_sort}
 use Rattle.mpi_call.specs.declared.splits.Candidate.{Candidate}

@@ -1,4 +1,4 @@
-use Rattle.std.proofs.Common.{arith, ◌≡◌, map, take, length, ap, ◌∙◌}
+use Rattle.std.proofs.Common.{arith}
 use Rattle.std.proofs.lemmas.Int.{to_z-of_z}
 use Rattle.mpi_call.proofs.SplitLemmas.{ranks_of_sorted, all_taken}
 use Rattle.mpi_call.proofs.splits.split_into.Goals as goal
