@@ -59,7 +59,7 @@ alltoall_long call comm kind root op count ints members inputs me is is_kind mem
     let whole : call ≡ Enter comm Alltoall root op count ints = is ∙ ap (λ (kind : Kind). Enter comm kind root op count ints) is_kind in
     let P : Call → Type 0 = λ call. AreInputsOf call members inputs me in
     piece_within members (place_of members me) count (length (get_or inputs k d)) (place_of-within members me member)
-        (all_long (Enter comm Alltoall root op count ints) members inputs me (length members * count) (subst P whole fit) (λ who. refl) (λ who. refl) k d within)
+    (all_long (Enter comm Alltoall root op count ints) members inputs me (length members * count) (subst P whole fit) (λ who. refl) (λ who. refl) k d within)
 
 pub scan_long : (call : Call) (comm : ℕ) (kind : Kind) (root : Option ℕ) (op : Option Op) (count : ℕ) (ints : List ℤ) (members : List ℕ) (inputs : List (List ℤ)) (me : ℕ)
     → call ≡ Enter comm kind root op count ints → kind ≡ Scan → is_member members me ≡ true → AreInputsOf call members inputs me
@@ -74,7 +74,7 @@ scan_long call comm kind root op count ints members inputs me is is_kind member 
     let before : place_of members (get_or members k 0) ≤ k = place_of_at members k in_members in
     let not_after : place_of members (get_or members k 0) ≤ place_of members me = omega arith in
     ap length (get_or-take (place_of members me + 1) inputs k d up_to_me)
-        ∙ needed_long (Enter comm Scan root op count ints) members inputs me k d (subst P whole fit) in_all (le-leb (place_of members (get_or members k 0)) (place_of members me) not_after)
+    ∙ needed_long (Enter comm Scan root op count ints) members inputs me k d (subst P whole fit) in_all (le-leb (place_of members (get_or members k 0)) (place_of members me) not_after)
 
 pub and_left : (a b : Bool) → (a && b) ≡ true → a ≡ true
 and_left true b h = refl
@@ -105,7 +105,7 @@ scatter_long_of comm None op count ints members inputs me member form fit = absu
 scatter_long_of comm (Some root) op count ints members inputs me member form fit =
     let there : is_member members root ≡ true = and_left (is_member members root) (is_op_for Scatter op && is_count_for Scatter count) form in
     piece_within members (place_of members me) count (length (get_or inputs (place_of members root) [])) (place_of-within members me member)
-        (scatter_root comm root op count ints members inputs me there fit)
+    (scatter_root comm root op count ints members inputs me there fit)
 
 pub scatter_long : (call : Call) (comm : ℕ) (kind : Kind) (root : Option ℕ) (op : Option Op) (count : ℕ) (ints : List ℤ) (members : List ℕ) (inputs : List (List ℤ)) (me : ℕ)
     → call ≡ Enter comm kind root op count ints → kind ≡ Scatter → is_member members me ≡ true → IsEnterOf call members me → AreInputsOf call members inputs me

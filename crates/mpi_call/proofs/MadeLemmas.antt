@@ -27,7 +27,7 @@ list_any-placed : {A : Type 0} (p : A → Bool) (key : A → ℤ) (x : A) (ys : 
 list_any-placed p key x [] = refl
 list_any-placed p key x (y ∷ ys) =
     elim (cases_Bool (int_lt (key y) (key x))) [
-        inl h ↦ rw h (ap (λ b. p y || b) (list_any-placed p key x ys) ∙ or-swap (p y) (p x) (list_any p ys))
+      | inl h ↦ rw h (ap (λ b. p y || b) (list_any-placed p key x ys) ∙ or-swap (p y) (p x) (list_any p ys))
       | inr h ↦ rw h refl
     ]
 
@@ -43,12 +43,12 @@ list_any-map p f (x ∷ xs) = ap (λ b. p (f x) || b) (list_any-map p f xs)
 is_member-by_key : {A : Type 0} (f : A → ℕ) (key : A → ℤ) (xs : List A) (rank : ℕ) → is_member (map f (by_key key xs)) rank ≡ is_member (map f xs) rank
 is_member-by_key f key xs rank =
     list_any-map (λ member. member == rank) f (by_key key xs)
-        ∙ (list_any-by_key (λ x. f x == rank) key xs ∙ sym (list_any-map (λ member. member == rank) f xs))
+    ∙ (list_any-by_key (λ x. f x == rank) key xs ∙ sym (list_any-map (λ member. member == rank) f xs))
 
 is_member-placed : {A : Type 0} (f : A → ℕ) (key : A → ℤ) (x : A) (ys : List A) (rank : ℕ) → is_member (map f (placed key x ys)) rank ≡ (f x == rank || is_member (map f ys) rank)
 is_member-placed f key x ys rank =
     list_any-map (λ member. member == rank) f (placed key x ys)
-        ∙ (list_any-placed (λ y. f y == rank) key x ys ∙ ap (λ b. f x == rank || b) (sym (list_any-map (λ member. member == rank) f ys)))
+    ∙ (list_any-placed (λ y. f y == rank) key x ys ∙ ap (λ b. f x == rank || b) (sym (list_any-map (λ member. member == rank) f ys)))
 
 -- distinct elements in any order
 conds-swap : (same a b rest : Bool) → cond (same || a) false (cond b false rest) ≡ cond (same || b) false (cond a false rest)
@@ -62,10 +62,10 @@ is_distinct-placed : {A : Type 0} (f : A → ℕ) (key : A → ℤ) (x : A) (ys 
 is_distinct-placed f key x [] = refl
 is_distinct-placed f key x (y ∷ ys) =
     elim (cases_Bool (int_lt (key y) (key x))) [
-        inl h ↦ rw h
-            (ap₂ (λ there rest. cond there false rest) (is_member-placed f key x ys (f y)) (is_distinct-placed f key x ys)
-                ∙ (conds-swap (f x == f y) (is_member (map f ys) (f y)) (is_member (map f ys) (f x)) (is_distinct (map f ys))
-                ∙ ap (λ same. cond (same || is_member (map f ys) (f x)) false (cond (is_member (map f ys) (f y)) false (is_distinct (map f ys)))) (eqb-sym (f x) (f y))))
+      | inl h ↦ rw h
+          (ap₂ (λ there rest. cond there false rest) (is_member-placed f key x ys (f y)) (is_distinct-placed f key x ys)
+          ∙ (conds-swap (f x == f y) (is_member (map f ys) (f y)) (is_member (map f ys) (f x)) (is_distinct (map f ys))
+          ∙ ap (λ same. cond (same || is_member (map f ys) (f x)) false (cond (is_member (map f ys) (f y)) false (is_distinct (map f ys)))) (eqb-sym (f x) (f y))))
       | inr h ↦ rw h refl
     ]
 
@@ -73,7 +73,7 @@ is_distinct-by_key : {A : Type 0} (f : A → ℕ) (key : A → ℤ) (xs : List A
 is_distinct-by_key f key [] = refl
 is_distinct-by_key f key (x ∷ xs) =
     is_distinct-placed f key x (by_key key xs)
-        ∙ ap₂ (λ there rest. cond there false rest) (is_member-by_key f key xs (f x)) (is_distinct-by_key f key xs)
+    ∙ ap₂ (λ there rest. cond there false rest) (is_member-by_key f key xs (f x)) (is_distinct-by_key f key xs)
 
 -- a part of the members: those in it are members, and distinct
 in_part : (p : ℕ × List ℤ → Bool) (members : List ℕ) (inputs : List (List ℤ)) (rank : ℕ)
@@ -82,11 +82,11 @@ in_part p [] inputs rank h = h
 in_part p (m ∷ members) [] rank h = absurd (cc)
 in_part p (m ∷ members) (ints ∷ inputs) rank h =
     elim (cases_Bool (m == rank)) [
-        inl same ↦ rw same refl
+      | inl same ↦ rw same refl
       | inr other ↦ rw other (elim (cases_Bool (p (m, ints))) [
-            inl g ↦ in_part p members inputs rank (rw (g, other) at h)
-          | inr g ↦ in_part p members inputs rank (rw g at h)
-        ])
+        | inl g ↦ in_part p members inputs rank (rw (g, other) at h)
+        | inr g ↦ in_part p members inputs rank (rw g at h)
+      ])
     ]
 
 if_cond : (there rest : Bool) → cond there false rest ≡ true → (there ≡ false) × (rest ≡ true)
@@ -100,10 +100,10 @@ distinct_part p (m ∷ members) [] h = refl
 distinct_part p (m ∷ members) (ints ∷ inputs) h =
     let parts : (is_member members m ≡ false) × (is_distinct members ≡ true) = if_cond (is_member members m) (is_distinct members) h in
     elim (cases_Bool (p (m, ints))) [
-        inl g ↦ rw g (elim (cases_Bool (is_member (map (λ (entry : ℕ × List ℤ). entry.0) (filter p (zip members inputs))) m)) [
-            inl there ↦ absurd (let old : is_member members m ≡ true = in_part p members inputs m there in let new : is_member members m ≡ false = parts.0 in cc)
-          | inr away ↦ rw away (distinct_part p members inputs parts.1)
-        ])
+      | inl g ↦ rw g (elim (cases_Bool (is_member (map (λ (entry : ℕ × List ℤ). entry.0) (filter p (zip members inputs))) m)) [
+        | inl there ↦ absurd (let old : is_member members m ≡ true = in_part p members inputs m there in let new : is_member members m ≡ false = parts.0 in cc)
+        | inr away ↦ rw away (distinct_part p members inputs parts.1)
+      ])
       | inr g ↦ rw g (distinct_part p members inputs parts.1)
     ]
 
@@ -115,7 +115,7 @@ among_part q [] inputs me member within h = absurd (cc)
 among_part q (m ∷ members) [] me member within h = absurd (omega arith)
 among_part q (m ∷ members) (ints ∷ inputs) me member within h =
     elim (cases_Bool (m == me)) [
-        inl same ↦ (let here : q ints ≡ true = rw same at h in rw (here, same) refl)
+      | inl same ↦ (let here : q ints ≡ true = rw same at h in rw (here, same) refl)
       | inr other ↦
           let deeper_member : is_member members me ≡ true = rw other at member in
           let place : place_of (m ∷ members) me ≡ 1 + place_of members me = rw other refl in
@@ -132,11 +132,11 @@ pub members_made-subset : (call : Call) (members : List ℕ) (inputs : List (Lis
 members_made-subset (Enter comm Dup root op count ints) members inputs me rank h = h
 members_made-subset (Enter comm Split root op count ints) members inputs me rank h =
     elim (cases_Bool (int_eq (colour_in ints) undefined_colour)) [
-        inl none ↦ absurd (let no : false ≡ true = rw none at h in cc)
+      | inl none ↦ absurd (let no : false ≡ true = rw none at h in cc)
       | inr some ↦
           let made : is_member (split_into (colour_in ints) members inputs) rank ≡ true = rw some at h in
           in_part (λ entry. int_eq (colour_in entry.1) (colour_in ints)) members inputs rank
-            (sym (is_member-by_key (λ (entry : ℕ × List ℤ). entry.0) (λ entry. key_in entry.1) (of_colour (colour_in ints) (zip members inputs)) rank) ∙ made)
+          (sym (is_member-by_key (λ (entry : ℕ × List ℤ). entry.0) (λ entry. key_in entry.1) (of_colour (colour_in ints) (zip members inputs)) rank) ∙ made)
     ]
 members_made-subset call members inputs me rank h = absurd (cc)
 
@@ -146,10 +146,10 @@ pub members_made-distinct : (call : Call) (members : List ℕ) (inputs : List (L
 members_made-distinct (Enter comm Dup root op count ints) members inputs me h = h
 members_made-distinct (Enter comm Split root op count ints) members inputs me h =
     elim (cases_Bool (int_eq (colour_in ints) undefined_colour)) [
-        inl none ↦ rw none refl
+      | inl none ↦ rw none refl
       | inr some ↦ rw some
           (is_distinct-by_key (λ (entry : ℕ × List ℤ). entry.0) (λ entry. key_in entry.1) (of_colour (colour_in ints) (zip members inputs))
-            ∙ distinct_part (λ entry. int_eq (colour_in entry.1) (colour_in ints)) members inputs h)
+          ∙ distinct_part (λ entry. int_eq (colour_in entry.1) (colour_in ints)) members inputs h)
     ]
 members_made-distinct call members inputs me h = refl
 
@@ -168,10 +168,10 @@ pub members_made-me : (call : Call) (members : List ℕ) (inputs : List (List �
 members_made-me (Enter comm Dup root op count ints) members inputs me made coloured member own = member
 members_made-me (Enter comm Split root op count ints) members inputs me made coloured member own =
     rw coloured
-      (is_member-by_key (λ (entry : ℕ × List ℤ). entry.0) (λ entry. key_in entry.1) (of_colour (colour_in ints) (zip members inputs)) me
-        ∙ among_part (λ entered. int_eq (colour_in entered) (colour_in ints)) members inputs me member
-            (entered_within inputs (place_of members me) (colour_in ints) coloured (ap colour_in own))
-            (ap (λ entered. int_eq (colour_in entered) (colour_in ints)) own ∙ int_eq-itself (colour_in ints)))
+    (is_member-by_key (λ (entry : ℕ × List ℤ). entry.0) (λ entry. key_in entry.1) (of_colour (colour_in ints) (zip members inputs)) me
+    ∙ among_part (λ entered. int_eq (colour_in entered) (colour_in ints)) members inputs me member
+    (entered_within inputs (place_of members me) (colour_in ints) coloured (ap colour_in own))
+    (ap (λ entered. int_eq (colour_in entered) (colour_in ints)) own ∙ int_eq-itself (colour_in ints)))
 members_made-me call members inputs me made coloured member own = absurd (cc)
 
 same_colour : (ints ints' : List ℤ) (comm comm' count count' : ℕ) (root root' : Option ℕ) (op op' : Option Op)
@@ -187,7 +187,7 @@ pub members_made-same : (a b : Call) (members : List ℕ) (inputs : List (List �
 members_made-same (Enter comm Dup root op count ints) (Enter comm' Dup root' op' count' ints') members inputs me you h g = refl
 members_made-same (Enter comm Split root op count ints) (Enter comm' Split root' op' count' ints') members inputs me you h g =
     ap (λ colour. cond (int_eq colour undefined_colour) [] (split_into colour members inputs))
-        (same_colour ints ints' comm comm' count count' root root' op op' g)
+    (same_colour ints ints' comm comm' count count' root root' op op' g)
 members_made-same (Enter comm Dup root op count ints) b members inputs me you h g = absurd (cc)
 members_made-same (Enter comm Split root op count ints) b members inputs me you h g = absurd (cc)
 members_made-same a (Enter comm Dup root op count ints) members inputs me you h g = absurd (cc)

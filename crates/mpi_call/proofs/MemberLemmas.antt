@@ -16,7 +16,7 @@ pub place_of-within : (members : List ℕ) (rank : ℕ) → is_member members ra
 place_of-within [] rank h = absurd (cc)
 place_of-within (member ∷ members) rank h =
     elim (cases_Bool (member == rank)) [
-        inl same ↦ rw (same) (omega arith)
+      | inl same ↦ rw (same) (omega arith)
       | inr other ↦ let deeper : place_of members rank < length members = place_of-within members rank (rw other at h) in rw (other) (omega arith)
     ]
 
@@ -25,7 +25,7 @@ pub at_place_of : (members : List ℕ) (rank : ℕ) → is_member members rank �
 at_place_of [] rank h = absurd (cc)
 at_place_of (member ∷ members) rank h =
     elim (cases_Bool (member == rank)) [
-        inl same ↦ rw (same) (eqb-true member rank same)
+      | inl same ↦ rw (same) (eqb-true member rank same)
       | inr other ↦
           let deeper : get_or members (place_of members rank) 0 ≡ rank = at_place_of members rank (rw other at h) in
           let one_more : 1 + place_of members rank ≡ suc (place_of members rank) = omega arith in
@@ -39,7 +39,7 @@ place_of_at (member ∷ members) zero h = rw (eq-eqb member member refl) (omega 
 place_of_at (member ∷ members) (suc k) h =
     let deeper : place_of members (get_or members k 0) ≤ k = place_of_at members k (omega arith) in
     elim (cases_Bool (member == get_or members k 0)) [
-        inl same ↦ rw (same) (omega arith)
+      | inl same ↦ rw (same) (omega arith)
       | inr other ↦ rw (other) (omega arith)
     ]
 

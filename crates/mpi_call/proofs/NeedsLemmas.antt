@@ -47,11 +47,11 @@ needs-uncoloured call members me who h = absurd (cc)
 pub eqb-sym : (a b : ℕ) → (a == b) ≡ (b == a)
 eqb-sym a b =
     elim (cases_Bool (a == b)) [
-        inl h ↦ h ∙ sym (eq-eqb b a (sym (eqb-true a b h)))
+      | inl h ↦ h ∙ sym (eq-eqb b a (sym (eqb-true a b h)))
       | inr h ↦ elim (cases_Bool (b == a)) [
-            inl g ↦ absurd (let same : (a == b) ≡ true = eq-eqb a b (sym (eqb-true b a g)) in cc)
-          | inr g ↦ h ∙ sym g
-        ]
+        | inl g ↦ absurd (let same : (a == b) ≡ true = eq-eqb a b (sym (eqb-true b a g)) in cc)
+        | inr g ↦ h ∙ sym g
+      ]
     ]
 
 same_root-sym : (a b : Option ℕ) → same_root a b ≡ same_root b a
@@ -89,7 +89,7 @@ not_agree a b h = refl
 pub agree-sym : (a b : Call) → agree a b ≡ agree b a
 agree-sym (Enter comm kind root op count ints) (Enter comm' kind' root' op' count' ints') =
     ap₂ (λ x y. x && y) (eqb-sym (kind_number kind) (kind_number kind'))
-        (ap₂ (λ x y. x && y) (same_root-sym root root') (ap₂ (λ x y. x && y) (same_op-sym op op') (eqb-sym count count')))
+    (ap₂ (λ x y. x && y) (same_root-sym root root') (ap₂ (λ x y. x && y) (same_op-sym op op') (eqb-sym count count')))
 agree-sym (Enter comm kind root op count ints) b = refl
 agree-sym a b = sym (not_agree b a refl)
 
@@ -125,7 +125,11 @@ pub agree-trans : (a b c : Call) → agree a b ≡ true → agree b c ≡ true �
 agree-trans (Enter comm kind root op count ints) (Enter comm' kind' root' op' count' ints') (Enter comm'' kind'' root'' op'' count'' ints'') h g =
     let p = four (kind_number kind == kind_number kind') (same_root root root') (same_op op op') (count == count') h in
     let q = four (kind_number kind' == kind_number kind'') (same_root root' root'') (same_op op' op'') (count' == count'') g in
-    rw (eqb-trans (kind_number kind) (kind_number kind') (kind_number kind'') p.0 q.0, same_root-trans root root' root'' p.1 q.1,
-        same_op-trans op op' op'' p.2 q.2, eqb-trans count count' count'' p.3 q.3) refl
+    rw (
+      eqb-trans (kind_number kind) (kind_number kind') (kind_number kind'') p.0 q.0,
+      same_root-trans root root' root'' p.1 q.1,
+      same_op-trans op op' op'' p.2 q.2,
+      eqb-trans count count' count'' p.3 q.3,
+    ) refl
 agree-trans (Enter comm kind root op count ints) (Enter comm' kind' root' op' count' ints') c h g = absurd (cc)
 agree-trans a b c h g = absurd (cc)

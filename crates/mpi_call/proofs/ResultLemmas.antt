@@ -35,7 +35,7 @@ length-reduced : (kind : Kind) (root : Option ℕ) (op : Option Op) (count : ℕ
     → (is_root_for kind root members && (is_op_for kind op && is_count_for kind count)) ≡ true → length (reduced op count inputs) ≡ count
 length-reduced kind root None count members inputs takes form =
     let is_op : is_op_for kind None ≡ true =
-        and_left (is_op_for kind None) (is_count_for kind count) (and_right (is_root_for kind root members) (is_op_for kind None && is_count_for kind count) form) in
+    and_left (is_op_for kind None) (is_count_for kind count) (and_right (is_root_for kind root members) (is_op_for kind None && is_count_for kind count) form) in
     absurd (let no : false ≡ true = rw takes at is_op in cc)
 length-reduced kind root (Some op) count members inputs takes form = length-folds_of op count inputs
 
@@ -47,7 +47,7 @@ length-root_input call root members inputs me long member fit needed is =
     let within : place_of members root < length members = place_of-within members root member in
     let in_inputs : place_of members root < length inputs = omega (arith, fit.as_many) in
     needed_long call members inputs me (place_of members root) [] fit in_inputs (ap (needs call members me) there ∙ needed)
-        ∙ (ap (input_length call members) there ∙ is)
+    ∙ (ap (input_length call members) there ∙ is)
 
 if_eq : (b : Bool) (long : ℕ) (xs : List ℤ) → (b ≡ true → length xs ≡ long) → length (cond b xs []) ≡ cond b long 0
 if_eq true long xs h = h refl
@@ -60,30 +60,30 @@ length-result_of (Enter comm Barrier root op count ints) members inputs me enter
 length-result_of (Enter comm Bcast None op count ints) members inputs me enter member fit = absurd (let no : false ≡ true = enter.form in cc)
 length-result_of (Enter comm Bcast (Some root) op count ints) members inputs me enter member fit =
     length-root_input (Enter comm Bcast (Some root) op count ints) root members inputs me count
-        (and_left (is_member members root) (is_op_for Bcast op && is_count_for Bcast count) enter.form) fit
-        (rw (eq-eqb root root refl) refl) (rw (eq-eqb root root refl) refl)
+    (and_left (is_member members root) (is_op_for Bcast op && is_count_for Bcast count) enter.form) fit
+    (rw (eq-eqb root root refl) refl) (rw (eq-eqb root root refl) refl)
 length-result_of (Enter comm Reduce root op count ints) members inputs me enter member fit =
     if_eq (is_root root me) count (reduced op count inputs) (λ h. length-reduced Reduce root op count members inputs refl enter.form)
 length-result_of (Enter comm Allreduce root op count ints) members inputs me enter member fit = length-reduced Allreduce root op count members inputs refl enter.form
 length-result_of (Enter comm Gather root op count ints) members inputs me enter member fit =
     if_eq (is_root root me) (length members * count) (pieces_of inputs)
-        (λ h. length-flat_map (λ ints. ints) count inputs (all_long (Enter comm Gather root op count ints) members inputs me count fit (λ who. rw h refl) (λ who. refl)) ∙ ap (λ n. n * count) fit.as_many)
+    (λ h. length-flat_map (λ ints. ints) count inputs (all_long (Enter comm Gather root op count ints) members inputs me count fit (λ who. rw h refl) (λ who. refl)) ∙ ap (λ n. n * count) fit.as_many)
 length-result_of (Enter comm Allgather root op count ints) members inputs me enter member fit =
     length-flat_map (λ ints. ints) count inputs (all_long (Enter comm Allgather root op count ints) members inputs me count fit (λ who. refl) (λ who. refl)) ∙ ap (λ n. n * count) fit.as_many
 length-result_of (Enter comm Scatter None op count ints) members inputs me enter member fit = absurd (let no : false ≡ true = enter.form in cc)
 length-result_of (Enter comm Scatter (Some root) op count ints) members inputs me enter member fit =
     let long : length (input_of members inputs root) ≡ length members * count =
-        length-root_input (Enter comm Scatter (Some root) op count ints) root members inputs me (length members * count)
-          (and_left (is_member members root) (is_op_for Scatter op && is_count_for Scatter count) enter.form) fit
-          (rw (eq-eqb root root refl) refl) (rw (eq-eqb root root refl) refl) in
+    length-root_input (Enter comm Scatter (Some root) op count ints) root members inputs me (length members * count)
+    (and_left (is_member members root) (is_op_for Scatter op && is_count_for Scatter count) enter.form) fit
+    (rw (eq-eqb root root refl) refl) (rw (eq-eqb root root refl) refl) in
     length-piece_at count (place_of members me) (input_of members inputs root)
-        (piece_within members (place_of members me) count (length (input_of members inputs root)) (place_of-within members me member) long)
+    (piece_within members (place_of members me) count (length (input_of members inputs root)) (place_of-within members me member) long)
 length-result_of (Enter comm Alltoall root op count ints) members inputs me enter member fit =
     length-flat_map (piece_at count (place_of members me)) count inputs
-        (λ k d h. length-piece_at count (place_of members me) (get_or inputs k d)
-            (piece_within members (place_of members me) count (length (get_or inputs k d)) (place_of-within members me member)
-                (all_long (Enter comm Alltoall root op count ints) members inputs me (length members * count) fit (λ who. refl) (λ who. refl) k d h)))
-        ∙ ap (λ n. n * count) fit.as_many
+    (λ k d h. length-piece_at count (place_of members me) (get_or inputs k d)
+    (piece_within members (place_of members me) count (length (get_or inputs k d)) (place_of-within members me member)
+    (all_long (Enter comm Alltoall root op count ints) members inputs me (length members * count) fit (λ who. refl) (λ who. refl) k d h)))
+    ∙ ap (λ n. n * count) fit.as_many
 length-result_of (Enter comm Scan root op count ints) members inputs me enter member fit = length-reduced Scan root op count members (take (suc (place_of members me)) inputs) refl enter.form
 length-result_of (Enter comm Split root op count ints) members inputs me enter member fit = refl
 length-result_of (Enter comm Dup root op count ints) members inputs me enter member fit = refl

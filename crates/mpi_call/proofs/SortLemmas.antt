@@ -22,7 +22,7 @@ less key x y = is_lt (int_cmp (key x) (key y))
 is_lt-int_cmp : (a b : ℤ) → is_lt (int_cmp a b) ≡ int_lt a b
 is_lt-int_cmp a b =
     elim (cases_Bool (int_lt a b)) [
-        inl h ↦ rw h refl
+      | inl h ↦ rw h refl
       | inr h ↦ elim (cases_Bool (int_lt b a)) [ inl g ↦ rw (h, g) refl | inr g ↦ rw (h, g) refl ]
     ]
 
@@ -50,7 +50,7 @@ head_of_filter : {A : Type 0} (P : A → Type 0) (p : A → Bool) (x : A) (rest 
 head_of_filter P p x rest [] each is = absurd (cc)
 head_of_filter P p x rest (y ∷ ys) each is =
     elim (cases_Bool (p y)) [
-        inl h ↦ let same : y ≡ x = (let whole : y ∷ filter p ys ≡ x ∷ rest = rw h at is in cc) in subst P same each.0
+      | inl h ↦ let same : y ≡ x = (let whole : y ∷ filter p ys ≡ x ∷ rest = rw h at is in cc) in subst P same each.0
       | inr h ↦ head_of_filter P p x rest ys each.1 (rw h at is)
     ]
 
@@ -75,7 +75,7 @@ heads_same lt o y z ys zs rise_y rise_z same =
 filter-tail : {A : Type 0} (p : A → Bool) (y : A) (ys zs : List A) → filter p (y ∷ ys) ≡ filter p (y ∷ zs) → filter p ys ≡ filter p zs
 filter-tail p y ys zs is =
     elim (cases_Bool (p y)) [
-        inl h ↦ (let whole : y ∷ filter p ys ≡ y ∷ filter p zs = rw h at is in cc)
+      | inl h ↦ (let whole : y ∷ filter p ys ≡ y ∷ filter p zs = rw h at is in cc)
       | inr h ↦ rw h at is
     ]
 
@@ -100,7 +100,7 @@ each_of-placed : {A : Type 0} (key : A → ℤ) (P : A → Type 0) (x : A) (ys :
 each_of-placed key P x [] one each = (one, each)
 each_of-placed key P x (y ∷ ys) one each =
     elim (cases_Bool (int_lt (key y) (key x))) [
-        inl h ↦ rw h (each.0, each_of-placed key P x ys one each.1)
+      | inl h ↦ rw h (each.0, each_of-placed key P x ys one each.1)
       | inr h ↦ rw h (one, each)
     ]
 
@@ -112,7 +112,7 @@ rises-placed : {A : Type 0} (key : A → ℤ) (x : A) (ys : List A) → Rises (l
 rises-placed key x [] rise = (tt, tt)
 rises-placed key x (y ∷ ys) rise =
     elim (cases_Bool (int_lt (key y) (key x))) [
-        inl h ↦ rw h (each_of-placed key (λ w. less key w y ≡ false) x ys ((less-order key).one_way y x (less_is key y x true h)) rise.0, rises-placed key x ys rise.1)
+      | inl h ↦ rw h (each_of-placed key (λ w. less key w y ≡ false) x ys ((less-order key).one_way y x (less_is key y x true h)) rise.0, rises-placed key x ys rise.1)
       | inr h ↦ rw h ((less_is key y x false h, each_after (less key) (less-order key) x y ys (less_is key y x false h) rise.0), rise)
     ]
 
@@ -124,11 +124,11 @@ rises-by_key key (x ∷ xs) = rises-placed key x (by_key key xs) (rises-by_key k
 not_both : {A : Type 0} (lt : A → A → Bool) → IsStrictWeakOrder lt → (a x y : A) → lt y x ≡ true → ties lt a x ≡ true → ties lt a y ≡ false
 not_both lt o a x y less_y tied =
     elim (cases_Bool (lt a y)) [
-        inl h ↦ rw h refl
+      | inl h ↦ rw h refl
       | inr h ↦ elim (cases_Bool (lt y a)) [
-            inl g ↦ rw (h, g) refl
-          | inr g ↦ absurd (let through : lt y x ≡ false = o.chain y a x g (first_of tied) in cc)
-        ]
+        | inl g ↦ rw (h, g) refl
+        | inr g ↦ absurd (let through : lt y x ≡ false = o.chain y a x g (first_of tied) in cc)
+      ]
     ]
   where
     first_of : ties lt a x ≡ true → lt a x ≡ false
@@ -141,9 +141,9 @@ filter-swap : {A : Type 0} (p : A → Bool) (x y : A) (zs ys : List A) → (p x 
     → filter p zs ≡ filter p (x ∷ ys) → filter p (y ∷ zs) ≡ filter p (x ∷ y ∷ ys)
 filter-swap p x y zs ys apart same =
     elim (cases_Bool (p x)) [
-        inl t ↦ (let no : p y ≡ false = apart t in
-            let here : filter p zs ≡ x ∷ filter p ys = rw t at same in
-            rw (no, t) here)
+      | inl t ↦ (let no : p y ≡ false = apart t in
+          let here : filter p zs ≡ x ∷ filter p ys = rw t at same in
+          rw (no, t) here)
       | inr t ↦ (let here : filter p zs ≡ filter p ys = rw t at same in rw t (filter-cons p y zs ys here))
     ]
 
@@ -151,7 +151,7 @@ ties-placed : {A : Type 0} (key : A → ℤ) (a x : A) (ys : List A) → filter 
 ties-placed key a x [] = refl
 ties-placed key a x (y ∷ ys) =
     elim (cases_Bool (int_lt (key y) (key x))) [
-        inl h ↦ rw h (filter-swap (ties (less key) a) x y (placed key x ys) ys (λ t. not_both (less key) (less-order key) a x y (less_is key y x true h) t) (ties-placed key a x ys))
+      | inl h ↦ rw h (filter-swap (ties (less key) a) x y (placed key x ys) ys (λ t. not_both (less key) (less-order key) a x y (less_is key y x true h) t) (ties-placed key a x ys))
       | inr h ↦ rw h refl
     ]
 
@@ -162,9 +162,10 @@ ties-by_key key a (x ∷ xs) = ties-placed key a x (by_key key xs) ∙ filter-co
 -- what the library's sort says, in these words
 rises_from : {A : Type 0} (lt : A → A → Bool) → IsStrictWeakOrder lt → (xs : List A) → IsSortedBy lt xs → Rises lt xs
 rises_from lt o [] up = tt
-rises_from {A} lt o (x ∷ xs) up =
-    (each_from (λ y. lt y x ≡ false) xs (λ k d h. sorted_far lt o (x ∷ xs) up 0 (suc k) d (omega arith) (omega arith)),
-     rises_from lt o xs (λ k d h g. (let e : suc k + 1 ≡ suc (k + 1) = omega arith in rw e at (up (suc k) d (omega arith) (omega arith)))))
+rises_from {A} lt o (x ∷ xs) up = (
+  each_from (λ y. lt y x ≡ false) xs (λ k d h. sorted_far lt o (x ∷ xs) up 0 (suc k) d (omega arith) (omega arith)),
+  rises_from lt o xs (λ k d h g. (let e : suc k + 1 ≡ suc (k + 1) = omega arith in rw e at (up (suc k) d (omega arith) (omega arith)))),
+)
   where
     each_from : {B : Type 0} (P : B → Type 0) (ys : List B) → ((k : ℕ) (d : B) → k < length ys → P (get_or ys k d)) → Each P ys
     each_from P [] all = tt
@@ -173,7 +174,7 @@ rises_from {A} lt o (x ∷ xs) up =
 pub by_key_is : {A : Type 0} (key : A → ℤ) (xs ys : List A) → IsSortedByKey key int_cmp ys → IsStableByKey key int_cmp xs ys → ys ≡ by_key key xs
 by_key_is {A} key xs ys up stable =
     rises_unique (less key) (less-order key) ys (by_key key xs) (rises_from (less key) (less-order key) ys up) (rises-by_key key xs)
-        (λ x. stable x ∙ sym (ties-by_key key x xs))
+    (λ x. stable x ∙ sym (ties-by_key key x xs))
 
 -- the same, where a closure gives the keys
 pub by_key_from_sort : {A : Type 0} (key : A → ℤ) → {F : Type 0} {g : Mut F (Bor A × Unit {0}) ℤ} {f : F} (xs ys : List A)

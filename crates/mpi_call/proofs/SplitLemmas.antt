@@ -27,15 +27,15 @@ split_more : (colour : ℤ) (entries : List (ℕ × List ℤ)) (entry : ℕ × L
     → map candidate_of (of_colour colour (entries ++ entry ∷ [])) ≡ map candidate_of (of_colour colour entries) ++ map candidate_of (of_colour colour (entry ∷ []))
 split_more colour entries entry =
     ap (map candidate_of) (filter-append (λ (entry : ℕ × List ℤ). int_eq (colour_in entry.1) colour) entries (entry ∷ []))
-        ∙ map-append candidate_of (of_colour colour entries) (of_colour colour (entry ∷ []))
+    ∙ map-append candidate_of (of_colour colour entries) (of_colour colour (entry ∷ []))
 
 pub chosen_more : (colour : ℤ) (members : List ℕ) (inputs : List (List ℤ)) (n : ℕ) → n < length members → n < length inputs
     → chosen colour members inputs (n + 1) ≡ chosen colour members inputs n ++ map candidate_of (of_colour colour ((get_or members n 0, get_or inputs n []) ∷ []))
 chosen_more colour members inputs n h g =
     let one : n + 1 ≡ suc n = omega arith in
     ap (chosen colour members inputs) one
-        ∙ (ap (λ entries. map candidate_of (of_colour colour entries)) (zip_more members inputs n h g)
-        ∙ split_more colour (zip (take n members) (take n inputs)) (get_or members n 0, get_or inputs n []))
+    ∙ (ap (λ entries. map candidate_of (of_colour colour entries)) (zip_more members inputs n h g)
+    ∙ split_more colour (zip (take n members) (take n inputs)) (get_or members n 0, get_or inputs n []))
 
 -- a step of the loop over the members
 pub chosen_step : (colour : ℤ) (members : List ℕ) (inputs : List (List ℤ)) (n : ℕ) (found new : List Candidate) (ints : List ℤ)
@@ -45,14 +45,14 @@ chosen_step colour members inputs n found new ints h many at so_far is =
     let g : n < length inputs = omega arith in
     let there : ints ≡ get_or inputs n [] = at ∙ get_or_default inputs n ints [] g in
     is ∙ (ap₂ (λ front ints. front ++ map candidate_of (of_colour colour ((get_or members n 0, ints) ∷ []))) so_far there
-        ∙ sym (chosen_more colour members inputs n h g))
+    ∙ sym (chosen_more colour members inputs n h g))
 
 -- a sort of what a function gives of the elements
 placed-map : {A B : Type 0} (f : A → B) (key : B → ℤ) (x : A) (ys : List A) → placed key (f x) (map f ys) ≡ map f (placed (λ y. key (f y)) x ys)
 placed-map f key x [] = refl
 placed-map f key x (y ∷ ys) =
     elim (cases_Bool (int_lt (key (f y)) (key (f x)))) [
-        inl h ↦ rw h (ap (λ zs. f y ∷ zs) (placed-map f key x ys))
+      | inl h ↦ rw h (ap (λ zs. f y ∷ zs) (placed-map f key x ys))
       | inr h ↦ rw h refl
     ]
 
@@ -71,7 +71,7 @@ pub ranks_of_sorted : (colour : ℤ) (members : List ℕ) (inputs : List (List �
 ranks_of_sorted colour members inputs found sorted ranks is_found is_sorted is =
     let entries : List (ℕ × List ℤ) = of_colour colour (zip members inputs) in
     is ∙ (ap (map (λ (candidate : Candidate). candidate.rank)) (is_sorted ∙ (ap (by_key (λ (candidate : Candidate). candidate.key)) is_found ∙ by_key-map candidate_of (λ candidate. candidate.key) entries))
-        ∙ ranks-map (by_key (λ entry. key_in entry.1) entries))
+    ∙ ranks-map (by_key (λ entry. key_in entry.1) entries))
 
 -- a loop over a whole list
 pub all_taken : {A B : Type 0} (f : A → B) (made : List B) (items xs : List A) (n : ℕ) → length items ≤ n → items ≡ xs → made ≡ map f (take n items) → made ≡ map f xs

@@ -14,7 +14,7 @@ use Rattle.mpi_call.specs.declared.call.Op.{Op}
 pub record AreInputsOf (call : Call) (members : List ℕ) (inputs : List (List ℤ)) (me : ℕ) : Type 0 where
   pub as_many : length inputs ≡ length members
   pub lengths : (place : ℕ) → place < length members → needs call members me (slice_index members place) ≡ true
-    → length (slice_index_or inputs place []) ≡ input_length call members (slice_index members place)
+      → length (slice_index_or inputs place []) ≡ input_length call members (slice_index members place)
 
 -- what a member entered, and what the root entered
 abbrev pub input_of : List ℕ → List (List ℤ) → ℕ → List ℤ

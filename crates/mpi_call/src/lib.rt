@@ -13,3 +13,5 @@ pub mod operations;
 pub mod reply;
 pub mod results;
 pub mod splits;
+#[cfg(test)]
+mod tests;

@@ -56,12 +56,7 @@ fn pieces(alloc: Global, lists: &[Ints]) -> Result<Ints, AllocError>
 }
 
 /// Each list's piece for the member at a place, in a row.
-fn pieces_for(
-    alloc: Global,
-    count: u32,
-    place: usize,
-    lists: &[Ints],
-) -> Result<Ints, AllocError>
+fn pieces_for(alloc: Global, count: u32, place: usize, lists: &[Ints]) -> Result<Ints, AllocError>
     requires { All (λ ints. place * count + count ≤ length ints) lists.now }
     ensures { IfOk result (λ ints. ints ≡ flat_map (piece_at count place) lists.now) }
 {
@@ -73,12 +68,7 @@ fn pieces_for(
 }
 
 /// The fold of the lists by the operation that was set.
-fn reduced(
-    alloc: Global,
-    op: &Option<Op>,
-    count: u32,
-    lists: &[Ints],
-) -> Result<Ints, AllocError>
+fn reduced(alloc: Global, op: &Option<Op>, count: u32, lists: &[Ints]) -> Result<Ints, AllocError>
     requires { All (λ ints. length ints ≡ count) lists.now }
     ensures { IfOk result (λ ints. ints ≡ reduced op.now count lists.now) }
 {

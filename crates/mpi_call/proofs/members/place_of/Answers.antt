@@ -10,4 +10,4 @@ pub returns-clause-value : goal.returns-clause-value
 returns-clause-value c =
     let all : c.loop-place.place ≡ length c.args.members.now = omega arith in
     place_of_is c.args.members.now c.args.rank (length c.args.members.now) (omega arith)
-        (λ k h. c.loop-place.invariant k (omega arith)) (λ h. absurd (omega arith))
+    (λ k h. c.loop-place.invariant k (omega arith)) (λ h. absurd (omega arith))

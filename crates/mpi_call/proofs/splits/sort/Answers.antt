@@ -8,5 +8,5 @@ pub returns : goal.returns
 returns c =
     let key : Candidate → ℤ = λ candidate. candidate.key in
     on_ok_weaker c.sort_by_key.result
-        (λ sorted. by_key_from_sort key c.args.candidates.now.items c.sort_by_key.new.self.items sorted c.sort_by_key.ensures.stable (λ f a r q k. search rules))
-        c.sort_by_key.ensures.sorted
+    (λ sorted. by_key_from_sort key c.args.candidates.now.items c.sort_by_key.new.self.items sorted c.sort_by_key.ensures.stable (λ f a r q k. search rules))
+    c.sort_by_key.ensures.sorted
