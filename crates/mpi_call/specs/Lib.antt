@@ -1,5 +1,6 @@
 pub mod Acceptance
 pub mod Calls
+pub mod Candidates
 pub mod Collectives
 pub mod Halts
 pub mod Made

@@ -8,6 +8,16 @@ use Rattle.mpi_call.specs.declared.call.Call.{Call}
 use Rattle.mpi_call.specs.declared.call.Call.TheVariants.{Enter}
 use Rattle.mpi_call.specs.declared.call.Kind.TheVariants.{Split, Dup}
 
+-- an element put before the first whose key is not less
+abbrev pub placed : {A : Type 0} → (A → ℤ) → A → List A → List A
+placed key x [] = x ∷ []
+placed key x (y ∷ ys) = if int_lt (key y) (key x) then y ∷ placed key x ys else x ∷ y ∷ ys
+
+-- a list by key; elements of one key stay in the order that they have
+abbrev pub by_key : {A : Type 0} → (A → ℤ) → List A → List A
+by_key key [] = []
+by_key key (x ∷ xs) = placed key x (by_key key xs)
+
 -- the key that a member of a Split entered behind its colour
 abbrev pub key_in : List ℤ → ℤ
 key_in ints = slice_index_or ints 1 (pos 0)
@@ -16,20 +26,9 @@ key_in ints = slice_index_or ints 1 (pos 0)
 abbrev pub of_colour : ℤ → List (ℕ × List ℤ) → List (ℕ × List ℤ)
 of_colour colour entries = filter (λ entry. int_eq (colour_in entry.1) colour) entries
 
--- an entry put before the first whose key is not less
-abbrev pub placed : ℕ × List ℤ → List (ℕ × List ℤ) → List (ℕ × List ℤ)
-placed entry [] = entry ∷ []
-placed entry (other ∷ others) =
-    if int_lt (key_in other.1) (key_in entry.1) then other ∷ placed entry others else entry ∷ other ∷ others
-
--- entries by key; those of one key stay in the order that they have
-abbrev pub by_key : List (ℕ × List ℤ) → List (ℕ × List ℤ)
-by_key [] = []
-by_key (entry ∷ entries) = placed entry (by_key entries)
-
 -- the members of one colour, by key and then by place
 abbrev pub split_into : ℤ → List ℕ → List (List ℤ) → List ℕ
-split_into colour members inputs = map (λ entry. entry.0) (by_key (of_colour colour (zip members inputs)))
+split_into colour members inputs = map (λ entry. entry.0) (by_key (λ entry. key_in entry.1) (of_colour colour (zip members inputs)))
 
 -- the members of the communicator that `me` gets, from the ints of each member in member order
 abbrev pub members_made : Call → List ℕ → List (List ℤ) → ℕ → List ℕ

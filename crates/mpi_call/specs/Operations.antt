@@ -1,8 +1,8 @@
 -- The predefined reduction operations on `MPI_INT`, and their fold.
 -- (MPI 3.1, Collective Communication, "Predefined Reduction Operations".)
-use Rattle.std.specs.Prelude.{ℕ, zero, suc, ℤ, pos, List, [], ◌∷◌, Bool, true, false, not, ◌&&◌, ◌||◌, if◌then◌else◌, map, fold, bit_and, bit_or, bit_xor}
+use Rattle.std.specs.Prelude.{ℕ, ℤ, pos, List, Bool, true, false, not, ◌&&◌, ◌||◌, if◌then◌else◌, map, unwrap_or, bit_and, bit_or, bit_xor}
 use Rattle.std.specs.Int.{w32, cast_unsigned, cast_signed, int_max, int_min, int_wrapping_add, int_wrapping_mul}
-use Rattle.std.specs.List.{slice_index_or}
+use Rattle.std.specs.List.{range_with_len, reduce, slice_index_or}
 use Rattle.std.specs.Ordering.{int_eq}
 use Rattle.mpi_call.specs.declared.call.Op.{Op}
 use Rattle.mpi_call.specs.declared.call.Op.TheVariants.{Max, Min, Sum, Prod, Land, Band, Lor, Bor, Lxor, Bxor}
@@ -34,13 +34,7 @@ combined Bxor a b = bitwise bit_xor a b
 
 -- the fold of some ints, from the first on: one int alone is itself
 abbrev pub fold_of : Op → List ℤ → ℤ
-fold_of op [] = pos 0
-fold_of op (first ∷ others) = fold (combined op) first others
-
--- the numbers below n, in order
-abbrev pub numbers_from : ℕ → ℕ → List ℕ
-numbers_from start zero = []
-numbers_from start (suc n) = start ∷ numbers_from (suc start) n
+fold_of op ints = unwrap_or (reduce (combined op) ints) (pos 0)
 
 -- each list's int at one place
 abbrev pub column_of : List (List ℤ) → ℕ → List ℤ
@@ -48,4 +42,4 @@ column_of lists place = map (λ ints. slice_index_or ints place (pos 0)) lists
 
 -- the fold of some lists of `count` ints, place by place
 abbrev pub folds_of : Op → ℕ → List (List ℤ) → List ℤ
-folds_of op count lists = map (λ place. fold_of op (column_of lists place)) (numbers_from 0 count)
+folds_of op count lists = map (λ place. fold_of op (column_of lists place)) (range_with_len 0 count)

@@ -1,13 +1,20 @@
 -- What a collective gives to a rank. (MPI 3.1, Collective Communication.)
-use Rattle.std.specs.Prelude.{ℕ, suc, ◌*◌, ℤ, List, [], flat_map, take, drop, if◌then◌else◌, Option, None, Some}
+use Rattle.std.specs.Prelude.{◌≡◌, ℕ, suc, ◌*◌, ◌<◌, ℤ, List, [], true, flat_map, length, take, drop, if◌then◌else◌, Option, None, Some, slice_index}
 use Rattle.std.specs.List.{slice_index_or}
 use Rattle.mpi_call.specs.Members.{place_of}
-use Rattle.mpi_call.specs.Needs.{is_root}
+use Rattle.mpi_call.specs.Needs.{is_root, needs, input_length}
 use Rattle.mpi_call.specs.Operations.{folds_of}
 use Rattle.mpi_call.specs.declared.call.Call.{Call}
 use Rattle.mpi_call.specs.declared.call.Call.TheVariants.{Enter}
 use Rattle.mpi_call.specs.declared.call.Kind.TheVariants.{Bcast, Reduce, Allreduce, Gather, Allgather, Scatter, Alltoall, Scan}
 use Rattle.mpi_call.specs.declared.call.Op.{Op}
+
+-- `inputs` has one list per member, in member order, and the list of each member that the result of `me` needs is as long as
+-- what that member enters
+pub record AreInputsOf (call : Call) (members : List ℕ) (inputs : List (List ℤ)) (me : ℕ) : Type 0 where
+  pub as_many : length inputs ≡ length members
+  pub lengths : (place : ℕ) → place < length members → needs call members me (slice_index members place) ≡ true
+      → length (slice_index_or inputs place []) ≡ input_length call members (slice_index members place)
 
 -- what a member entered, and what the root entered
 abbrev pub input_of : List ℕ → List (List ℤ) → ℕ → List ℤ

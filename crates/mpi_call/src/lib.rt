@@ -7,4 +7,11 @@
 pub mod acceptance;
 pub mod call;
 pub mod lists;
+pub mod members;
+pub mod needs;
+pub mod operations;
 pub mod reply;
+pub mod results;
+pub mod splits;
+#[cfg(test)]
+mod tests;

@@ -1,0 +1,3 @@
+pub mod BoardLemmas
+pub mod EntrantLemmas
+pub mod InstanceLemmas

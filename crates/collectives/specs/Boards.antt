@@ -1,0 +1,44 @@
+-- The collectives of all communicators.
+use Rattle.std.specs.Prelude.{◌≡◌, ℕ, List, [], ◌∷◌, ◌++◌, ◌&&◌, ◌==◌, if◌then◌else◌}
+use Rattle.mpi_call.specs.Calls.{comm_of}
+use Rattle.mpi_call.specs.declared.call.Call.{Call}
+use Rattle.collectives.specs.Entrants.{without}
+use Rattle.collectives.specs.Instances.{answer_of, enters_by, instance_at}
+use Rattle.collectives.specs.declared.entrants.Entrant.{Entrant}
+use Rattle.collectives.specs.declared.instances.Entered.{Entered}
+use Rattle.collectives.specs.declared.instances.Entered.TheVariants.{Joined, Disagrees}
+
+-- each communicator's number and instances
+abbrev pub Stages : Type 0
+Stages = List (ℕ × List (List Entrant))
+
+abbrev pub instances_on : Stages → ℕ → List (List Entrant)
+instances_on [] comm = []
+instances_on (stage ∷ stages) comm = if stage.0 == comm then stage.1 else instances_on stages comm
+
+-- the Enters of an instance, in the order made
+abbrev pub enters_of : Stages → ℕ → ℕ → List Entrant
+enters_of stages comm instance = instance_at (instances_on stages comm) instance
+
+-- how many Enters a rank has made on a communicator: the instance of its next one
+abbrev pub enters_on : Stages → ℕ → ℕ → ℕ
+enters_on stages comm rank = enters_by (instances_on stages comm) rank
+
+-- what `enter` answers
+abbrev pub entered_by : Stages → ℕ → Call → Entered
+entered_by stages rank call = answer_of (instances_on stages (comm_of call)) rank call
+
+-- one Enter is added to an instance of a communicator, behind those before it
+pub record GainsEnter (old new : Stages) (comm instance : ℕ) (entrant : Entrant) : Type 0 where
+  pub at : (other number : ℕ) → enters_of new other number
+      ≡ (if other == comm && number == instance then enters_of old other number ++ entrant ∷ [] else enters_of old other number)
+
+-- and one rank's Enter is taken out of it
+pub record LosesEnter (old new : Stages) (comm instance rank : ℕ) : Type 0 where
+  pub at : (other number : ℕ) → enters_of new other number
+      ≡ (if other == comm && number == instance then without rank (enters_of old other number) else enters_of old other number)
+
+-- the board after that answer
+abbrev pub IsBoardAfter : Stages → Stages → ℕ → Call → Entered → Type 0
+IsBoardAfter old new rank call (Joined instance) = GainsEnter old new (comm_of call) instance (record { rank = rank; call = call })
+IsBoardAfter old new rank call (Disagrees other) = new ≡ old

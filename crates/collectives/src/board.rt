@@ -1,0 +1,107 @@
+//! The collectives of all communicators.
+ghost use Rattle.std.specs.Prelude.{◌≡◌, ◌-◌, ◌<◌, [], map, IfOk, IsTrue, OnErr};
+ghost use Rattle.mpi_call.specs.Calls.{comm_of, is_enter};
+ghost use Rattle.collectives.specs.Boards.{entered_by, enters_of, enters_on, IsBoardAfter, LosesEnter};
+ghost use Rattle.collectives.specs.Entrants.{has_entered, ints_by};
+
+use crate::instances::{Entered, Instances};
+use mpi_call::call::{Call, Comm};
+use mpi_call::lists::{Inputs, Ranks};
+use std::alloc::{AllocError, Global};
+use std::collections::BTreeMap;
+use std::marker::Model;
+
+/// Who has entered which collective; contracts see each communicator's instances, with their Enters in the order made.
+#[derive(Drop)]
+pub struct Board {
+    stages: BTreeMap<Comm, Instances>,
+    alloc: Global,
+}
+
+impl Model for Board {
+    ghost use Rattle.collectives.specs.Boards.{Stages};
+
+    ghost Value = { Stages };
+
+    ghost view = { λ s. s.stages.entries };
+}
+
+impl Board {
+    /// No Enters.
+    pub fn new(alloc: Global) -> Self
+        ensures { result ≡ [] }
+    {
+        Board {
+            stages: BTreeMap::new(alloc),
+            alloc,
+        }
+    }
+
+    /// Adds an Enter of a rank to its next instance on its communicator, or answers the earliest rank whose Enter there does
+    /// not agree.
+    pub fn enter(&mut self, rank: u8, call: &Call) -> Result<Entered, AllocError>
+        requires call { IsTrue (is_enter call.now) }
+        requires count { enters_on self.old (comm_of call.now) rank < 4000000000 }
+        ensures answer { IfOk result (λ entered. entered ≡ entered_by self.old rank call.now) }
+        ensures after { IfOk result (λ entered. IsBoardAfter self.old self.new rank call.now entered) }
+        ensures err { OnErr result (self.new ≡ self.old) }
+    {
+        let comm = comm_of(call);
+        match self.stages.get_mut(&comm) {
+            Some(instances) => return instances.enter(self.alloc, rank, call),
+            None => {}
+        }
+        let mut instances = Instances::new(self.alloc);
+        let entered = instances.enter(self.alloc, rank, call)?;
+        self.stages.insert(comm, instances)?;
+        Ok(entered)
+    }
+
+    /// Whether a rank has entered an instance. Takes no memory.
+    pub fn entered(&self, comm: Comm, instance: u32, who: u8) -> bool
+        ensures { result ≡ has_entered (enters_of self.now comm instance) who }
+    {
+        match self.stages.get(&comm) {
+            Some(instances) => instances.entered(instance, who),
+            None => false,
+        }
+    }
+
+    /// What each of these members entered in an instance, nothing where it has not.
+    pub fn inputs(&self, comm: Comm, instance: u32, members: &Ranks) -> Result<Inputs, AllocError>
+        ensures { IfOk result (λ inputs. inputs ≡ map (ints_by (enters_of self.now comm instance)) members.now) }
+    {
+        match self.stages.get(&comm) {
+            Some(instances) => instances.inputs(self.alloc, instance, members.as_slice()),
+            None => Instances::new(self.alloc).inputs(self.alloc, instance, members.as_slice()),
+        }
+    }
+
+    /// Takes a rank's latest Enter on a communicator out. Takes no memory.
+    pub fn leave(&mut self, rank: u8, comm: Comm)
+        requires { 0 < enters_on self.old comm rank }
+        ensures { LosesEnter self.old self.new comm (enters_on self.old comm rank - 1) rank }
+    {
+        match self.stages.get_mut(&comm) {
+            Some(instances) => instances.leave(rank),
+            None => {}
+        }
+    }
+}
+
+/// The communicator of an Enter.
+fn comm_of(call: &Call) -> Comm
+    ensures { result ≡ comm_of call.now }
+{
+    match call {
+        Call::Enter {
+            comm,
+            kind: _,
+            root: _,
+            op: _,
+            count: _,
+            ints: _,
+        } => *comm,
+        _ => 0,
+    }
+}

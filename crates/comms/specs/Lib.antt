@@ -1,0 +1,2 @@
+pub mod Communicators
+pub mod Colours

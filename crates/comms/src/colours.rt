@@ -1,0 +1,86 @@
+//! The colours of a Split, and the numbers and members of the communicators that it makes.
+ghost use Rattle.std.specs.Prelude.{◌≡◌, ◌+◌, ◌<◌, ◌^◌, ◌++◌, ◌∷◌, [], length, map, filter, not, IfOk, OnOk};
+ghost use Rattle.std.specs.Ordering.{int_eq};
+ghost use Rattle.mpi_call.specs.Made.{by_key, split_into};
+ghost use Rattle.mpi_call.specs.Needs.{colour_in, undefined_colour};
+ghost use Rattle.comms.specs.Colours.{colours_of, number_for, place_among};
+
+use crate::numbers::Numbers;
+use mpi_call::call::Comm;
+use mpi_call::lists::{Ints, Ranks};
+use mpi_call::needs::{UNDEFINED_COLOUR, colour_in};
+use mpi_call::splits::split_into;
+use std::alloc::{AllocError, Global};
+
+/// The colours that were entered, in member order, without the undefined one.
+fn defined_colours(alloc: Global, inputs: &[Ints]) -> Result<Vec<i32>, AllocError>
+    ensures { IfOk result (λ colours. colours.items ≡ filter (λ colour. not (int_eq colour undefined_colour)) (map colour_in inputs.now)) }
+{
+    let mut colours = Vec::new(alloc);
+    for ints in inputs {
+        add_defined(&mut colours, colour_in(ints))?;
+    }
+    Ok(colours)
+}
+
+/// Adds a colour but the undefined one.
+fn add_defined(colours: &mut Vec<i32>, colour: i32) -> Result<(), AllocError>
+    ensures { OnOk result (colours.new.items ≡ colours.old.items ++ filter (λ other. not (int_eq other undefined_colour)) (colour ∷ [])) }
+{
+    if colour != UNDEFINED_COLOUR {
+        colours.push(colour)?;
+    }
+    Ok(())
+}
+
+/// The colours that were entered, rising, each once, without the undefined one.
+pub fn colours_of(alloc: Global, inputs: &[Ints]) -> Result<Vec<i32>, AllocError>
+    ensures { IfOk result (λ colours. colours.items ≡ colours_of inputs.now) }
+{
+    let mut colours = defined_colours(alloc, inputs)?;
+    colours.sort()?;
+    colours.dedup();
+    Ok(colours)
+}
+
+/// Where a colour stands, or the number of colours where it does not.
+fn place_among(colours: &[i32], colour: i32) -> usize
+    ensures value { result ≡ place_among colours.now colour }
+{
+    for (place, other) in colours.iter().enumerate() {
+        if *other == colour {
+            return place;
+        }
+    }
+    colours.len()
+}
+
+/// The number of the communicator of a colour, where `first` is that of the first one; 0 for a colour that is none of these.
+fn number_for(colours: &[i32], first: Comm, colour: i32) -> Comm
+    requires { first + length colours.now < 2 ^ 32 }
+    ensures { result ≡ number_for colours.now first colour }
+{
+    let place = place_among(colours, colour);
+    if place < colours.len() {
+        first + place as u32
+    } else {
+        0
+    }
+}
+
+/// The number that each member gets.
+pub fn numbers_for(
+    alloc: Global,
+    colours: &[i32],
+    first: Comm,
+    inputs: &[Ints],
+) -> Result<Numbers, AllocError>
+    requires { first + length colours.now < 2 ^ 32 }
+    ensures { IfOk result (λ numbers. numbers ≡ map (λ ints. number_for colours.now first (colour_in ints)) inputs.now) }
+{
+    let mut numbers = Numbers::new(alloc);
+    for ints in inputs {
+        numbers.push(number_for(colours, first, colour_in(ints)))?;
+    }
+    Ok(numbers)
+}

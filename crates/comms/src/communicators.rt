@@ -1,0 +1,1 @@
+//! The communicators by number.
