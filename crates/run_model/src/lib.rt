@@ -10,3 +10,5 @@ pub mod event;
 pub mod history;
 pub mod lists;
 pub mod program;
+#[cfg(test)]
+mod tests;

@@ -4,3 +4,5 @@
 
 pub mod entry;
 pub mod log;
+#[cfg(test)]
+mod tests;
