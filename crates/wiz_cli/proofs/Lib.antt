@@ -1,3 +1,5 @@
 pub mod SmallCallLaws
 pub mod TokenLaws
 pub mod ReadingLaws
+pub mod WordLemmas
+pub mod ReportLemmas

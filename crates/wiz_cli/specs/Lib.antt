@@ -2,8 +2,11 @@ pub mod CallTexts
 pub mod Courses
 pub mod CourseLaws
 pub mod Reading
+pub mod Reports
 pub mod SmallCalls
+pub mod SmallLogs
 pub mod SmallTexts
 pub mod States
 pub mod Tokens
 pub mod TraceTexts
+pub mod Words

@@ -2,10 +2,19 @@
 #![tactic(auto)]
 
 mod call_text;
+pub mod gate;
+pub mod outcome;
+mod replay_file;
+pub mod report;
 pub mod small_fault;
+pub mod small_log;
+pub mod small_log_fault;
 pub mod small_program;
 pub mod small_rank;
 pub mod small_source;
 mod small_state;
-mod small_tokens;
+
+mod tell;
+pub mod top;
 pub mod trace;
+mod words;

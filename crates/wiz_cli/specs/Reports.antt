@@ -1,0 +1,126 @@
+-- What a command comes to, and how it is told.
+use Rattle.std.specs.Prelude.{◌≡◌, ◌<◌, ◌≤◌, ◌⊎◌, ℕ, List, [], ◌∷◌, ◌++◌, Option, Some, None, Bool, true, false, ◌&&◌, not, if◌then◌else◌, IfSome, length, take, codes}
+use Rattle.std.specs.List.{list_any}
+use Rattle.run_model.specs.Views.{Kept}
+use Rattle.srr_entry.specs.declared.log.Log.{Log}
+use Rattle.srr_replay.specs.declared.replayed.Replayed.{Replayed}
+use Rattle.srr_replay.specs.declared.replayed.Stand.{Stand}
+use Rattle.srr_replay.specs.declared.replayed.Stand.TheVariants.{Ended, LogEnded, AtBreak, Diverged, Starved}
+use Rattle.srr_replay.specs.Stands.{IsReplayed}
+use Rattle.wiz_cli.specs.declared.outcome.Refusal.{Refusal}
+use Rattle.wiz_cli.specs.declared.outcome.Refusal.TheVariants.{Words, Missing, ReadFault, Program, Log as LogRefused, TooLong}
+use Rattle.wiz_cli.specs.declared.outcome.Outcome.{Outcome}
+use Rattle.wiz_cli.specs.declared.outcome.Outcome.TheVariants.{Refused, Replayed as WasReplayed}
+use Rattle.wiz_cli.specs.declared.small_program.SmallProgram.{SmallProgram}
+use Rattle.wiz_cli.specs.Courses.{next_of, output_of, variables_of}
+use Rattle.wiz_cli.specs.SmallLogs.{IsSmallLogText}
+use Rattle.wiz_cli.specs.SmallTexts.{IsSmallText}
+use Rattle.wiz_cli.specs.TraceTexts.{trace_text}
+use Rattle.wiz_cli.specs.Words.{IsReplayOf}
+use Rattle.wiz_io.specs.Files.{Files, HasRisen}
+
+-- a whole replay of a log's group with the program whose text stands in it
+pub record IsReplayOfLog (log : Log) (replayed : Replayed) : Type 0 where
+  pub program : SmallProgram
+  pub is_program : IsSmallText log.program program
+  pub replay : IsReplayed (next_of program) (output_of program) (variables_of program) log None replayed
+
+-- what comes of a log: its program is not of the small form, or its group is replayed
+abbrev pub IsLogOutcome : Log → Outcome → Type 0
+IsLogOutcome log (Refused Program) = (program : SmallProgram) → IsSmallText log.program program → ⊥
+IsLogOutcome log (Refused refusal) = ⊥
+IsLogOutcome log (WasReplayed replayed) = IsReplayOfLog log replayed
+
+-- what comes of a file's bytes: they are no small log text, or that of a log of which this comes
+abbrev pub IsBytesOutcome : List ℕ → Outcome → Type 0
+IsBytesOutcome bytes (Refused LogRefused) = (log : Log) → IsSmallLogText bytes log → ⊥
+IsBytesOutcome bytes outcome = (log : Log) × IsSmallLogText bytes log × IsLogOutcome log outcome
+
+-- what comes of a file, by the files as they were, where they are told, and the counts of read faults before and after:
+-- it is missing, it could not be read, it is longer than a log file may be, or this comes of its bytes
+abbrev pub IsFileOutcome : Option Files → List ℕ → ℕ → ℕ → Outcome → Type 0
+IsFileOutcome files name before after (Refused Words) = ⊥
+IsFileOutcome files name before after (Refused Missing) = IfSome files (λ told. told name ≡ None)
+IsFileOutcome files name before after (Refused ReadFault) = HasRisen before after
+IsFileOutcome files name before after (Refused TooLong) =
+    IfSome files (λ told. (bytes : List ℕ) × (told name ≡ Some bytes) × (134217728 < length bytes))
+IsFileOutcome files name before after outcome =
+    (bytes : List ℕ) × IfSome files (λ told. told name ≡ Some bytes) × (length bytes ≤ 134217728) × IsBytesOutcome bytes outcome
+
+-- what comes of the words: they are no command, or a replay of the file that they name
+abbrev pub IsOutcome : List (List ℕ) → Option Files → ℕ → ℕ → List ℕ → Outcome → Type 0
+IsOutcome words files before after name (Refused Words) = (other : List ℕ) → IsReplayOf words other → ⊥
+IsOutcome words files before after name outcome = IsReplayOf words name × IsFileOutcome files name before after outcome
+
+-- the exit status of a refusal
+abbrev pub refusal_status : Refusal → ℕ
+refusal_status Words = 1
+refusal_status Missing = 2
+refusal_status ReadFault = 3
+refusal_status Program = 5
+refusal_status LogRefused = 8
+refusal_status TooLong = 12
+
+-- its message
+abbrev pub message_text : Refusal → List ℕ → List ℕ
+message_text Words name = codes "refused words\n"
+message_text Missing name = codes "no file " ++ name ++ codes "\n"
+message_text ReadFault name = codes "cannot read " ++ name ++ codes "\n"
+message_text Program name = codes "program 1:1 not built\n"
+message_text LogRefused name = codes "log refused\n"
+message_text TooLong name = codes "too long " ++ name ++ codes "\n"
+
+abbrev pub is_diverged : Stand → Bool
+is_diverged (Diverged divergence) = true
+is_diverged stand = false
+
+abbrev pub is_starved : Stand → Bool
+is_starved (Starved missing) = true
+is_starved stand = false
+
+abbrev pub is_at_break : Stand → Bool
+is_at_break (AtBreak variables) = true
+is_at_break stand = false
+
+-- 9 where a rank diverged; else 10 where one is starved and none is at its breakpoint; else 0
+abbrev pub status_by : List Stand → ℕ
+status_by ends =
+    if list_any is_diverged ends then 9
+    else if list_any is_starved ends && not (list_any is_at_break ends) then 10 else 0
+
+-- where the bytes put out are told, they grew by a text
+abbrev pub GrewBy : Option (List ℕ) → Option (List ℕ) → List ℕ → Type 0
+GrewBy None after text = after ≡ None
+GrewBy (Some before) None text = ⊥
+GrewBy (Some before) (Some after) text = after ≡ before ++ text
+
+-- or by a part at its front
+abbrev pub GrewByPart : Option (List ℕ) → Option (List ℕ) → List ℕ → Type 0
+GrewByPart None after text = after ≡ None
+GrewByPart (Some before) None text = ⊥
+GrewByPart (Some before) (Some after) text = (count : ℕ) × (after ≡ before ++ take count text)
+
+-- the text is out; or a part of it, and the sink's count of faults rose
+abbrev pub HasSaid : Option (List ℕ) → Option (List ℕ) → ℕ → ℕ → List ℕ → Type 0
+HasSaid before after faults faults' text =
+    GrewBy before after text ⊎ (HasRisen faults faults' × GrewByPart before after text)
+
+-- a replay is told by its trace text; with status 4 writing it failed
+abbrev pub IsTrace : Option (List ℕ) → Option (List ℕ) → ℕ → ℕ → Replayed → ℕ → Type 0
+IsTrace before after faults faults' replayed status =
+    ((status ≡ status_by replayed.ends) × GrewBy before after (trace_text replayed))
+    ⊎ ((status ≡ 4) × HasRisen faults faults' × GrewByPart before after (trace_text replayed))
+
+-- how an outcome is told: a refusal by its status and message, a replay by its status and trace
+abbrev pub IsTold : Outcome → List ℕ → Option (List ℕ) → Option (List ℕ) → ℕ → ℕ → ℕ → Option Kept → List Replayed → Type 0
+IsTold (Refused refusal) name before after faults faults' status run replays =
+    (status ≡ refusal_status refusal) × (run ≡ None) × (replays ≡ []) × HasSaid before after faults faults' (message_text refusal name)
+IsTold (WasReplayed replayed) name before after faults faults' status run replays =
+    (run ≡ None) × (replays ≡ replayed ∷ []) × IsTrace before after faults faults' replayed status
+
+-- a report: memory was wanting, or some outcome of the words was told
+abbrev pub IsReport : List (List ℕ) → Option Files → ℕ → ℕ → Option (List ℕ) → Option (List ℕ) → ℕ → ℕ → ℕ → Option Kept → List Replayed → Type 0
+IsReport words files reads reads' before after faults faults' status run replays =
+    (status ≡ 11)
+    ⊎ ((name : List ℕ) × (outcome : Outcome) × IsOutcome words files reads reads' name outcome
+    × IsTold outcome name before after faults faults' status run replays)

@@ -1,0 +1,100 @@
+//! The replay of a log file.
+ghost use Rattle.std.specs.Prelude.{◌≡◌, [], IfOk, Err, None, length, ◌≤◌};
+ghost use Rattle.srr_entry.specs.declared.log.Log.{Log};
+ghost use Rattle.srr_replay.specs.Rounds.{IsReplayable, RunAll};
+ghost use Rattle.srr_replay.specs.Stands.{IsReplayed};
+ghost use Rattle.wiz_cli.specs.Courses.{next_of, output_of, variables_of};
+ghost use Rattle.wiz_cli.specs.Reports.{IsBytesOutcome, IsFileOutcome, IsLogOutcome};
+ghost use Rattle.wiz_cli.specs.SmallLogs.{IsSmallLogText};
+
+use crate::outcome::{Outcome, Refusal};
+use crate::small_fault::SmallFault;
+use crate::small_log::read_small_log;
+use crate::small_log_fault::SmallLogFault;
+use crate::small_program::SmallProgram;
+use crate::small_rank::SmallRank;
+use crate::small_source::read_small;
+use srr_entry::log::Log;
+use srr_replay::replayed::Replayed;
+use srr_replay::serial::replay_serial;
+use std::alloc::{AllocError, Global};
+use wiz_io::{ReadFault, Store};
+
+/// The most bytes of a log file.
+const LOG_LIMIT: u64 = 134_217_728;
+
+/// Replays the file's log on one thread. The error is want of memory.
+pub fn replay_file<S: Store>(
+    alloc: Global,
+    name: &str,
+    store: &mut S,
+) -> Result<Outcome, AllocError>
+    ensures outcome { IfOk result (λ outcome. IsFileOutcome (S.files store.old) name.now (S.read_faults store.old) (S.read_faults store.new) outcome) }
+    ensures files { S.files store.new ≡ S.files store.old }
+    ensures writes { S.write_faults store.new ≡ S.write_faults store.old }
+{
+    match store.read(name, LOG_LIMIT) {
+        Ok(bytes) => {
+            let outcome = replay_bytes(alloc, bytes.as_slice())?;
+            Ok(outcome)
+        }
+        Err(ReadFault::Missing) => Ok(Outcome::Refused(Refusal::Missing)),
+        Err(ReadFault::Failed) => Ok(Outcome::Refused(Refusal::ReadFault)),
+        Err(ReadFault::TooLong) => Ok(Outcome::Refused(Refusal::TooLong)),
+        Err(ReadFault::NoMemory) => Err(AllocError),
+    }
+}
+
+/// Replays the log that these bytes spell.
+fn replay_bytes(alloc: Global, bytes: &[u8]) -> Result<Outcome, AllocError>
+    requires { length bytes.now ≤ 134217728 }
+    ensures { IfOk result (λ outcome. IsBytesOutcome bytes.now outcome) }
+{
+    match read_small_log(alloc, bytes) {
+        Ok(log) => replay_log(alloc, &log),
+        Err(SmallLogFault::Refused) => Ok(Outcome::Refused(Refusal::Log)),
+        Err(SmallLogFault::NoMemory) => Err(AllocError),
+    }
+}
+
+/// Replays a log with the program whose text stands in it.
+fn replay_log(alloc: Global, log: &Log) -> Result<Outcome, AllocError>
+    requires log { IsReplayable log.now }
+    requires program { length log.now.program ≤ 65536 }
+    ensures { IfOk result (λ outcome. IsLogOutcome log.now outcome) }
+{
+    match read_small(alloc, log.program.as_slice()) {
+        Ok(program) => Ok(Outcome::Replayed(replay_group(alloc, &program, log)?)),
+        Err(SmallFault::NotBuilt) => Ok(Outcome::Refused(Refusal::Program)),
+        Err(SmallFault::NoMemory) => Err(AllocError),
+    }
+}
+
+/// The replay of a log's group with a program.
+fn replay_group(
+    alloc: Global,
+    program: &SmallProgram,
+    log: &Log,
+) -> Result<Replayed, AllocError>
+    requires { IsReplayable log.now }
+    ensures { IfOk result (λ replayed. IsReplayed (next_of program.now) (output_of program.now) (variables_of program.now) log.now None replayed) }
+{
+    let runs = start_all(alloc, program, log)?;
+    replay_serial(alloc, program, log, runs, None)
+}
+
+/// One run for each rank of the group, before its first call. No other rank is run.
+fn start_all<'a>(
+    alloc: Global,
+    program: &'a SmallProgram,
+    log: &Log,
+) -> Result<Vec<SmallRank<'a>>, AllocError>
+    requires { IsReplayable log.now }
+    ensures { IfOk result (λ runs. RunAll (λ run. run) program.now log.now [] runs.items) }
+{
+    let mut runs = Vec::new(alloc);
+    for rank in log.group.as_slice() {
+        runs.push(SmallRank::start(alloc, program, log.ranks, *rank)?)?;
+    }
+    Ok(runs)
+}

@@ -1,0 +1,148 @@
+//! Telling an outcome: its status, and its message or trace.
+ghost use Rattle.std.specs.Prelude.{◌≡◌, ◌++◌, IfOk, OnOk, codes};
+ghost use Rattle.std.specs.List.{list_any};
+ghost use Rattle.wiz_cli.specs.Reports.{HasSaid, IsTold, IsTrace, is_at_break, is_diverged, is_starved, message_text, refusal_status, status_by};
+
+use crate::outcome::{Outcome, Refusal};
+use crate::report::Report;
+use crate::trace::trace_text;
+use srr_replay::replayed::{Replayed, Replays, Stand};
+use std::alloc::{AllocError, Global};
+use wiz_base::{Bytes, push_text};
+use wiz_io::{PutFault, Sink};
+
+/// Tells an outcome. The error is want of memory.
+pub fn tell<K: Sink>(
+    alloc: Global,
+    outcome: Outcome,
+    name: &str,
+    out: &mut K,
+) -> Result<Report, AllocError>
+    ensures { IfOk result (λ report. IsTold outcome name.now (K.written out.old) (K.written out.new) (K.faults out.old) (K.faults out.new) report.status report.run report.replayed) }
+{
+    match outcome {
+        Outcome::Refused(refusal) => {
+            say(alloc, refusal, name, out)?;
+            Ok(Report {
+                status: exit_status(refusal),
+                run: None,
+                replayed: Replays::new(alloc),
+            })
+        }
+        Outcome::Replayed(replayed) => {
+            let status = put_trace(alloc, &replayed, out)?;
+            let mut replays = Replays::new(alloc);
+            match replays.push(replayed) {
+                Ok(()) => Ok(Report {
+                    status,
+                    run: None,
+                    replayed: replays,
+                }),
+                Err(_) => Err(AllocError),
+            }
+        }
+    }
+}
+
+/// The exit status of a refusal.
+fn exit_status(refusal: Refusal) -> u8
+    ensures { result ≡ refusal_status refusal }
+{
+    match refusal {
+        Refusal::Words => 1,
+        Refusal::Missing => 2,
+        Refusal::ReadFault => 3,
+        Refusal::Program => 5,
+        Refusal::Log => 8,
+        Refusal::TooLong => 12,
+    }
+}
+
+/// Puts a refusal's message out. A fault of the sink changes no status.
+fn say<K: Sink>(
+    alloc: Global,
+    refusal: Refusal,
+    name: &str,
+    out: &mut K,
+) -> Result<(), AllocError>
+    ensures { OnOk result (HasSaid (K.written out.old) (K.written out.new) (K.faults out.old) (K.faults out.new) (message_text refusal name.now)) }
+{
+    let text = message(alloc, refusal, name)?;
+    match out.put(text.as_slice()) {
+        Ok(()) | Err(PutFault::Failed) => Ok(()),
+        Err(PutFault::NoMemory) => Err(AllocError),
+    }
+}
+
+/// The message of a refusal.
+fn message(alloc: Global, refusal: Refusal, name: &str) -> Result<Bytes, AllocError>
+    ensures { IfOk result (λ text. text ≡ message_text refusal name.now) }
+{
+    match refusal {
+        Refusal::Words => Bytes::from_slice(alloc, b"refused words\n"),
+        Refusal::Missing => about_file(alloc, b"no file ", name),
+        Refusal::ReadFault => about_file(alloc, b"cannot read ", name),
+        Refusal::Program => Bytes::from_slice(alloc, b"program 1:1 not built\n"),
+        Refusal::Log => Bytes::from_slice(alloc, b"log refused\n"),
+        Refusal::TooLong => about_file(alloc, b"too long ", name),
+    }
+}
+
+/// A message that names a file.
+fn about_file(alloc: Global, words: &[u8], name: &str) -> Result<Bytes, AllocError>
+    ensures { IfOk result (λ text. text ≡ words.now ++ name.now ++ codes "\n") }
+{
+    let mut text = Bytes::from_slice(alloc, words)?;
+    push_text(&mut text, name.as_bytes())?;
+    push_text(&mut text, b"\n")?;
+    Ok(text)
+}
+
+/// Puts the trace out. The status is that of the stands, or 4 where the sink failed.
+fn put_trace<K: Sink>(
+    alloc: Global,
+    replayed: &Replayed,
+    out: &mut K,
+) -> Result<u8, AllocError>
+    ensures { IfOk result (λ status. IsTrace (K.written out.old) (K.written out.new) (K.faults out.old) (K.faults out.new) replayed.now status) }
+{
+    let text = trace_text(alloc, replayed)?;
+    match out.put(text.as_slice()) {
+        Ok(()) => Ok(settled(replayed.ends.as_slice())),
+        Err(PutFault::Failed) => Ok(4),
+        Err(PutFault::NoMemory) => Err(AllocError),
+    }
+}
+
+/// The exit status of a replay whose ranks stand so.
+fn settled(ends: &[Stand]) -> u8
+    ensures { result ≡ status_by ends.now }
+{
+    if has_diverged(ends) {
+        9
+    } else if has_starved(ends) && !is_stopped(ends) {
+        10
+    } else {
+        0
+    }
+}
+
+fn has_diverged(ends: &[Stand]) -> bool
+    ensures { result ≡ list_any is_diverged ends.now }
+{
+    ends.iter().any(|stand| matches!(stand, Stand::Diverged(_)))
+}
+
+fn has_starved(ends: &[Stand]) -> bool
+    ensures { result ≡ list_any is_starved ends.now }
+{
+    ends.iter().any(|stand| matches!(stand, Stand::Starved(_)))
+}
+
+/// Whether a rank is at its breakpoint.
+fn is_stopped(ends: &[Stand]) -> bool
+    ensures { result ≡ list_any is_at_break ends.now }
+{
+    ends.iter()
+        .any(|stand| matches!(stand, Stand::AtBreak { .. }))
+}

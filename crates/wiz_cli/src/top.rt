@@ -1,0 +1,77 @@
+//! The top call.
+ghost use Rattle.std.specs.Prelude.{◌≡◌, IfOk, map};
+ghost use Rattle.wiz_cli.specs.Reports.{IsReport};
+
+use crate::gate::Gate;
+use crate::outcome::{Outcome, Refusal};
+use crate::replay_file::replay_file;
+use crate::report::Report;
+use crate::tell::tell;
+use crate::words::log_name;
+use srr_replay::replayed::Replays;
+use std::alloc::{AllocError, Global};
+use std::sync::Wait;
+use std::thread::Threads;
+use wiz_io::{Sink, Store};
+
+/// The tool as a function of its words, its files and its output, without threads. `replay LOG --serial` prints the trace
+/// of the log's group, replayed with the program that stands in the log; other words are refused.
+pub fn wiz_serial<S: Store, K: Sink>(
+    alloc: Global,
+    words: &[&str],
+    store: &mut S,
+    out: &mut K,
+) -> Report
+    ensures report { IsReport (map (λ word. word.now) words.now) (S.files store.old) (S.read_faults store.old) (S.read_faults store.new) (K.written out.old) (K.written out.new) (K.faults out.old) (K.faults out.new) result.status result.run result.replayed }
+    ensures files { S.files store.new ≡ S.files store.old }
+    ensures writes { S.write_faults store.new ≡ S.write_faults store.old }
+{
+    match answer(alloc, words, store, out) {
+        Ok(report) => report,
+        Err(_) => Report {
+            status: 11,
+            run: None,
+            replayed: Replays::new(alloc),
+        },
+    }
+}
+
+/// The same call. It has threads at hand and a gate that their calls pass; no command needs them yet.
+pub fn wiz<R: Threads + Wait + Sync, S: Store, K: Sink, G: Gate + Sync>(
+    _rt: &R,
+    alloc: Global,
+    words: &[&str],
+    store: &mut S,
+    out: &mut K,
+    _gate: &G,
+) -> Report
+    ensures report { IsReport (map (λ word. word.now) words.now) (S.files store.old) (S.read_faults store.old) (S.read_faults store.new) (K.written out.old) (K.written out.new) (K.faults out.old) (K.faults out.new) result.status result.run result.replayed }
+    ensures files { S.files store.new ≡ S.files store.old }
+    ensures writes { S.write_faults store.new ≡ S.write_faults store.old }
+{
+    wiz_serial(alloc, words, store, out)
+}
+
+/// What the words come to, told. The error is want of memory.
+fn answer<S: Store, K: Sink>(
+    alloc: Global,
+    words: &[&str],
+    store: &mut S,
+    out: &mut K,
+) -> Result<Report, AllocError>
+    ensures report { IfOk result (λ report. IsReport (map (λ word. word.now) words.now) (S.files store.old) (S.read_faults store.old) (S.read_faults store.new) (K.written out.old) (K.written out.new) (K.faults out.old) (K.faults out.new) report.status report.run report.replayed) }
+    ensures files { S.files store.new ≡ S.files store.old }
+    ensures writes { S.write_faults store.new ≡ S.write_faults store.old }
+{
+    match log_name(words) {
+        None => {
+            let report = tell(alloc, Outcome::Refused(Refusal::Words), "", out)?;
+            Ok(report)
+        }
+        Some(name) => {
+            let outcome = replay_file(alloc, name, store)?;
+            let report = tell(alloc, outcome, name, out)?;
+            Ok(report)
+        }
+    }
+}
