@@ -29,9 +29,13 @@ pub fn read_small(alloc: Global, text: &[u8]) -> Result<SmallProgram, SmallFault
 fn read_program(alloc: Global, source: &mut Source) -> Result<SmallProgram, SmallFault>
     ensures { IsReading program_tokens ProgramHasNumbers source.old result source.new }
 {
-    let initial = read_start(source).ok_or(SmallFault::NotBuilt)?;
+    let Some(initial) = read_start(source) else {
+        return Err(SmallFault::NotBuilt);
+    };
     let choices = read_choices(alloc, source)?;
-    source.tokens(&["0", ";", "}"]).ok_or(SmallFault::NotBuilt)?;
+    if source.tokens(&["0", ";", "}"]).is_none() {
+        return Err(SmallFault::NotBuilt);
+    }
     Ok(SmallProgram {
         initial: initial as i32,
         choices,
@@ -64,7 +68,9 @@ fn read_choices(alloc: Global, source: &mut Source) -> Result<Choices, SmallFaul
 fn read_choice(alloc: Global, source: &mut Source) -> Result<SmallChoice, SmallFault>
     ensures { IsReading choice_tokens ChoiceHasNumbers source.old result source.new }
 {
-    let rank = read_test(source).ok_or(SmallFault::NotBuilt)?;
+    let Some(rank) = read_test(source) else {
+        return Err(SmallFault::NotBuilt);
+    };
     let body = read_body(alloc, source)?;
     Ok(SmallChoice { rank, body })
 }
@@ -83,7 +89,9 @@ fn read_body(alloc: Global, source: &mut Source) -> Result<SmallBody, SmallFault
     if source.token(b"{") {
         return Ok(SmallBody::Block(read_steps(alloc, source)?));
     }
-    let step = read_step(source).ok_or(SmallFault::NotBuilt)?;
+    let Some(step) = read_step(source) else {
+        return Err(SmallFault::NotBuilt);
+    };
     Ok(SmallBody::Single(step))
 }
 
@@ -93,7 +101,9 @@ fn read_steps(alloc: Global, source: &mut Source) -> Result<Steps, SmallFault>
 {
     let mut steps = Steps::new(alloc);
     while !source.token(b"}") {
-        let step = read_step(source).ok_or(SmallFault::NotBuilt)?;
+        let Some(step) = read_step(source) else {
+            return Err(SmallFault::NotBuilt);
+        };
         add_step(&mut steps, step)?;
     }
     Ok(steps)
