@@ -17,10 +17,11 @@ use Rattle.wiz_cli.specs.declared.small_program.SmallBody.{SmallBody}
 use Rattle.wiz_cli.specs.declared.small_program.SmallBody.TheVariants.{Single, Block}
 use Rattle.wiz_cli.specs.declared.small_program.SmallChoice.{SmallChoice}
 use Rattle.wiz_cli.specs.declared.small_program.SmallProgram.{SmallProgram}
-use Rattle.wiz_cli.specs.Tokens.{IsNext, AreTokens, same_bytes, words}
+use Rattle.std.specs.List.{list_all}
+use Rattle.wiz_cli.specs.Tokens.{IsNext, AreTokens, is_blank, same_bytes, words}
 use Rattle.wiz_cli.specs.SmallTexts.{IsNumber, IsValue, HasNumbers, AllHaveNumbers, BodyHasNumbers, ChoicesHaveNumbers, IsSmallText, step_tokens, steps_tokens, body_tokens, choice_tokens, choices_tokens, program_tokens}
 use Rattle.wiz_cli.specs.Reading.{IsBehind, NeverBegins, IsRead, NoneStands, IsFound, IsReading, AreNumbers, IsStepOf, first_token, tail_tokens, transfer_tokens, number_tokens, block_tokens, main_tokens, start_tokens, test_tokens, ChoiceHasNumbers, ProgramHasNumbers}
-use Rattle.wiz_cli.proofs.TokenLaws.{IsNext-one, behind_one, behind_then, behind_same, never_front, never_then}
+use Rattle.wiz_cli.proofs.TokenLaws.{IsNext-one, blank_no_token, behind_one, behind_then, behind_same, never_front, never_then}
 
 -- 1. sequences
 
@@ -388,7 +389,125 @@ choices_read choices text mid rest good behind next = record {
   behind = behind_then (choices_tokens choices) (codes "return" ∷ []) text mid rest behind (behind_one (codes "return") mid rest next);
 }
 
--- 7. faults that are handed on
+-- 7. programs
+
+abbrev end_tokens : List (List ℕ)
+end_tokens = words (codes "0 ; }")
+
+program_is : (number : ℕ) (choices : List SmallChoice) → program_tokens (record { initial = pos number; choices = choices }) ≡ (start_tokens number ++ main_tokens choices) ++ end_tokens
+program_is number choices =
+    append_assoc (start_tokens number) (choices_tokens choices) (codes "return" ∷ end_tokens)
+    ∙ ap (λ z. start_tokens number ++ z) (sym (append_assoc (choices_tokens choices) (codes "return" ∷ []) end_tokens))
+    ∙ sym (append_assoc (start_tokens number) (main_tokens choices) end_tokens)
+
+main_cons : (choice : SmallChoice) (choices : List SmallChoice) (x : List (List ℕ)) → main_tokens (choice ∷ choices) ++ x ≡ choice_tokens choice ++ (main_tokens choices ++ x)
+main_cons choice choices x = ap (λ z. z ++ x) (append_assoc (choice_tokens choice) (choices_tokens choices) (codes "return" ∷ [])) ∙ append_assoc (choice_tokens choice) (main_tokens choices) x
+
+mains_one : (a b : List SmallChoice) (x y : List (List ℕ)) → main_tokens a ++ x ≡ main_tokens b ++ y → (a ≡ b) × (x ≡ y)
+mains_one [] [] x y same = (refl, ap (drop 1) same)
+mains_one [] (choice ∷ b) x y same = absurd (return_no_choice choice x (main_tokens b ++ y) (same ∙ main_cons choice b y))
+mains_one (choice ∷ a) [] x y same = absurd (return_no_choice choice y (main_tokens a ++ x) (sym same ∙ main_cons choice a x))
+mains_one (choice ∷ a) (other ∷ b) x y same =
+    let one = choice_one choice other (main_tokens a ++ x) (main_tokens b ++ y) (sym (main_cons choice a x) ∙ same ∙ main_cons other b y) in
+    let rest = mains_one a b x y one.1 in
+    (ap (λ z. z ∷ a) one.0 ∙ ap (λ z. other ∷ z) rest.0, rest.1)
+
+-- a program whose numbers are in range begins with a number
+program_number : (program : SmallProgram) → IsValue program.initial → (number : ℕ) × IsNumber number × (program.initial ≡ pos number) × (program_tokens program ≡ (start_tokens number ++ main_tokens program.choices) ++ end_tokens)
+program_number program good = by program.initial program.choices good
+  where
+    by : (initial : ℤ) (choices : List SmallChoice) → IsValue initial → (number : ℕ) × IsNumber number × (initial ≡ pos number) × (program_tokens (record { initial = initial; choices = choices }) ≡ (start_tokens number ++ main_tokens choices) ++ end_tokens)
+    by (pos number) choices good = (number, good, refl, program_is number choices)
+    by (negsuc number) choices good = absurd good
+
+pub no_start : (text : List ℕ) → NoneStands start_tokens IsNumber text → NoneStands program_tokens ProgramHasNumbers text
+no_start text none = λ program good.
+    let (number, small, initial, is) = program_number program good.0 in
+    subst (λ z. NeverBegins z text) (sym is)
+    (never_front (start_tokens number ++ main_tokens program.choices) end_tokens text (never_front (start_tokens number) (main_tokens program.choices) text (none number small)))
+
+pub no_main : (text mid : List ℕ) (read : ℕ) → IsRead start_tokens IsNumber read text mid → NoneStands main_tokens ChoicesHaveNumbers mid → NoneStands program_tokens ProgramHasNumbers text
+no_main text mid read start none = λ program good.
+    let (number, small, initial, is) = program_number program good.0 in
+    subst (λ z. NeverBegins z text) (sym is)
+    (never_front (start_tokens number ++ main_tokens program.choices) end_tokens text
+    (never_like (start_tokens read) (start_tokens number) (main_tokens program.choices) text mid start.behind refl (none program.choices good.1)))
+
+pub no_end : (text mid next : List ℕ) (read : ℕ) (choices : List SmallChoice) → IsRead start_tokens IsNumber read text mid → IsRead main_tokens ChoicesHaveNumbers choices mid next → NeverBegins end_tokens next → NoneStands program_tokens ProgramHasNumbers text
+no_end text mid next read choices start main never = λ program good.
+    let (number, small, initial, is) = program_number program good.0 in
+    subst (λ z. NeverBegins z text) (sym is ) (λ more tokens.
+    let others : List (List ℕ) = main_tokens program.choices ++ (end_tokens ++ more) in
+    let grouped : ((start_tokens number ++ main_tokens program.choices) ++ end_tokens) ++ more ≡ start_tokens number ++ others =
+        append_assoc (start_tokens number ++ main_tokens program.choices) end_tokens more ∙ append_assoc (start_tokens number) (main_tokens program.choices) (end_tokens ++ more) in
+    let (left, same, at) = start.behind.on (start_tokens number ++ others) (subst (λ z. AreTokens text z) grouped tokens) in
+    let rest : left ≡ others = same_length (start_tokens read) (start_tokens number) left others refl (sym same) in
+    let (end, again, behind) = main.behind.on others (subst (λ z. AreTokens mid z) rest at) in
+    let one = mains_one program.choices choices (end_tokens ++ more) end again in
+    never more (subst (λ z. AreTokens next z) (sym one.1) behind))
+
+pub program_read : (text mid next rest : List ℕ) (number : ℕ) (choices : List SmallChoice) → IsRead start_tokens IsNumber number text mid → IsRead main_tokens ChoicesHaveNumbers choices mid next → IsBehind end_tokens next rest → IsRead program_tokens ProgramHasNumbers (record { initial = to_z w32 number; choices = choices }) text rest
+program_read text mid next rest number choices start main end =
+    subst (λ z. IsRead program_tokens ProgramHasNumbers (record { initial = z; choices = choices }) text rest) (sym (number_int number start.good))
+    (record {
+      good = (start.good, main.good);
+      behind = subst (λ z. IsBehind z text rest) (sym (program_is number choices))
+          (behind_then (start_tokens number ++ main_tokens choices) end_tokens text next rest
+          (behind_then (start_tokens number) (main_tokens choices) text mid next start.behind main.behind) end);
+    })
+
+-- two programs that begin one list of tokens are one program
+program_one : (a b : SmallProgram) (x y : List (List ℕ)) → IsValue a.initial → IsValue b.initial → program_tokens a ++ x ≡ program_tokens b ++ y → (a ≡ b) × (x ≡ y)
+program_one a b x y good fine same =
+    let (m, _, first, is) = program_number a good in
+    let (n, _, second, be) = program_number b fine in
+    let spelled : ((start_tokens m ++ main_tokens a.choices) ++ end_tokens) ++ x ≡ ((start_tokens n ++ main_tokens b.choices) ++ end_tokens) ++ y =
+        ap (λ z. z ++ x) (sym is) ∙ same ∙ ap (λ z. z ++ y) be in
+    let grouped : start_tokens m ++ (main_tokens a.choices ++ (end_tokens ++ x)) ≡ start_tokens n ++ (main_tokens b.choices ++ (end_tokens ++ y)) =
+        sym (append_assoc (start_tokens m ++ main_tokens a.choices) end_tokens x ∙ append_assoc (start_tokens m) (main_tokens a.choices) (end_tokens ++ x))
+        ∙ spelled ∙ (append_assoc (start_tokens n ++ main_tokens b.choices) end_tokens y ∙ append_assoc (start_tokens n) (main_tokens b.choices) (end_tokens ++ y)) in
+    let numbers : m ≡ n = decimal_text_injective m n (ap (λ tokens. get_or tokens 11 []) grouped) in
+    let one = mains_one a.choices b.choices (end_tokens ++ x) (end_tokens ++ y) (ap (drop 21) grouped) in
+    let initials : a.initial ≡ b.initial = first ∙ ap pos numbers ∙ sym second in
+    (ap (λ z. record { initial = z; choices = a.choices }) initials ∙ ap (λ z. record { initial = b.initial; choices = z }) one.0,
+    append_cancel_left end_tokens x y one.1)
+
+-- a text has one list of tokens at most
+pub tokens_one : (text : List ℕ) (a b : List (List ℕ)) → AreTokens text a → AreTokens text b → a ≡ b
+tokens_one text [] [] one two = refl
+tokens_one text [] (token ∷ b) one (rest, next, two) = absurd (blank_no_token text token rest one next)
+tokens_one text (token ∷ a) [] (rest, next, one) two = absurd (blank_no_token text token rest two next)
+tokens_one text (token ∷ a) (other ∷ b) (rest, next, one) (behind, is, two) =
+    let same = IsNext-one text token rest other behind next is in
+    let tails : a ≡ b = tokens_one rest a b one (subst (λ z. AreTokens z b) (sym same.1) two) in
+    ap (λ z. z ∷ a) same.0 ∙ ap (λ z. other ∷ z) tails
+
+-- a text is of one program at most
+pub IsSmallText-one : (text : List ℕ) (p q : SmallProgram) → IsSmallText text p → IsSmallText text q → p ≡ q
+IsSmallText-one text p q one two =
+    (program_one p q [] [] one.initial two.initial
+    (ap (λ z. z ++ []) (tokens_one text (program_tokens p) (program_tokens q) one.tokens two.tokens))).0
+
+-- a program was read to the end, or something stands behind it
+pub IsSmallText-read : (text rest : List ℕ) (program : SmallProgram) → IsRead program_tokens ProgramHasNumbers program text rest → list_all is_blank rest ≡ true → IsSmallText text program
+IsSmallText-read text rest program read blank = record {
+  tokens = subst (λ z. AreTokens text z) (append-nil (program_tokens program)) (read.behind.back [] blank);
+  initial = read.good.0;
+  choices = read.good.1;
+}
+
+pub not_at_end : (text rest : List ℕ) (program other : SmallProgram) → IsRead program_tokens ProgramHasNumbers program text rest → list_all is_blank rest ≡ false → IsSmallText text other → ⊥
+not_at_end text rest program other read blank is =
+    let (more, same, left) = read.behind.on (program_tokens other) is.tokens in
+    let one = program_one other program [] more is.initial read.good.0 (append-nil (program_tokens other) ∙ same) in
+    let all : list_all is_blank rest ≡ true = subst (λ z. AreTokens rest z) (sym one.1) left in
+    let no : false ≡ true = sym blank ∙ all in absurd (cc)
+
+pub no_program : (text : List ℕ) (program : SmallProgram) → NoneStands program_tokens ProgramHasNumbers text → IsSmallText text program → ⊥
+no_program text program none is =
+    none program (is.initial, is.choices) [] (subst (λ z. AreTokens text z) (sym (append-nil (program_tokens program))) is.tokens)
+
+-- 8. faults that are handed on
 
 -- what a fault tells of one kind of things, it tells of another
 pub handed_on : {A B : Type 0} (spelled : A → List (List ℕ)) (IsGood : A → Type 0) (other : B → List (List ℕ)) (IsOther : B → Type 0) (text mid rest : List ℕ) (fault : SmallFault) (result : Result B SmallFault) → IsErrAnd result (λ f. f ≡ fault) → IsReading spelled IsGood mid (Err fault) rest → (NoneStands spelled IsGood mid → NoneStands other IsOther text) → IsReading other IsOther text result rest

@@ -15,6 +15,7 @@ use std::alloc::Global;
 pub fn read_small(alloc: Global, text: &[u8]) -> Result<SmallProgram, SmallFault>
     requires { length text.now ≤ 65536 }
     ensures program { IfOk result (λ program. IsSmallText text.now program) }
+    ensures only { (program : SmallProgram) → IsSmallText text.now program → IfOk result (λ found. found ≡ program) }
     ensures refused { result ≡ Err NotBuilt → (program : SmallProgram) → IsSmallText text.now program → ⊥ }
 {
     let mut source = Source::new(text);
@@ -33,9 +34,9 @@ fn read_program(alloc: Global, source: &mut Source) -> Result<SmallProgram, Smal
         return Err(SmallFault::NotBuilt);
     };
     let choices = read_choices(alloc, source)?;
-    if source.tokens(&["0", ";", "}"]).is_none() {
+    let Some(()) = source.tokens(&["0", ";", "}"]) else {
         return Err(SmallFault::NotBuilt);
-    }
+    };
     Ok(SmallProgram {
         initial: initial as i32,
         choices,
