@@ -516,3 +516,10 @@ handed_on spelled IsGood other IsOther text mid rest NotBuilt (Err NoMemory) is 
 handed_on spelled IsGood other IsOther text mid rest NoMemory (Err NotBuilt) is reading none = absurd (cc)
 handed_on spelled IsGood other IsOther text mid rest NoMemory (Err NoMemory) is reading none = tt
 handed_on spelled IsGood other IsOther text mid rest fault (Ok value) is reading none = absurd is
+
+-- a fault of the whole program tells that no program stands
+pub refused_text : (text rest : List ℕ) (fault : SmallFault) (result : Result SmallProgram SmallFault) → IsErrAnd result (λ f. f ≡ fault) → IsReading program_tokens ProgramHasNumbers text (Err fault) rest → result ≡ Err NotBuilt → (program : SmallProgram) → IsSmallText text program → ⊥
+refused_text text rest NotBuilt result same reading is program stands = no_program text program reading stands
+refused_text text rest NoMemory (Err NoMemory) same reading is program stands = absurd (cc)
+refused_text text rest NoMemory (Err NotBuilt) same reading is program stands = absurd (cc)
+refused_text text rest NoMemory (Ok value) same reading is program stands = absurd same

@@ -12,12 +12,12 @@ returns-in_err-choices c =
     c.from_residual.ensures.1 c.in_err-choices.ensures
     (no_main c.args.source.now c.read_start.new.source c.in-Some.initial c.in-Some.ensures)
 
-pub returns-in_default-2 : goal.returns-in_default-2
-returns-in_default-2 c =
+pub returns-in_default-tokens : goal.returns-in_default-tokens
+returns-in_default-tokens c =
     no_end c.args.source.now c.read_start.new.source c.read_choices.new.source c.in-Some.initial c.in_ok-choices.choices
-    c.in-Some.ensures c.in_ok-choices.ensures c.in_default-2.ensures
+    c.in-Some.ensures c.in_ok-choices.ensures c.in_default-tokens.ensures
 
 pub returns : goal.returns
 returns c =
     program_read c.args.source.now c.read_start.new.source c.read_choices.new.source c.tokens.new.self c.in-Some.initial c.in_ok-choices.choices
-    c.in-Some.ensures c.in_ok-choices.ensures c.in-Some-2.ensures
+    c.in-Some.ensures c.in_ok-choices.ensures c.in-Some-tokens.ensures
