@@ -5,3 +5,4 @@ pub mod States
 pub mod Tokens
 pub mod SmallTexts
 pub mod Reading
+pub mod FirstRow

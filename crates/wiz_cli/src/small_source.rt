@@ -209,3 +209,51 @@ fn add_choice(choices: &mut Choices, choice: SmallChoice) -> Result<(), SmallFau
         Err(_) => Err(SmallFault::NoMemory),
     }
 }
+
+#[cfg(test)]
+mod tests {
+    use super::*;
+    use std::test::Fail;
+
+    const ONE_RANK: &str = "int main(void){int r,x=0;MPI_Comm_rank(MPI_COMM_WORLD,&r);return 0;}";
+
+    /// How many choices a text has, and nothing where it is refused.
+    fn choices_in(alloc: Global, text: &str) -> Result<Option<usize>, SmallFault> {
+        if text.len() > 65536 {
+            return Ok(None);
+        }
+        match read_small(alloc, text.as_bytes()) {
+            Ok(program) => Ok(Some(program.choices.as_slice().len())),
+            Err(SmallFault::NotBuilt) => Ok(None),
+            Err(fault) => Err(fault),
+        }
+    }
+
+    #[test]
+    fn texts(rt: HostRuntime) -> Result<(), Fail> {
+        let first = "int main(void){int r,x=7;MPI_Comm_rank(MPI_COMM_WORLD,&r);if(r==0)MPI_Send(&x,1,MPI_INT,1,5,MPI_COMM_WORLD);if(r==1){x=0;MPI_Recv(&x,1,MPI_INT,0,5,MPI_COMM_WORLD,MPI_STATUS_IGNORE);printf(\"%d\\n\",x);}return 0;}";
+        let head = "int main(void){int r,x=0;MPI_Comm_rank(MPI_COMM_WORLD,&r);";
+        assert_eq!(rt; first.len(), 209);
+        assert_eq!(rt; ONE_RANK.len(), 68);
+        assert_eq!(rt; choices_in(rt.alloc(), first)?, Some(2));
+        assert_eq!(rt; choices_in(rt.alloc(), ONE_RANK)?, Some(0));
+        let cases = [
+            ("\tif ( r == 2147483647 ) { }\r\nreturn 0 ; }\n", Some(1)),
+            ("if(r==0)x=01;return 0;}", None),
+            ("if(r==0)x=2147483648;return 0;}", None),
+            ("if(r==0)y=1;return 0;}", None),
+            ("if(r==0){x=1;return 0;}", None),
+            ("if(r===0)x=1;return 0;}", None),
+            ("if(r==0)x=1;/* one */return 0;}", None),
+            ("if(r==0)printf(\"%d\",x);return 0;}", None),
+            ("return0;}", None),
+            ("return 0;};", None),
+        ];
+        for (rest, expected) in cases {
+            let text = format!(in rt.alloc(); "{head}{rest}")?;
+            assert_eq!(rt; choices_in(rt.alloc(), &text)?, expected, "{rest}");
+        }
+        assert_eq!(rt; choices_in(rt.alloc(), "")?, None);
+        Ok(())
+    }
+}
