@@ -1,6 +1,8 @@
 -- Laws of reading: what stands behind what was read, and what never stands there.
 use Rattle.std.proofs.Common.{◌≡◌, ◌<◌, ◌≤◌, ◌⊎◌, inl, inr, ℕ, zero, suc, ℤ, pos, negsuc, List, [], ◌∷◌, ◌++◌, Option, Some, None, Bool, true, false, length, ◌+◌, ◌==◌, get_or, drop, refl, ap, sym, ◌∙◌, subst, arith, append_assoc, length-append}
-use Rattle.std.specs.Prelude.{codes}
+use Rattle.std.specs.Prelude.{codes, Result, Ok, Err, IsErrAnd}
+use Rattle.wiz_cli.specs.declared.small_fault.SmallFault.{SmallFault}
+use Rattle.wiz_cli.specs.declared.small_fault.SmallFault.TheVariants.{NotBuilt, NoMemory}
 use Rattle.std.specs.Int.{w32}
 use Rattle.std.proofs.lemmas.Bool.{eq-eqb}
 use mir.Val.{to_z}
@@ -11,10 +13,15 @@ use Rattle.wiz_base.proofs.DecimalLaws.{decimal_text-bytes, decimal_text-nonempt
 use Rattle.std.specs.Char.{IsAsciiDigit}
 use Rattle.wiz_cli.specs.declared.small_program.SmallStep.{SmallStep}
 use Rattle.wiz_cli.specs.declared.small_program.SmallStep.TheVariants.{Set, Print, Send, Receive}
-use Rattle.wiz_cli.specs.Tokens.{IsNext, AreTokens, same_bytes, words}
-use Rattle.wiz_cli.specs.SmallTexts.{IsNumber, IsValue, HasNumbers, AllHaveNumbers, step_tokens, steps_tokens}
-use Rattle.wiz_cli.specs.Reading.{IsBehind, NeverBegins, IsRead, NoneStands, IsFound, AreNumbers, IsStepOf, first_token, tail_tokens, transfer_tokens, number_tokens, block_tokens}
-use Rattle.wiz_cli.proofs.TokenLaws.{IsNext-one, behind_one, behind_then, behind_same, never_front, never_then}
+use Rattle.wiz_cli.specs.declared.small_program.SmallBody.{SmallBody}
+use Rattle.wiz_cli.specs.declared.small_program.SmallBody.TheVariants.{Single, Block}
+use Rattle.wiz_cli.specs.declared.small_program.SmallChoice.{SmallChoice}
+use Rattle.wiz_cli.specs.declared.small_program.SmallProgram.{SmallProgram}
+use Rattle.std.specs.List.{list_all}
+use Rattle.wiz_cli.specs.Tokens.{IsNext, AreTokens, is_blank, same_bytes, words}
+use Rattle.wiz_cli.specs.SmallTexts.{IsNumber, IsValue, HasNumbers, AllHaveNumbers, BodyHasNumbers, ChoicesHaveNumbers, IsSmallText, step_tokens, steps_tokens, body_tokens, choice_tokens, choices_tokens, program_tokens}
+use Rattle.wiz_cli.specs.Reading.{IsBehind, NeverBegins, IsRead, NoneStands, IsFound, IsReading, AreNumbers, IsStepOf, first_token, tail_tokens, transfer_tokens, number_tokens, block_tokens, main_tokens, start_tokens, test_tokens, ChoiceHasNumbers, ProgramHasNumbers}
+use Rattle.wiz_cli.proofs.TokenLaws.{IsNext-one, blank_no_token, behind_one, behind_then, behind_same, never_front, never_then}
 
 -- 1. sequences
 
@@ -167,7 +174,7 @@ steps_tokens-append : (a b : List SmallStep) → steps_tokens (a ++ b) ≡ steps
 steps_tokens-append [] b = refl
 steps_tokens-append (step ∷ a) b = ap (λ z. step_tokens step ++ z) (steps_tokens-append a b) ∙ sym (append_assoc (step_tokens step) (steps_tokens a) (steps_tokens b))
 
-numbers-append : (a : List SmallStep) (step : SmallStep) → AllHaveNumbers a → HasNumbers step → AllHaveNumbers (a ++ step ∷ [])
+pub numbers-append : (a : List SmallStep) (step : SmallStep) → AllHaveNumbers a → HasNumbers step → AllHaveNumbers (a ++ step ∷ [])
 numbers-append [] step all good = (good, tt)
 numbers-append (other ∷ a) step all good = (all.0, numbers-append a step all.1 good)
 
@@ -267,3 +274,252 @@ block_read steps text mid rest good behind next = record {
   good = good;
   behind = behind_then (steps_tokens steps) (codes "}" ∷ []) text mid rest behind (behind_one (codes "}") mid rest next);
 }
+
+-- 6. bodies and choices
+
+-- where a brace stands, a body is a block
+pub block_body : (text mid rest : List ℕ) (steps : List SmallStep) → IsNext text (codes "{") mid → IsRead block_tokens AllHaveNumbers steps mid rest → IsBehind (codes "{" ∷ block_tokens steps) text rest
+block_body text mid rest steps next read = behind_then (codes "{" ∷ []) (block_tokens steps) text mid rest (behind_one (codes "{") text mid next) read.behind
+
+first_is : (token : List ℕ) (text mid : List ℕ) (tokens : List (List ℕ)) → IsNext text token mid → AreTokens text tokens → (more : List (List ℕ)) × (tokens ≡ token ∷ more) × AreTokens mid more
+first_is token text mid tokens next all = (behind_one token text mid next).on tokens all
+
+pub no_block_body : (text mid : List ℕ) → IsNext text (codes "{") mid → NoneStands block_tokens AllHaveNumbers mid → NoneStands body_tokens BodyHasNumbers text
+no_block_body text mid next none = λ body. never body
+  where
+    never : (body : SmallBody) → BodyHasNumbers body → (more : List (List ℕ)) → AreTokens text (body_tokens body ++ more) → ⊥
+    never (Single step) good more tokens =
+        let (left, same, at) = first_is (codes "{") text mid (step_tokens step ++ more) next tokens in open_no_step step left more (sym same)
+    never (Block steps) good more tokens =
+        none steps good more (behind_same (codes "{" ∷ []) (block_tokens steps ++ more) text mid (behind_one (codes "{") text mid next) tokens)
+
+pub no_body : (text : List ℕ) → NotNext text (codes "{") → NoneStands step_tokens HasNumbers text → NoneStands body_tokens BodyHasNumbers text
+no_body text brace none = λ body. never body
+  where
+    never : (body : SmallBody) → BodyHasNumbers body → (more : List (List ℕ)) → AreTokens text (body_tokens body ++ more) → ⊥
+    never (Single step) good more tokens = none step good more tokens
+    never (Block steps) good more (rest, next, tokens) = brace rest next
+
+-- a body behind the test of a rank
+choice_is : (rank : ℕ) (body : SmallBody) → choice_tokens (record { rank = rank; body = body }) ≡ test_tokens rank ++ body_tokens body
+choice_is rank body = refl
+
+pub no_test : (text : List ℕ) → NoneStands test_tokens IsNumber text → NoneStands choice_tokens ChoiceHasNumbers text
+no_test text none = λ choice good. never_front (test_tokens choice.rank) (body_tokens choice.body) text (none choice.rank good.0)
+
+pub no_body_behind : (text mid : List ℕ) (rank : ℕ) → IsRead test_tokens IsNumber rank text mid → NoneStands body_tokens BodyHasNumbers mid → NoneStands choice_tokens ChoiceHasNumbers text
+no_body_behind text mid rank read none = λ choice good.
+    never_like (test_tokens rank) (test_tokens choice.rank) (body_tokens choice.body) text mid read.behind refl (none choice.body good.1)
+
+pub choice_read : (text mid rest : List ℕ) (rank : ℕ) (body : SmallBody) → IsRead test_tokens IsNumber rank text mid → IsRead body_tokens BodyHasNumbers body mid rest → IsRead choice_tokens ChoiceHasNumbers (record { rank = rank; body = body }) text rest
+choice_read text mid rest rank body one two = record {
+  good = (one.good, two.good);
+  behind = behind_then (test_tokens rank) (body_tokens body) text mid rest one.behind two.behind;
+}
+
+-- two choices that begin one list of tokens are one choice
+block_cons : (step : SmallStep) (steps : List SmallStep) (x : List (List ℕ)) → block_tokens (step ∷ steps) ++ x ≡ step_tokens step ++ (block_tokens steps ++ x)
+block_cons step steps x = ap (λ z. z ++ x) (append_assoc (step_tokens step) (steps_tokens steps) (codes "}" ∷ [])) ∙ append_assoc (step_tokens step) (block_tokens steps) x
+
+blocks_one : (a b : List SmallStep) (x y : List (List ℕ)) → block_tokens a ++ x ≡ block_tokens b ++ y → (a ≡ b) × (x ≡ y)
+blocks_one [] [] x y same = (refl, ap (drop 1) same)
+blocks_one [] (step ∷ b) x y same = absurd (close_no_step step x (block_tokens b ++ y) (same ∙ block_cons step b y))
+blocks_one (step ∷ a) [] x y same = absurd (close_no_step step y (block_tokens a ++ x) (sym same ∙ block_cons step a x))
+blocks_one (step ∷ a) (other ∷ b) x y same =
+    let one = step_one step other (block_tokens a ++ x) (block_tokens b ++ y) (sym (block_cons step a x) ∙ same ∙ block_cons other b y) in
+    let rest = blocks_one a b x y one.1 in
+    (ap (λ z. z ∷ a) one.0 ∙ ap (λ z. other ∷ z) rest.0, rest.1)
+
+body_one : (a b : SmallBody) (x y : List (List ℕ)) → body_tokens a ++ x ≡ body_tokens b ++ y → (a ≡ b) × (x ≡ y)
+body_one (Single step) (Single other) x y same = let one = step_one step other x y same in (ap (λ z. Single z) one.0, one.1)
+body_one (Single step) (Block steps) x y same = absurd (open_no_step step (block_tokens steps ++ y) x (sym same))
+body_one (Block steps) (Single step) x y same = absurd (open_no_step step (block_tokens steps ++ x) y same)
+body_one (Block steps) (Block others) x y same =
+    let one = blocks_one steps others x y (ap (drop 1) same) in (ap (λ z. Block z) one.0, one.1)
+
+choice_one : (a b : SmallChoice) (x y : List (List ℕ)) → choice_tokens a ++ x ≡ choice_tokens b ++ y → (a ≡ b) × (x ≡ y)
+choice_one a b x y same =
+    let ranks : a.rank ≡ b.rank = decimal_text_injective a.rank b.rank (ap (λ tokens. get_or tokens 4 []) same) in
+    let one = body_one a.body b.body x y (ap (drop 6) same) in
+    (ap (λ z. record { rank = z; body = a.body }) ranks ∙ ap (λ z. record { rank = b.rank; body = z }) one.0, one.1)
+
+return_no_choice : (choice : SmallChoice) (x y : List (List ℕ)) → codes "return" ∷ x ≡ choice_tokens choice ++ y → ⊥
+return_no_choice choice x y same = different (codes "return") (codes "if") refl (ap first_of same)
+
+-- choices that go on behind those that were read go on with more choices
+choices_left : (done choices : List SmallChoice) (x y : List (List ℕ)) → choices_tokens choices ++ codes "return" ∷ x ≡ choices_tokens done ++ y → (more : List SmallChoice) × (choices ≡ done ++ more) × (y ≡ choices_tokens more ++ codes "return" ∷ x)
+choices_left [] choices x y same = (choices, refl, sym same)
+choices_left (d ∷ done) [] x y same = absurd (return_no_choice d x (choices_tokens done ++ y) (same ∙ append_assoc (choice_tokens d) (choices_tokens done) y))
+choices_left (d ∷ done) (choice ∷ choices) x y same =
+    let one = choice_one choice d (choices_tokens choices ++ codes "return" ∷ x) (choices_tokens done ++ y)
+        (sym (append_assoc (choice_tokens choice) (choices_tokens choices) (codes "return" ∷ x)) ∙ same ∙ append_assoc (choice_tokens d) (choices_tokens done) y) in
+    let (more, all, left) = choices_left done choices x y one.1 in
+    (more, ap (λ z. z ∷ choices) one.0 ∙ ap (λ z. d ∷ z) all, left)
+
+choices_numbers_left : (done more : List SmallChoice) → ChoicesHaveNumbers (done ++ more) → ChoicesHaveNumbers more
+choices_numbers_left [] more all = all
+choices_numbers_left (d ∷ done) more all = choices_numbers_left done more all.1
+
+choices_tokens-append : (a b : List SmallChoice) → choices_tokens (a ++ b) ≡ choices_tokens a ++ choices_tokens b
+choices_tokens-append [] b = refl
+choices_tokens-append (choice ∷ a) b = ap (λ z. choice_tokens choice ++ z) (choices_tokens-append a b) ∙ sym (append_assoc (choice_tokens choice) (choices_tokens a) (choices_tokens b))
+
+pub choices_numbers-append : (a : List SmallChoice) (choice : SmallChoice) → ChoicesHaveNumbers a → ChoiceHasNumbers choice → ChoicesHaveNumbers (a ++ choice ∷ [])
+choices_numbers-append [] choice all good = (good, tt)
+choices_numbers-append (other ∷ a) choice all good = (all.0, choices_numbers-append a choice all.1 good)
+
+pub choice_behind : (choices : List SmallChoice) (choice : SmallChoice) (text mid rest : List ℕ) → IsBehind (choices_tokens choices) text mid → IsRead choice_tokens ChoiceHasNumbers choice mid rest → IsBehind (choices_tokens (choices ++ choice ∷ [])) text rest
+choice_behind choices choice text mid rest behind read =
+    subst (λ z. IsBehind z text rest) (ap (λ z. choices_tokens choices ++ z) (sym (append-nil (choice_tokens choice))) ∙ sym (choices_tokens-append choices (choice ∷ [])))
+    (behind_then (choices_tokens choices) (choice_tokens choice) text mid rest behind read.behind)
+
+pub no_choices : (done : List SmallChoice) (text mid : List ℕ) → IsBehind (choices_tokens done) text mid → NotNext mid (codes "return") → NoneStands choice_tokens ChoiceHasNumbers mid → NoneStands main_tokens ChoicesHaveNumbers text
+no_choices done text mid behind close none = λ choices good more tokens.
+    let (y, same, at) = behind.on ((choices_tokens choices ++ codes "return" ∷ []) ++ more) tokens in
+    let (left, all, is) = choices_left done choices more y (sym (append_assoc (choices_tokens choices) (codes "return" ∷ []) more) ∙ same) in
+    never more left (choices_numbers_left done left (subst ChoicesHaveNumbers all good)) (subst (λ z. AreTokens mid z) is at)
+  where
+    never : (more : List (List ℕ)) (left : List SmallChoice) → ChoicesHaveNumbers left → AreTokens mid (choices_tokens left ++ codes "return" ∷ more) → ⊥
+    never more [] good (rest, next, tokens) = close rest next
+    never more (choice ∷ left) good tokens = none choice good.0 (choices_tokens left ++ codes "return" ∷ more) (subst (λ z. AreTokens mid z) (append_assoc (choice_tokens choice) (choices_tokens left) (codes "return" ∷ more)) tokens)
+
+pub choices_read : (choices : List SmallChoice) (text mid rest : List ℕ) → ChoicesHaveNumbers choices → IsBehind (choices_tokens choices) text mid → IsNext mid (codes "return") rest → IsRead main_tokens ChoicesHaveNumbers choices text rest
+choices_read choices text mid rest good behind next = record {
+  good = good;
+  behind = behind_then (choices_tokens choices) (codes "return" ∷ []) text mid rest behind (behind_one (codes "return") mid rest next);
+}
+
+-- 7. programs
+
+abbrev end_tokens : List (List ℕ)
+end_tokens = words (codes "0 ; }")
+
+program_is : (number : ℕ) (choices : List SmallChoice) → program_tokens (record { initial = pos number; choices = choices }) ≡ (start_tokens number ++ main_tokens choices) ++ end_tokens
+program_is number choices =
+    append_assoc (start_tokens number) (choices_tokens choices) (codes "return" ∷ end_tokens)
+    ∙ ap (λ z. start_tokens number ++ z) (sym (append_assoc (choices_tokens choices) (codes "return" ∷ []) end_tokens))
+    ∙ sym (append_assoc (start_tokens number) (main_tokens choices) end_tokens)
+
+main_cons : (choice : SmallChoice) (choices : List SmallChoice) (x : List (List ℕ)) → main_tokens (choice ∷ choices) ++ x ≡ choice_tokens choice ++ (main_tokens choices ++ x)
+main_cons choice choices x = ap (λ z. z ++ x) (append_assoc (choice_tokens choice) (choices_tokens choices) (codes "return" ∷ [])) ∙ append_assoc (choice_tokens choice) (main_tokens choices) x
+
+mains_one : (a b : List SmallChoice) (x y : List (List ℕ)) → main_tokens a ++ x ≡ main_tokens b ++ y → (a ≡ b) × (x ≡ y)
+mains_one [] [] x y same = (refl, ap (drop 1) same)
+mains_one [] (choice ∷ b) x y same = absurd (return_no_choice choice x (main_tokens b ++ y) (same ∙ main_cons choice b y))
+mains_one (choice ∷ a) [] x y same = absurd (return_no_choice choice y (main_tokens a ++ x) (sym same ∙ main_cons choice a x))
+mains_one (choice ∷ a) (other ∷ b) x y same =
+    let one = choice_one choice other (main_tokens a ++ x) (main_tokens b ++ y) (sym (main_cons choice a x) ∙ same ∙ main_cons other b y) in
+    let rest = mains_one a b x y one.1 in
+    (ap (λ z. z ∷ a) one.0 ∙ ap (λ z. other ∷ z) rest.0, rest.1)
+
+-- a program whose numbers are in range begins with a number
+program_number : (program : SmallProgram) → IsValue program.initial → (number : ℕ) × IsNumber number × (program.initial ≡ pos number) × (program_tokens program ≡ (start_tokens number ++ main_tokens program.choices) ++ end_tokens)
+program_number program good = by program.initial program.choices good
+  where
+    by : (initial : ℤ) (choices : List SmallChoice) → IsValue initial → (number : ℕ) × IsNumber number × (initial ≡ pos number) × (program_tokens (record { initial = initial; choices = choices }) ≡ (start_tokens number ++ main_tokens choices) ++ end_tokens)
+    by (pos number) choices good = (number, good, refl, program_is number choices)
+    by (negsuc number) choices good = absurd good
+
+pub no_start : (text : List ℕ) → NoneStands start_tokens IsNumber text → NoneStands program_tokens ProgramHasNumbers text
+no_start text none = λ program good.
+    let (number, small, initial, is) = program_number program good.0 in
+    subst (λ z. NeverBegins z text) (sym is)
+    (never_front (start_tokens number ++ main_tokens program.choices) end_tokens text (never_front (start_tokens number) (main_tokens program.choices) text (none number small)))
+
+pub no_main : (text mid : List ℕ) (read : ℕ) → IsRead start_tokens IsNumber read text mid → NoneStands main_tokens ChoicesHaveNumbers mid → NoneStands program_tokens ProgramHasNumbers text
+no_main text mid read start none = λ program good.
+    let (number, small, initial, is) = program_number program good.0 in
+    subst (λ z. NeverBegins z text) (sym is)
+    (never_front (start_tokens number ++ main_tokens program.choices) end_tokens text
+    (never_like (start_tokens read) (start_tokens number) (main_tokens program.choices) text mid start.behind refl (none program.choices good.1)))
+
+pub no_end : (text mid next : List ℕ) (read : ℕ) (choices : List SmallChoice) → IsRead start_tokens IsNumber read text mid → IsRead main_tokens ChoicesHaveNumbers choices mid next → NeverBegins end_tokens next → NoneStands program_tokens ProgramHasNumbers text
+no_end text mid next read choices start main never = λ program good.
+    let (number, small, initial, is) = program_number program good.0 in
+    subst (λ z. NeverBegins z text) (sym is ) (λ more tokens.
+    let others : List (List ℕ) = main_tokens program.choices ++ (end_tokens ++ more) in
+    let grouped : ((start_tokens number ++ main_tokens program.choices) ++ end_tokens) ++ more ≡ start_tokens number ++ others =
+        append_assoc (start_tokens number ++ main_tokens program.choices) end_tokens more ∙ append_assoc (start_tokens number) (main_tokens program.choices) (end_tokens ++ more) in
+    let (left, same, at) = start.behind.on (start_tokens number ++ others) (subst (λ z. AreTokens text z) grouped tokens) in
+    let rest : left ≡ others = same_length (start_tokens read) (start_tokens number) left others refl (sym same) in
+    let (end, again, behind) = main.behind.on others (subst (λ z. AreTokens mid z) rest at) in
+    let one = mains_one program.choices choices (end_tokens ++ more) end again in
+    never more (subst (λ z. AreTokens next z) (sym one.1) behind))
+
+pub program_read : (text mid next rest : List ℕ) (number : ℕ) (choices : List SmallChoice) → IsRead start_tokens IsNumber number text mid → IsRead main_tokens ChoicesHaveNumbers choices mid next → IsBehind end_tokens next rest → IsRead program_tokens ProgramHasNumbers (record { initial = to_z w32 number; choices = choices }) text rest
+program_read text mid next rest number choices start main end =
+    subst (λ z. IsRead program_tokens ProgramHasNumbers (record { initial = z; choices = choices }) text rest) (sym (number_int number start.good))
+    (record {
+      good = (start.good, main.good);
+      behind = subst (λ z. IsBehind z text rest) (sym (program_is number choices))
+          (behind_then (start_tokens number ++ main_tokens choices) end_tokens text next rest
+          (behind_then (start_tokens number) (main_tokens choices) text mid next start.behind main.behind) end);
+    })
+
+-- two programs that begin one list of tokens are one program
+program_one : (a b : SmallProgram) (x y : List (List ℕ)) → IsValue a.initial → IsValue b.initial → program_tokens a ++ x ≡ program_tokens b ++ y → (a ≡ b) × (x ≡ y)
+program_one a b x y good fine same =
+    let (m, _, first, is) = program_number a good in
+    let (n, _, second, be) = program_number b fine in
+    let spelled : ((start_tokens m ++ main_tokens a.choices) ++ end_tokens) ++ x ≡ ((start_tokens n ++ main_tokens b.choices) ++ end_tokens) ++ y =
+        ap (λ z. z ++ x) (sym is) ∙ same ∙ ap (λ z. z ++ y) be in
+    let grouped : start_tokens m ++ (main_tokens a.choices ++ (end_tokens ++ x)) ≡ start_tokens n ++ (main_tokens b.choices ++ (end_tokens ++ y)) =
+        sym (append_assoc (start_tokens m ++ main_tokens a.choices) end_tokens x ∙ append_assoc (start_tokens m) (main_tokens a.choices) (end_tokens ++ x))
+        ∙ spelled ∙ (append_assoc (start_tokens n ++ main_tokens b.choices) end_tokens y ∙ append_assoc (start_tokens n) (main_tokens b.choices) (end_tokens ++ y)) in
+    let numbers : m ≡ n = decimal_text_injective m n (ap (λ tokens. get_or tokens 11 []) grouped) in
+    let one = mains_one a.choices b.choices (end_tokens ++ x) (end_tokens ++ y) (ap (drop 21) grouped) in
+    let initials : a.initial ≡ b.initial = first ∙ ap pos numbers ∙ sym second in
+    (ap (λ z. record { initial = z; choices = a.choices }) initials ∙ ap (λ z. record { initial = b.initial; choices = z }) one.0,
+    append_cancel_left end_tokens x y one.1)
+
+-- a text has one list of tokens at most
+pub tokens_one : (text : List ℕ) (a b : List (List ℕ)) → AreTokens text a → AreTokens text b → a ≡ b
+tokens_one text [] [] one two = refl
+tokens_one text [] (token ∷ b) one (rest, next, two) = absurd (blank_no_token text token rest one next)
+tokens_one text (token ∷ a) [] (rest, next, one) two = absurd (blank_no_token text token rest two next)
+tokens_one text (token ∷ a) (other ∷ b) (rest, next, one) (behind, is, two) =
+    let same = IsNext-one text token rest other behind next is in
+    let tails : a ≡ b = tokens_one rest a b one (subst (λ z. AreTokens z b) (sym same.1) two) in
+    ap (λ z. z ∷ a) same.0 ∙ ap (λ z. other ∷ z) tails
+
+-- a text is of one program at most
+pub IsSmallText-one : (text : List ℕ) (p q : SmallProgram) → IsSmallText text p → IsSmallText text q → p ≡ q
+IsSmallText-one text p q one two =
+    (program_one p q [] [] one.initial two.initial
+    (ap (λ z. z ++ []) (tokens_one text (program_tokens p) (program_tokens q) one.tokens two.tokens))).0
+
+-- a program was read to the end, or something stands behind it
+pub IsSmallText-read : (text rest : List ℕ) (program : SmallProgram) → IsRead program_tokens ProgramHasNumbers program text rest → list_all is_blank rest ≡ true → IsSmallText text program
+IsSmallText-read text rest program read blank = record {
+  tokens = subst (λ z. AreTokens text z) (append-nil (program_tokens program)) (read.behind.back [] blank);
+  initial = read.good.0;
+  choices = read.good.1;
+}
+
+pub not_at_end : (text rest : List ℕ) (program other : SmallProgram) → IsRead program_tokens ProgramHasNumbers program text rest → list_all is_blank rest ≡ false → IsSmallText text other → ⊥
+not_at_end text rest program other read blank is =
+    let (more, same, left) = read.behind.on (program_tokens other) is.tokens in
+    let one = program_one other program [] more is.initial read.good.0 (append-nil (program_tokens other) ∙ same) in
+    let all : list_all is_blank rest ≡ true = subst (λ z. AreTokens rest z) (sym one.1) left in
+    let no : false ≡ true = sym blank ∙ all in absurd (cc)
+
+pub no_program : (text : List ℕ) (program : SmallProgram) → NoneStands program_tokens ProgramHasNumbers text → IsSmallText text program → ⊥
+no_program text program none is =
+    none program (is.initial, is.choices) [] (subst (λ z. AreTokens text z) (sym (append-nil (program_tokens program))) is.tokens)
+
+-- 8. faults that are handed on
+
+-- what a fault tells of one kind of things, it tells of another
+pub handed_on : {A B : Type 0} (spelled : A → List (List ℕ)) (IsGood : A → Type 0) (other : B → List (List ℕ)) (IsOther : B → Type 0) (text mid rest : List ℕ) (fault : SmallFault) (result : Result B SmallFault) → IsErrAnd result (λ f. f ≡ fault) → IsReading spelled IsGood mid (Err fault) rest → (NoneStands spelled IsGood mid → NoneStands other IsOther text) → IsReading other IsOther text result rest
+handed_on spelled IsGood other IsOther text mid rest NotBuilt (Err NotBuilt) is reading none = none reading
+handed_on spelled IsGood other IsOther text mid rest NotBuilt (Err NoMemory) is reading none = tt
+handed_on spelled IsGood other IsOther text mid rest NoMemory (Err NotBuilt) is reading none = absurd (cc)
+handed_on spelled IsGood other IsOther text mid rest NoMemory (Err NoMemory) is reading none = tt
+handed_on spelled IsGood other IsOther text mid rest fault (Ok value) is reading none = absurd is
+
+-- a fault of the whole program tells that no program stands
+pub refused_text : (text rest : List ℕ) (fault : SmallFault) (result : Result SmallProgram SmallFault) → IsErrAnd result (λ f. f ≡ fault) → IsReading program_tokens ProgramHasNumbers text (Err fault) rest → result ≡ Err NotBuilt → (program : SmallProgram) → IsSmallText text program → ⊥
+refused_text text rest NotBuilt result same reading is program stands = no_program text program reading stands
+refused_text text rest NoMemory (Err NoMemory) same reading is program stands = absurd (cc)
+refused_text text rest NoMemory (Err NotBuilt) same reading is program stands = absurd (cc)
+refused_text text rest NoMemory (Ok value) same reading is program stands = absurd same

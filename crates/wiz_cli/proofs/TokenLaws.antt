@@ -341,7 +341,7 @@ skipped-blank (byte ∷ bytes) all =
     let here : is_blank byte ≡ true = and_first (is_blank byte) (list_all is_blank bytes) all in
     rw here (skipped-blank bytes (and_second (is_blank byte) (list_all is_blank bytes) all))
 
-blank_no_token : (text token rest : List ℕ) → list_all is_blank text ≡ true → IsNext text token rest → ⊥
+pub blank_no_token : (text token rest : List ℕ) → list_all is_blank text ≡ true → IsNext text token rest → ⊥
 blank_no_token text [] rest all next = let no : false ≡ true = sym no_empty_token ∙ next.proper in absurd (cc)
 blank_no_token text (byte ∷ bytes) rest all next =
     let no : [] ≡ byte ∷ (bytes ++ rest) = sym (skipped-blank text all) ∙ skipped-next text (byte ∷ bytes) rest next in absurd (cc)

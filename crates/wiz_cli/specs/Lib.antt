@@ -1,6 +1,7 @@
 pub mod CallTexts
 pub mod Courses
 pub mod CourseLaws
+pub mod FirstRow
 pub mod Reading
 pub mod Reports
 pub mod SmallCalls

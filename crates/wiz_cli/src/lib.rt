@@ -2,6 +2,7 @@
 #![tactic(auto)]
 
 mod call_text;
+pub mod first_row;
 pub mod gate;
 pub mod outcome;
 mod replay_file;
@@ -13,7 +14,7 @@ pub mod small_program;
 pub mod small_rank;
 pub mod small_source;
 mod small_state;
-
+mod small_tokens;
 mod tell;
 pub mod top;
 pub mod trace;

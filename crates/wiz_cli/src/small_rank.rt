@@ -1,6 +1,6 @@
 //! A rank of a small program, which waits for the reply to each call.
-ghost use Rattle.std.specs.Prelude.{◌≡◌, ◌≤◌, ◌<◌, ◌^◌, ◌++◌, ◌∷◌, [], OnOk, OnErr, IfOk, length, false};
-ghost use Rattle.wiz_cli.specs.Courses.{steps_for, steps_in, variable};
+ghost use Rattle.std.specs.Prelude.{◌≡◌, ◌≤◌, ◌<◌, ◌^◌, ◌++◌, ◌∷◌, [], OnOk, OnErr, IfOk, length, false, true};
+ghost use Rattle.wiz_cli.specs.Courses.{steps_for, steps_in, variable, variables_of};
 
 use crate::small_program::{SmallBody, SmallChoice, SmallProgram, SmallStep};
 use crate::small_state::{SmallPlace, SmallState};
@@ -106,7 +106,12 @@ impl<'a> RankRun for SmallRank<'a> {
         Ok(want)
     }
 
-    fn give(&mut self, reply: &Reply) -> Result<(), AllocError> {
+    // Any reply may be given: one that lacks the shape of the call ends the rank.
+    fn give(&mut self, reply: &Reply) -> Result<(), AllocError>
+        requires { self.old.asked ≡ true }
+        ensures ok { OnOk result (self.new ≡ record self.old { replies = self.old.replies ++ reply.now ∷ []; asked = false }) }
+        ensures err { OnErr result (self.new ≡ self.old) }
+    {
         let kept = reply::copy_of(reply)?;
         self.replies.push(kept)?;
         self.state.go_on(self.ranks, reply);
@@ -120,8 +125,14 @@ impl<'a> RankRun for SmallRank<'a> {
         self.state.output.as_slice()
     }
 
-    fn variables(&self) -> Result<Variables, AllocError> {
+    fn variables(&self) -> Result<Variables, AllocError>
+        requires { self.now.asked ≡ true }
+        ensures { IfOk result (λ found. found ≡ variables_of self.now.program self.now.ranks self.now.rank self.now.replies) }
+    {
         let mut found = Variables::new(self.alloc);
+        if let SmallPlace::Over = self.state.place {
+            return Ok(found);
+        }
         add_variable(self.alloc, &mut found, b"r", self.rank as i32)?;
         add_variable(self.alloc, &mut found, b"x", self.state.value)?;
         Ok(found)
@@ -138,4 +149,67 @@ fn add_variable(alloc: Global, found: &mut Variables, name: &[u8], value: i32) -
         values: Ints::from_slice(alloc, &[value])?,
     };
     found.push(variable).map_err(|_| AllocError)
+}
+
+#[cfg(test)]
+mod tests {
+    use super::*;
+    use crate::small_source::read_small;
+    use mpi_call::call::{Call, Source, Tag, TakeMode};
+    use mpi_call::lists::Starts;
+    use mpi_call::reply::{Got, Item, Items};
+    use std::test::Fail;
+
+    const FIRST: &str = "int main(void){int r,x=7;MPI_Comm_rank(MPI_COMM_WORLD,&r);if(r==0)MPI_Send(&x,1,MPI_INT,1,5,MPI_COMM_WORLD);if(r==1){x=0;MPI_Recv(&x,1,MPI_INT,0,5,MPI_COMM_WORLD,MPI_STATUS_IGNORE);printf(\"%d\\n\",x);}return 0;}";
+
+    /// The call that is wanted.
+    fn asked(run: &mut SmallRank) -> Result<Call, Fail>
+        ensures { OnOk result (run.new.asked ≡ true) }
+    {
+        match run.want()? {
+            Want::Ask(call) => Ok(call),
+            Want::Ended => Err("ended")?,
+        }
+    }
+
+    fn message(alloc: Global) -> Result<Reply, Fail> {
+        let mut items = Items::new(alloc);
+        let got = Got::Message {
+            source: 0,
+            start: 0,
+            tag: 5,
+            ints: Ints::from_slice(alloc, &[7])?,
+        };
+        let Ok(()) = items.push(Item { index: 0, got }) else {
+            return Err("memory")?;
+        };
+        Ok(Reply::Took(items))
+    }
+
+    #[test]
+    fn rank_1_of_the_first_program(rt: HostRuntime) -> Result<(), Fail> {
+        let program = read_small(rt.alloc(), FIRST.as_bytes())?;
+        let mut run = SmallRank::start(rt.alloc(), &program, 2, 1)?;
+        let post = Call::Post {
+            comm: 0,
+            source: Source::From(0),
+            tag: Tag::Is(5),
+            room: 1,
+        };
+        assert!(rt; asked(&mut run)? == post);
+        run.give(&Reply::Done)?;
+        let take = Call::Take {
+            starts: Starts::from_slice(rt.alloc(), &[0])?,
+            mode: TakeMode::All,
+        };
+        assert!(rt; asked(&mut run)? == take);
+        let variables = run.variables()?;
+        assert_eq!(rt; variables.as_slice().len(), 2);
+        assert_eq!(rt; variables.as_slice()[0].values.as_slice(), [1].as_slice());
+        assert_eq!(rt; variables.as_slice()[1].values.as_slice(), [0].as_slice());
+        run.give(&message(rt.alloc())?)?;
+        assert!(rt; asked(&mut run)? == Call::End);
+        assert_eq!(rt; run.printed(), b"7\n".as_slice());
+        Ok(())
+    }
 }

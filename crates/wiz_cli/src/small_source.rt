@@ -15,6 +15,7 @@ use std::alloc::Global;
 pub fn read_small(alloc: Global, text: &[u8]) -> Result<SmallProgram, SmallFault>
     requires { length text.now ≤ 65536 }
     ensures program { IfOk result (λ program. IsSmallText text.now program) }
+    ensures only { (program : SmallProgram) → IsSmallText text.now program → IfOk result (λ found. found ≡ program) }
     ensures refused { result ≡ Err NotBuilt → (program : SmallProgram) → IsSmallText text.now program → ⊥ }
 {
     let mut source = Source::new(text);
@@ -29,9 +30,13 @@ pub fn read_small(alloc: Global, text: &[u8]) -> Result<SmallProgram, SmallFault
 fn read_program(alloc: Global, source: &mut Source) -> Result<SmallProgram, SmallFault>
     ensures { IsReading program_tokens ProgramHasNumbers source.old result source.new }
 {
-    let initial = read_start(source).ok_or(SmallFault::NotBuilt)?;
+    let Some(initial) = read_start(source) else {
+        return Err(SmallFault::NotBuilt);
+    };
     let choices = read_choices(alloc, source)?;
-    source.tokens(&["0", ";", "}"]).ok_or(SmallFault::NotBuilt)?;
+    let Some(()) = source.tokens(&["0", ";", "}"]) else {
+        return Err(SmallFault::NotBuilt);
+    };
     Ok(SmallProgram {
         initial: initial as i32,
         choices,
@@ -64,7 +69,9 @@ fn read_choices(alloc: Global, source: &mut Source) -> Result<Choices, SmallFaul
 fn read_choice(alloc: Global, source: &mut Source) -> Result<SmallChoice, SmallFault>
     ensures { IsReading choice_tokens ChoiceHasNumbers source.old result source.new }
 {
-    let rank = read_test(source).ok_or(SmallFault::NotBuilt)?;
+    let Some(rank) = read_test(source) else {
+        return Err(SmallFault::NotBuilt);
+    };
     let body = read_body(alloc, source)?;
     Ok(SmallChoice { rank, body })
 }
@@ -83,7 +90,9 @@ fn read_body(alloc: Global, source: &mut Source) -> Result<SmallBody, SmallFault
     if source.token(b"{") {
         return Ok(SmallBody::Block(read_steps(alloc, source)?));
     }
-    let step = read_step(source).ok_or(SmallFault::NotBuilt)?;
+    let Some(step) = read_step(source) else {
+        return Err(SmallFault::NotBuilt);
+    };
     Ok(SmallBody::Single(step))
 }
 
@@ -93,7 +102,9 @@ fn read_steps(alloc: Global, source: &mut Source) -> Result<Steps, SmallFault>
 {
     let mut steps = Steps::new(alloc);
     while !source.token(b"}") {
-        let step = read_step(source).ok_or(SmallFault::NotBuilt)?;
+        let Some(step) = read_step(source) else {
+            return Err(SmallFault::NotBuilt);
+        };
         add_step(&mut steps, step)?;
     }
     Ok(steps)
@@ -196,5 +207,53 @@ fn add_choice(choices: &mut Choices, choice: SmallChoice) -> Result<(), SmallFau
     match choices.push(choice) {
         Ok(()) => Ok(()),
         Err(_) => Err(SmallFault::NoMemory),
+    }
+}
+
+#[cfg(test)]
+mod tests {
+    use super::*;
+    use std::test::Fail;
+
+    const ONE_RANK: &str = "int main(void){int r,x=0;MPI_Comm_rank(MPI_COMM_WORLD,&r);return 0;}";
+
+    /// How many choices a text has, and nothing where it is refused.
+    fn choices_in(alloc: Global, text: &str) -> Result<Option<usize>, SmallFault> {
+        if text.len() > 65536 {
+            return Ok(None);
+        }
+        match read_small(alloc, text.as_bytes()) {
+            Ok(program) => Ok(Some(program.choices.as_slice().len())),
+            Err(SmallFault::NotBuilt) => Ok(None),
+            Err(fault) => Err(fault),
+        }
+    }
+
+    #[test]
+    fn texts(rt: HostRuntime) -> Result<(), Fail> {
+        let first = "int main(void){int r,x=7;MPI_Comm_rank(MPI_COMM_WORLD,&r);if(r==0)MPI_Send(&x,1,MPI_INT,1,5,MPI_COMM_WORLD);if(r==1){x=0;MPI_Recv(&x,1,MPI_INT,0,5,MPI_COMM_WORLD,MPI_STATUS_IGNORE);printf(\"%d\\n\",x);}return 0;}";
+        let head = "int main(void){int r,x=0;MPI_Comm_rank(MPI_COMM_WORLD,&r);";
+        assert_eq!(rt; first.len(), 209);
+        assert_eq!(rt; ONE_RANK.len(), 68);
+        assert_eq!(rt; choices_in(rt.alloc(), first)?, Some(2));
+        assert_eq!(rt; choices_in(rt.alloc(), ONE_RANK)?, Some(0));
+        let cases = [
+            ("\tif ( r == 2147483647 ) { }\r\nreturn 0 ; }\n", Some(1)),
+            ("if(r==0)x=01;return 0;}", None),
+            ("if(r==0)x=2147483648;return 0;}", None),
+            ("if(r==0)y=1;return 0;}", None),
+            ("if(r==0){x=1;return 0;}", None),
+            ("if(r===0)x=1;return 0;}", None),
+            ("if(r==0)x=1;/* one */return 0;}", None),
+            ("if(r==0)printf(\"%d\",x);return 0;}", None),
+            ("return0;}", None),
+            ("return 0;};", None),
+        ];
+        for (rest, expected) in cases {
+            let text = format!(in rt.alloc(); "{head}{rest}")?;
+            assert_eq!(rt; choices_in(rt.alloc(), &text)?, expected, "{rest}");
+        }
+        assert_eq!(rt; choices_in(rt.alloc(), "")?, None);
+        Ok(())
     }
 }

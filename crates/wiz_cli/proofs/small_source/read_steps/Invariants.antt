@@ -3,11 +3,11 @@ use Rattle.wiz_cli.specs.Reading.{IsBehind}
 use Rattle.wiz_cli.specs.SmallTexts.{AllHaveNumbers, steps_tokens}
 use Rattle.wiz_cli.proofs.small_source.read_steps.Given as goal
 
-abbrev pub invariant-loop : goal.invariant-loop
-invariant-loop l = record {
+abbrev pub invariant-loop-source : goal.invariant-loop-source
+invariant-loop-source l = record {
   behind : IsBehind (steps_tokens l.steps) l.initial.source l.source;
   good : AllHaveNumbers l.steps;
 }
 
-abbrev pub decreases-loop : goal.decreases-loop
-decreases-loop l = length l.source
+abbrev pub decreases-loop-source : goal.decreases-loop-source
+decreases-loop-source l = length l.source
