@@ -1,1 +1,4 @@
 pub mod PieceLaws
+pub mod SmallEntryLaws
+pub mod SmallListLaws
+pub mod SmallLogLaws

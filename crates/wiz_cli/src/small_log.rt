@@ -134,11 +134,9 @@ fn lists(
     ensures { IsPartRead (lists_text group.now) (AreSmallLists ranks group.now (length group.now)) cursor.old result cursor.new }
 {
     let mut lists = Lists::new(alloc);
-    let mut rest = group;
-    while let [rank, after @ ..] = rest {
+    for rank in group {
         let list = list(alloc, cursor, ranks, group, *rank)?;
         add_list(&mut lists, list)?;
-        rest = after;
     }
     Ok(lists)
 }
