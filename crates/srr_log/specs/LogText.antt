@@ -26,10 +26,13 @@ abbrev pub entries_text : List Entry → List ℕ → List ℕ
 entries_text [] behind = behind
 entries_text (entry ∷ entries) behind = line (entry_line entry) (entries_text entries behind)
 
--- a rank, how many entries it has, and then these
+-- a rank, and how many entries it has
+abbrev pub list_head_text : ℕ → ℕ → List ℕ → List ℕ
+list_head_text rank count behind = line (codes "rank " ++ decimal_text rank ++ (32 ∷ decimal_text count)) behind
+
+-- and then these
 abbrev pub list_text : ℕ → List Entry → List ℕ → List ℕ
-list_text rank entries behind =
-    line (codes "rank " ++ decimal_text rank ++ (32 ∷ decimal_text (length entries))) (entries_text entries behind)
+list_text rank entries behind = list_head_text rank (length entries) (entries_text entries behind)
 
 -- the list of each rank of the group, in its order
 abbrev pub lists_text : List ℕ → List (List Entry) → List ℕ → List ℕ

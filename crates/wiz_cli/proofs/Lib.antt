@@ -1,5 +1,9 @@
-pub mod SmallCallLaws
-pub mod TokenLaws
+pub mod PieceLaws
 pub mod ReadingLaws
-pub mod WordLemmas
 pub mod ReportLemmas
+pub mod SmallCallLaws
+pub mod SmallEntryLaws
+pub mod SmallListLaws
+pub mod SmallLogLaws
+pub mod TokenLaws
+pub mod WordLemmas

@@ -8,6 +8,7 @@ pub mod SmallCalls
 pub mod SmallLogs
 pub mod SmallTexts
 pub mod States
+pub mod TextPieces
 pub mod Tokens
 pub mod TraceTexts
 pub mod Words

@@ -16,6 +16,7 @@ pub mod small_source;
 mod small_state;
 mod small_tokens;
 mod tell;
+mod text_pieces;
 pub mod top;
 pub mod trace;
 mod words;
