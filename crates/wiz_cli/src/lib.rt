@@ -16,6 +16,8 @@ pub mod small_source;
 mod small_state;
 mod small_tokens;
 mod tell;
+#[cfg(test)]
+mod tests;
 mod text_pieces;
 pub mod top;
 pub mod trace;

@@ -71,11 +71,7 @@ fn replay_log(alloc: Global, log: &Log) -> Result<Outcome, AllocError>
 }
 
 /// The replay of a log's group with a program.
-fn replay_group(
-    alloc: Global,
-    program: &SmallProgram,
-    log: &Log,
-) -> Result<Replayed, AllocError>
+fn replay_group(alloc: Global, program: &SmallProgram, log: &Log) -> Result<Replayed, AllocError>
     requires { IsReplayable log.now }
     ensures { IfOk result (λ replayed. IsReplayed (next_of program.now) (output_of program.now) (variables_of program.now) log.now None replayed) }
 {

@@ -59,12 +59,7 @@ fn exit_status(refusal: Refusal) -> u8
 }
 
 /// Puts a refusal's message out. A fault of the sink changes no status.
-fn say<K: Sink>(
-    alloc: Global,
-    refusal: Refusal,
-    name: &str,
-    out: &mut K,
-) -> Result<(), AllocError>
+fn say<K: Sink>(alloc: Global, refusal: Refusal, name: &str, out: &mut K) -> Result<(), AllocError>
     ensures { OnOk result (HasSaid (K.written out.old) (K.written out.new) (K.faults out.old) (K.faults out.new) (message_text refusal name.now)) }
 {
     let text = message(alloc, refusal, name)?;
@@ -99,11 +94,7 @@ fn about_file(alloc: Global, words: &[u8], name: &str) -> Result<Bytes, AllocErr
 }
 
 /// Puts the trace out. The status is that of the stands, or 4 where the sink failed.
-fn put_trace<K: Sink>(
-    alloc: Global,
-    replayed: &Replayed,
-    out: &mut K,
-) -> Result<u8, AllocError>
+fn put_trace<K: Sink>(alloc: Global, replayed: &Replayed, out: &mut K) -> Result<u8, AllocError>
     ensures { IfOk result (λ status. IsTrace (K.written out.old) (K.written out.new) (K.faults out.old) (K.faults out.new) replayed.now status) }
 {
     let text = trace_text(alloc, replayed)?;

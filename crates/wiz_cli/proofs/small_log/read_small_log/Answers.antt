@@ -39,7 +39,7 @@ returns-in_err-lists-clause-refused c = λ is.
     let P : List ℕ → Type 0 = λ group. (lists : List (List Entry)) (after : List ℕ) → AreSmallLists c.in-Some.ranks group (length group) lists → c.program.new.cursor ≢ lists_text group lists after in
     no_log-lists c.args.text.now c.head.new.cursor c.group.new.cursor c.program.new.cursor c.in-Some.ranks c.in_ok-group.group c.in_ok-program.program (sym c.new-cursor.ensures ∙ c.in-Some.ensures.1) c.in_ok-group.ensures.1 c.in_ok-program.ensures.1
     (subst P c.as_slice.ensures
-      (refusal (lists_text c.as_slice.result.now) (AreSmallLists c.in-Some.ranks c.as_slice.result.now (length c.as_slice.result.now)) c.program.new.cursor c.lists.new.cursor c.in_err-lists.field-0.0 p.0 c.from_residual-in_err-lists.result is p.1 p.2 c.in_err-lists.ensures))
+    (refusal (lists_text c.as_slice.result.now) (AreSmallLists c.in-Some.ranks c.as_slice.result.now (length c.as_slice.result.now)) c.program.new.cursor c.lists.new.cursor c.in_err-lists.field-0.0 p.0 c.from_residual-in_err-lists.result is p.1 p.2 c.in_err-lists.ensures))
 
 pub returns-in_err-lists-clause-alone : goal.returns-in_err-lists-clause-alone
 returns-in_err-lists-clause-alone c = alone c.args.text.now
@@ -59,8 +59,8 @@ returns-clause-replayable c =
     let P : List ℕ → Type 0 = λ group. AreSmallLists c.in-Some.ranks group (length group) c.in_ok-lists.lists × (c.program.new.cursor ≡ lists_text group c.in_ok-lists.lists c.lists.new.cursor) in
     IsReplayable-IsSmallLogText c.args.text.now _
     (small_log c.args.text.now c.head.new.cursor c.group.new.cursor c.program.new.cursor c.lists.new.cursor c.in-Some.ranks c.in_ok-group.group c.in_ok-program.program c.in_ok-lists.lists
-      (c.in-Some.ensures.0, sym c.new-cursor.ensures ∙ c.in-Some.ensures.1) c.in_ok-group.ensures c.in_ok-program.ensures (subst P c.as_slice.ensures c.in_ok-lists.ensures)
-      (sym c.rest.ensures ∙ (not_same c.rest.result.now c.as_slice-2.result.now c.ne.result c.ne.ensures).1 c.if-ne.false ∙ c.as_slice-2.ensures))
+    (c.in-Some.ensures.0, sym c.new-cursor.ensures ∙ c.in-Some.ensures.1) c.in_ok-group.ensures c.in_ok-program.ensures (subst P c.as_slice.ensures c.in_ok-lists.ensures)
+    (sym c.rest.ensures ∙ (not_same c.rest.result.now c.as_slice-2.result.now c.ne.result c.ne.ensures).1 c.if-ne.false ∙ c.as_slice-2.ensures))
 
 pub returns-clause-alone : goal.returns-clause-alone
 returns-clause-alone c = alone c.args.text.now

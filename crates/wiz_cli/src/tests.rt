@@ -1,0 +1,88 @@
+//! Commands over files in memory: words, status and what is printed.
+use crate::gate::OpenGate;
+use crate::top::wiz;
+use std::sync::Wait;
+use std::thread::Threads;
+use wiz_io::{MemorySink, MemoryStore};
+
+const FIRST: &[u8] =
+    b"srr 1\nranks 2\ngroup 0 1\nprogram 209\nint main(void){int r,x=7;MPI_Comm_rank(MPI_COMM_WORLD,&r);if(r==0)MPI_Send(&x,1,MPI_INT,1,5,MPI_COMM_WORLD);if(r==1){x=0;MPI_Recv(&x,1,MPI_INT,0,5,MPI_COMM_WORLD,MPI_STATUS_IGNORE);printf(\"%d\\n\",x);}return 0;}\nrank 0 2\ns\nz\nrank 1 3\np\nt 0=0.0\nz\nend\n";
+
+const FIRST_TRACE: &[u8] =
+    b"rank 0\n0 send comm=0 to=1 tag=5 data=7 -> done\n1 end -> done\noutput 0\n\nended\nrank 1\n0 post comm=0 from=0 tag=5 room=1 -> done\n1 take all 0 -> took 0=0.0 tag=5 data=7\n2 end -> done\noutput 2\n7\n\nended\n";
+
+/// The first log, but its program sends to rank 0.
+const DIVERGED: &[u8] =
+    b"srr 1\nranks 2\ngroup 0 1\nprogram 209\nint main(void){int r,x=7;MPI_Comm_rank(MPI_COMM_WORLD,&r);if(r==0)MPI_Send(&x,1,MPI_INT,0,5,MPI_COMM_WORLD);if(r==1){x=0;MPI_Recv(&x,1,MPI_INT,0,5,MPI_COMM_WORLD,MPI_STATUS_IGNORE);printf(\"%d\\n\",x);}return 0;}\nrank 0 2\ns\nz\nrank 1 3\np\nt 0=0.0\nz\nend\n";
+
+const DIVERGED_TRACE: &[u8] =
+    b"rank 0\n0 send comm=0 to=0 tag=5 data=7 -> done\n1 end -> done\noutput 0\n\nended\nrank 1\n0 post comm=0 from=0 tag=5 room=1 -> done\noutput 0\n\ndiverged call 1 entry t 0=0.0 made take all 0 found 0.0 send comm=0 to=0 tag=5 data=7\n";
+
+/// The first log, but its program sends nothing and rank 0 ends at once.
+const STARVED: &[u8] =
+    b"srr 1\nranks 2\ngroup 0 1\nprogram 159\nint main(void){int r,x=7;MPI_Comm_rank(MPI_COMM_WORLD,&r);if(r==1){x=0;MPI_Recv(&x,1,MPI_INT,0,5,MPI_COMM_WORLD,MPI_STATUS_IGNORE);printf(\"%d\\n\",x);}return 0;}\nrank 0 1\nz\nrank 1 3\np\nt 0=0.0\nz\nend\n";
+
+const STARVED_TRACE: &[u8] =
+    b"rank 0\n0 end -> done\noutput 0\n\nended\nrank 1\n0 post comm=0 from=0 tag=5 room=1 -> done\noutput 0\n\nstarved 0.0\n";
+
+const ALONE: &[u8] =
+    b"srr 1\nranks 1\ngroup 0\nprogram 68\nint main(void){int r,x=0;MPI_Comm_rank(MPI_COMM_WORLD,&r);return 0;}\nrank 0 1\nz\nend\n";
+
+const ALONE_TRACE: &[u8] = b"rank 0\n0 end -> done\noutput 0\n\nended\n";
+
+const NO_ENTRY: &[u8] =
+    b"srr 1\nranks 1\ngroup 0\nprogram 68\nint main(void){int r,x=0;MPI_Comm_rank(MPI_COMM_WORLD,&r);return 0;}\nrank 0 0\nend\n";
+
+const NO_ENTRY_TRACE: &[u8] = b"rank 0\noutput 0\n\nlog ended\n";
+
+const NOT_BUILT: &[u8] =
+    b"srr 1\nranks 1\ngroup 0\nprogram 25\nint main(void){return 0;}\nrank 0 0\nend\n";
+
+/// Runs a command where the one file `L` holds a log, and compares its status and output.
+fn answers<R: Threads + Wait + Sync + AllocGlobal>(
+    rt: &R,
+    words: &[&str],
+    log: &[u8],
+    status: u8,
+    printed: &[u8],
+) -> bool {
+    let mut store = MemoryStore::new(rt.alloc());
+    if store.add("L", log).is_err() {
+        return false;
+    }
+    let mut out = MemorySink::new(rt.alloc());
+    let report = wiz(rt, rt.alloc(), words, &mut store, &mut out, &OpenGate);
+    report.status == status && out.bytes() == printed
+}
+
+#[test]
+fn commands_have_their_status_and_output(rt: HostRuntime) {
+    let replay: &[&str] = &["replay", "L", "--serial"];
+    let table: [(&[&str], &[u8], u8, &[u8]); 10] = [
+        (replay, FIRST, 0, FIRST_TRACE),
+        (replay, DIVERGED, 9, DIVERGED_TRACE),
+        (replay, STARVED, 10, STARVED_TRACE),
+        (replay, ALONE, 0, ALONE_TRACE),
+        (replay, NO_ENTRY, 0, NO_ENTRY_TRACE),
+        (replay, NOT_BUILT, 5, b"program 1:1 not built\n"),
+        (&["replay", "L9", "--serial"], FIRST, 2, b"no file L9\n"),
+        (&[], FIRST, 1, b"refused words\n"),
+        (&["play"], FIRST, 1, b"refused words\n"),
+        (&["replay", "--serial", "L"], FIRST, 1, b"refused words\n"),
+    ];
+    for (words, log, status, printed) in table {
+        assert!(&rt; answers(&rt, words, log, status, printed));
+    }
+}
+
+#[test]
+fn a_cut_or_longer_log_is_refused(rt: HostRuntime) {
+    let replay: &[&str] = &["replay", "L", "--serial"];
+    for end in 0..FIRST.len() {
+        assert!(&rt; answers(&rt, replay, &FIRST[..end], 8, b"log refused\n"));
+    }
+    let mut longer = Vec::new(rt.alloc());
+    longer.extend_from_slice(FIRST).expect(&rt, "bytes");
+    longer.push(b'\n').expect(&rt, "bytes");
+    assert!(&rt; answers(&rt, replay, longer.as_slice(), 8, b"log refused\n"));
+}
