@@ -1,7 +1,7 @@
 -- Lists of accounts: what stays true of them when a seat steps.
 use Rattle.std.proofs.Common.{◌≡◌, ◌≢◌, ℕ, zero, suc, ◌+◌, ◌<◌, ◌≤◌, List, [], ◌∷◌, ◌++◌, length, sym, refl, ap, ◌∙◌, subst, ⊎_elim, arith}
 use Rattle.turn_lock.specs.Entries.{entries_of, StartsWith, Grows}
-use Rattle.turn_lock.specs.Rule.{account, fresh_accounts, seen_in, AccountFits, AccountsFit}
+use Rattle.turn_lock.specs.Rule.{account, fresh_accounts, seen_in, AccountsFit}
 use Rattle.turn_lock.specs.Steps.{own_in, IsOneAccount, informed, renewed}
 use Rattle.turn_lock.specs.Ends.{HasAccount, AllStand}
 use Rattle.turn_lock.specs.declared.view.Account.{Account}

@@ -1,5 +1,5 @@
 -- For callers: what `new` gives, what a turn of one seat leaves, and what `close` asks.
-use Rattle.std.proofs.Common.{◌≡◌, ◌≢◌, ℕ, ◌<◌, false, List, length, All, Any, slice_get, slice_index_or, slice_set, Some, sym, refl, ap, ◌∙◌, subst, arith, length-set}
+use Rattle.std.proofs.Common.{◌≡◌, ℕ, ◌<◌, false, List, length, All, Any, slice_get, slice_index_or, slice_set, Some, sym, refl, ◌∙◌, subst, arith, length-set}
 use mathlib.Core.Logic.{dite}
 use native.Mathlib.Decide.{ℕ_discrete}
 use Rattle.std.proofs.lemmas.List.{get_or-set_other, get_or_default}
@@ -10,15 +10,21 @@ use Rattle.turn_lock.specs.Seats.{IsIdle, AllIdle}
 
 module _ {E F : Type 0} (lock : LockView F) where
   pub idle_from_fresh : (ss : List (SeatView E F)) → length ss ≡ lock.seats → ((k : ℕ) → k < lock.seats → slice_get ss k ≡ Some (fresh lock k)) → AllIdle lock ss
-  idle_from_fresh ss count each = (count, λ k d lt.
+  idle_from_fresh ss count each = (
+    count,
+    λ k d lt.
         let is : slice_index_or ss k d ≡ fresh lock k = get_or_from_slice_get ss k (fresh lock k) d (each k lt) in
-        subst (IsIdle lock k) (sym is) (refl, refl, refl))
+        subst (IsIdle lock k) (sym is) (refl, refl, refl),
+  )
 
   pub idle_set : (ss : List (SeatView E F)) (k : ℕ) (s : SeatView E F) → AllIdle lock ss → IsIdle lock k s → AllIdle lock (slice_set ss k s)
-  idle_set ss k s all mine = (length-set ss k s ∙ all.0, λ j d lt. dite (ℕ_discrete j k)
+  idle_set ss k s all mine = (
+    length-set ss k s ∙ all.0,
+    λ j d lt. dite (ℕ_discrete j k)
         (λ e. let is : slice_index_or (slice_set ss k s) j d ≡ s = get_or-set_at ss k j s d e (let n = all.0 in omega arith) in
         subst (λ (x : ℕ × SeatView E F). IsIdle lock x.0 x.1) (λ i. (sym e i, sym is i)) mine)
-        (λ ne. subst (IsIdle lock j) (sym (get_or-set_other ss k j s d ne)) (all.1 j d lt)))
+        (λ ne. subst (IsIdle lock j) (sym (get_or-set_other ss k j s d ne)) (all.1 j d lt)),
+  )
 
   pub idle_all : (ss : List (SeatView E F)) → AllIdle lock ss → All (λ s. (s.lock ≡ lock) × (s.holds ≡ false)) ss
   idle_all ss all k d lt = let h = all.1 k d (let n = all.0 in omega arith) in (h.0, h.1)

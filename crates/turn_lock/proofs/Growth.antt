@@ -1,5 +1,5 @@
 -- Entries that grow by one at most.
-use Rattle.std.proofs.Common.{◌≡◌, ◌≢◌, ℕ, zero, suc, ◌<◌, ◌==◌, List, [], ◌∷◌, ◌++◌, length, All, slice_index_or, sym, refl, ap, ◌∙◌, subst, ⊎_elim, arith, append_assoc, ne_eqb, eq-eqb}
+use Rattle.std.proofs.Common.{◌≡◌, ◌≢◌, ℕ, zero, suc, ◌<◌, ◌==◌, List, [], ◌∷◌, ◌++◌, All, sym, ap, ◌∙◌, subst, ⊎_elim, arith, append_assoc, ne_eqb}
 use Rattle.std.proofs.lemmas.List.{append-nil}
 use Rattle.std.proofs.lemmas.List.Elements.{filter-append, All-append}
 use Rattle.turn_lock.specs.Entries.{entries_of, StartsWith, Grows}

@@ -1,5 +1,5 @@
 -- Each step of a seat keeps the rule of the lock's table.
-use Rattle.std.proofs.Common.{◌≡◌, ◌≢◌, ℕ, zero, suc, ◌+◌, ◌%◌, ◌^◌, ◌<◌, ◌≤◌, List, [], ◌∷◌, length, get_or, set, sym, refl, ap, ◌∙◌, subst, ⊎_elim, inl, inr, ◌⊎◌, arith, Option, Some, None}
+use Rattle.std.proofs.Common.{◌≡◌, ◌≢◌, ℕ, zero, suc, ◌+◌, ◌%◌, ◌^◌, ◌<◌, ◌≤◌, List, [], ◌∷◌, length, get_or, set, sym, refl, ap, ◌∙◌, subst, ⊎_elim, inl, inr, arith, Option, Some, None}
 use mathlib.Core.Logic.{dite}
 use mathlib.Core.Option.{none, some, some-ne-none, some-injective}
 use native.Mathlib.Decide.{ℕ_discrete}
@@ -8,9 +8,9 @@ use lib.Seq.{set-get_or}
 use Rattle.std.proofs.Math.Nat.{mod-add-mod}
 use Rattle.atomic_table.specs.Table.{Act, Valid, carried_after, step, keeps, takes, gives, stepped, Allows}
 use Rattle.atomic_table.proofs.Lists.{at_set, set_here, set_else, set_again, one_turn}
-use Rattle.turn_lock.specs.Entries.{entries_of, StartsWith, Grows}
+use Rattle.turn_lock.specs.Entries.{entries_of, Grows}
 use Rattle.turn_lock.specs.Rule.{account, seen_in, total, tickets_at, tickets, accounts_of, Queue, StageFits, AccountsFit, ViewFits, Table, SlotFits, TurnRule}
-use Rattle.turn_lock.specs.Steps.{Here, own_in, IsOneAccount, informed, renewed, with_stage, turned_to, passed, Draws, IsNext, Reads, Advances}
+use Rattle.turn_lock.specs.Steps.{Here, IsOneAccount, informed, renewed, with_stage, turned_to, passed, Draws, Reads, Advances}
 use Rattle.turn_lock.specs.declared.view.Account.{Account}
 use Rattle.turn_lock.specs.declared.view.View.{View}
 use Rattle.turn_lock.specs.declared.view.Stage.{Stage}

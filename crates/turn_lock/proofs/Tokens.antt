@@ -1,5 +1,5 @@
 -- A token is split, two are joined, a table is opened and closed: each keeps the rule or begins with it.
-use Rattle.std.proofs.Common.{◌≡◌, ◌≢◌, ℕ, zero, suc, ◌+◌, ◌<◌, ◌≤◌, List, [], ◌∷◌, ◌++◌, length, All, set, sym, refl, ap, ◌∙◌, subst, ⊎_elim, inl, inr, ◌⊎◌, arith, Option, Some, None, length-set, length-append}
+use Rattle.std.proofs.Common.{◌≡◌, ◌≢◌, ℕ, zero, suc, ◌+◌, ◌<◌, ◌≤◌, List, [], ◌∷◌, ◌++◌, length, All, set, sym, refl, ap, ◌∙◌, subst, ⊎_elim, inl, inr, ◌⊎◌, arith, Option, Some, length-set, length-append}
 use mathlib.Core.Option.{some, some-ne-none, some-injective}
 use lib.ListN.{get_elem?}
 use Rattle.atomic_table.specs.Table.{Splits, Joins, opening, Seen, Final}
@@ -12,7 +12,7 @@ use Rattle.turn_lock.specs.declared.view.View.{View}
 use Rattle.turn_lock.specs.declared.view.Stage.{Stage}
 use Rattle.turn_lock.specs.declared.view.Stage.TheVariants.{Idle, Turn}
 use Rattle.turn_lock.proofs.Accounts.{fits_owner, fits_append, fits_lacking, all_stand, owner_at, some_owned, length-fresh, fresh_lacks, fits_fresh}
-use Rattle.turn_lock.proofs.Keeps.{each_set, at_inside, Rule, IsHome, HasTurn, slot_stays, idle_not_turn, home_at}
+use Rattle.turn_lock.proofs.Keeps.{each_set, IsHome, HasTurn, slot_stays, idle_not_turn, home_at}
 use Rattle.turn_lock.proofs.Sums.{total_set, total_append, put, put_here, put_else, moved, moved_here, moved_else}
 
 -- nothing drawn, nothing served

@@ -3,7 +3,7 @@ use Rattle.std.specs.Prelude.{◌≡◌, ℕ, false, List, [], ◌∷◌, ◌⊎
 use Rattle.atomic_table.specs.Seated.{TableId}
 use Rattle.turn_lock.specs.Entries.{entries_of, StartsWith}
 use Rattle.turn_lock.specs.Rule.{account}
-use Rattle.turn_lock.specs.Seat.{LockView, SeatView}
+use Rattle.turn_lock.specs.Seat.{SeatView}
 use Rattle.turn_lock.specs.declared.view.Account.{Account}
 
 -- the account of each seat

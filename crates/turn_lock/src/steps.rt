@@ -12,8 +12,12 @@ use atomic_table::{Seat, Shared};
 use std::hint;
 use std::sync::Wait;
 
-pub type LockTable<T> =
-    Shared<Option<T>, View<<T as Told>::Entry, <T as Told>::Frame>, Terms<T>, Turns>;
+pub type LockTable<T> = Shared<
+    Option<T>,
+    View<<T as Told>::Entry, <T as Told>::Frame>,
+    Terms<T>,
+    Turns,
+>;
 
 pub type Token<T> = Seat<Option<T>, View<<T as Told>::Entry, <T as Told>::Frame>>;
 

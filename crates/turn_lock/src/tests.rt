@@ -15,6 +15,7 @@ struct Numbers {
 
 impl Told for Numbers {
     type Entry = u32;
+
     type Frame = ();
 
     ghost entries = { λ v. v.items.items };
@@ -55,10 +56,7 @@ fn turn<R: Wait>(
 }
 
 #[tactic(auto, using(crate::proofs::Callers::idle_from_fresh))]
-fn lock_of(
-    alloc: Global,
-    seats: u32,
-) -> Result<(TurnLock<Numbers>, Vec<Seat<Numbers>>), AllocError>
+fn lock_of(alloc: Global, seats: u32) -> Result<(TurnLock<Numbers>, Vec<Seat<Numbers>>), AllocError>
     requires { (0 < seats) × (seats ≤ 64) }
     ensures count { IfOk result (λ r. r.0.seats ≡ seats) }
     ensures seats { IfOk result (λ r. AllIdle r.0 r.1.items) }

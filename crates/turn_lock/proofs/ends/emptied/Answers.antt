@@ -1,4 +1,4 @@
-use Rattle.std.proofs.Common.{rules, ◌≡◌, Some, None, sym, ◌∙◌, subst}
+use Rattle.std.proofs.Common.{◌≡◌, Some, None, sym, ◌∙◌, subst}
 use Rattle.turn_lock.specs.Ends.{EndsWith}
 use Rattle.turn_lock.proofs.Tokens.{closes}
 use Rattle.turn_lock.proofs.ends.emptied.Goals as goal

@@ -1,4 +1,4 @@
-use Rattle.std.proofs.Common.{rules, ◌≡◌, ◌++◌, ◌∷◌, [], false, sym, ap, ◌∙◌, append_assoc, length, ◌<◌, length-append, arith}
+use Rattle.std.proofs.Common.{◌≡◌, ◌++◌, ◌∷◌, [], sym, ap, ◌∙◌, append_assoc, length, arith}
 use Rattle.turn_lock.specs.Rule.{account}
 use Rattle.turn_lock.specs.Ends.{accounts_at}
 use Rattle.turn_lock.proofs.Seats.{accounts_at-append, account_moves, idle_front, idle_last}

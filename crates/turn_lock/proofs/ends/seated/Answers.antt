@@ -1,4 +1,4 @@
-use Rattle.std.proofs.Common.{rules, ◌≡◌, ◌+◌, ◌-◌, ◌<◌, ◌≤◌, ◌++◌, ◌∷◌, [], Some, sym, ap, ◌∙◌, arith, suc, slice_get, vec_len, length, length-append}
+use Rattle.std.proofs.Common.{◌≡◌, ◌+◌, ◌-◌, ◌<◌, ◌∷◌, [], Some, ap, ◌∙◌, arith, length, length-append}
 use Rattle.turn_lock.specs.Rule.{fresh_accounts}
 use Rattle.turn_lock.specs.Steps.{first_only, but_first, first_alone, without_first}
 use Rattle.turn_lock.specs.Seat.{fresh}

@@ -1,4 +1,4 @@
-use Rattle.std.proofs.Common.{rules, ◌≡◌, ◌+◌, suc, sym, ap, ◌∙◌, arith}
+use Rattle.std.proofs.Common.{rules, ◌≡◌, ◌+◌, suc, ap, ◌∙◌, arith}
 use Rattle.turn_lock.specs.Rule.{fresh_accounts}
 use Rattle.turn_lock.proofs.Tokens.{splits}
 use Rattle.turn_lock.proofs.steps.split.Goals as goal

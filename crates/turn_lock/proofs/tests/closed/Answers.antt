@@ -1,4 +1,3 @@
-use Rattle.std.proofs.Common.{rules}
 use Rattle.turn_lock.proofs.Callers.{idle_each}
 use Rattle.turn_lock.proofs.tests.closed.Goals as goal
 

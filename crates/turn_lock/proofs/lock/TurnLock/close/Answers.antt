@@ -1,4 +1,4 @@
-use Rattle.std.proofs.Common.{rules, ◌≡◌, ℕ, ◌<◌, All, Some, sym, ap, ◌∙◌, subst}
+use Rattle.std.proofs.Common.{ap, subst}
 use Rattle.turn_lock.specs.Ends.{AllStand}
 use Rattle.turn_lock.proofs.Seats.{all_joined, own_stand, seen_stand}
 use Rattle.turn_lock.proofs.lock.TurnLock.close.Goals as goal
