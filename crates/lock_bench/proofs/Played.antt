@@ -3,9 +3,9 @@ use Rattle.std.proofs.Common.{◌≡◌, ℕ, ◌<◌, false, List, [], ◌∷�
 use Rattle.std.proofs.lemmas.List.{get_or-map, length-map}
 use Rattle.std.proofs.lemmas.Option.{get_or_from_slice_get}
 use Rattle.turn_lock.specs.Entries.{entries_of}
-use Rattle.turn_lock.specs.Seat.{LockView, SeatView, fresh}
+use Rattle.turn_lock.specs.Seat.{LockView, SeatView, fresh, AreFresh}
 use Rattle.turn_lock.specs.Seats.{IsIdle, AllIdle}
-use Rattle.lock_bench.specs.Players.{AreFresh, turns_of, player_at, IsReady, HasPlayed}
+use Rattle.lock_bench.specs.Players.{turns_of, player_at, IsReady, HasPlayed}
 use Rattle.lock_bench.specs.declared.players.Player.{Player}
 
 -- what a Vec holds after its slice was lent and written

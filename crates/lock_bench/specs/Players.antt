@@ -1,6 +1,6 @@
 -- Players: seats that take turns.
-use Rattle.std.specs.Prelude.{◌≡◌, ℕ, zero, suc, ◌<◌, false, List, [], ◌∷◌, ◌++◌, length, slice_get, Some}
-use Rattle.turn_lock.specs.Seat.{LockView, SeatView, fresh}
+use Rattle.std.specs.Prelude.{◌≡◌, ℕ, zero, suc, false, List, [], ◌∷◌, ◌++◌}
+use Rattle.turn_lock.specs.Seat.{LockView, SeatView}
 use Rattle.turn_lock.specs.Seats.{IsIdle}
 use Rattle.lock_bench.specs.declared.players.Player.{Player}
 
@@ -8,10 +8,6 @@ use Rattle.lock_bench.specs.declared.players.Player.{Player}
 abbrev pub turns_of : ℕ → ℕ → List (ℕ × ℕ)
 turns_of k zero = []
 turns_of k (suc n) = turns_of k n ++ (k, n) ∷ []
-
--- the seats of a new lock
-abbrev pub AreFresh : LockView (Unit {0}) → List (SeatView ℕ (Unit {0})) → Type 0
-AreFresh lock ss = (length ss ≡ lock.seats) × ((k : ℕ) → k < lock.seats → slice_get ss k ≡ Some (fresh lock k))
 
 -- a player of this seat before its first turn
 abbrev pub player_at : SeatView ℕ (Unit {0}) → Player
@@ -24,4 +20,5 @@ IsReady lock p = (p.seat.lock ≡ lock) × (p.seat.holds ≡ false) × (p.seat.o
 -- the player's seat is idle again, with its number, and has added its turns unless memory was short
 abbrev pub HasPlayed : LockView (Unit {0}) → ℕ → Player → Player → Type 0
 HasPlayed lock turns before after =
-    IsIdle lock before.seat.number after.seat × (after.is_short ≡ false → after.seat.own ≡ turns_of before.seat.number turns)
+    IsIdle lock before.seat.number after.seat
+    × (after.is_short ≡ false → after.seat.own ≡ turns_of before.seat.number turns)

@@ -2,8 +2,9 @@
 ghost use Rattle.std.specs.Prelude.{◌≡◌, ◌++◌, ◌∷◌, [], ◌<◌, ◌≤◌, ℕ, false, length, map, All, IfOk, slice_index_or};
 ghost use Rattle.std.specs.Bool.{OnTrue};
 ghost use Rattle.turn_lock.specs.Entries.{entries_of};
+ghost use Rattle.turn_lock.specs.Seat.{AreFresh};
 ghost use Rattle.turn_lock.specs.Seats.{AllIdle};
-ghost use Rattle.lock_bench.specs.Players.{AreFresh, IsReady, HasPlayed, turns_of, player_at};
+ghost use Rattle.lock_bench.specs.Players.{IsReady, HasPlayed, turns_of, player_at};
 ghost use Rattle.lock_bench.specs.declared.players.Player.{Player};
 
 use crate::tally::Tally;
@@ -91,7 +92,8 @@ fn play_all<R: Threads + Wait + Sync>(
     turns: u32,
 )
     requires { (0 < length players.old) × All (λ p. IsReady lock.now p) players.old }
-    ensures { (k : ℕ) (d : Player) → k < length players.old → HasPlayed lock.now turns (slice_index_or players.old k d) (slice_index_or players.new k d) }
+    ensures { (k : ℕ) (d : Player) → k < length players.old
+        → HasPlayed lock.now turns (slice_index_or players.old k d) (slice_index_or players.new k d) }
 {
     let threads = players.len();
     thread::for_each_mut(

@@ -1,19 +1,19 @@
 -- For callers: what `new` gives, what a turn of one seat leaves, and what `close` asks.
-use Rattle.std.proofs.Common.{◌≡◌, ℕ, ◌<◌, false, List, length, All, Any, slice_get, slice_index_or, slice_set, Some, sym, refl, ◌∙◌, subst, arith, length-set}
+use Rattle.std.proofs.Common.{◌≡◌, ℕ, ◌<◌, false, List, length, All, Any, slice_index_or, slice_set, sym, refl, ◌∙◌, subst, arith, length-set}
 use mathlib.Core.Logic.{dite}
 use native.Mathlib.Decide.{ℕ_discrete}
 use Rattle.std.proofs.lemmas.List.{get_or-set_other, get_or_default}
 use Rattle.std.proofs.lemmas.Grind.{get_or-set_at}
 use Rattle.std.proofs.lemmas.Option.{get_or_from_slice_get}
-use Rattle.turn_lock.specs.Seat.{LockView, SeatView, fresh}
+use Rattle.turn_lock.specs.Seat.{LockView, SeatView, fresh, AreFresh}
 use Rattle.turn_lock.specs.Seats.{IsIdle, AllIdle}
 
 module _ {E F : Type 0} (lock : LockView F) where
-  pub idle_from_fresh : (ss : List (SeatView E F)) → length ss ≡ lock.seats → ((k : ℕ) → k < lock.seats → slice_get ss k ≡ Some (fresh lock k)) → AllIdle lock ss
-  idle_from_fresh ss count each = (
-    count,
+  pub idle_from_fresh : (ss : List (SeatView E F)) → AreFresh lock ss → AllIdle lock ss
+  idle_from_fresh ss new = (
+    new.0,
     λ k d lt.
-        let is : slice_index_or ss k d ≡ fresh lock k = get_or_from_slice_get ss k (fresh lock k) d (each k lt) in
+        let is : slice_index_or ss k d ≡ fresh lock k = get_or_from_slice_get ss k (fresh lock k) d (new.1 k lt) in
         subst (IsIdle lock k) (sym is) (refl, refl, refl),
   )
 

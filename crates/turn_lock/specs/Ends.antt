@@ -26,7 +26,8 @@ AllStand es [] = Unit {0}
 AllStand es (x ∷ xs) = ((x.own ≡ entries_of x.number es) × StartsWith es x.seen) × AllStand es xs
 
 -- the value at the end has the frame of `new`, entries of seats alone, and what each account says of them
-pub record EndsWith {T E F : Type 0} (entries : T → List (ℕ × E)) (frame_of : T → F) (seats : ℕ) (told : F) (accounts : List (Account E)) (x : T) : Type 0 where
+pub record EndsWith {T E F : Type 0} (entries : T → List (ℕ × E)) (frame_of : T → F) (seats : ℕ) (told : F)
+    (accounts : List (Account E)) (x : T) : Type 0 where
   pub frame : frame_of x ≡ told
   pub numbers : All (λ e. e.0 < seats) (entries x)
   pub stand : AllStand (entries x) accounts

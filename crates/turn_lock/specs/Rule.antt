@@ -18,9 +18,13 @@ abbrev pub fresh_accounts : {E : Type 0} → ℕ → ℕ → List (Account E)
 fresh_accounts k zero = []
 fresh_accounts k (suc n) = account k [] [] ∷ fresh_accounts (suc k) n
 
+-- an idle token with these accounts
+abbrev pub idle_view : {E F : Type 0} → List (Account E) → F → View E F
+idle_view accounts frame = record { stage = Idle; accounts = accounts; frame = Some frame }
+
 -- the first token has every account
 abbrev pub first_view : {E F : Type 0} → ℕ → F → View E F
-first_view seats frame = record { stage = Idle; accounts = fresh_accounts 0 seats; frame = Some frame }
+first_view seats frame = idle_view (fresh_accounts 0 seats) frame
 
 -- what the first account has seen
 abbrev pub seen_in : {E : Type 0} → List (Account E) → List (ℕ × E)
@@ -50,14 +54,17 @@ pub record Queue : Type 0 where
   pub next : ℕ
   pub holder : ℕ → ℕ
 
--- the ticket of the view j was drawn by it and was not passed yet. With the turn it is the one that is served, and then `latest` holds
+-- the ticket of the view j was drawn by it and was not passed yet. With the turn it is the one that is served, and then
+-- `latest` holds
 abbrev pub StageFits : Queue → Type 0 → ℕ → Stage → Type 0
 StageFits q latest j Idle = Unit {0}
 StageFits q latest j (Waiting t) = (q.serving ≤ t) × (t < q.next) × (q.holder t ≡ j)
 StageFits q latest j (Turn t) = (q.serving ≡ t) × (t < q.next) × (q.holder t ≡ j) × latest
 
--- an account of the view j: its number is its own, its own entries are those of the history, and it has seen a beginning of the history
-pub record AccountFits {E : Type 0} (seats : ℕ) (owner : ℕ → ℕ) (history : List (ℕ × E)) (j : ℕ) (a : Account E) : Type 0 where
+-- an account of the view j: its number is no other view's, its own entries are those of the history with that number, and it
+-- has seen a beginning of the history
+pub record AccountFits {E : Type 0} (seats : ℕ) (owner : ℕ → ℕ) (history : List (ℕ × E)) (j : ℕ) (a : Account E)
+    : Type 0 where
   pub number : a.number < seats
   pub owned : owner a.number ≡ j
   pub own : a.own ≡ entries_of a.number history
@@ -67,8 +74,10 @@ abbrev pub AccountsFit : {E : Type 0} → ℕ → (ℕ → ℕ) → List (ℕ ×
 AccountsFit seats owner history j [] = Unit {0}
 AccountsFit seats owner history j (x ∷ xs) = AccountFits seats owner history j x × AccountsFit seats owner history j xs
 
--- what holds of the view j: the seat with the turn has seen the whole history, a view with accounts knows the frame, and only such a view draws tickets
-pub record ViewFits {E F : Type 0} (seats : ℕ) (told : F) (history : List (ℕ × E)) (q : Queue) (owner : ℕ → ℕ) (j : ℕ) (v : View E F) : Type 0 where
+-- what holds of the view j: with the turn it has seen the whole history, with an account it knows the frame, and only with an
+-- account it draws a ticket
+pub record ViewFits {E F : Type 0} (seats : ℕ) (told : F) (history : List (ℕ × E)) (q : Queue) (owner : ℕ → ℕ)
+    (j : ℕ) (v : View E F) : Type 0 where
   pub stage : StageFits q (seen_in v.accounts ≡ history) j v.stage
   pub accounts : AccountsFit seats owner history j v.accounts
   pub frame : 0 < length v.accounts → v.frame ≡ Some told
@@ -83,9 +92,10 @@ SlotFits {T} {E} {F} entries frame_of told history s =
     ((x : T) × (s.homes ≡ some (Some x) ∷ []) × (entries x ≡ history) × (frame_of x ≡ told))
     ⊎ ((j : ℕ) × (v : View E F) × (t : ℕ) × (get_elem? s.views j ≡ some v) × (v.stage ≡ Turn t))
 
--- the rule: the history is made of entries of seats; the words are the next ticket and the one that is served; the tickets drawn
--- and not passed are as many as the views that have one; the accounts are as many as the seats, so that no number stands twice
-pub record TurnRule {T E F : Type 0} (entries : T → List (ℕ × E)) (frame_of : T → F) (seats : ℕ) (told : F) (s : Table T E F) : Type 0 where
+-- the rule: each entry of the history is a seat's; the words are the next ticket and the one that is served; as many tickets
+-- are drawn and not passed as there are views with one; there are as many accounts as seats, so at most 64 tickets wait
+pub record TurnRule {T E F : Type 0} (entries : T → List (ℕ × E)) (frame_of : T → F) (seats : ℕ) (told : F)
+    (s : Table T E F) : Type 0 where
   pub history : List (ℕ × E)
   pub queue : Queue
   pub owner : ℕ → ℕ

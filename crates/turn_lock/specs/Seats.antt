@@ -9,4 +9,5 @@ module _ {E F : Type 0} where
 
   -- every seat of the lock, in the order of their numbers, and none holds
   abbrev pub AllIdle : LockView F → List (SeatView E F) → Type 0
-  AllIdle lock ss = (length ss ≡ lock.seats) × ((k : ℕ) (d : SeatView E F) → k < lock.seats → IsIdle lock k (slice_index_or ss k d))
+  AllIdle lock ss =
+      (length ss ≡ lock.seats) × ((k : ℕ) (d : SeatView E F) → k < lock.seats → IsIdle lock k (slice_index_or ss k d))

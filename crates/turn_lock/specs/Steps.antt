@@ -76,7 +76,8 @@ module _ {T E F : Type 0} where
   abbrev pub Draws : Step (Option T) → Here T E F → ℕ → Here T E F → Type 0
   Draws st m r m' = (t : ℕ) × (r ≡ t % 2 ^ 64) × (m' ≡ (with_stage (Waiting t) m.0, m.1))
 
-  -- what a seat knows of the value that comes with its turn: the frame, that it begins with all that the seat has seen, and which entries are the seat's own
+  -- what a seat knows of the value that comes with its turn: the frame, that it begins with all that the seat has seen, and
+  -- which entries are the seat's own
   pub record IsNext (entries : T → List (ℕ × E)) (frame_of : T → F) (v : View E F) (x : T) : Type 0 where
     pub frame : Some (frame_of x) ≡ v.frame
     pub seen : StartsWith (entries x) (seen_in v.accounts)
@@ -95,4 +96,5 @@ module _ {T E F : Type 0} where
 
   -- the seat has gained the turn and holds the value x, and the slot is empty
   abbrev pub Takes : (T → List (ℕ × E)) → (T → F) → Here T E F → T → Here T E F → Type 0
-  Takes entries frame_of m x m' = (t : ℕ) × (m' ≡ (turned_to t (entries x) m.0, (0, None) ∷ [])) × IsNext entries frame_of m.0 x
+  Takes entries frame_of m x m' =
+      (t : ℕ) × (m' ≡ (turned_to t (entries x) m.0, (0, None) ∷ [])) × IsNext entries frame_of m.0 x

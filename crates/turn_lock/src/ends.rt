@@ -1,8 +1,8 @@
 //! How a lock begins, with one token that is split into seats, and how it ends, with the seats joined again.
-ghost use Rattle.std.specs.Prelude.{◌≡◌, ℕ, ◌<◌, ◌≤◌, [], ◌∷◌, length, All, IfOk, Some, slice_get, vec_len};
+ghost use Rattle.std.specs.Prelude.{◌≡◌, ℕ, ◌<◌, ◌≤◌, [], ◌∷◌, All, IfOk, Some, vec_len};
 ghost use Rattle.turn_lock.specs.Ends.{accounts_at, IsIdleAt, HasAccount, EndsWith};
 ghost use Rattle.turn_lock.specs.Rule.{first_view};
-ghost use Rattle.turn_lock.specs.Seat.{fresh};
+ghost use Rattle.turn_lock.specs.Seat.{AreFresh, lock_on};
 ghost use Rattle.turn_lock.specs.Steps.{IsLockTable};
 ghost use Rattle.turn_lock.specs.declared.view.Stage.TheVariants.{Idle};
 
@@ -30,7 +30,8 @@ pub fn laid<T: Told>(
     requires seats { (0 < terms.now.seats) × (terms.now.seats ≤ 64) }
     requires value { (T.entries value ≡ []) × (terms.now.first.value ≡ value) }
     ensures table { IfOk result (λ r. IsLockTable r.0.shared.table_id × (r.0.shared.key ≡ terms.now)) }
-    ensures token { IfOk result (λ r. (r.1.table_id ≡ r.0.shared.table_id) × (r.1.me ≡ (first_view terms.now.seats (T.frame value), []))) }
+    ensures token { IfOk result (λ r. r.1.table_id ≡ r.0.shared.table_id) }
+    ensures view { IfOk result (λ r. r.1.me ≡ (first_view terms.now.seats (T.frame value), [])) }
 {
     let mut slots = Vec::new(alloc);
     slots.push(Some(value))?;
@@ -50,7 +51,8 @@ pub fn seated<T: Told>(
     requires table { IsLockTable table.now.shared.table_id × (token.table_id ≡ table.now.shared.table_id) }
     requires seats { 0 < terms.now.seats }
     requires token { token.me ≡ (first_view terms.now.seats (T.frame terms.now.first.value), []) }
-    ensures { IfOk result (λ v. (length v.items ≡ terms.now.seats) × ((k : ℕ) → k < terms.now.seats → slice_get v.items k ≡ Some (fresh (record { table = token.table_id; seats = terms.now.seats; frame = Some (T.frame terms.now.first.value) }) k))) }
+    ensures { IfOk result (λ v.
+        AreFresh (lock_on token.table_id terms.now.seats (T.frame terms.now.first.value)) v.items) }
 {
     let mut all = Vec::with_capacity(alloc, terms.seats as usize)?;
     let last = terms.seats - 1;
@@ -67,7 +69,9 @@ pub fn joined<T: Told>(table: &Board<T>, mut seats: Vec<Seat<T>>) -> Token<T>
     requires table { IsLockTable table.now.shared.table_id }
     requires seats { All (λ s. IsIdleAt table.now.shared.table_id s) seats.items }
     requires some { 0 < vec_len seats }
-    ensures { (result.table_id ≡ table.now.shared.table_id) × (result.me.0.stage ≡ Idle) × (result.me.0.accounts ≡ accounts_at seats.items) }
+    ensures table { result.table_id ≡ table.now.shared.table_id }
+    ensures idle { result.me.0.stage ≡ Idle }
+    ensures accounts { result.me.0.accounts ≡ accounts_at seats.items }
 {
     let Some(last) = seats.pop() else {
         unreachable!()
@@ -84,7 +88,8 @@ pub fn emptied<T: Told>(table: Board<T>, token: Token<T>) -> T
     requires table { IsLockTable table.shared.table_id × (token.table_id ≡ table.shared.table_id) }
     requires idle { token.me.0.stage ≡ Idle }
     requires all { (k : ℕ) → k < table.shared.key.seats → HasAccount k token.me.0.accounts }
-    ensures { EndsWith T.entries T.frame table.shared.key.seats (T.frame table.shared.key.first.value) token.me.0.accounts result }
+    ensures { let key = table.shared.key in
+        EndsWith T.entries T.frame key.seats (T.frame key.first.value) token.me.0.accounts result }
 {
     let mut closed = table.close_with(token);
     let last = closed.take(0);

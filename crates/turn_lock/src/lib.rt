@@ -5,6 +5,7 @@
 mod ends;
 mod lock;
 mod seat;
+mod sleepers;
 mod steps;
 mod told;
 mod view;

@@ -1,10 +1,11 @@
 //! The lock.
-ghost use Rattle.std.specs.Prelude.{◌≡◌, ℕ, ◌<◌, ◌≤◌, ◌++◌, [], true, false, length, All, Any, IfOk, Some, slice_get};
+ghost use Rattle.std.specs.Prelude.{◌≡◌, ℕ, ◌<◌, ◌≤◌, ◌++◌, [], true, false, All, Any, IfOk};
 ghost use Rattle.turn_lock.specs.Entries.{entries_of, StartsWith, Grows, appended};
-ghost use Rattle.turn_lock.specs.Seat.{HasFrame, fresh};
+ghost use Rattle.turn_lock.specs.Seat.{HasFrame, AreFresh};
 
 use crate::ends::{Board, emptied, joined, laid, seated};
 use crate::seat::{Held, Seat};
+use crate::sleepers::Sleepers;
 use crate::steps::{give_turn, take_turn};
 use crate::told::Told;
 use crate::view::Terms;
@@ -18,18 +19,20 @@ use std::sync::Wait;
 #[derive(Drop)]
 pub struct TurnLock<T: Told> {
     table: Board<T>,
+    sleepers: Sleepers,
 }
 
 impl<T: Told> Model for TurnLock<T> {
-    ghost use Rattle.std.specs.Prelude.{◌<◌, ◌≤◌, Some};
-    ghost use Rattle.turn_lock.specs.Seat.{LockView};
+    ghost use Rattle.std.specs.Prelude.{◌<◌, ◌≤◌};
+    ghost use Rattle.turn_lock.specs.Seat.{LockView, lock_on};
     ghost use Rattle.turn_lock.specs.Steps.{IsLockTable};
 
     ghost Value = { LockView T.Frame };
 
-    ghost view = { λ l. record { table = l.table.shared.table_id; seats = l.table.shared.key.seats; frame = Some (T.frame l.table.shared.key.first.value) } };
+    ghost view = { λ l. lock_on l.table.shared.table_id l.table.shared.key.seats (T.frame l.table.shared.key.first.value) };
 
-    ghost invariant = { λ l. IsLockTable l.table.shared.table_id × (0 < l.table.shared.key.seats) × (l.table.shared.key.seats ≤ 64) };
+    ghost invariant = { λ l. IsLockTable l.table.shared.table_id
+        × (0 < l.table.shared.key.seats) × (l.table.shared.key.seats ≤ 64) };
 }
 
 impl<T: Told> TurnLock<T> {
@@ -44,8 +47,7 @@ impl<T: Told> TurnLock<T> {
         requires seats { (0 < seats) × (seats ≤ 64) }
         requires entries { T.entries value ≡ [] }
         ensures lock { IfOk result (λ r. (r.0.seats ≡ seats) × HasFrame r.0 (T.frame value)) }
-        ensures count { IfOk result (λ r. length r.1.items ≡ seats) }
-        ensures seats { IfOk result (λ r. (k : ℕ) → k < seats → slice_get r.1.items k ≡ Some (fresh r.0 k)) }
+        ensures seats { IfOk result (λ r. AreFresh r.0 r.1.items) }
     {
         let terms = Terms {
             seats,
@@ -53,10 +55,17 @@ impl<T: Told> TurnLock<T> {
         };
         let (table, token) = laid(alloc, value, &terms)?;
         let all = seated(alloc, &table, token, &terms)?;
-        Ok((TurnLock { table }, all))
+        Ok((
+            TurnLock {
+                table,
+                sleepers: Sleepers::new(),
+            },
+            all,
+        ))
     }
 
-    /// Waits for the seat's turn, and hands out the value. It takes no memory. Nothing is said of how long it waits, or that its turn ever comes.
+    /// Waits for the seat's turn, and hands out the value. It takes no memory. Nothing is said of how long it waits, or
+    /// that its turn ever comes.
     pub fn hold<R: Wait>(&self, rt: &R, seat: &mut Seat<T>) -> Held<T>
         requires { (seat.old.lock ≡ self.now) × (seat.old.holds ≡ false) }
         ensures seat { seat.new ≡ record seat.old { seen = T.entries result.value; holds = true } }
@@ -64,7 +73,7 @@ impl<T: Told> TurnLock<T> {
         ensures own { entries_of seat.old.number (T.entries result.value) ≡ seat.old.own }
         ensures frame { HasFrame self.now (T.frame result.value) }
     {
-        let value = take_turn(rt, &self.table.shared, &mut seat.token);
+        let value = take_turn(rt, &self.table.shared, &self.sleepers, &mut seat.token);
         Held { value }
     }
 
@@ -73,10 +82,14 @@ impl<T: Told> TurnLock<T> {
         requires seat { (seat.old.lock ≡ self.now) × (seat.old.holds ≡ true) }
         requires entries { Grows seat.old.number seat.old.seen (T.entries held.value) }
         requires frame { HasFrame self.now (T.frame held.value) }
-        ensures { seat.new ≡ record seat.old { own = seat.old.own ++ appended seat.old.seen (T.entries held.value); seen = T.entries held.value; holds = false } }
+        ensures { seat.new ≡ record seat.old {
+          own = seat.old.own ++ appended seat.old.seen (T.entries held.value);
+          seen = T.entries held.value;
+          holds = false;
+        } }
     {
         let Held { value } = held;
-        give_turn(&self.table.shared, &mut seat.token, value);
+        give_turn(&self.table.shared, &self.sleepers, &mut seat.token, value);
     }
 
     /// Ends the lock, for which it wants each of its seats, in any order, and hands out the value. It takes no memory.
@@ -88,7 +101,7 @@ impl<T: Told> TurnLock<T> {
         ensures numbers { All (λ e. e.0 < self.seats) (T.entries result) }
         ensures frame { HasFrame self (T.frame result) }
     {
-        let TurnLock { table } = self;
+        let TurnLock { table, .. } = self;
         let token = joined(&table, seats);
         emptied(table, token)
     }

@@ -1,7 +1,7 @@
 //! A seat, and what its holder works on.
 ghost use Rattle.std.specs.Prelude.{◌≡◌, ◌<◌, ◌∷◌, [], false, Some};
-ghost use Rattle.turn_lock.specs.Rule.{account};
-ghost use Rattle.turn_lock.specs.Seat.{fresh};
+ghost use Rattle.turn_lock.specs.Rule.{account, idle_view};
+ghost use Rattle.turn_lock.specs.Seat.{fresh, lock_on};
 ghost use Rattle.turn_lock.specs.declared.view.Stage.TheVariants.{Idle};
 
 use crate::steps::Token;
@@ -33,7 +33,13 @@ impl<T: Told> Model for Seat<T> {
 
     ghost Value = { SeatView T.Entry T.Frame };
 
-    ghost view = { λ s. record { lock = record { table = s.token.table_id; seats = s.seats; frame = s.token.me.0.frame }; number = s.number; own = own_in s.token.me.0.accounts; seen = seen_in s.token.me.0.accounts; holds = has_turn s.token.me.0.stage } };
+    ghost view = { λ s. record {
+      lock = record { table = s.token.table_id; seats = s.seats; frame = s.token.me.0.frame };
+      number = s.number;
+      own = own_in s.token.me.0.accounts;
+      seen = seen_in s.token.me.0.accounts;
+      holds = has_turn s.token.me.0.stage;
+    } };
 
     ghost invariant = { λ s. (s.number < s.seats) × IsAtRest s.number s.token.me };
 }
@@ -50,8 +56,8 @@ impl<T: Told> Seat<T> {
 /// A new seat with this number.
 pub fn seat_at<T: Told>(token: Token<T>, number: u32, terms: &Terms<T>) -> Seat<T>
     requires number { number < terms.now.seats }
-    requires token { token.me ≡ (record { stage = Idle; accounts = account number [] [] ∷ []; frame = Some (T.frame terms.now.first.value) }, []) }
-    ensures { result ≡ fresh (record { table = token.table_id; seats = terms.now.seats; frame = Some (T.frame terms.now.first.value) }) number }
+    requires token { token.me ≡ (idle_view (account number [] [] ∷ []) (T.frame terms.now.first.value), []) }
+    ensures { result ≡ fresh (lock_on token.table_id terms.now.seats (T.frame terms.now.first.value)) number }
 {
     Seat {
         number,
@@ -63,7 +69,9 @@ pub fn seat_at<T: Told>(token: Token<T>, number: u32, terms: &Terms<T>) -> Seat<
 /// The token of a seat that doesn't hold.
 pub fn token_of<T: Told>(seat: Seat<T>) -> Token<T>
     requires { seat.holds ≡ false }
-    ensures { (result.table_id ≡ seat.lock.table) × (result.me.0.stage ≡ Idle) × (result.me.0.accounts ≡ account seat.number seat.own seat.seen ∷ []) × (result.me.1 ≡ []) }
+    ensures table { result.table_id ≡ seat.lock.table }
+    ensures idle { (result.me.0.stage ≡ Idle) × (result.me.1 ≡ []) }
+    ensures account { result.me.0.accounts ≡ account seat.number seat.own seat.seen ∷ [] }
 {
     let Seat { token, .. } = seat;
     token

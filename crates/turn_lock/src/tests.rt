@@ -1,4 +1,4 @@
-ghost use Rattle.std.specs.Prelude.{◌≡◌, ◌<◌, ◌≤◌, length, IfOk, OnOk};
+ghost use Rattle.std.specs.Prelude.{◌≡◌, ◌<◌, ◌≤◌, false, length, IfOk, OnOk};
 ghost use Rattle.turn_lock.specs.Entries.{Grows};
 ghost use Rattle.turn_lock.specs.Seats.{AllIdle};
 
@@ -6,6 +6,8 @@ use crate::{Seat, Told, TurnLock};
 use std::alloc::{AllocError, Global};
 use std::sync::Wait;
 use std::test::Fail;
+use std::thread;
+use std::thread::Threads;
 
 /// Numbers, each with the seat that added it.
 #[derive(Drop)]
@@ -55,6 +57,27 @@ fn turn<R: Wait>(
     Ok(found)
 }
 
+/// A turn of each seat, on threads, which adds nothing.
+fn turn_of_each<T: Told + Send, R: Threads + Wait + Sync>(
+    rt: &R,
+    lock: &TurnLock<T>,
+    seats: &mut [Seat<T>],
+)
+    requires { (0 < length seats.old) × AllIdle lock.now seats.old }
+    ensures { AllIdle lock.now seats.new }
+{
+    let threads = seats.len();
+    thread::for_each_mut(rt, seats, threads, &|_, seat| empty_turn(rt, lock, seat));
+}
+
+fn empty_turn<T: Told, R: Wait>(rt: &R, lock: &TurnLock<T>, seat: &mut Seat<T>)
+    requires { (seat.old.lock ≡ lock.now) × (seat.old.holds ≡ false) }
+    ensures { (seat.new.lock ≡ lock.now) × (seat.new.holds ≡ false) × (seat.new.number ≡ seat.old.number) }
+{
+    let held = lock.hold(rt, seat);
+    lock.release(seat, held);
+}
+
 #[tactic(auto, using(crate::proofs::Callers::idle_from_fresh))]
 fn lock_of(alloc: Global, seats: u32) -> Result<(TurnLock<Numbers>, Vec<Seat<Numbers>>), AllocError>
     requires { (0 < seats) × (seats ≤ 64) }
@@ -92,6 +115,7 @@ fn seats_take_turns(rt: HostRuntime) -> Result<(), Fail> {
     assert_eq!(rt; turn(&rt, &lock, all, 0, Some(10))?, 0);
     assert_eq!(rt; turn(&rt, &lock, all, 2, Some(20))?, 1);
     assert_eq!(rt; turn(&rt, &lock, all, 0, None)?, 2);
+    turn_of_each(&rt, &lock, all);
     let numbers = closed(lock, seats);
     assert_eq!(rt; numbers.items.as_slice(), [(0, 10), (2, 20)].as_slice());
     Ok(())

@@ -10,30 +10,30 @@ token_of-token-requires g c = (idle_last c.args.table.now.shared.table_id c.pop.
 pub loop-seat-init : goal.loop-seat-init
 loop-seat-init g c =
     let at = c.token_of-token.ensures in let is = c.in-Some.ensures.items in record {
-      token = at.0 ∙ (idle_last c.args.table.now.shared.table_id c.pop.new.self.items c.args.seats.items c.in-Some.last is c.requires.seats).0;
-      idle = at.1;
-      some = (let e = ap length at.2 in omega arith);
-      accounts = rw at.2 (rw is (sym (accounts_at-append c.pop.new.self.items (c.in-Some.last ∷ []))));
+      token = at.table ∙ (idle_last c.args.table.now.shared.table_id c.pop.new.self.items c.args.seats.items c.in-Some.last is c.requires.seats).0;
+      idle = at.idle.0;
+      some = (let e = ap length at.account in omega arith);
+      accounts = rw at.account (rw is (sym (accounts_at-append c.pop.new.self.items (c.in-Some.last ∷ []))));
       seats = idle_front c.args.table.now.shared.table_id c.pop.new.self.items c.args.seats.items c.in-Some.last is c.requires.seats;
     }
 
 pub token_of-requires : goal.token_of-requires
 token_of-requires g c = (idle_last c.args.table.now.shared.table_id c.pop-in-loop-seat.new.self.items c.loop-seat.seats.items c.in-Some-pop.seat c.in-Some-pop.ensures.items c.loop-seat.invariant.seats).1
 
-pub join-requires-clause-table : goal.join-requires-clause-table
-join-requires-clause-table g c = (
-  c.requires.table,
-  c.loop-seat.invariant.token,
-  c.token_of.ensures.0 ∙ (idle_last c.args.table.now.shared.table_id c.pop-in-loop-seat.new.self.items c.loop-seat.seats.items c.in-Some-pop.seat c.in-Some-pop.ensures.items c.loop-seat.invariant.seats).0,
+pub join-requires-clause-other : goal.join-requires-clause-other
+join-requires-clause-other g c = (
+  c.token_of.ensures.table ∙ (idle_last c.args.table.now.shared.table_id c.pop-in-loop-seat.new.self.items c.loop-seat.seats.items c.in-Some-pop.seat c.in-Some-pop.ensures.items c.loop-seat.invariant.seats).0,
+  c.token_of.ensures.idle.0,
+  c.token_of.ensures.idle.1,
 )
 
 pub loop-seat-preserved : goal.loop-seat-preserved
 loop-seat-preserved g c =
-    let now = ap (λ m. m.0) c.join.ensures.1 in let is = c.in-Some-pop.ensures.items in let inv = c.loop-seat.invariant in
+    let now = ap (λ m. m.0) c.join.ensures.both in let is = c.in-Some-pop.ensures.items in let inv = c.loop-seat.invariant in
     let s = c.in-Some-pop.seat in
     let accounts : c.join.new.token.me.0.accounts ≡ (account s.number s.own s.seen ∷ []) ++ c.loop-seat.token.me.0.accounts =
-    ap (λ v. v.accounts) now ∙ ap (λ l. l ++ c.loop-seat.token.me.0.accounts) c.token_of.ensures.2 in record {
-      token = c.join.ensures.0 ∙ inv.token;
+    ap (λ v. v.accounts) now ∙ ap (λ l. l ++ c.loop-seat.token.me.0.accounts) c.token_of.ensures.account in record {
+      token = c.join.ensures.table ∙ inv.token;
       idle = ap (λ v. v.stage) now ∙ inv.idle;
       some = (let e = ap length accounts in omega arith);
       accounts = ap (λ l. accounts_at c.pop-in-loop-seat.new.self.items ++ l) accounts

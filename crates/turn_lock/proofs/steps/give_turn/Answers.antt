@@ -6,8 +6,8 @@ use Rattle.turn_lock.specs.Steps.{IsOneAccount, passed}
 use Rattle.turn_lock.proofs.Keeps.{advances_at}
 use Rattle.turn_lock.proofs.steps.give_turn.Goals as goal
 
-pub fetch_add-requires : goal.fetch_add-requires
-fetch_add-requires g c =
+pub fetch_add-served-requires : goal.fetch_add-served-requires
+fetch_add-served-requires g c =
     let now = c.exchange.ensures.3 in
     let view : c.exchange.new.seat.me.0 ≡ c.args.token.now.me.0 = ap (λ m. m.0) now in
     let full : c.exchange.new.seat.me.1 ≡ (0, Some c.args.value) ∷ [] = ap (λ m. m.1) now ∙ ap (λ l. (0, Some c.args.value) ∷ rest l) c.requires.turn.1 in
@@ -19,9 +19,9 @@ fetch_add-requires g c =
           (subst (λ v. Grows k (seen_in v.accounts) (g.T.Told.entries c.args.value)) (sym view) c.requires.grows.2) (c.requires.frame ∙ sym (ap (λ v. v.frame) view)) full,
     )
 
-pub returns : goal.returns
-returns g c =
+pub returns-clause-passed : goal.returns-clause-passed
+returns-clause-passed g c =
     let now = c.exchange.ensures.3 in
     let view : c.exchange.new.seat.me.0 ≡ c.args.token.now.me.0 = ap (λ m. m.0) now in
     let full : c.exchange.new.seat.me.1 ≡ (0, Some c.args.value) ∷ [] = ap (λ m. m.1) now ∙ ap (λ l. (0, Some c.args.value) ∷ rest l) c.requires.turn.1 in
-    (c.fetch_add.ensures.0 ∙ c.exchange.ensures.0, c.fetch_add.ensures.2 c.args.value full ∙ ap (λ v. (passed (g.T.Told.entries c.args.value) v, [])) view)
+    c.fetch_add-served.ensures.2 c.args.value full ∙ ap (λ v. (passed (g.T.Told.entries c.args.value) v, [])) view
