@@ -2,12 +2,13 @@
 # Turns a second of the turn lock, beside Rust's std::sync::Mutex: 2, 8 and 64 threads push entries to one locked list.
 # Needs `rt` and `rustc`. Each row is the median of five runs, measured from outside with all threads' starts and ends.
 set -euo pipefail
+export LC_ALL=C
 top=$(cd "$(dirname "$0")/.." && pwd)
 work=$(mktemp -d)
 trap 'rm -rf "$work"' EXIT
 
 lock="$top/crates/lock_bench/out/lock_bench"
-[ -x "$lock" ] || (cd "$top/crates/lock_bench" && rt run -- 2 10 >"$work/build.log" 2>&1) || { cat "$work/build.log" >&2; exit 1; }
+(cd "$top/crates/lock_bench" && rt run -- 2 10) >"$work/build.log" 2>&1 || { cat "$work/build.log" >&2; exit 1; }
 
 cat >"$work/mutex.rs" <<'RUST'
 use std::sync::Mutex;

@@ -6,12 +6,13 @@ use Rattle.turn_lock.specs.Steps.{Here, IsOneAccount, own_in}
 use Rattle.turn_lock.specs.declared.view.Stage.{Stage}
 use Rattle.turn_lock.specs.declared.view.Stage.TheVariants.{Idle, Waiting, Turn}
 
+-- whether a seat at this stage holds
 abbrev pub has_turn : Stage → Bool
 has_turn Idle = false
 has_turn (Waiting t) = false
 has_turn (Turn t) = true
 
--- it holds no slot; or it has the turn and the empty slot, and `stands` holds
+-- it has taken no slot; or it has the turn and the slot, which is empty, and `stands` holds
 abbrev pub StageRests : {T : Type 0} → Type 0 → List (ℕ × Option T) → Stage → Type 0
 StageRests stands carried Idle = carried ≡ []
 StageRests stands carried (Waiting t) = ⊥

@@ -42,9 +42,11 @@ tickets_at Idle = 0
 tickets_at (Waiting t) = 1
 tickets_at (Turn t) = 1
 
+-- how many tickets a view has
 abbrev pub tickets : {E F : Type 0} → View E F → ℕ
 tickets v = tickets_at v.stage
 
+-- how many accounts a view has
 abbrev pub accounts_of : {E F : Type 0} → View E F → ℕ
 accounts_of v = length v.accounts
 
@@ -54,15 +56,14 @@ pub record Queue : Type 0 where
   pub next : ℕ
   pub holder : ℕ → ℕ
 
--- the ticket of the view j was drawn by it and was not passed yet. With the turn it is the one that is served, and then
--- `latest` holds
+-- the ticket of the view j was drawn by it and not passed yet; with the turn it is the one that is served, and `latest` holds
 abbrev pub StageFits : Queue → Type 0 → ℕ → Stage → Type 0
 StageFits q latest j Idle = Unit {0}
 StageFits q latest j (Waiting t) = (q.serving ≤ t) × (t < q.next) × (q.holder t ≡ j)
 StageFits q latest j (Turn t) = (q.serving ≡ t) × (t < q.next) × (q.holder t ≡ j) × latest
 
--- an account of the view j: its number is no other view's, its own entries are those of the history with that number, and it
--- has seen a beginning of the history
+-- an account of the view j: its number is no other view's, its own entries are those of the history with that number,
+-- and it has seen a beginning of the history
 pub record AccountFits {E : Type 0} (seats : ℕ) (owner : ℕ → ℕ) (history : List (ℕ × E)) (j : ℕ) (a : Account E)
     : Type 0 where
   pub number : a.number < seats
@@ -70,12 +71,13 @@ pub record AccountFits {E : Type 0} (seats : ℕ) (owner : ℕ → ℕ) (history
   pub own : a.own ≡ entries_of a.number history
   pub seen : StartsWith history a.seen
 
+-- so are all of these accounts
 abbrev pub AccountsFit : {E : Type 0} → ℕ → (ℕ → ℕ) → List (ℕ × E) → ℕ → List (Account E) → Type 0
 AccountsFit seats owner history j [] = Unit {0}
 AccountsFit seats owner history j (x ∷ xs) = AccountFits seats owner history j x × AccountsFit seats owner history j xs
 
--- what holds of the view j: with the turn it has seen the whole history, with an account it knows the frame, and only with an
--- account it draws a ticket
+-- what holds of the view j: with the turn it has seen the whole history, with an account it knows the frame, and only
+-- with an account it draws a ticket
 pub record ViewFits {E F : Type 0} (seats : ℕ) (told : F) (history : List (ℕ × E)) (q : Queue) (owner : ℕ → ℕ)
     (j : ℕ) (v : View E F) : Type 0 where
   pub stage : StageFits q (seen_in v.accounts ≡ history) j v.stage
@@ -83,6 +85,7 @@ pub record ViewFits {E F : Type 0} (seats : ℕ) (told : F) (history : List (ℕ
   pub frame : 0 < length v.accounts → v.frame ≡ Some told
   pub live : tickets v ≤ length v.accounts
 
+-- a table whose slot is empty or has a value
 abbrev pub Table : Type 0 → Type 0 → Type 0 → Type 0
 Table T E F = State (Option T) (View E F)
 
@@ -92,8 +95,8 @@ SlotFits {T} {E} {F} entries frame_of told history s =
     ((x : T) × (s.homes ≡ some (Some x) ∷ []) × (entries x ≡ history) × (frame_of x ≡ told))
     ⊎ ((j : ℕ) × (v : View E F) × (t : ℕ) × (get_elem? s.views j ≡ some v) × (v.stage ≡ Turn t))
 
--- the rule: each entry of the history is a seat's; the words are the next ticket and the one that is served; as many tickets
--- are drawn and not passed as there are views with one; there are as many accounts as seats, so at most 64 tickets wait
+-- the rule: each entry of the history is a seat's; the words are the next ticket and the one that is served; as many
+-- tickets are drawn and not passed as there are views with one; there are as many accounts as seats, so at most 64 wait
 pub record TurnRule {T E F : Type 0} (entries : T → List (ℕ × E)) (frame_of : T → F) (seats : ℕ) (told : F)
     (s : Table T E F) : Type 0 where
   pub history : List (ℕ × E)

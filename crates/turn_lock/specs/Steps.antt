@@ -37,6 +37,7 @@ module _ {E : Type 0} where
   renewed es [] = []
   renewed es (x ∷ xs) = account x.number (entries_of x.number es) es ∷ renewed es xs
 
+  -- the first account alone, and the others
   abbrev pub first_only : List (Account E) → List (Account E)
   first_only [] = []
   first_only (x ∷ xs) = x ∷ []
@@ -46,6 +47,7 @@ module _ {E : Type 0} where
   but_first (x ∷ xs) = xs
 
 module _ {E F : Type 0} where
+  -- the same view at another stage
   abbrev pub with_stage : Stage → View E F → View E F
   with_stage a v = record { stage = a; accounts = v.accounts; frame = v.frame }
 
@@ -57,14 +59,14 @@ module _ {E F : Type 0} where
   abbrev pub passed : List (ℕ × E) → View E F → View E F
   passed es v = record { stage = Idle; accounts = renewed es v.accounts; frame = v.frame }
 
-  -- a view without its first account, and a view of that one alone
+  -- a view without its first account, and an idle view of that one alone
   abbrev pub without_first : View E F → View E F
   without_first v = record { stage = v.stage; accounts = but_first v.accounts; frame = v.frame }
 
   abbrev pub first_alone : View E F → View E F
   first_alone v = record { stage = Idle; accounts = first_only v.accounts; frame = v.frame }
 
-  -- a view with the accounts of another in front of its own, and a view that has none
+  -- a view with the accounts of another in front of its own, and the view that is left of the other
   abbrev pub both_views : View E F → View E F → View E F
   both_views v w = record { stage = v.stage; accounts = w.accounts ++ v.accounts; frame = v.frame }
 
@@ -72,7 +74,7 @@ module _ {E F : Type 0} where
   spent_view = record { stage = Idle; accounts = []; frame = None }
 
 module _ {T E F : Type 0} where
-  -- the word found is the ticket
+  -- the word that was found is the seat's ticket
   abbrev pub Draws : Step (Option T) → Here T E F → ℕ → Here T E F → Type 0
   Draws st m r m' = (t : ℕ) × (r ≡ t % 2 ^ 64) × (m' ≡ (with_stage (Waiting t) m.0, m.1))
 
