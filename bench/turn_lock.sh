@@ -1,6 +1,6 @@
 #!/usr/bin/env bash
 # Turns a second of the turn lock, beside Rust's std::sync::Mutex: 2, 8 and 64 threads push entries to one locked list.
-# Needs `rt` and `rustc`. Each row is the median of five runs, measured from outside with all threads' starts and ends.
+# Needs `rt` and `rustc`. A row gives the median of five runs and their range, measured from outside, from start to end.
 set -euo pipefail
 export LC_ALL=C
 top=$(cd "$(dirname "$0")/.." && pwd)
@@ -33,22 +33,26 @@ fn main() {
 RUST
 rustc -O -o "$work/mutex" "$work/mutex.rs"
 
-# The median time of five runs, in microseconds.
-median() {
+# The times of five runs in microseconds, the shortest first.
+times() {
   for _ in 1 2 3 4 5; do
     local from=${EPOCHREALTIME/./}
     "$@" >"$work/line"
     echo $((${EPOCHREALTIME/./} - from))
     [ "$(cat "$work/line")" = "$2 seats $3 turns $(($2 * $3)) entries" ] || { echo "wrong line: $(cat "$work/line")" >&2; exit 1; }
-  done | sort -n | sed -n 3p
+  done | sort -n | tr '\n' ' '
 }
 
 echo "$(nproc) processors, load $(cut -d' ' -f1 /proc/loadavg) before the run; $(rustc --version)"
-printf '%6s %9s %16s %16s %8s\n' seats turns 'lock turns/s' 'Mutex turns/s' ratio
-for row in '2 400000' '8 100000' '64 12500'; do
+printf '%6s %8s  %12s %25s  %12s %25s %7s\n' seats turns 'lock turns/s' '(slowest to fastest)' 'Mutex' '(slowest to fastest)' ratio
+for row in '2 1000000' '8 100000' '64 12500'; do
   read -r seats turns <<<"$row"
-  ours=$(median "$lock" "$seats" "$turns")
-  theirs=$(median "$work/mutex" "$seats" "$turns")
-  awk -v n="$((seats * turns))" -v a="$ours" -v b="$theirs" -v s="$seats" -v t="$turns" \
-    'BEGIN { printf "%6d %9d %16.0f %16.0f %8.2f\n", s, t, n * 1e6 / a, n * 1e6 / b, b / a }'
+  ours=$(times "$lock" "$seats" "$turns")
+  theirs=$(times "$work/mutex" "$seats" "$turns")
+  echo "$seats $turns $ours $theirs" | awk '{
+    n = $1 * $2 * 1e6
+    lock = sprintf("(%.0f to %.0f)", n / $7, n / $3)
+    mutex = sprintf("(%.0f to %.0f)", n / $12, n / $8)
+    printf "%6d %8d  %12.0f %25s  %12.0f %25s %7.3f\n", $1, $2, n / $5, lock, n / $10, mutex, $10 / $5
+  }'
 done

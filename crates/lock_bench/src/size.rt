@@ -1,5 +1,7 @@
 //! The size of a run, from the words of the command line.
-ghost use Rattle.std.specs.Prelude.{◌<◌, ◌≤◌, IfOk};
+ghost use Rattle.std.specs.Prelude.{◌≡◌, ◌<◌, ◌≤◌, Some, IfOk, string_bytes, option_map};
+ghost use Rattle.std.specs.Result.{OkIff};
+ghost use Rattle.lock_bench.specs.Words.{IsBetween, number_of};
 
 use anyhow::{Result, bail, ensure};
 
@@ -16,11 +18,10 @@ pub struct Size {
 
 impl Size {
     /// Two words give a size, and a third is one too many.
-    pub fn read(
-        seats: Option<String>,
-        turns: Option<String>,
-        more: Option<String>,
-    ) -> Result<Size> {
+    pub fn read(seats: Option<String>, turns: Option<String>, more: Option<String>) -> Result<Size>
+        ensures seats { IfOk result (λ s. option_map (λ w. number_of (string_bytes w)) seats ≡ Some s.seats) }
+        ensures turns { IfOk result (λ s. option_map (λ w. number_of (string_bytes w)) turns ≡ Some s.turns) }
+    {
         let (Some(seats), Some(turns), None) = (seats, turns, more) else {
             bail!("usage: lock_bench SEATS TURNS");
         };
@@ -33,7 +34,7 @@ impl Size {
 
 /// The number that stands in a word, if it is one from low to high.
 fn number(name: &str, word: &str, low: u32, high: u32) -> Result<u32>
-    ensures { IfOk result (λ n. (low ≤ n) × (n ≤ high)) }
+    ensures { OkIff result (IsBetween low high word.now) (number_of word.now) }
 {
     let Ok(n) = word.parse::<u32>() else {
         bail!("{name} is a number from {low} to {high}, not {word:?}");
