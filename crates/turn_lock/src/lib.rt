@@ -1,0 +1,18 @@
+//! A ticket lock with seats: each thread that works on the locked value has a seat of its own, and a proof knows of
+//! the value what its seat has seen and which entries of the value are its own.
+#![tactic(auto)]
+
+mod ends;
+mod lock;
+mod seat;
+mod sleepers;
+mod steps;
+mod told;
+mod view;
+
+pub use lock::TurnLock;
+pub use seat::{Held, Seat};
+pub use told::Told;
+
+#[cfg(test)]
+mod tests;
