@@ -1,3 +1,4 @@
 pub mod SmallCallLaws
 pub mod TokenLaws
 pub mod ReadingLaws
+pub mod FirstRowLaws
