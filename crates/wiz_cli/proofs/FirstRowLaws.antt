@@ -54,14 +54,14 @@ starts_one lists posts by one (rank, number) call found =
           let here = at_first send call number at in
           inl (ap (λ z. (z, number)) is ∙ ap (λ z. (0, z)) here.0, sym here.1)
       | inr not_zero ↦ elim (test_cases (1 == rank)) [
-          | inl one_is ↦
-              let is : rank ≡ 1 = sym (eqb-true 1 rank one_is) in
-              let at : slice_get posts number ≡ Some call = subst (λ z. slice_get z number ≡ Some call) (ap lists is ∙ by.at_1) found in
-              let here = one call number at in
-              inr (ap (λ z. (z, number)) is ∙ ap (λ z. (1, z)) here.0, here.1)
-          | inr not_one ↦
-              let none : None ≡ Some call = subst (λ z. slice_get z number ≡ Some call) (by.others rank not_zero not_one) found in absurd (cc)
-        ]
+        | inl one_is ↦
+            let is : rank ≡ 1 = sym (eqb-true 1 rank one_is) in
+            let at : slice_get posts number ≡ Some call = subst (λ z. slice_get z number ≡ Some call) (ap lists is ∙ by.at_1) found in
+            let here = one call number at in
+            inr (ap (λ z. (z, number)) is ∙ ap (λ z. (1, z)) here.0, here.1)
+        | inr not_one ↦
+            let none : None ≡ Some call = subst (λ z. slice_get z number ≡ Some call) (by.others rank not_zero not_one) found in absurd (cc)
+      ]
     ]
 
 -- 2. matched
@@ -101,11 +101,11 @@ partners a b some =
           let is : Some receiver ≡ Some b = rw first at some in
           inl (sym (same_name-true (0, 0) a first), sym (same_Some receiver b is))
       | inr not_first ↦ elim (test_cases (same_name (1, 0) a)) [
-          | inl second ↦
-              let is : Some sender ≡ Some b = rw (not_first, second) at some in
-              inr (sym (same_name-true (1, 0) a second), sym (same_Some sender b is))
-          | inr neither ↦ let is : None ≡ Some b = rw (not_first, neither) at some in absurd (cc)
-        ]
+        | inl second ↦
+            let is : Some sender ≡ Some b = rw (not_first, second) at some in
+            inr (sym (same_name-true (1, 0) a second), sym (same_Some sender b is))
+        | inr neither ↦ let is : None ≡ Some b = rw (not_first, neither) at some in absurd (cc)
+      ]
     ]
 
 -- the send and the post, paired
@@ -152,9 +152,9 @@ by_ranks P first second others rank =
     elim (test_cases (0 == rank)) [
       | inl zero_is ↦ subst P (eqb-true 0 rank zero_is) first
       | inr not_zero ↦ elim (test_cases (1 == rank)) [
-          | inl one_is ↦ subst P (eqb-true 1 rank one_is) second
-          | inr not_one ↦ others rank not_zero not_one
-        ]
+        | inl one_is ↦ subst P (eqb-true 1 rank one_is) second
+        | inr not_one ↦ others rank not_zero not_one
+      ]
     ]
 
 -- 4. the five events
@@ -184,12 +184,12 @@ others_nothing (e ∷ events) all rank not_zero not_one =
           let later : list_all by_two events ≡ true = rw zero_is at all in
           rw off (others_nothing events later rank not_zero not_one)
       | inr not_first ↦ elim (test_cases (e.rank == 1)) [
-          | inl one_is ↦
-              let off : (e.rank == rank) ≡ false = subst (λ z. (z == rank) ≡ false) (sym (eqb-true e.rank 1 one_is)) not_one in
-              let later : list_all by_two events ≡ true = rw (not_first, one_is) at all in
-              rw off (others_nothing events later rank not_zero not_one)
-          | inr neither ↦ let no : false ≡ true = rw (not_first, neither) at all in absurd (cc)
-        ]
+        | inl one_is ↦
+            let off : (e.rank == rank) ≡ false = subst (λ z. (z == rank) ≡ false) (sym (eqb-true e.rank 1 one_is)) not_one in
+            let later : list_all by_two events ≡ true = rw (not_first, one_is) at all in
+            rw off (others_nothing events later rank not_zero not_one)
+        | inr neither ↦ let no : false ≡ true = rw (not_first, neither) at all in absurd (cc)
+      ]
     ]
 
 unnumbered : (events : List Event) → list_all by_two events ≡ true → numbers_of (view_of events 0) ≡ [] → numbers_of (view_of events 1) ≡ [] → AreNumbered (view_of events)

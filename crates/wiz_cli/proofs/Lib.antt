@@ -1,4 +1,5 @@
 pub mod SmallCallLaws
 pub mod TokenLaws
 pub mod ReadingLaws
+pub mod SpelledLaws
 pub mod FirstRowLaws

@@ -250,7 +250,7 @@ steps_left [] steps x y same = (steps, refl, sym same)
 steps_left (d ∷ done) [] x y same = absurd (close_no_step d x (steps_tokens done ++ y) (same ∙ append_assoc (step_tokens d) (steps_tokens done) y))
 steps_left (d ∷ done) (step ∷ steps) x y same =
     let one = step_one step d (steps_tokens steps ++ codes "}" ∷ x) (steps_tokens done ++ y)
-        (sym (append_assoc (step_tokens step) (steps_tokens steps) (codes "}" ∷ x)) ∙ same ∙ append_assoc (step_tokens d) (steps_tokens done) y) in
+    (sym (append_assoc (step_tokens step) (steps_tokens steps) (codes "}" ∷ x)) ∙ same ∙ append_assoc (step_tokens d) (steps_tokens done) y) in
     let (more, all, left) = steps_left done steps x y one.1 in
     (more, ap (λ z. z ∷ steps) one.0 ∙ ap (λ z. d ∷ z) all, left)
 
@@ -352,7 +352,7 @@ choices_left [] choices x y same = (choices, refl, sym same)
 choices_left (d ∷ done) [] x y same = absurd (return_no_choice d x (choices_tokens done ++ y) (same ∙ append_assoc (choice_tokens d) (choices_tokens done) y))
 choices_left (d ∷ done) (choice ∷ choices) x y same =
     let one = choice_one choice d (choices_tokens choices ++ codes "return" ∷ x) (choices_tokens done ++ y)
-        (sym (append_assoc (choice_tokens choice) (choices_tokens choices) (codes "return" ∷ x)) ∙ same ∙ append_assoc (choice_tokens d) (choices_tokens done) y) in
+    (sym (append_assoc (choice_tokens choice) (choices_tokens choices) (codes "return" ∷ x)) ∙ same ∙ append_assoc (choice_tokens d) (choices_tokens done) y) in
     let (more, all, left) = choices_left done choices x y one.1 in
     (more, ap (λ z. z ∷ choices) one.0 ∙ ap (λ z. d ∷ z) all, left)
 
@@ -436,10 +436,10 @@ no_main text mid read start none = λ program good.
 pub no_end : (text mid next : List ℕ) (read : ℕ) (choices : List SmallChoice) → IsRead start_tokens IsNumber read text mid → IsRead main_tokens ChoicesHaveNumbers choices mid next → NeverBegins end_tokens next → NoneStands program_tokens ProgramHasNumbers text
 no_end text mid next read choices start main never = λ program good.
     let (number, small, initial, is) = program_number program good.0 in
-    subst (λ z. NeverBegins z text) (sym is ) (λ more tokens.
+    subst (λ z. NeverBegins z text) (sym is) (λ more tokens.
     let others : List (List ℕ) = main_tokens program.choices ++ (end_tokens ++ more) in
     let grouped : ((start_tokens number ++ main_tokens program.choices) ++ end_tokens) ++ more ≡ start_tokens number ++ others =
-        append_assoc (start_tokens number ++ main_tokens program.choices) end_tokens more ∙ append_assoc (start_tokens number) (main_tokens program.choices) (end_tokens ++ more) in
+    append_assoc (start_tokens number ++ main_tokens program.choices) end_tokens more ∙ append_assoc (start_tokens number) (main_tokens program.choices) (end_tokens ++ more) in
     let (left, same, at) = start.behind.on (start_tokens number ++ others) (subst (λ z. AreTokens text z) grouped tokens) in
     let rest : left ≡ others = same_length (start_tokens read) (start_tokens number) left others refl (sym same) in
     let (end, again, behind) = main.behind.on others (subst (λ z. AreTokens mid z) rest at) in
@@ -462,15 +462,16 @@ program_one a b x y good fine same =
     let (m, _, first, is) = program_number a good in
     let (n, _, second, be) = program_number b fine in
     let spelled : ((start_tokens m ++ main_tokens a.choices) ++ end_tokens) ++ x ≡ ((start_tokens n ++ main_tokens b.choices) ++ end_tokens) ++ y =
-        ap (λ z. z ++ x) (sym is) ∙ same ∙ ap (λ z. z ++ y) be in
+    ap (λ z. z ++ x) (sym is) ∙ same ∙ ap (λ z. z ++ y) be in
     let grouped : start_tokens m ++ (main_tokens a.choices ++ (end_tokens ++ x)) ≡ start_tokens n ++ (main_tokens b.choices ++ (end_tokens ++ y)) =
-        sym (append_assoc (start_tokens m ++ main_tokens a.choices) end_tokens x ∙ append_assoc (start_tokens m) (main_tokens a.choices) (end_tokens ++ x))
-        ∙ spelled ∙ (append_assoc (start_tokens n ++ main_tokens b.choices) end_tokens y ∙ append_assoc (start_tokens n) (main_tokens b.choices) (end_tokens ++ y)) in
+    sym (append_assoc (start_tokens m ++ main_tokens a.choices) end_tokens x ∙ append_assoc (start_tokens m) (main_tokens a.choices) (end_tokens ++ x))
+    ∙ spelled ∙ (append_assoc (start_tokens n ++ main_tokens b.choices) end_tokens y ∙ append_assoc (start_tokens n) (main_tokens b.choices) (end_tokens ++ y)) in
     let numbers : m ≡ n = decimal_text_injective m n (ap (λ tokens. get_or tokens 11 []) grouped) in
     let one = mains_one a.choices b.choices (end_tokens ++ x) (end_tokens ++ y) (ap (drop 21) grouped) in
-    let initials : a.initial ≡ b.initial = first ∙ ap pos numbers ∙ sym second in
-    (ap (λ z. record { initial = z; choices = a.choices }) initials ∙ ap (λ z. record { initial = b.initial; choices = z }) one.0,
-    append_cancel_left end_tokens x y one.1)
+    let initials : a.initial ≡ b.initial = first ∙ ap pos numbers ∙ sym second in (
+      ap (λ z. record { initial = z; choices = a.choices }) initials ∙ ap (λ z. record { initial = b.initial; choices = z }) one.0,
+      append_cancel_left end_tokens x y one.1,
+    )
 
 -- a text has one list of tokens at most
 pub tokens_one : (text : List ℕ) (a b : List (List ℕ)) → AreTokens text a → AreTokens text b → a ≡ b

@@ -44,9 +44,11 @@ steps_small n (SendStep dest tag ∷ steps) x printed starts =
     (refl, λ reply. when_done_small printed go reply (steps_small n steps x printed (suc starts)))
 steps_small n (ReceiveStep source tag ∷ steps) x printed starts =
     let go : ℤ → Course = λ x. course_of n steps x printed (suc starts) in
-    checked_small (fault_in n source tag) x printed (asks (Post 0 (From source) (Is tag) 1) x printed (when_done printed (completing starts x printed go)))
-    (refl, λ reply. when_done_small printed (completing starts x printed go) reply
-    (refl, λ took. with_message_small printed x go (message_in took) (λ x. steps_small n steps x printed (suc starts))))
+    checked_small (fault_in n source tag) x printed (asks (Post 0 (From source) (Is tag) 1) x printed (when_done printed (completing starts x printed go))) (
+      refl,
+      λ reply. when_done_small printed (completing starts x printed go) reply
+          (refl, λ took. with_message_small printed x go (message_in took) (λ x. steps_small n steps x printed (suc starts))),
+    )
 
 small_after : (c : Course) (replies : List Reply) → AllSmall c → AllSmall (after c replies)
 small_after c [] small = small

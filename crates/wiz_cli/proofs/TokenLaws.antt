@@ -49,16 +49,16 @@ blank_begins_none : (byte : ℕ) (bytes : List ℕ) → is_blank byte ≡ true �
 unfolding marks
 blank_begins_none byte bytes blank =
     let at : (b : ℕ) → (byte == b) ≡ true → is_token (b ∷ bytes) ≡ false → is_token (byte ∷ bytes) ≡ false
-        = λ b same none. subst (λ z. is_token (z ∷ bytes) ≡ false) (sym (eqb-true byte b same)) none in
+    = λ b same none. subst (λ z. is_token (z ∷ bytes) ≡ false) (sym (eqb-true byte b same)) none in
     elim (or_cases (byte == 9) _ blank) [
       | inl tab ↦ at 9 tab refl
       | inr other ↦ elim (or_cases (byte == 10) _ other) [
-          | inl newline ↦ at 10 newline refl
-          | inr other ↦ elim (or_cases (byte == 13) _ other) [
-              | inl return ↦ at 13 return refl
-              | inr space ↦ at 32 space refl
-            ]
+        | inl newline ↦ at 10 newline refl
+        | inr other ↦ elim (or_cases (byte == 13) _ other) [
+          | inl return ↦ at 13 return refl
+          | inr space ↦ at 32 space refl
         ]
+      ]
     ]
 
 -- a mark or a text does not begin with the byte of a name
@@ -181,17 +181,34 @@ knows_and = record {
 
 knows_marks : Each Knows (words (codes "( ) { } , ; = == & \"%d\\n\""))
 unfolding marks
-knows_marks =
-    (never_grows (codes "(") refl (λ next. refl) (λ next more. refl),
-    (never_grows (codes ")") refl (λ next. refl) (λ next more. refl),
-    (never_grows (codes "{") refl (λ next. refl) (λ next more. refl),
-    (never_grows (codes "}") refl (λ next. refl) (λ next more. refl),
-    (never_grows (codes ",") refl (λ next. refl) (λ next more. refl),
-    (never_grows (codes ";") refl (λ next. refl) (λ next more. refl),
-    (knows_equals,
-    (never_grows (codes "==") refl (λ next. refl) (λ next more. refl),
-    (knows_and,
-    (never_grows (codes "\"%d\\n\"") refl (λ next. refl) (λ next more. refl), tt))))))))))
+knows_marks = (
+  never_grows (codes "(") refl (λ next. refl) (λ next more. refl),
+  (
+    never_grows (codes ")") refl (λ next. refl) (λ next more. refl),
+    (
+      never_grows (codes "{") refl (λ next. refl) (λ next more. refl),
+      (
+        never_grows (codes "}") refl (λ next. refl) (λ next more. refl),
+        (
+          never_grows (codes ",") refl (λ next. refl) (λ next more. refl),
+          (
+            never_grows (codes ";") refl (λ next. refl) (λ next more. refl),
+            (
+              knows_equals,
+              (
+                never_grows (codes "==") refl (λ next. refl) (λ next more. refl),
+                (
+                  knows_and,
+                  (never_grows (codes "\"%d\\n\"") refl (λ next. refl) (λ next more. refl), tt),
+                ),
+              ),
+            ),
+          ),
+        ),
+      ),
+    ),
+  ),
+)
 
 and_first : (a b : Bool) → (a && b) ≡ true → a ≡ true
 and_first true b h = refl
@@ -357,6 +374,7 @@ behind_one token text rest next = record { back = λ more tokens. (rest, next, t
     on (other ∷ all) (behind, is, tokens) =
         let one = IsNext-one text token rest other behind next is in
         (all, ap (λ z. z ∷ all) (sym one.0), subst (λ z. AreTokens z all) (sym one.1) tokens)
+
     shorter : (token : List ℕ) → IsNext text token rest → length rest + 1 ≤ length text
     shorter [] next = let no : false ≡ true = sym no_empty_token ∙ next.proper in absurd (cc)
     shorter (byte ∷ bytes) next =

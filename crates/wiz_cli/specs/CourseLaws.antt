@@ -83,9 +83,9 @@ fault_in-none : (n rank tag : ℕ) → fault_in n rank tag ≡ None → (rank < 
 fault_in-none n rank tag none =
     elim (test_cases (nat_lt rank n)) [
       | inl below ↦ elim (test_cases (nat_lt tag 2147483648)) [
-          | inl small ↦ (ltb-true rank n below, ltb-true tag 2147483648 small)
-          | inr large ↦ let some : Some BadTag ≡ None = rw (below, large) at none in absurd (cc)
-        ]
+        | inl small ↦ (ltb-true rank n below, ltb-true tag 2147483648 small)
+        | inr large ↦ let some : Some BadTag ≡ None = rw (below, large) at none in absurd (cc)
+      ]
       | inr above ↦ let some : Some BadRank ≡ None = rw above at none in absurd (cc)
     ]
 

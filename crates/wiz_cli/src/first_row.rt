@@ -12,5 +12,4 @@ pub fn first_run_is_a_run()
     ensures text { IsSmallText first_text first_program }
     ensures run { IsRun (next_of first_program) 2 first_events }
     ensures log { log_of first_text 2 first_events (0 ∷ 1 ∷ []) ≡ first_log }
-{
-}
+{}

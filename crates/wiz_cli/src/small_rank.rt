@@ -40,7 +40,12 @@ impl<'a> Model for SmallRank<'a> {
 impl<'a> SmallRank<'a> {
     /// A rank that has got no reply yet. One with more than 4,294,967,295 steps, which no text of at most 65,536 bytes
     /// has, is refused as for want of memory.
-    pub fn start(alloc: Global, program: &'a SmallProgram, n: u8, rank: u8) -> Result<Self, AllocError>
+    pub fn start(
+        alloc: Global,
+        program: &'a SmallProgram,
+        n: u8,
+        rank: u8,
+    ) -> Result<Self, AllocError>
         requires member { rank < n }
         requires few { n ≤ 64 }
         ensures { IfOk result (λ run. run ≡ record { program = program.now; ranks = n; rank = rank; replies = []; asked = false }) }
@@ -140,7 +145,12 @@ impl<'a> RankRun for SmallRank<'a> {
 }
 
 /// Adds a variable of `main`.
-fn add_variable(alloc: Global, found: &mut Variables, name: &[u8], value: i32) -> Result<(), AllocError>
+fn add_variable(
+    alloc: Global,
+    found: &mut Variables,
+    name: &[u8],
+    value: i32,
+) -> Result<(), AllocError>
     ensures { OnOk result (found.new ≡ found.old ++ variable name.now value ∷ []) }
 {
     let variable = Variable {
@@ -160,7 +170,8 @@ mod tests {
     use mpi_call::reply::{Got, Item, Items};
     use std::test::Fail;
 
-    const FIRST: &str = "int main(void){int r,x=7;MPI_Comm_rank(MPI_COMM_WORLD,&r);if(r==0)MPI_Send(&x,1,MPI_INT,1,5,MPI_COMM_WORLD);if(r==1){x=0;MPI_Recv(&x,1,MPI_INT,0,5,MPI_COMM_WORLD,MPI_STATUS_IGNORE);printf(\"%d\\n\",x);}return 0;}";
+    const FIRST: &str =
+        "int main(void){int r,x=7;MPI_Comm_rank(MPI_COMM_WORLD,&r);if(r==0)MPI_Send(&x,1,MPI_INT,1,5,MPI_COMM_WORLD);if(r==1){x=0;MPI_Recv(&x,1,MPI_INT,0,5,MPI_COMM_WORLD,MPI_STATUS_IGNORE);printf(\"%d\\n\",x);}return 0;}";
 
     /// The call that is wanted.
     fn asked(run: &mut SmallRank) -> Result<Call, Fail>

@@ -47,10 +47,22 @@ fn read_program(alloc: Global, source: &mut Source) -> Result<SmallProgram, Smal
 fn read_start(source: &mut Source) -> Option<u32>
     ensures { IsFound start_tokens IsNumber source.old result source.new }
 {
-    source.tokens(&["int", "main", "(", "void", ")", "{", "int", "r", ",", "x", "="])?;
+    source.tokens(&[
+        "int", "main", "(", "void", ")", "{", "int", "r", ",", "x", "=",
+    ])?;
     read_number(
         source,
-        &[";", "MPI_Comm_rank", "(", "MPI_COMM_WORLD", ",", "&", "r", ")", ";"],
+        &[
+            ";",
+            "MPI_Comm_rank",
+            "(",
+            "MPI_COMM_WORLD",
+            ",",
+            "&",
+            "r",
+            ")",
+            ";",
+        ],
     )
 }
 
@@ -231,7 +243,8 @@ mod tests {
 
     #[test]
     fn texts(rt: HostRuntime) -> Result<(), Fail> {
-        let first = "int main(void){int r,x=7;MPI_Comm_rank(MPI_COMM_WORLD,&r);if(r==0)MPI_Send(&x,1,MPI_INT,1,5,MPI_COMM_WORLD);if(r==1){x=0;MPI_Recv(&x,1,MPI_INT,0,5,MPI_COMM_WORLD,MPI_STATUS_IGNORE);printf(\"%d\\n\",x);}return 0;}";
+        let first =
+            "int main(void){int r,x=7;MPI_Comm_rank(MPI_COMM_WORLD,&r);if(r==0)MPI_Send(&x,1,MPI_INT,1,5,MPI_COMM_WORLD);if(r==1){x=0;MPI_Recv(&x,1,MPI_INT,0,5,MPI_COMM_WORLD,MPI_STATUS_IGNORE);printf(\"%d\\n\",x);}return 0;}";
         let head = "int main(void){int r,x=0;MPI_Comm_rank(MPI_COMM_WORLD,&r);";
         assert_eq!(rt; first.len(), 209);
         assert_eq!(rt; ONE_RANK.len(), 68);

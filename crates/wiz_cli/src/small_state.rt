@@ -92,7 +92,11 @@ fn is_done(reply: &Reply) -> bool
 fn only_item(items: &[Item]) -> Option<&Item>
     ensures { IsOnly items.now (option_copied result) }
 {
-    if items.len() == 1 { Some(&items[0]) } else { None }
+    if items.len() == 1 {
+        Some(&items[0])
+    } else {
+        None
+    }
 }
 
 /// The value of `x` after a completed receive, where the reply holds its message.
@@ -106,7 +110,13 @@ fn received_value(reply: &Reply, value: i32) -> Option<i32>
     if item.index != 0 {
         return None;
     }
-    let Got::Message { source: _, start: _, tag: _, ints } = &item.got else {
+    let Got::Message {
+        source: _,
+        start: _,
+        tag: _,
+        ints,
+    } = &item.got
+    else {
         return None;
     };
     Some(first_or(ints.as_slice(), value))

@@ -13,7 +13,8 @@ returns-in_err-number c = rw c.from_residual.ensures (λ number rest least next.
 pub returns : goal.returns
 returns c =
     let text = c.skip_blanks-text.result.now in
-    let end = c.run_end-end.result in
-    (c.in_ok-number.ensures.1,
-    subst (λ z. IsNext c.args.self.now (decimal_text c.in_ok-number.number) z) (sym (take_rest text end))
-    (number_found c.args.self.now text end c.in_ok-number.number (c.skip_blanks-text.ensures ∙ ap skipped c.self.view_is) c.run_end-end.ensures c.in_ok-number.ensures.0))
+    let end = c.run_end-end.result in (
+      c.in_ok-number.ensures.1,
+      subst (λ z. IsNext c.args.self.now (decimal_text c.in_ok-number.number) z) (sym (take_rest text end))
+          (number_found c.args.self.now text end c.in_ok-number.number (c.skip_blanks-text.ensures ∙ ap skipped c.self.view_is) c.run_end-end.ensures c.in_ok-number.ensures.0),
+    )
