@@ -1,6 +1,5 @@
 -- The first events are a run, and the first text spells the first program.
-use Rattle.std.proofs.Common.{◌≡◌, ◌<◌, ◌≤◌, ◌⊎◌, inl, inr, ℕ, zero, suc, ℤ, pos, List, [], ◌∷◌, ◌++◌, Option, Some, None, Bool, true, false, ◌&&◌, ◌||◌, ◌==◌, if◌then◌else◌, slice_get, take, refl, ap, sym, ◌∙◌, subst, arith}
-use Rattle.std.specs.Prelude.{codes, is_some}
+use Rattle.std.proofs.Common.{◌≡◌, ◌⊎◌, inl, inr, ℕ, zero, suc, pos, List, [], ◌∷◌, Option, Some, None, Bool, true, false, ◌||◌, ◌==◌, slice_get, take, refl, ap, sym, ◌∙◌, subst, arith}
 use Rattle.std.specs.List.{list_all}
 use Rattle.std.proofs.lemmas.Bool.{eqb-true}
 use Rattle.std.proofs.lemmas.Option.{same_Some}
@@ -15,7 +14,7 @@ use Rattle.run_model.specs.Allowed.{IsAllowed}
 use Rattle.run_model.specs.declared.event.Event.{Event}
 use Rattle.run_model.specs.Views.{View, view_of, starts_of}
 use Rattle.run_model.specs.Pairs.{Name, AreMatched, IsMatched, Takes, named, pairs_of, partner_of, same_name, post_accepts}
-use Rattle.run_model.specs.Run.{AreNumbered, IsEvent, IsIn, IsRun, MadeTwo, numbers_of}
+use Rattle.run_model.specs.Run.{AreNumbered, IsEvent, IsIn, IsRun, numbers_of}
 use Rattle.wiz_cli.specs.Courses.{next_of}
 use Rattle.wiz_cli.specs.CourseLaws.{test_cases}
 use Rattle.wiz_cli.specs.FirstRow.{event, first_events, first_program, first_reply}

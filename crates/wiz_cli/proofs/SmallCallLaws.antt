@@ -1,7 +1,7 @@
 -- A small program makes small calls alone.
-use Rattle.std.proofs.Common.{◌≡◌, ◌<◌, ◌⊎◌, inl, inr, ℕ, suc, ℤ, List, [], ◌∷◌, ◌++◌, Option, Some, None, Bool, true, false, nat_lt, refl, ap, subst}
+use Rattle.std.proofs.Common.{◌≡◌, ℕ, suc, ℤ, List, [], ◌∷◌, ◌++◌, Option, Some, None, true, refl, subst}
 use Rattle.mpi_call.specs.declared.call.Call.{Call}
-use Rattle.mpi_call.specs.declared.call.Call.TheVariants.{Send, Post, Trap, End}
+use Rattle.mpi_call.specs.declared.call.Call.TheVariants.{Send, Post}
 use Rattle.mpi_call.specs.declared.call.Fault.{Fault}
 use Rattle.mpi_call.specs.declared.call.Source.TheVariants.{From}
 use Rattle.mpi_call.specs.declared.call.Tag.TheVariants.{Is}
@@ -11,7 +11,6 @@ use Rattle.wiz_cli.specs.declared.small_program.SmallStep.{SmallStep}
 use Rattle.wiz_cli.specs.declared.small_program.SmallStep.TheVariants.{Set, Print, Send as SendStep, Receive as ReceiveStep}
 use Rattle.wiz_cli.specs.declared.small_program.SmallProgram.{SmallProgram}
 use Rattle.wiz_cli.specs.Courses.{Course, asks, over, after, call_in, when_done, message_in, received, with_message, completing, fault_in, checked, line_of, course_of, steps_for, rank_course, next_of}
-use Rattle.wiz_cli.specs.CourseLaws.{test_cases}
 use Rattle.wiz_cli.specs.SmallCalls.{is_small_call, AsksSmall}
 
 -- each call of a course is small

@@ -1,10 +1,10 @@
 -- Whether a text spells tokens of the small form, by a test that computes.
-use Rattle.std.proofs.Common.{◌≡◌, ◌⊎◌, inl, inr, ℕ, pos, List, [], ◌∷◌, ◌++◌, Option, Some, None, Bool, true, false, ◌&&◌, ◌==◌, if◌then◌else◌, refl, ap, sym, ◌∙◌, subst, arith}
+use Rattle.std.proofs.Common.{◌≡◌, inl, inr, ℕ, List, [], ◌∷◌, ◌++◌, Option, Some, None, Bool, true, false, ◌&&◌, ◌==◌, if◌then◌else◌, refl, arith}
 use Rattle.std.specs.Prelude.{not}
 use Rattle.std.specs.List.{list_all}
-use Rattle.std.proofs.lemmas.Bool.{eqb-true}
+use Rattle.std.proofs.lemmas.Bool.{and_parts, eqb-true}
 use Rattle.wiz_base.specs.Decimals.{decimal_text}
-use Rattle.wiz_cli.specs.Tokens.{AreTokens, IsNext, is_blank}
+use Rattle.wiz_cli.specs.Tokens.{AreTokens, is_blank}
 use Rattle.wiz_cli.specs.SmallTexts.{IsSmallText, program_tokens}
 use Rattle.wiz_cli.specs.Reading.{EndsThere, goes_on, is_known, skipped}
 use Rattle.wiz_cli.specs.FirstRow.{first_program, first_text}
@@ -41,10 +41,6 @@ stripped-some (b ∷ bs) (c ∷ cs) rest found =
       | inr apart ↦ let none : None ≡ Some rest = rw apart at found in absurd (cc)
     ]
 
-both : (a b : Bool) → (a && b) ≡ true → (a ≡ true) × (b ≡ true)
-both true b h = (refl, h)
-both false b h = absurd (cc)
-
 ends_there-true : (token rest : List ℕ) → ends_there token rest ≡ true → EndsThere token rest
 ends_there-true token [] ends = tt
 ends_there-true token (next ∷ rest) ends =
@@ -56,13 +52,13 @@ ends_there-true token (next ∷ rest) ends =
 pub AreTokens-spells : (tokens : List (List ℕ)) (text : List ℕ) → spells tokens text ≡ true → AreTokens text tokens
 AreTokens-spells [] text holds = holds
 AreTokens-spells (token ∷ tokens) text holds =
-    let parts = both (is_known token) _ holds in
+    let parts = and_parts (is_known token) _ holds in
     by (λ rest all. AreTokens-spells tokens rest all) (stripped token (skipped text)) refl parts.0 parts.1
   where
     by : ((rest : List ℕ) → spells tokens rest ≡ true → AreTokens rest tokens) → (found : Option (List ℕ)) → stripped token (skipped text) ≡ found → is_known token ≡ true → on_rest (λ rest. ends_there token rest && spells tokens rest) found ≡ true → AreTokens text (token ∷ tokens)
     by later None is known rest = absurd (cc)
     by later (Some rest) is known goes =
-        let parts = both (ends_there token rest) (spells tokens rest) goes in
+        let parts = and_parts (ends_there token rest) (spells tokens rest) goes in
         (rest, IsNext-known text token rest known (stripped-some token (skipped text) rest is) (ends_there-true token rest parts.0), later rest parts.1)
 
 first_spelled : spells (program_tokens first_program) first_text ≡ true
