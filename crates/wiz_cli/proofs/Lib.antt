@@ -1,3 +1,4 @@
+pub mod FirstRowLaws
 pub mod PieceLaws
 pub mod ReadingLaws
 pub mod ReportLemmas
@@ -5,5 +6,6 @@ pub mod SmallCallLaws
 pub mod SmallEntryLaws
 pub mod SmallListLaws
 pub mod SmallLogLaws
+pub mod SpelledLaws
 pub mod TokenLaws
 pub mod WordLemmas

@@ -1,10 +1,11 @@
 -- Laws of reading: what stands behind what was read, and what never stands there.
-use Rattle.std.proofs.Common.{◌≡◌, ◌<◌, ◌≤◌, ◌⊎◌, inl, inr, ℕ, zero, suc, ℤ, pos, negsuc, List, [], ◌∷◌, ◌++◌, Option, Some, None, Bool, true, false, length, ◌+◌, ◌==◌, get_or, drop, refl, ap, sym, ◌∙◌, subst, arith, append_assoc, length-append}
+use Rattle.std.proofs.Common.{◌≡◌, ◌≤◌, ℕ, suc, ℤ, pos, negsuc, List, [], ◌∷◌, ◌++◌, Option, Some, None, true, false, length, get_or, drop, refl, ap, sym, ◌∙◌, subst, arith, append_assoc}
 use Rattle.std.specs.Prelude.{codes, Result, Ok, Err, IsErrAnd}
 use Rattle.wiz_cli.specs.declared.small_fault.SmallFault.{SmallFault}
 use Rattle.wiz_cli.specs.declared.small_fault.SmallFault.TheVariants.{NotBuilt, NoMemory}
 use Rattle.std.specs.Int.{w32}
-use Rattle.std.proofs.lemmas.Bool.{eq-eqb}
+use Rattle.std.specs.Str.{bytes_eq}
+use Rattle.std.proofs.lemmas.Slice.Eq.{bytes_eq-Decides}
 use mir.Val.{to_z}
 use Rattle.std.proofs.lemmas.Int.{to_z_pos}
 use Rattle.std.proofs.lemmas.List.{append_cancel_left, append-nil}
@@ -18,7 +19,7 @@ use Rattle.wiz_cli.specs.declared.small_program.SmallBody.TheVariants.{Single, B
 use Rattle.wiz_cli.specs.declared.small_program.SmallChoice.{SmallChoice}
 use Rattle.wiz_cli.specs.declared.small_program.SmallProgram.{SmallProgram}
 use Rattle.std.specs.List.{list_all}
-use Rattle.wiz_cli.specs.Tokens.{IsNext, AreTokens, is_blank, same_bytes, words}
+use Rattle.wiz_cli.specs.Tokens.{IsNext, AreTokens, is_blank, words}
 use Rattle.wiz_cli.specs.SmallTexts.{IsNumber, IsValue, HasNumbers, AllHaveNumbers, BodyHasNumbers, ChoicesHaveNumbers, IsSmallText, step_tokens, steps_tokens, body_tokens, choice_tokens, choices_tokens, program_tokens}
 use Rattle.wiz_cli.specs.Reading.{IsBehind, NeverBegins, IsRead, NoneStands, IsFound, IsReading, AreNumbers, IsStepOf, first_token, tail_tokens, transfer_tokens, number_tokens, block_tokens, main_tokens, start_tokens, test_tokens, ChoiceHasNumbers, ProgramHasNumbers}
 use Rattle.wiz_cli.proofs.TokenLaws.{IsNext-one, blank_no_token, behind_one, behind_then, behind_same, never_front, never_then}
@@ -92,12 +93,8 @@ transfer_read ending text mid next rest rank tag behind rank_read tag_read = rec
 
 -- 4. steps by their first token
 
-same_bytes-refl : (bytes : List ℕ) → same_bytes bytes bytes ≡ true
-same_bytes-refl [] = refl
-same_bytes-refl (byte ∷ bytes) = let here : (byte == byte) ≡ true = eq-eqb byte byte refl in rw here (same_bytes-refl bytes)
-
-different : (a b : List ℕ) → same_bytes a b ≡ false → a ≡ b → ⊥
-different a b apart same = let no : false ≡ true = sym apart ∙ ap (λ z. same_bytes z b) same ∙ same_bytes-refl b in absurd (cc)
+different : (a b : List ℕ) → bytes_eq a b ≡ false → a ≡ b → ⊥
+different a b apart same = let no : false ≡ true = sym apart ∙ ap (λ z. bytes_eq z b) same ∙ (bytes_eq-Decides b b).1 refl in absurd (cc)
 
 send_apart : codes "MPI_Send" ≡ codes "MPI_Recv" → ⊥
 send_apart same = different (codes "MPI_Send") (codes "MPI_Recv") refl same

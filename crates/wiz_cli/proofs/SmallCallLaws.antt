@@ -1,7 +1,7 @@
 -- A small program makes small calls alone.
-use Rattle.std.proofs.Common.{◌≡◌, ◌<◌, ◌⊎◌, inl, inr, ℕ, suc, ℤ, List, [], ◌∷◌, ◌++◌, Option, Some, None, Bool, true, false, nat_lt, refl, ap, subst}
+use Rattle.std.proofs.Common.{◌≡◌, ℕ, suc, ℤ, List, [], ◌∷◌, ◌++◌, Option, Some, None, true, refl, subst}
 use Rattle.mpi_call.specs.declared.call.Call.{Call}
-use Rattle.mpi_call.specs.declared.call.Call.TheVariants.{Send, Post, Trap, End}
+use Rattle.mpi_call.specs.declared.call.Call.TheVariants.{Send, Post}
 use Rattle.mpi_call.specs.declared.call.Fault.{Fault}
 use Rattle.mpi_call.specs.declared.call.Source.TheVariants.{From}
 use Rattle.mpi_call.specs.declared.call.Tag.TheVariants.{Is}
@@ -11,13 +11,12 @@ use Rattle.wiz_cli.specs.declared.small_program.SmallStep.{SmallStep}
 use Rattle.wiz_cli.specs.declared.small_program.SmallStep.TheVariants.{Set, Print, Send as SendStep, Receive as ReceiveStep}
 use Rattle.wiz_cli.specs.declared.small_program.SmallProgram.{SmallProgram}
 use Rattle.wiz_cli.specs.Courses.{Course, asks, over, after, call_in, when_done, message_in, received, with_message, completing, fault_in, checked, line_of, course_of, steps_for, rank_course, next_of}
-use Rattle.wiz_cli.specs.CourseLaws.{test_cases}
-use Rattle.wiz_cli.specs.SmallCalls.{is_small_call, AsksSmall}
+use Rattle.srr_replay.specs.Built.{is_built, AsksBuilt}
 
 -- each call of a course is small
 abbrev AllSmall : Course → Type 0
 AllSmall (over printed) = Unit {0}
-AllSmall (asks call x printed go) = (is_small_call call ≡ true) × ((reply : Reply) → AllSmall (go reply))
+AllSmall (asks call x printed go) = (is_built call ≡ true) × ((reply : Reply) → AllSmall (go reply))
 
 when_done_small : (printed : List ℕ) (c : Course) (reply : Reply) → AllSmall c → AllSmall (when_done printed c reply)
 when_done_small printed c Done small = small
@@ -55,13 +54,13 @@ small_after c [] small = small
 small_after (over printed) (reply ∷ replies) small = tt
 small_after (asks call x printed go) (reply ∷ replies) small = small_after (go reply) replies (small.1 reply)
 
-small_call : (c : Course) (call : Call) → AllSmall c → call_in c ≡ Some call → is_small_call call ≡ true
+small_call : (c : Course) (call : Call) → AllSmall c → call_in c ≡ Some call → is_built call ≡ true
 small_call (over printed) call small made = absurd (cc)
 small_call (asks asked x printed go) call small made =
-    let same : asked ≡ call = cc in subst (λ call. is_small_call call ≡ true) same small.0
+    let same : asked ≡ call = cc in subst (λ call. is_built call ≡ true) same small.0
 
 -- the program makes small calls alone
-pub asks_small : (p : SmallProgram) → AsksSmall (next_of p)
-asks_small p n rank replies call made =
+pub asks_built : (p : SmallProgram) → AsksBuilt (next_of p)
+asks_built p n rank replies call made =
     small_call (after (rank_course p n rank) replies) call
     (small_after (rank_course p n rank) replies (steps_small n (steps_for rank p.choices) p.initial [] 0)) made

@@ -2,6 +2,8 @@
 use Rattle.std.proofs.Common.{◌≡◌, ◌<◌, ◌≤◌, ◌⊎◌, inl, inr, ℕ, zero, suc, List, [], ◌∷◌, ◌++◌, Bool, true, false, ◌&&◌, ◌||◌, ◌==◌, if◌then◌else◌, nat_le, ◌+◌, ◌-◌, length, get_or, slice_index, take, drop, map, refl, ap, sym, ◌∙◌, subst, arith, append_assoc, length-append, length-drop}
 use Rattle.std.specs.Prelude.{codes, not}
 use Rattle.std.specs.List.{list_any, list_all}
+use Rattle.std.specs.Str.{bytes_eq}
+use Rattle.std.proofs.lemmas.Slice.Eq.{bytes_eq-Decides}
 use Rattle.std.proofs.lemmas.Bool.{eqb-true, le-leb}
 use Rattle.std.proofs.Math.Seq.{take-length}
 use Rattle.std.proofs.Math.Dec.{eqb-suc-zero}
@@ -10,33 +12,22 @@ use Rattle.std.proofs.lemmas.List.Sums.{AllPass-from_list_all, list_all-from_All
 use Rattle.std.specs.Char.{IsAsciiDigit}
 use Rattle.wiz_base.specs.Decimals.{decimal_text}
 use Rattle.wiz_base.proofs.DecimalLaws.{decimal_text-bytes, decimal_text-nonempty}
-use Rattle.std.proofs.lemmas.List.Folds.{list_all-append}
-use Rattle.wiz_cli.specs.Tokens.{is_blank, is_name_byte, is_word, is_text, is_inside, is_mark, is_token, same_bytes, marks, words, IsNext, AreTokens}
+use Rattle.wiz_cli.specs.Tokens.{is_blank, is_name_byte, is_word, is_text, is_mark, is_token, marks, words, IsNext, AreTokens}
 use Rattle.wiz_cli.specs.Reading.{skipped, is_known, goes_on, EndsThere, IsRun, IsBehind, NeverBegins}
-use Rattle.wiz_cli.specs.CourseLaws.{test_cases}
+use Rattle.wiz_cli.specs.CourseLaws.{and_first, and_second, chosen, test_cases}
 
 -- 1. bytes
-
-pub same_bytes-true : (a b : List ℕ) → same_bytes a b ≡ true → a ≡ b
-same_bytes-true [] [] same = refl
-same_bytes-true [] (c ∷ cs) same = absurd (cc)
-same_bytes-true (b ∷ bs) [] same = absurd (cc)
-same_bytes-true (b ∷ bs) (c ∷ cs) same =
-    elim (test_cases (b == c)) [
-      | inl here ↦ let byte : b ≡ c = eqb-true b c here in let bytes : bs ≡ cs = same_bytes-true bs cs (rw here at same) in cc
-      | inr apart ↦ let no : false ≡ true = rw apart at same in absurd (cc)
-    ]
 
 -- what holds of each member of a list
 abbrev pub Each : (List ℕ → Type 0) → List (List ℕ) → Type 0
 Each P [] = Unit {0}
 Each P (x ∷ xs) = P x × Each P xs
 
-pub each_same : (P : List ℕ → Type 0) (xs : List (List ℕ)) (bytes : List ℕ) → Each P xs → list_any (same_bytes bytes) xs ≡ true → P bytes
+pub each_same : (P : List ℕ → Type 0) (xs : List (List ℕ)) (bytes : List ℕ) → Each P xs → list_any (bytes_eq bytes) xs ≡ true → P bytes
 each_same P [] bytes each any = absurd (cc)
 each_same P (x ∷ xs) bytes each any =
-    elim (test_cases (same_bytes bytes x)) [
-      | inl here ↦ subst P (sym (same_bytes-true bytes x here)) each.0
+    elim (test_cases (bytes_eq bytes x)) [
+      | inl here ↦ subst P (sym ((bytes_eq-Decides bytes x).0 here)) each.0
       | inr apart ↦ each_same P xs bytes each.1 (rw apart at any)
     ]
 
@@ -210,20 +201,8 @@ knows_marks = (
   ),
 )
 
-and_first : (a b : Bool) → (a && b) ≡ true → a ≡ true
-and_first true b h = refl
-and_first false b h = h
-
-and_second : (a b : Bool) → (a && b) ≡ true → b ≡ true
-and_second true b h = h
-and_second false b h = absurd (cc)
-
 goes_on-name : (byte : ℕ) (bytes : List ℕ) (next : ℕ) → is_name_byte byte ≡ true → goes_on (byte ∷ bytes) next ≡ is_name_byte next
 goes_on-name byte bytes next name = chosen (is_name_byte byte) _ _ name
-  where
-    chosen : (b : Bool) (x y : Bool) → b ≡ true → (if b then x else y) ≡ x
-    chosen true x y h = refl
-    chosen false x y h = absurd (cc)
 
 list_all-last : (bytes : List ℕ) (next : ℕ) (more : List ℕ) → is_name_byte next ≡ false → list_all is_name_byte (bytes ++ next ∷ more) ≡ false
 list_all-last [] next more off = rw off refl

@@ -1,17 +1,15 @@
 -- The laws of programs, for small ones.
-use Rattle.std.proofs.Common.{◌≡◌, ◌<◌, ◌≤◌, ◌+◌, ◌^◌, ◌⊎◌, inl, inr, ℕ, zero, suc, ℤ, List, [], ◌∷◌, ◌++◌, Option, Some, None, Bool, true, false, ◌&&◌, ◌||◌, ◌==◌, if◌then◌else◌, nat_lt, nat_le, length, slice_get, slice_index, map, refl, ap, sym, ◌∙◌, subst, arith, append_assoc, length-append}
-use Rattle.std.specs.Prelude.{All, ◌↔◌, MatchBool}
+use Rattle.std.proofs.Common.{◌≡◌, ◌<◌, ◌≤◌, ◌^◌, ◌⊎◌, inl, inr, ℕ, suc, ℤ, List, [], ◌∷◌, ◌++◌, Option, Some, None, Bool, true, false, ◌&&◌, ◌==◌, if◌then◌else◌, nat_lt, nat_le, length, slice_get, slice_index, refl, ap, sym, ◌∙◌, subst, arith, append_assoc, length-append}
+use Rattle.std.specs.Prelude.{◌↔◌, MatchBool}
 use Rattle.std.specs.List.{list_any, list_all}
 use Rattle.std.proofs.lemmas.List.{map-append, append-nil}
 use Rattle.std.proofs.lemmas.Bool.{ltb-true, eqb-true, eq-eqb}
-use Rattle.std.proofs.lemmas.Bool.Decides.{nat_tests}
 use Rattle.mpi_call.specs.declared.call.Call.{Call}
-use Rattle.mpi_call.specs.declared.call.Call.TheVariants.{Send, Post, Enter, Take, Peek, Abort, Trap, End}
+use Rattle.mpi_call.specs.declared.call.Call.TheVariants.{Send, Post, Take, Trap, End}
 use Rattle.mpi_call.specs.declared.call.Fault.{Fault}
 use Rattle.mpi_call.specs.declared.call.Fault.TheVariants.{BadRank, BadTag}
 use Rattle.mpi_call.specs.declared.call.Source.TheVariants.{From}
 use Rattle.mpi_call.specs.declared.call.Tag.TheVariants.{Is}
-use Rattle.mpi_call.specs.declared.call.TakeMode.{TakeMode}
 use Rattle.mpi_call.specs.declared.call.TakeMode.TheVariants.{All as TakeAll}
 use Rattle.mpi_call.specs.declared.reply.Got.{Got}
 use Rattle.mpi_call.specs.declared.reply.Got.TheVariants.{Sent, Nothing, Message, Joined, Made}
@@ -21,7 +19,7 @@ use Rattle.mpi_call.specs.declared.reply.Reply.TheVariants.{Done, Took, NotYet, 
 use Rattle.run_model.specs.Lists.{Along, IsPrefixOf}
 use Rattle.run_model.specs.Views.{View, Next, replies_in, starts_of, start_at, is_start}
 use Rattle.run_model.specs.Shape.{has_shape, got_fits, gots_fit, can_take, rises}
-use Rattle.run_model.specs.Program.{IsSeen, IsViewOf, IsRankOf, ends, EndsExactly, PrintsOn, IsInBounds, AsksInBounds, IsInForm, EntersInForm}
+use Rattle.run_model.specs.Program.{IsSeen, IsViewOf, ends, EndsExactly, PrintsOn, IsInBounds, AsksInBounds, IsInForm, EntersInForm}
 use Rattle.wiz_cli.specs.declared.small_program.SmallStep.{SmallStep}
 use Rattle.wiz_cli.specs.declared.small_program.SmallStep.TheVariants.{Set, Print, Send as SendStep, Receive as ReceiveStep}
 use Rattle.wiz_cli.specs.declared.small_program.SmallProgram.{SmallProgram}
@@ -30,6 +28,18 @@ use Rattle.wiz_cli.specs.Courses.{Course, asks, over, after, call_in, printed_in
 pub test_cases : (b : Bool) → (b ≡ true) ⊎ (b ≡ false)
 test_cases true = inl refl
 test_cases false = inr refl
+
+pub and_first : (a b : Bool) → (a && b) ≡ true → a ≡ true
+and_first true b h = refl
+and_first false b h = h
+
+pub and_second : (a b : Bool) → (a && b) ≡ true → b ≡ true
+and_second true b h = h
+and_second false b h = absurd (cc)
+
+pub chosen : {A : Type 0} (b : Bool) (x y : A) → b ≡ true → (if b then x else y) ≡ x
+chosen true x y h = refl
+chosen false x y h = absurd (cc)
 
 -- each call is in bounds and in form, and a reply in its shape ends the rank, or such a course follows
 abbrev pub Keeps : ℕ → ℕ → View → Course → Type 0
@@ -114,13 +124,6 @@ post_keeps n me source tag own x printed c below small keeps = ((below, small), 
     by_reply (Stopped halt) shape = refl
 
 -- what a reply in shape to the completion of a receive holds
-and_first : (a b : Bool) → (a && b) ≡ true → a ≡ true
-and_first true b h = refl
-and_first false b h = h
-
-and_second : (a b : Bool) → (a && b) ≡ true → b ≡ true
-and_second true b h = h
-and_second false b h = absurd (cc)
 
 message_of-got : (n me source tag : ℕ) (own : View) (got : Got) → got_fits n own me (Some (Post 0 (From source) (Is tag) 1)) got ≡ true → (ints : List ℤ) × (ints_in got ≡ Some ints)
 message_of-got n me source tag own Sent fits = absurd (cc)
@@ -129,10 +132,6 @@ message_of-got n me source tag own (Message sender start t ints) fits = (ints, r
 message_of-got n me source tag own (Joined ints) fits = absurd (cc)
 message_of-got n me source tag own (Made comm []) fits = absurd (cc)
 message_of-got n me source tag own (Made comm (m ∷ members)) fits = absurd (cc)
-
-chosen : {A : Type 0} (b : Bool) (x y : A) → b ≡ true → (if b then x else y) ≡ x
-chosen true x y h = refl
-chosen false x y h = absurd (cc)
 
 message_of-items : (n me k source tag : ℕ) (own : View) (items : List Item) → start_at own k ≡ Some (Post 0 (From source) (Is tag) 1) → has_shape n me own (Take (k ∷ []) TakeAll) (Took items) ≡ true → (ints : List ℤ) × (message_in (Took items) ≡ Some ints)
 message_of-items n me k source tag own [] start shape = absurd (cc)

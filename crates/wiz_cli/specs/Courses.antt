@@ -1,6 +1,6 @@
 -- What a rank of a small program does, by the replies that it gets.
 -- (MPI 3.1, Point-to-Point Communication, "Blocking Send and Receive Operations".)
-use Rattle.std.specs.Prelude.{ℕ, zero, suc, ℤ, pos, List, [], ◌∷◌, ◌++◌, Option, Some, None, Bool, true, false, ◌==◌, nat_lt, codes, if◌then◌else◌}
+use Rattle.std.specs.Prelude.{ℕ, suc, ℤ, pos, List, [], ◌∷◌, ◌++◌, Option, Some, None, ◌==◌, nat_lt, codes, if◌then◌else◌}
 use Rattle.mpi_call.specs.declared.call.Call.{Call}
 use Rattle.mpi_call.specs.declared.call.Call.TheVariants.{Send, Post, Take, Trap, End}
 use Rattle.mpi_call.specs.declared.call.Fault.{Fault}
@@ -10,7 +10,6 @@ use Rattle.mpi_call.specs.declared.call.Tag.TheVariants.{Is}
 use Rattle.mpi_call.specs.declared.call.TakeMode.TheVariants.{All}
 use Rattle.mpi_call.specs.declared.reply.Got.{Got}
 use Rattle.mpi_call.specs.declared.reply.Got.TheVariants.{Message}
-use Rattle.mpi_call.specs.declared.reply.Item.{Item}
 use Rattle.mpi_call.specs.declared.reply.Reply.{Reply}
 use Rattle.mpi_call.specs.declared.reply.Reply.TheVariants.{Done, Took}
 use Rattle.run_model.specs.declared.lists.Variable.{Variable}

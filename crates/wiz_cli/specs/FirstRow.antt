@@ -1,18 +1,15 @@
 -- The first program, a run of it on two ranks, and the log of that run: rank 0 sends the value 7 with the tag 5 to rank 1.
-use Rattle.std.specs.Prelude.{ℕ, ℤ, pos, List, [], ◌∷◌, ◌++◌, Some, None, Option, codes}
+use Rattle.std.specs.Prelude.{ℕ, pos, List, [], ◌∷◌, ◌++◌, Some, None, Option, codes}
 use Rattle.mpi_call.specs.declared.call.Call.{Call}
 use Rattle.mpi_call.specs.declared.call.Call.TheVariants.{Send, Post, Take, End}
 use Rattle.mpi_call.specs.declared.call.Source.TheVariants.{From}
 use Rattle.mpi_call.specs.declared.call.Tag.TheVariants.{Is}
 use Rattle.mpi_call.specs.declared.call.TakeMode.TheVariants.{All}
 use Rattle.mpi_call.specs.declared.reply.Got.TheVariants.{Message}
-use Rattle.mpi_call.specs.declared.reply.Item.{Item}
 use Rattle.mpi_call.specs.declared.reply.Reply.{Reply}
 use Rattle.mpi_call.specs.declared.reply.Reply.TheVariants.{Done, Took}
 use Rattle.run_model.specs.declared.event.Event.{Event}
 use Rattle.srr_entry.specs.declared.entry.Mark.TheVariants.{Inside}
-use Rattle.srr_entry.specs.declared.entry.Marked.{Marked}
-use Rattle.srr_entry.specs.declared.entry.Entry.{Entry}
 use Rattle.srr_entry.specs.declared.entry.Entry.TheVariants.{Sent, Posted, Ended, Took as EntryTook}
 use Rattle.srr_entry.specs.declared.log.Log.{Log}
 use Rattle.wiz_cli.specs.declared.small_program.SmallStep.TheVariants.{Set, Print, Send as SendStep, Receive as ReceiveStep}

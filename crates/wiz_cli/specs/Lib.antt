@@ -4,7 +4,6 @@ pub mod CourseLaws
 pub mod FirstRow
 pub mod Reading
 pub mod Reports
-pub mod SmallCalls
 pub mod SmallLogs
 pub mod SmallTexts
 pub mod States

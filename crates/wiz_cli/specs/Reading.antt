@@ -1,5 +1,6 @@
 -- What the reader of the small form finds, step by step.
 use Rattle.std.specs.Prelude.{◌≡◌, ◌≤◌, ◌<◌, ◌+◌, ℕ, List, [], ◌∷◌, ◌++◌, Option, Some, None, Result, Ok, Err, Bool, true, false, ◌&&◌, ◌||◌, ◌==◌, if◌then◌else◌, codes, length, slice_index}
+use Rattle.std.specs.Str.{bytes_eq}
 use Rattle.std.specs.List.{list_any}
 use Rattle.wiz_base.specs.Decimals.{decimal_text, number_text}
 use Rattle.wiz_cli.specs.declared.small_fault.SmallFault.{SmallFault}
@@ -8,8 +9,8 @@ use Rattle.wiz_cli.specs.declared.small_program.SmallStep.{SmallStep}
 use Rattle.wiz_cli.specs.declared.small_program.SmallStep.TheVariants.{Set, Print, Send, Receive}
 use Rattle.wiz_cli.specs.declared.small_program.SmallChoice.{SmallChoice}
 use Rattle.wiz_cli.specs.declared.small_program.SmallProgram.{SmallProgram}
-use Rattle.wiz_cli.specs.SmallTexts.{IsNumber, IsValue, HasNumbers, AllHaveNumbers, BodyHasNumbers, ChoicesHaveNumbers, steps_tokens, choices_tokens}
-use Rattle.wiz_cli.specs.Tokens.{is_blank, is_name_byte, is_word, same_bytes, words, IsNext, AreTokens}
+use Rattle.wiz_cli.specs.SmallTexts.{IsNumber, IsValue, HasNumbers, BodyHasNumbers, ChoicesHaveNumbers, steps_tokens, choices_tokens}
+use Rattle.wiz_cli.specs.Tokens.{is_blank, is_name_byte, is_word, words, AreTokens}
 
 -- a text behind its first blanks
 abbrev pub skipped : List ℕ → List ℕ
@@ -18,7 +19,7 @@ skipped (byte ∷ bytes) = if is_blank byte then skipped bytes else byte ∷ byt
 
 -- the tokens of the small form: words, and these
 abbrev pub is_known : List ℕ → Bool
-is_known bytes = is_word bytes || list_any (same_bytes bytes) (words (codes "( ) { } , ; = == & \"%d\\n\""))
+is_known bytes = is_word bytes || list_any (bytes_eq bytes) (words (codes "( ) { } , ; = == & \"%d\\n\""))
 
 -- the next byte makes such a token longer
 abbrev pub goes_on : List ℕ → ℕ → Bool

@@ -1,5 +1,5 @@
 -- The small form of a program, as the tokens that spell it.
-use Rattle.std.specs.Prelude.{◌≡◌, ◌≤◌, ℕ, ℤ, pos, negsuc, List, [], ◌∷◌, ◌++◌, codes}
+use Rattle.std.specs.Prelude.{◌≤◌, ℕ, ℤ, pos, negsuc, List, [], ◌∷◌, ◌++◌, codes}
 use Rattle.wiz_base.specs.Decimals.{decimal_text, number_text}
 use Rattle.wiz_cli.specs.declared.small_program.SmallStep.{SmallStep}
 use Rattle.wiz_cli.specs.declared.small_program.SmallStep.TheVariants.{Set, Print, Send, Receive}

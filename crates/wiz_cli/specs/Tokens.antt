@@ -1,6 +1,7 @@
 -- The tokens of a text without comments and directives.
 -- (ISO C, "Lexical elements": each token is the longest sequence of bytes that could be one.)
 use Rattle.std.specs.Prelude.{◌≡◌, ℕ, List, [], ◌∷◌, ◌++◌, Bool, true, false, ◌&&◌, ◌||◌, ◌==◌, nat_le, if◌then◌else◌, codes}
+use Rattle.std.specs.Str.{bytes_eq}
 use Rattle.std.specs.List.{list_any, list_all}
 
 -- a tab, a newline, a carriage return or a space
@@ -18,18 +19,12 @@ abbrev pub is_word : List ℕ → Bool
 is_word [] = false
 is_word (byte ∷ bytes) = is_name_byte byte && list_all is_name_byte bytes
 
-abbrev pub same_bytes : List ℕ → List ℕ → Bool
-same_bytes [] [] = true
-same_bytes [] (c ∷ cs) = false
-same_bytes (b ∷ bs) [] = false
-same_bytes (b ∷ bs) (c ∷ cs) = (b == c) && same_bytes bs cs
-
 -- what stands behind the opening mark of a text, the closing mark last; a backslash goes with the byte behind it
 abbrev pub is_inside : Bool → List ℕ → Bool
 is_inside escaped [] = false
 is_inside true (byte ∷ bytes) = (nat_le 32 byte && nat_le byte 126) && is_inside false bytes
 is_inside false (byte ∷ bytes) =
-    if byte == 34 then same_bytes bytes [] else (nat_le 32 byte && nat_le byte 126) && is_inside (byte == 92) bytes
+    if byte == 34 then bytes_eq bytes [] else (nat_le 32 byte && nat_le byte 126) && is_inside (byte == 92) bytes
 
 -- a text between two marks on one line
 abbrev pub is_text : List ℕ → Bool
@@ -50,7 +45,7 @@ marks =
     words (codes "<<= >>= == != <= >= << >> && || ++ -- += -= *= /= %= &= |= ^= ( ) { } [ ] ; , . ? : = < > + - * / % ! ~ & | ^")
 
 abbrev pub is_mark : List ℕ → Bool
-is_mark bytes = list_any (same_bytes bytes) marks
+is_mark bytes = list_any (bytes_eq bytes) marks
 
 abbrev pub is_token : List ℕ → Bool
 is_token bytes = is_word bytes || (is_text bytes || is_mark bytes)

@@ -1,4 +1,4 @@
-use Rattle.std.proofs.Common.{◌≡◌, ◌∙◌, List, ℕ, subst}
+use Rattle.std.proofs.Common.{◌≡◌, ◌∙◌, subst}
 use Rattle.std.specs.Prelude.{codes}
 use Rattle.wiz_cli.specs.Tokens.{IsNext}
 use Rattle.wiz_cli.proofs.ReadingLaws.{NotNext, no_step, step_found}

@@ -1,5 +1,4 @@
 use Rattle.std.proofs.Common.{◌≡◌, ◌∷◌, ◌++◌, [], ap, sym, ◌∙◌}
-use Rattle.wiz_cli.specs.Courses.{after, rank_course}
 use Rattle.wiz_cli.specs.CourseLaws.{after-append}
 use Rattle.wiz_cli.proofs.small_rank.SmallRankRankRun.give.Goals as goal
 

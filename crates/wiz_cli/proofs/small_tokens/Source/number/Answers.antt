@@ -1,4 +1,4 @@
-use Rattle.std.proofs.Common.{◌≡◌, ◌∙◌, ap, drop, subst, sym}
+use Rattle.std.proofs.Common.{◌∙◌, ap, subst, sym}
 use Rattle.wiz_base.specs.Decimals.{decimal_text}
 use Rattle.wiz_cli.specs.Reading.{skipped}
 use Rattle.wiz_cli.specs.Tokens.{IsNext}

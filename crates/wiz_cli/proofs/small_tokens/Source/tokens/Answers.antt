@@ -1,4 +1,4 @@
-use Rattle.std.proofs.Common.{◌≡◌, List, ℕ, true, sym, ◌∙◌, ap, subst}
+use Rattle.std.proofs.Common.{◌≡◌, List, ℕ, true, sym, subst}
 use Rattle.wiz_cli.specs.Reading.{is_known}
 use Rattle.wiz_cli.specs.Tokens.{IsNext}
 use Rattle.wiz_cli.proofs.TokenLaws.{known_at, passed_one, stopped_at}
