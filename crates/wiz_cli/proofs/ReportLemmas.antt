@@ -1,6 +1,5 @@
 -- What comes of a file, from what comes of its bytes; and reports.
-use Rattle.std.proofs.Common.{◌≡◌, ◌≤◌, ◌⊎◌, ℕ, List, Option, Some, None, IfSome, Ok, length, inr}
-use Rattle.srr_entry.specs.declared.log.Log.{Log}
+use Rattle.std.proofs.Common.{◌≡◌, ◌≤◌, ℕ, List, Option, Some, None, IfSome, Ok, length, inr}
 use Rattle.srr_replay.specs.declared.replayed.Replayed.{Replayed}
 use Rattle.run_model.specs.Views.{Kept}
 use Rattle.wiz_cli.specs.declared.outcome.Refusal.TheVariants.{Words, Missing, ReadFault, Program, Log as LogRefused, TooLong}

@@ -5,7 +5,7 @@ use Rattle.run_model.specs.Views.{Kept}
 use Rattle.srr_entry.specs.declared.log.Log.{Log}
 use Rattle.srr_replay.specs.declared.replayed.Replayed.{Replayed}
 use Rattle.srr_replay.specs.declared.replayed.Stand.{Stand}
-use Rattle.srr_replay.specs.declared.replayed.Stand.TheVariants.{Ended, LogEnded, AtBreak, Diverged, Starved}
+use Rattle.srr_replay.specs.declared.replayed.Stand.TheVariants.{AtBreak, Diverged, Starved}
 use Rattle.srr_replay.specs.Stands.{IsReplayed}
 use Rattle.wiz_cli.specs.declared.outcome.Refusal.{Refusal}
 use Rattle.wiz_cli.specs.declared.outcome.Refusal.TheVariants.{Words, Missing, ReadFault, Program, Log as LogRefused, TooLong}

@@ -1,4 +1,3 @@
-use Rattle.std.proofs.Common.{◌≡◌}
 use Rattle.wiz_cli.proofs.ReportLemmas.{IsFileOutcome-bytes, IsRead-bytes}
 use Rattle.wiz_cli.proofs.replay_file.replay_file.Goals as goal
 

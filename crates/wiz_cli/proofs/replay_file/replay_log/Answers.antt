@@ -1,4 +1,4 @@
-use Rattle.std.proofs.Common.{◌≡◌, ◌∙◌, ap, Err}
+use Rattle.std.proofs.Common.{◌∙◌, ap, Err}
 use Rattle.wiz_cli.proofs.replay_file.replay_log.Goals as goal
 
 pub returns-in-Err-NotBuilt : goal.returns-in-Err-NotBuilt

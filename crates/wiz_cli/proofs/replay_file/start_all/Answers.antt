@@ -1,4 +1,4 @@
-use Rattle.std.proofs.Common.{◌≡◌, ◌<◌, length, slice_index}
+use Rattle.std.proofs.Common.{slice_index}
 use Rattle.srr_replay.proofs.LogLemmas.{below_at}
 use Rattle.srr_replay.proofs.RoundsLemmas.{member_of}
 use Rattle.wiz_cli.proofs.replay_file.start_all.Goals as goal

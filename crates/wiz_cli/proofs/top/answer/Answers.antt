@@ -1,7 +1,7 @@
-use Rattle.std.proofs.Common.{◌≡◌, []}
+use Rattle.std.proofs.Common.{[]}
 use Rattle.wiz_cli.specs.declared.outcome.Refusal.TheVariants.{Words}
 use Rattle.wiz_cli.specs.declared.outcome.Outcome.TheVariants.{Refused}
-use Rattle.wiz_cli.proofs.ReportLemmas.{IsOutcome-file, IsReport-told}
+use Rattle.wiz_cli.proofs.ReportLemmas.{IsReport-told}
 use Rattle.wiz_cli.proofs.top.answer.Goals as goal
 
 pub returns-in_ok-report-in-None-clause-report : goal.returns-in_ok-report-in-None-clause-report

@@ -1,4 +1,4 @@
-use Rattle.std.proofs.Common.{◌≡◌, ◌++◌, append_assoc, refl}
+use Rattle.std.proofs.Common.{append_assoc, refl}
 use Rattle.wiz_cli.proofs.trace.push_divergence.Goals as goal
 
 pub returns : goal.returns

@@ -1,4 +1,4 @@
-use Rattle.std.proofs.Common.{◌≡◌, ◌∷◌, [], ◌∙◌, codes, refl, sym, ℕ, List, Bor}
+use Rattle.std.proofs.Common.{[], ◌∙◌, codes, refl, sym, ℕ, List, Bor}
 use Rattle.std.specs.List.{slice_index_or}
 use Rattle.std.proofs.lemmas.Slice.Eq.{bytes_eq-Decides}
 use Rattle.wiz_cli.proofs.WordLemmas.{three_words}
