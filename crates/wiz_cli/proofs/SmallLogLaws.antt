@@ -137,9 +137,9 @@ lists_text-and_rest (rank ∷ group) [] lists' rest rest' many many' small small
 lists_text-and_rest (rank ∷ group) (list ∷ lists) [] rest rest' many many' small small' e = absurd (omega arith)
 lists_text-and_rest (rank ∷ group) (list ∷ lists) (list' ∷ lists') rest rest' many many' small small' e =
     let here = list_text-and_rest rank list list' (lists_text group lists rest) (lists_text group lists' rest')
-          (All-head (λ entries. are_small_lines entries ≡ true) list lists small) (All-head (λ entries. are_small_lines entries ≡ true) list' lists' small') e in
+    (All-head (λ entries. are_small_lines entries ≡ true) list lists small) (All-head (λ entries. are_small_lines entries ≡ true) list' lists' small') e in
     let others = lists_text-and_rest group lists lists' rest rest' (omega arith) (omega arith)
-          (All-tail (λ entries. are_small_lines entries ≡ true) list lists small) (All-tail (λ entries. are_small_lines entries ≡ true) list' lists' small') here.1 in
+    (All-tail (λ entries. are_small_lines entries ≡ true) list lists small) (All-tail (λ entries. are_small_lines entries ≡ true) list' lists' small') here.1 in
     (ap (λ x. x ∷ lists) here.0 ∙ ap (λ xs. list' ∷ xs) others.0, others.1)
 
 -- a log's text, and what stands behind it
@@ -167,8 +167,8 @@ log_text-append log more =
     ∙ ap (line (codes "srr 1")) (append_assoc (codes "ranks " ++ decimal_text log.ranks) (10 ∷ group) more)
     ∙ ap (head_text log.ranks) (append_assoc (codes "group" ++ each_behind 32 (map decimal_text log.group)) (10 ∷ program) more)
     ∙ ap (λ xs. head_text log.ranks (group_text log.group xs)) (append_assoc (codes "program " ++ decimal_text (length log.program)) (10 ∷ line log.program lists) more
-      ∙ ap (line (codes "program " ++ decimal_text (length log.program))) (append_assoc log.program (10 ∷ lists) more)
-      ∙ ap (program_text log.program) (lists_text-append log.group log.lists (line (codes "end") []) more))
+    ∙ ap (line (codes "program " ++ decimal_text (length log.program))) (append_assoc log.program (10 ∷ lists) more)
+    ∙ ap (program_text log.program) (lists_text-append log.group log.lists (line (codes "end") []) more))
 
 -- two logs' texts, and what stands behind them
 pub log_text-and_rest : (log log' : Log) (rest rest' : List ℕ) → length log.lists ≡ length log.group → length log'.lists ≡ length log'.group
@@ -179,10 +179,11 @@ log_text-and_rest log log' rest rest' many many' small small' e =
     let groups = group_text-and_rest log.group log'.group _ _ heads.1 in
     let programs = program_text-and_rest log.program log'.program _ _ groups.1 in
     let listed : lists_text log.group log.lists (line (codes "end") rest) ≡ lists_text log.group log'.lists (line (codes "end") rest') =
-        programs.1 ∙ ap (λ group. lists_text group log'.lists (line (codes "end") rest')) groups.0 in
-    let lists = lists_text-and_rest log.group log.lists log'.lists (line (codes "end") rest) (line (codes "end") rest') many (many' ∙ ap length groups.0) small small' listed in
-    (same_log log.ranks log'.ranks log.group log'.group log.program log'.program log.lists log'.lists heads.0 (sym groups.0) programs.0 lists.0,
-      append_left (codes "end" ++ 10 ∷ []) rest rest' lists.1)
+    programs.1 ∙ ap (λ group. lists_text group log'.lists (line (codes "end") rest')) groups.0 in
+    let lists = lists_text-and_rest log.group log.lists log'.lists (line (codes "end") rest) (line (codes "end") rest') many (many' ∙ ap length groups.0) small small' listed in (
+      same_log log.ranks log'.ranks log.group log'.group log.program log'.program log.lists log'.lists heads.0 (sym groups.0) programs.0 lists.0,
+      append_left (codes "end" ++ 10 ∷ []) rest rest' lists.1,
+    )
   where
     same_log : (n n' : ℕ) (group group' program program' : List ℕ) (lists lists' : List (List Entry)) → n ≡ n' → group ≡ group' → program ≡ program' → lists ≡ lists'
         → ◌≡◌ {A = Log} (record { ranks = n; group = group; program = program; lists = lists }) (record { ranks = n'; group = group'; program = program'; lists = lists' })
@@ -192,7 +193,7 @@ log_text-and_rest log log' rest rest' many many' small small' e =
 pub alone : (text : List ℕ) → BeginsNoOther text
 alone text log other more ((is, bounds), small) ((is', bounds'), small') =
     let both : log_text_before log more ≡ log_text_before other [] =
-        sym (ap (λ xs. xs ++ more) is ∙ log_text-append log more) ∙ is' in
+    sym (ap (λ xs. xs ++ more) is ∙ log_text-append log more) ∙ is' in
     let same = log_text-and_rest log other more [] bounds.as_many bounds'.as_many small small' both in
     (sym same.0, same.1)
 
@@ -201,10 +202,13 @@ pub small_log : (text behind behind' behind'' last : List ℕ) (n : ℕ) (group 
     → AreRanks n × (text ≡ head_text n behind) → IsGroup n group × (behind ≡ group_text group behind') → IsProgram program × (behind' ≡ program_text program behind'')
     → AreSmallLists n group (length group) lists × (behind'' ≡ lists_text group lists last) → last ≡ line (codes "end") []
     → IsSmallLogText text (record { ranks = n; group = group; program = program; lists = lists })
-small_log text behind behind' behind'' last n group program lists (ranks, head) (good, group_is) (short, program_is) ((many, all), lists_are) end =
-    ((head ∙ ap (head_text n) (group_is ∙ ap (group_text group) (program_is ∙ ap (program_text program) (lists_are ∙ ap (lists_text group lists) end))),
-        record { ranks = ranks; group = good; program = short; as_many = many; lists = All-weaker (IsSmallList n group) (IsList n group) (λ entries list. list.0) lists all }),
-      All-weaker (IsSmallList n group) (λ entries. are_small_lines entries ≡ true) (λ entries list. list.1) lists all)
+small_log text behind behind' behind'' last n group program lists (ranks, head) (good, group_is) (short, program_is) ((many, all), lists_are) end = (
+  (
+    head ∙ ap (head_text n) (group_is ∙ ap (group_text group) (program_is ∙ ap (program_text program) (lists_are ∙ ap (lists_text group lists) end))),
+    record { ranks = ranks; group = good; program = short; as_many = many; lists = All-weaker (IsSmallList n group) (IsList n group) (λ entries list. list.0) lists all },
+  ),
+  All-weaker (IsSmallList n group) (λ entries. are_small_lines entries ≡ true) (λ entries list. list.1) lists all,
+)
 
 -- such entries are those that replay handles
 small_from_line : (entries : List Entry) → are_small_lines entries ≡ true → list_all is_small entries ≡ true
@@ -262,9 +266,10 @@ after_program text behind behind' behind'' n group program head group_is program
     let groups = group_text-and_rest group log.group _ _ (sym group_is ∙ heads.1) in
     let programs = program_text-and_rest program log.program _ _ (sym program_is ∙ groups.1) in
     let lists : All (IsList n log.group) log.lists = subst (λ (n : ℕ). All (IsList n log.group) log.lists) (sym heads.0) bounds.lists in
-    let lists' : All (IsList n group) log.lists = subst (λ (group : List ℕ). All (IsList n group) log.lists) groups.0 lists in
-    ((bounds.as_many ∙ ap length groups.0, λ k d within. (lists' k d within, small k d within)),
-      programs.1 ∙ ap (λ group. lists_text group log.lists (line (codes "end") [])) groups.0)
+    let lists' : All (IsList n group) log.lists = subst (λ (group : List ℕ). All (IsList n group) log.lists) groups.0 lists in (
+      (bounds.as_many ∙ ap length groups.0, λ k d within. (lists' k d within, small k d within)),
+      programs.1 ∙ ap (λ group. lists_text group log.lists (line (codes "end") [])) groups.0,
+    )
 
 pub no_log-lists : (text behind behind' behind'' : List ℕ) (n : ℕ) (group program : List ℕ) → text ≡ head_text n behind → behind ≡ group_text group behind' → behind' ≡ program_text program behind''
     → ((lists : List (List Entry)) (after : List ℕ) → AreSmallLists n group (length group) lists → behind'' ≢ lists_text group lists after) → (log : Log) → IsSmallLogText text log → ⊥
@@ -277,4 +282,4 @@ pub no_log-end : (text behind behind' behind'' last : List ℕ) (n : ℕ) (group
 no_log-end text behind behind' behind'' last n group program lists head group_is program_is ((many, all), lists_are) refused log is =
     let found = after_program text behind behind' behind'' n group program head group_is program_is log is in
     refused (lists_text-and_rest group lists log.lists last (line (codes "end") []) many found.0.0
-      (All-weaker (IsSmallList n group) (λ entries. are_small_lines entries ≡ true) (λ entries list. list.1) lists all) is.1 (sym lists_are ∙ found.1)).1
+    (All-weaker (IsSmallList n group) (λ entries. are_small_lines entries ≡ true) (λ entries list. list.1) lists all) is.1 (sym lists_are ∙ found.1)).1

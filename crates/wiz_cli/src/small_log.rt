@@ -1,5 +1,5 @@
 //! Reading logs with the small entries alone: the lines `s`, `p`, `z` and `t 0=S.K`.
-ghost use Rattle.std.specs.Prelude.{◌≡◌, ◌≤◌, ◌<◌, ◌^◌, ◌++◌, ◌∷◌, [], OnOk, IfOk, length, true};
+ghost use Rattle.std.specs.Prelude.{◌≡◌, ◌↔◌, ◌≤◌, ◌<◌, ◌^◌, ◌++◌, ◌∷◌, [], OnOk, IfOk, IsTrue, codes, length, true};
 ghost use Rattle.mpi_call.specs.Members.{is_member};
 ghost use Rattle.srr_entry.specs.declared.log.Log.{Log};
 ghost use Rattle.srr_log.specs.Bounds.{IsGroup, IsSender, is_last};
@@ -32,7 +32,7 @@ pub fn read_small_log(alloc: Global, text: &[u8]) -> Result<Log, SmallLogFault>
     let group = group(alloc, &mut cursor, ranks)?;
     let program = program(alloc, &mut cursor)?;
     let lists = lists(alloc, &mut cursor, ranks, group.as_slice())?;
-    if cursor.rest() != b"end\n".as_slice() {
+    if !is_last_line(cursor.rest()) {
         return Err(SmallLogFault::Refused);
     }
     Ok(Log {
@@ -41,6 +41,13 @@ pub fn read_small_log(alloc: Global, text: &[u8]) -> Result<Log, SmallLogFault>
         program,
         lists,
     })
+}
+
+/// Whether what is left is the last line alone.
+fn is_last_line(rest: &[u8]) -> bool
+    ensures { IsTrue result ↔ (rest.now ≡ codes "end\n") }
+{
+    rest == b"end\n".as_slice()
 }
 
 /// The format's line and the number of ranks.
@@ -286,3 +293,6 @@ fn took(alloc: Global, source: u8, start: u32) -> Result<Entry, AllocError>
         .map_err(|_| AllocError)?;
     Ok(Entry::Took(items))
 }
+
+#[cfg(test)]
+mod tests;
