@@ -1,2 +1,3 @@
 pub mod TextPieces
 pub mod SmallLogs
+pub mod SmallLogParts

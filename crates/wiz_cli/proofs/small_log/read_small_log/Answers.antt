@@ -3,7 +3,7 @@ use Rattle.std.specs.Prelude.{codes}
 use Rattle.srr_entry.specs.declared.entry.Entry.{Entry}
 use Rattle.srr_log.specs.Bounds.{IsGroup}
 use Rattle.srr_log.specs.LogText.{line, group_text, program_text, lists_text}
-use Rattle.wiz_cli.specs.SmallLogs.{AreSmallLists, IsProgram}
+use Rattle.wiz_cli.specs.SmallLogParts.{AreSmallLists, IsProgram}
 use Rattle.wiz_cli.proofs.SmallLogLaws.{alone, small_log, IsReplayable-IsSmallLogText, refusal, no_log-head, no_log-group, no_log-program, no_log-lists, no_log-end}
 use Rattle.std.proofs.lemmas.Result.{err_from_is_err_and}
 use Rattle.wiz_cli.proofs.small_log.read_small_log.Goals as goal
