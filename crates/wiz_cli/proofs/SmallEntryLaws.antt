@@ -1,11 +1,10 @@
 -- The lines of small entries: what they are, and that two differ.
-use Rattle.std.proofs.Common.{◌≡◌, ◌≢◌, ℕ, ◌+◌, ◌<◌, ◌≤◌, Bool, true, false, List, [], ◌∷◌, ◌++◌, refl, sym, ◌∙◌, ap, subst, arith, append_assoc}
+use Rattle.std.proofs.Common.{◌≡◌, ◌≢◌, ℕ, Bool, true, false, List, [], ◌∷◌, ◌++◌, refl, sym, ◌∙◌, ap, subst, arith, append_assoc}
 use Rattle.std.specs.Prelude.{◌&&◌, ◌==◌, slice_index, codes}
 use Rattle.std.proofs.lemmas.Bool.{eqb-true}
 use Rattle.std.proofs.lemmas.List.{append-nil}
 use Rattle.srr_entry.specs.declared.entry.Mark.{Mark}
 use Rattle.srr_entry.specs.declared.entry.Mark.TheVariants.{Sent as MarkSent, Nothing, Inside, Outside, Inner, Outer, Made, MadeOutside}
-use Rattle.srr_entry.specs.declared.entry.Marked.{Marked}
 use Rattle.srr_entry.specs.declared.entry.Entry.{Entry}
 use Rattle.srr_entry.specs.declared.entry.Entry.TheVariants.{Sent, Posted, Entered, Ended, Took, NotYet, PeekedInside, PeekedOutside, Stopped}
 use Rattle.srr_replay.specs.Built.{is_inside}
@@ -17,7 +16,7 @@ use Rattle.wiz_cli.specs.SmallLogs.{is_small_line}
 use Rattle.wiz_cli.specs.SmallLogParts.{took_first, name_line, small_line, IsName, IsSmallEntry}
 use Rattle.srr_log.specs.Bounds.{IsEntry, IsMark, IsSmallNumber}
 use Rattle.std.proofs.lemmas.List.Elements.{All-head}
-use Rattle.wiz_cli.proofs.PieceLaws.{newline_otherwise, number_line-and_rest, append_left}
+use Rattle.wiz_cli.proofs.PieceLaws.{number_line-and_rest, append_left}
 
 -- a text that begins with a mark begins with no digit
 pub dot_otherwise : (after : List ℕ) → BeginsOtherwise (46 ∷ after)

@@ -1,26 +1,24 @@
 -- Reading a log part by part, and that a text is the text of one log.
-use Rattle.std.proofs.Common.{◌≡◌, ◌≢◌, ℕ, suc, ◌+◌, ◌<◌, ◌≤◌, Bool, true, false, List, [], ◌∷◌, ◌++◌, length, drop, map, refl, sym, ◌∙◌, ap, subst, arith, append_assoc}
-use Rattle.std.specs.Prelude.{◌&&◌, All, codes, slice_index, Option, Some, None, Result, Ok, Err}
+use Rattle.std.proofs.Common.{◌≡◌, ◌≢◌, ℕ, suc, ◌+◌, ◌<◌, ◌≤◌, true, List, [], ◌∷◌, ◌++◌, length, drop, map, refl, sym, ◌∙◌, ap, subst, arith, append_assoc}
+use Rattle.std.specs.Prelude.{All, codes, slice_index, Result, Ok, Err}
 use Rattle.std.specs.List.{list_all}
 use Rattle.std.proofs.lemmas.List.Elements.{All-weaker, All-nil, All-cons, All-head, All-tail}
 use Rattle.std.proofs.lemmas.List.{drop_more}
 use Rattle.std.proofs.Math.ListN.{drop_of_length-le}
-use Rattle.run_model.specs.Lists.{are_below}
 use Rattle.srr_entry.specs.declared.entry.Entry.{Entry}
 use Rattle.srr_entry.specs.declared.log.Log.{Log}
 use Rattle.srr_log.specs.EntryText.{each_behind, entry_line}
-use Rattle.srr_log.specs.Bounds.{IsGroup, IsList, AreEntries, IsInBounds}
+use Rattle.srr_log.specs.Bounds.{IsGroup, IsList}
 use Rattle.srr_log.specs.LogText.{line, head_text, group_text, program_text, entries_text, list_head_text, list_text, lists_text, log_text}
-use Rattle.srr_replay.specs.Built.{is_small, AreSmall}
+use Rattle.srr_replay.specs.Built.{is_small}
 use Rattle.srr_replay.specs.Rounds.{IsReplayable}
 use Rattle.wiz_base.specs.Decimals.{decimal_text}
 use Rattle.wiz_cli.specs.declared.small_log_fault.SmallLogFault.{SmallLogFault}
 use Rattle.wiz_cli.specs.declared.small_log_fault.SmallLogFault.TheVariants.{Refused, NoMemory}
-use Rattle.wiz_cli.specs.TextPieces.{BeginsOtherwise}
 use Rattle.wiz_cli.specs.SmallLogs.{IsSmallLogText, BeginsNoOther, is_small_line, takes_first, are_small_lines}
-use Rattle.wiz_cli.specs.SmallLogParts.{IsPartRead, ranks_text, RiseBelow, AreRanksRead, AreSmallEntries, IsSmallList, AreSmallLists, AreRanks, IsProgram}
+use Rattle.wiz_cli.specs.SmallLogParts.{IsPartRead, ranks_text, AreRanksRead, AreSmallEntries, IsSmallList, AreSmallLists, AreRanks, IsProgram}
 use Rattle.wiz_cli.proofs.PieceLaws.{append_left, number_line-and_rest, same_length-and_rest, newline_otherwise}
-use Rattle.wiz_cli.proofs.SmallListLaws.{both_hold, group_text-is, ranks_so_far, no_group, is_distinct-rising, list_head-and_rest, list_text-and_rest}
+use Rattle.wiz_cli.proofs.SmallListLaws.{both_hold, group_text-is, no_group, is_distinct-rising, list_head-and_rest, list_text-and_rest}
 
 -- a part's fault is the whole's where its refusal is
 pub passes : {A B : Type 0} (spelled : A → List ℕ → List ℕ) (Good : A → Type 0) (spelled' : B → List ℕ → List ℕ) (Good' : B → Type 0) (text text' rest rest' : List ℕ) (fault : SmallLogFault)

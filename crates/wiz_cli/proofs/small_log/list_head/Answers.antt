@@ -1,4 +1,4 @@
-use Rattle.std.proofs.Common.{◌≡◌, [], ◌∷◌, ◌++◌, sym, ◌∙◌, arith}
+use Rattle.std.proofs.Common.{[], ◌∷◌, ◌++◌, sym, ◌∙◌}
 use Rattle.wiz_base.specs.Decimals.{decimal_text}
 use Rattle.wiz_cli.proofs.PieceLaws.{append_left, number_is}
 use Rattle.wiz_cli.proofs.SmallEntryLaws.{list_head-is, blank_otherwise}

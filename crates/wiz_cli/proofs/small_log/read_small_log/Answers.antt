@@ -1,8 +1,7 @@
-use Rattle.std.proofs.Common.{◌≡◌, ◌≢◌, ◌++◌, ◌∷◌, [], List, ℕ, length, sym, ◌∙◌, ap, subst}
-use Rattle.std.specs.Prelude.{codes}
+use Rattle.std.proofs.Common.{◌≡◌, ◌≢◌, List, ℕ, length, sym, ◌∙◌, subst}
 use Rattle.srr_entry.specs.declared.entry.Entry.{Entry}
 use Rattle.srr_log.specs.Bounds.{IsGroup}
-use Rattle.srr_log.specs.LogText.{line, group_text, program_text, lists_text}
+use Rattle.srr_log.specs.LogText.{group_text, program_text, lists_text}
 use Rattle.wiz_cli.specs.SmallLogParts.{AreSmallLists, IsProgram}
 use Rattle.wiz_cli.proofs.SmallLogLaws.{alone, small_log, IsReplayable-IsSmallLogText, refusal, no_log-head, no_log-group, no_log-program, no_log-lists, no_log-end}
 use Rattle.std.proofs.lemmas.Result.{err_from_is_err_and}

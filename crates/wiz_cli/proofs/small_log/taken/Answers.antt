@@ -1,4 +1,4 @@
-use Rattle.std.proofs.Common.{◌≡◌, [], ◌∷◌, ◌++◌, sym, ◌∙◌, ap}
+use Rattle.std.proofs.Common.{[], ◌∷◌, ◌++◌, sym, ◌∙◌, ap}
 use Rattle.wiz_base.specs.Decimals.{decimal_text}
 use Rattle.wiz_cli.proofs.PieceLaws.{append_left, number_is}
 use Rattle.wiz_cli.proofs.SmallEntryLaws.{name_line-is, dot_otherwise}
