@@ -1,12 +1,10 @@
 -- Words and numbers at the head of a text, for their readers and for the laws of texts.
 use Rattle.std.proofs.Common.{◌≡◌, ◌≢◌, ℕ, ◌+◌, ◌<◌, ◌≤◌, inl, inr, List, [], ◌∷◌, ◌++◌, length, take, drop, refl, sym, ◌∙◌, ap, subst, arith, length-append}
-use Rattle.std.specs.Prelude.{slice_index, Option, Some, None, Bool, true, false, not}
+use Rattle.std.specs.Prelude.{slice_index, Option, Some, None}
 use Rattle.std.specs.Char.{IsAsciiDigit}
 use Rattle.std.proofs.Math.ListN.{get_or-append}
 use Rattle.std.proofs.Math.Seq.{drop-append_seam}
-use Rattle.std.proofs.lemmas.Bool.{cases_lt, cases_Bool}
-use Rattle.std.specs.Str.{bytes_eq}
-use Rattle.std.proofs.lemmas.Slice.Eq.{bytes_eq-Decides}
+use Rattle.std.proofs.lemmas.Bool.{cases_lt}
 use Rattle.std.proofs.lemmas.List.{take_at, get_or-append-add}
 use Rattle.wiz_base.specs.Lines.{IsTaken}
 use Rattle.wiz_base.specs.Decimals.{decimal_text}
@@ -96,13 +94,3 @@ same_length-and_rest (x ∷ xs) (y ∷ ys) rest rest' many e =
     let first : x ≡ y = cc in
     let others = same.0 in
     (cc, same.1)
-
--- what `!=` of two texts says
-pub not_same : (xs ys : List ℕ) (differ : Bool) → differ ≡ not (bytes_eq xs ys) → (differ ≡ true → xs ≢ ys) × (differ ≡ false → xs ≡ ys)
-not_same xs ys differ is = (
-  λ apart e. (let same : bytes_eq xs ys ≡ true = (bytes_eq-Decides xs ys).1 e in let none : true ≡ false = sym apart ∙ is ∙ ap not same in cc none),
-  λ alike. elim (cases_Bool (bytes_eq xs ys)) [
-    | inl same ↦ (bytes_eq-Decides xs ys).0 same
-    | inr other ↦ absurd (let none : false ≡ true = sym alike ∙ is ∙ ap not other in cc none)
-  ],
-)

@@ -12,7 +12,8 @@ use Rattle.wiz_base.specs.Decimals.{decimal_text}
 use Rattle.wiz_base.proofs.DecimalLaws.{decimal_text-digit, decimal_text-and_rest}
 use Rattle.srr_log.specs.LogText.{list_head_text}
 use Rattle.wiz_cli.specs.TextPieces.{BeginsOtherwise}
-use Rattle.wiz_cli.specs.SmallLogs.{is_small_line, took_first, name_line, small_line, IsName, IsSmallEntry}
+use Rattle.wiz_cli.specs.SmallLogs.{is_small_line}
+use Rattle.wiz_cli.specs.SmallLogParts.{took_first, name_line, small_line, IsName, IsSmallEntry}
 use Rattle.srr_log.specs.Bounds.{IsEntry, IsMark, IsSmallNumber}
 use Rattle.std.proofs.lemmas.List.Elements.{All-head}
 use Rattle.wiz_cli.proofs.PieceLaws.{number_line-and_rest, append_left}

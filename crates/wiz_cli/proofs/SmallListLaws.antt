@@ -15,7 +15,8 @@ use Rattle.srr_log.specs.LogText.{line, entries_text, list_head_text, list_text,
 use Rattle.wiz_base.specs.Decimals.{decimal_text}
 use Rattle.wiz_base.proofs.DecimalLaws.{decimal_text-and_rest}
 use Rattle.wiz_cli.specs.TextPieces.{BeginsOtherwise}
-use Rattle.wiz_cli.specs.SmallLogs.{is_small_line, are_small_lines, ranks_text, RiseBelow, IsRankFrom, AreSmallEntries}
+use Rattle.wiz_cli.specs.SmallLogs.{is_small_line, are_small_lines}
+use Rattle.wiz_cli.specs.SmallLogParts.{ranks_text, RiseBelow, IsRankFrom, AreSmallEntries}
 use Rattle.wiz_cli.proofs.PieceLaws.{append_left, newline_otherwise, number_line-and_rest}
 use Rattle.wiz_cli.proofs.SmallEntryLaws.{small_line-and_rest, blank_otherwise, list_head-is}
 

@@ -15,7 +15,8 @@ use Rattle.srr_replay.specs.Rounds.{IsReplayable}
 use Rattle.wiz_base.specs.Decimals.{decimal_text}
 use Rattle.wiz_cli.specs.declared.small_log_fault.SmallLogFault.{SmallLogFault}
 use Rattle.wiz_cli.specs.declared.small_log_fault.SmallLogFault.TheVariants.{Refused, NoMemory}
-use Rattle.wiz_cli.specs.SmallLogs.{IsSmallLogText, BeginsNoOther, IsPartRead, is_small_line, takes_first, are_small_lines, ranks_text, AreRanksRead, AreSmallEntries, IsSmallList, AreSmallLists, AreRanks, IsProgram}
+use Rattle.wiz_cli.specs.SmallLogs.{IsSmallLogText, BeginsNoOther, is_small_line, takes_first, are_small_lines}
+use Rattle.wiz_cli.specs.SmallLogParts.{IsPartRead, ranks_text, AreRanksRead, AreSmallEntries, IsSmallList, AreSmallLists, AreRanks, IsProgram}
 use Rattle.wiz_cli.proofs.PieceLaws.{append_left, number_line-and_rest, same_length-and_rest, newline_otherwise}
 use Rattle.wiz_cli.proofs.SmallListLaws.{both_hold, group_text-is, no_group, is_distinct-rising, list_head-and_rest, list_text-and_rest}
 

@@ -4,6 +4,7 @@ pub mod CourseLaws
 pub mod FirstRow
 pub mod Reading
 pub mod Reports
+pub mod SmallLogParts
 pub mod SmallLogs
 pub mod SmallTexts
 pub mod States

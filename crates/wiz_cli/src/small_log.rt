@@ -1,11 +1,12 @@
 //! Reading logs with the small entries alone: the lines `s`, `p`, `z` and `t 0=S.K`.
-ghost use Rattle.std.specs.Prelude.{◌≡◌, ◌≤◌, ◌<◌, ◌^◌, ◌++◌, ◌∷◌, [], OnOk, IfOk, length, true};
+ghost use Rattle.std.specs.Prelude.{◌≡◌, ◌↔◌, ◌≤◌, ◌<◌, ◌++◌, ◌∷◌, [], OnOk, IfOk, IsTrue, codes, length, true};
 ghost use Rattle.mpi_call.specs.Members.{is_member};
 ghost use Rattle.srr_entry.specs.declared.log.Log.{Log};
 ghost use Rattle.srr_log.specs.Bounds.{IsGroup, IsSender, is_last};
 ghost use Rattle.srr_log.specs.LogText.{head_text, group_text, program_text, entries_text, list_head_text, list_text, lists_text};
 ghost use Rattle.srr_replay.specs.Rounds.{IsReplayable};
-ghost use Rattle.wiz_cli.specs.SmallLogs.{IsSmallLogText, BeginsNoOther, is_small_line, IsPart, IsPartRead, AreRanks, AreRanksRead, IsRankFrom, IsProgram, IsCount, IsName, IsSmallEntry, AreSmallEntries, IsSmallList, AreSmallLists, name_line, small_line, took_first};
+ghost use Rattle.wiz_cli.specs.SmallLogs.{IsSmallLogText, BeginsNoOther, is_small_line};
+ghost use Rattle.wiz_cli.specs.SmallLogParts.{IsPart, IsPartRead, AreRanks, AreRanksRead, IsRankFrom, IsProgram, IsCount, IsName, IsSmallEntry, AreSmallEntries, IsSmallList, AreSmallLists, name_line, small_line, took_first};
 ghost use Rattle.wiz_cli.specs.TextPieces.{IsNumberTaken};
 
 use crate::small_log_fault::SmallLogFault;
@@ -18,7 +19,6 @@ use wiz_base::{Bytes, Cursor};
 
 /// Reads a log whose entries are the lines `s`, `p`, `z` and `t 0=S.K` alone. Takes time and memory by the text's length.
 pub fn read_small_log(alloc: Global, text: &[u8]) -> Result<Log, SmallLogFault>
-    requires { length text.now < 2 ^ 32 }
     ensures log { IfOk result (λ log. IsSmallLogText text.now log) }
     ensures refused { result ≡ Err SmallLogFault.Refused → (log : Log) → IsSmallLogText text.now log → ⊥ }
     ensures replayable { IfOk result (λ log. IsReplayable log) }
@@ -32,7 +32,7 @@ pub fn read_small_log(alloc: Global, text: &[u8]) -> Result<Log, SmallLogFault>
     let group = group(alloc, &mut cursor, ranks)?;
     let program = program(alloc, &mut cursor)?;
     let lists = lists(alloc, &mut cursor, ranks, group.as_slice())?;
-    if cursor.rest() != b"end\n".as_slice() {
+    if !is_last_line(cursor.rest()) {
         return Err(SmallLogFault::Refused);
     }
     Ok(Log {
@@ -41,6 +41,13 @@ pub fn read_small_log(alloc: Global, text: &[u8]) -> Result<Log, SmallLogFault>
         program,
         lists,
     })
+}
+
+/// Whether what is left is the last line alone.
+fn is_last_line(rest: &[u8]) -> bool
+    ensures { IsTrue result ↔ (rest.now ≡ codes "end\n") }
+{
+    rest == b"end\n".as_slice()
 }
 
 /// The format's line and the number of ranks.
@@ -286,3 +293,6 @@ fn took(alloc: Global, source: u8, start: u32) -> Result<Entry, AllocError>
         .map_err(|_| AllocError)?;
     Ok(Entry::Took(items))
 }
+
+#[cfg(test)]
+mod tests;

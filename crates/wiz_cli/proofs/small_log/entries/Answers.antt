@@ -3,7 +3,8 @@ use Rattle.std.specs.List.{list_any}
 use Rattle.srr_log.specs.Bounds.{AreEntries, is_last}
 use Rattle.std.proofs.lemmas.Result.{err_from_is_err_and}
 use Rattle.srr_log.specs.LogText.{entries_text}
-use Rattle.wiz_cli.specs.SmallLogs.{IsSmallEntry, AreSmallEntries, small_line, are_small_lines}
+use Rattle.wiz_cli.specs.SmallLogs.{are_small_lines}
+use Rattle.wiz_cli.specs.SmallLogParts.{IsSmallEntry, AreSmallEntries, small_line}
 use Rattle.wiz_cli.proofs.SmallListLaws.{no_entries, none_behind_last, AreEntries-next, are_small_lines-next, entries_text-snoc, are_small_lines-snoc, AreEntries-snoc, list_any-snoc}
 use Rattle.wiz_cli.proofs.SmallLogLaws.{passes}
 use Rattle.wiz_cli.proofs.small_log.entries.Goals as goal

@@ -1,7 +1,7 @@
 use Rattle.std.proofs.Common.{◌≡◌, ◌<◌, ◌∷◌, length, sym, ◌∙◌, ap, arith}
 use Rattle.std.proofs.lemmas.Bool.{eqb-true, eqb-false}
 use Rattle.std.proofs.lemmas.Result.{err_from_is_err_and}
-use Rattle.wiz_cli.specs.SmallLogs.{ranks_text}
+use Rattle.wiz_cli.specs.SmallLogParts.{ranks_text}
 use Rattle.wiz_cli.proofs.SmallListLaws.{group_text-is}
 use Rattle.wiz_cli.proofs.SmallLogLaws.{group_fault, group_is}
 use Rattle.wiz_cli.proofs.small_log.group.Goals as goal

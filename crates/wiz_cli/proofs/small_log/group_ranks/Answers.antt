@@ -1,5 +1,5 @@
 use Rattle.std.proofs.Common.{◌≡◌, ◌++◌, ◌∷◌, [], sym, ◌∙◌, ap, subst, arith}
-use Rattle.wiz_cli.specs.SmallLogs.{ranks_text, RiseBelow}
+use Rattle.wiz_cli.specs.SmallLogParts.{ranks_text, RiseBelow}
 use Rattle.wiz_cli.proofs.SmallListLaws.{no_ranks, ranks_text-snoc, RiseFrom-snoc, next_from, next_from-snoc, are_below-snoc}
 use Rattle.wiz_cli.proofs.small_log.group_ranks.Goals as goal
 

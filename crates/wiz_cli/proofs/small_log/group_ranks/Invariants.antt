@@ -1,6 +1,6 @@
 use Rattle.std.proofs.Common.{◌≡◌, ◌<◌, ◌-◌, length}
 use Rattle.wiz_cli.specs.TextPieces.{BeginsOtherwise}
-use Rattle.wiz_cli.specs.SmallLogs.{ranks_text, RiseBelow}
+use Rattle.wiz_cli.specs.SmallLogParts.{ranks_text, RiseBelow}
 use Rattle.wiz_cli.proofs.SmallListLaws.{next_from}
 use Rattle.wiz_cli.proofs.small_log.group_ranks.Given as goal
 

@@ -4,7 +4,7 @@ use Rattle.std.proofs.lemmas.List.{append-nil}
 use Rattle.std.proofs.lemmas.Result.{err_from_is_err_and}
 use Rattle.srr_entry.specs.declared.entry.Entry.{Entry}
 use Rattle.srr_log.specs.LogText.{list_text, lists_text}
-use Rattle.wiz_cli.specs.SmallLogs.{IsSmallList, AreSmallLists}
+use Rattle.wiz_cli.specs.SmallLogParts.{IsSmallList, AreSmallLists}
 use Rattle.wiz_cli.proofs.SmallLogLaws.{passes, list_onward, list_back, no_lists, no_more_lists}
 use Rattle.wiz_cli.proofs.small_log.lists.Goals as goal
 

@@ -1,7 +1,7 @@
 use Rattle.std.proofs.Common.{◌≡◌, ◌++◌, ℕ, List, length}
 use Rattle.srr_entry.specs.declared.entry.Entry.{Entry}
 use Rattle.srr_log.specs.LogText.{lists_text}
-use Rattle.wiz_cli.specs.SmallLogs.{AreSmallLists}
+use Rattle.wiz_cli.specs.SmallLogParts.{AreSmallLists}
 use Rattle.wiz_cli.proofs.SmallLogLaws.{AreListsFrom}
 use Rattle.wiz_cli.proofs.small_log.lists.Given as goal
 

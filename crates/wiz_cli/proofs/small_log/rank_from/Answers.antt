@@ -1,5 +1,5 @@
 use Rattle.std.proofs.Common.{arith}
-use Rattle.wiz_cli.specs.SmallLogs.{IsRankFrom}
+use Rattle.wiz_cli.specs.SmallLogParts.{IsRankFrom}
 use Rattle.wiz_cli.proofs.PieceLaws.{no_such_number}
 use Rattle.wiz_cli.proofs.small_log.rank_from.Goals as goal
 use Rattle.wiz_cli.proofs.small_log.rank_from.Goals.{then-rank-least-via-then-rank-least, then-rank-least-via-else-rank-least+then-rank-ranks}

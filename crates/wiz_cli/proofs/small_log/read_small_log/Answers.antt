@@ -2,9 +2,8 @@ use Rattle.std.proofs.Common.{◌≡◌, ◌≢◌, List, ℕ, length, sym, ◌�
 use Rattle.srr_entry.specs.declared.entry.Entry.{Entry}
 use Rattle.srr_log.specs.Bounds.{IsGroup}
 use Rattle.srr_log.specs.LogText.{group_text, program_text, lists_text}
-use Rattle.wiz_cli.specs.SmallLogs.{AreSmallLists, IsProgram}
+use Rattle.wiz_cli.specs.SmallLogParts.{AreSmallLists, IsProgram}
 use Rattle.wiz_cli.proofs.SmallLogLaws.{alone, small_log, IsReplayable-IsSmallLogText, refusal, no_log-head, no_log-group, no_log-program, no_log-lists, no_log-end}
-use Rattle.wiz_cli.proofs.PieceLaws.{not_same}
 use Rattle.std.proofs.lemmas.Result.{err_from_is_err_and}
 use Rattle.wiz_cli.proofs.small_log.read_small_log.Goals as goal
 
@@ -43,15 +42,15 @@ returns-in_err-lists-clause-refused c = λ is.
 pub returns-in_err-lists-clause-alone : goal.returns-in_err-lists-clause-alone
 returns-in_err-lists-clause-alone c = alone c.args.text.now
 
-pub returns-then-ne-clause-refused : goal.returns-then-ne-clause-refused
-returns-then-ne-clause-refused c = λ is.
+pub returns-then-not-is_last_line-clause-refused : goal.returns-then-not-is_last_line-clause-refused
+returns-then-not-is_last_line-clause-refused c = λ is.
     let P : List ℕ → Type 0 = λ group. AreSmallLists c.in-Some.ranks group (length group) c.in_ok-lists.lists × (c.program.new.cursor ≡ lists_text group c.in_ok-lists.lists c.lists.new.cursor) in
     no_log-end c.args.text.now c.head.new.cursor c.group.new.cursor c.program.new.cursor c.lists.new.cursor c.in-Some.ranks c.in_ok-group.group c.in_ok-program.program c.in_ok-lists.lists
     (sym c.new-cursor.ensures ∙ c.in-Some.ensures.1) c.in_ok-group.ensures.1 c.in_ok-program.ensures.1 (subst P c.as_slice.ensures c.in_ok-lists.ensures)
-    (λ end. (not_same c.rest.result.now c.as_slice-2.result.now c.ne.result c.ne.ensures).0 c.if-ne.true (c.rest.ensures ∙ end ∙ sym c.as_slice-2.ensures))
+    (λ end. let whole = c.is_last_line.ensures.1 (c.rest.ensures ∙ end) in cc (whole, c.if-not-is_last_line.true))
 
-pub returns-then-ne-clause-alone : goal.returns-then-ne-clause-alone
-returns-then-ne-clause-alone c = alone c.args.text.now
+pub returns-then-not-is_last_line-clause-alone : goal.returns-then-not-is_last_line-clause-alone
+returns-then-not-is_last_line-clause-alone c = alone c.args.text.now
 
 pub returns-clause-replayable : goal.returns-clause-replayable
 returns-clause-replayable c =
@@ -59,7 +58,7 @@ returns-clause-replayable c =
     IsReplayable-IsSmallLogText c.args.text.now _
     (small_log c.args.text.now c.head.new.cursor c.group.new.cursor c.program.new.cursor c.lists.new.cursor c.in-Some.ranks c.in_ok-group.group c.in_ok-program.program c.in_ok-lists.lists
     (c.in-Some.ensures.0, sym c.new-cursor.ensures ∙ c.in-Some.ensures.1) c.in_ok-group.ensures c.in_ok-program.ensures (subst P c.as_slice.ensures c.in_ok-lists.ensures)
-    (sym c.rest.ensures ∙ (not_same c.rest.result.now c.as_slice-2.result.now c.ne.result c.ne.ensures).1 c.if-ne.false ∙ c.as_slice-2.ensures))
+    (sym c.rest.ensures ∙ c.is_last_line.ensures.0 c.if-not-is_last_line.false))
 
 pub returns-clause-alone : goal.returns-clause-alone
 returns-clause-alone c = alone c.args.text.now
