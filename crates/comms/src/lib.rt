@@ -3,4 +3,5 @@
 
 pub mod colours;
 pub mod communicators;
+pub mod groups;
 pub mod numbers;
