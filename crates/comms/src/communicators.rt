@@ -48,6 +48,13 @@ impl Comms {
         })
     }
 
+    /// How many communicators were made, the world among them. Takes no memory.
+    pub fn count(&self) -> usize
+        ensures { result ≡ length self.now.members }
+    {
+        self.members.len()
+    }
+
     /// A communicator's members in order, where it was made. Takes no memory.
     pub fn members(&self, comm: Comm) -> Option<&Ranks>
         ensures { option_copied result ≡ members_of self.now comm }

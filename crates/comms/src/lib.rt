@@ -5,3 +5,5 @@ pub mod colours;
 pub mod communicators;
 pub mod groups;
 pub mod numbers;
+#[cfg(test)]
+mod tests;
