@@ -56,7 +56,7 @@ search_missed xs colour place rise parts =
     none k within (inl before) = ap is_eq (split.0 k colour (omega arith) before)
     none k within (inr after) = ap is_eq (split.1 k colour after within)
 
-hit : (xs : List ℤ) (colour d : ℤ) → place_among xs colour < length xs → int_eq (get_or xs (place_among xs colour) d) colour ≡ true
+pub hit : (xs : List ℤ) (colour d : ℤ) → place_among xs colour < length xs → int_eq (get_or xs (place_among xs colour) d) colour ≡ true
 hit [] colour d within = absurd (omega arith)
 hit (x ∷ xs) colour d within =
     elim (cases_Bool (int_eq x colour)) [
@@ -68,7 +68,7 @@ hit (x ∷ xs) colour d within =
           rw (other, one_more) (hit xs colour d deeper)
     ]
 
-int_eq-sym : (a b : ℤ) → int_eq a b ≡ true → int_eq b a ≡ true
+pub int_eq-sym : (a b : ℤ) → int_eq a b ≡ true → int_eq b a ≡ true
 int_eq-sym a b h = (Decides-int_eq b a).1 (sym ((Decides-int_eq a b).0 h))
 
 -- a place is a colour's just where the colour stands there
