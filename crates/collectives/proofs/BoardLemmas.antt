@@ -10,7 +10,7 @@ use Rattle.mpi_call.proofs.NeedsLemmas.{eqb-sym}
 use Rattle.mpi_call.specs.Calls.{comm_of}
 use Rattle.mpi_call.specs.declared.call.Call.{Call}
 use Rattle.collectives.proofs.InstanceLemmas.{neq-eqb}
-use Rattle.collectives.specs.Boards.{enters_of, instances_on, GainsEnter, IsBoardAfter, LosesEnter, Stages}
+use Rattle.collectives.specs.Boards.{enters_of, entered_by, instances_on, GainsEnter, IsBoardAfter, LosesEnter, Stages}
 use Rattle.collectives.specs.Entrants.{without}
 use Rattle.collectives.specs.Instances.{answer_of, instance_at, Gains, IsInstancesAfter, Loses}
 use Rattle.collectives.specs.declared.entrants.Entrant.{Entrant}
@@ -115,3 +115,8 @@ pub same_written : (stages seen new : Stages) (comm : ℕ) (found left : List (L
     → Some found ≡ lookup (is_at (nat_cmp comm)) stages → stages ≡ seen → left ≡ found → new ≡ seen
 same_written stages seen new comm found left is there view same =
     is ∙ (ap (set_value (is_at (nat_cmp comm)) stages) same ∙ (set_value_same (is_at (nat_cmp comm)) stages found (sym there) ∙ view))
+
+-- the first Enter on a communicator does not disagree
+pub first_joins : (old : Stages) (rank : ℕ) (call : Call) (other : ℕ) → [] ≡ instances_on old (comm_of call) → entered_by old rank call ≡ Disagrees other → ⊥
+first_joins old rank call other none disagrees =
+    let joins : Joined 0 ≡ Disagrees other = ap (λ (all : List (List Entrant)). answer_of all rank call) none ∙ disagrees in cc

@@ -12,6 +12,7 @@ use Rattle.mpi_call.specs.declared.call.Call.{Call}
 use Rattle.collectives.specs.Entrants.{AllAgree, Among, first_against, has_entered, without}
 use Rattle.collectives.specs.Instances.{enters_by, answer_of, instance_at, joins_unless, Gains, IsKept, Loses}
 use Rattle.collectives.specs.declared.entrants.Entrant.{Entrant}
+use Rattle.collectives.specs.declared.instances.Entered.TheVariants.{Joined, Disagrees}
 
 not_less : (a b : ℕ) → b ≤ a → nat_lt a b ≡ false
 not_less a b h = elim (cases_Bool (nat_lt a b)) [ inl less ↦ absurd (let below : a < b = ltb-true a b less in omega arith) | inr more ↦ more ]
@@ -251,3 +252,11 @@ loses_at old seen new last number rank view is loses =
     let P : List (List Entrant) → Type 0 = λ all. Loses all new number rank in
     let Q : ℕ → Type 0 = λ n. Loses old new n rank in
     subst P view (subst Q is loses)
+
+-- an Enter that joins does not disagree
+pub joins_not : (instances seen : List (List Entrant)) (counts : List ℕ) (lists : List (List Entrant)) (rank : ℕ) (call : Call) (instance : ℕ)
+    → IsKept instances counts → instances ≡ seen → lists ≡ instances → instance ≡ get_or counts rank 0
+    → None ≡ first_against (instance_at lists instance) call → (other : ℕ) → answer_of seen rank call ≡ Disagrees other → ⊥
+joins_not instances seen counts lists rank call instance kept view is count against other disagrees =
+    let joins : Joined instance ≡ Disagrees other = joins_is instances seen counts lists rank call instance None kept view is count against ∙ disagrees in
+    cc

@@ -1,8 +1,9 @@
 //! The collectives of all communicators.
-ghost use Rattle.std.specs.Prelude.{◌≡◌, ◌-◌, ◌<◌, [], map, IfOk, IsTrue, OnErr};
+ghost use Rattle.std.specs.Prelude.{◌≡◌, ◌-◌, ◌<◌, [], ℕ, map, IfOk, IsOk, IsTrue, OnErr};
 ghost use Rattle.mpi_call.specs.Calls.{comm_of, is_enter};
 ghost use Rattle.collectives.specs.Boards.{entered_by, enters_of, enters_on, IsBoardAfter, LosesEnter};
 ghost use Rattle.collectives.specs.Entrants.{has_entered, ints_by};
+ghost use Rattle.collectives.specs.declared.instances.Entered.TheVariants.{Disagrees};
 
 use crate::instances::{Entered, Instances};
 use mpi_call::call::{Call, Comm};
@@ -43,6 +44,9 @@ impl Board {
         requires call { IsTrue (is_enter call.now) }
         requires count { enters_on self.old (comm_of call.now) rank < 4000000000 }
         ensures answer { IfOk result (λ entered. entered ≡ entered_by self.old rank call.now) }
+
+        // An Enter that disagrees takes no memory.
+        ensures disagrees { (other : ℕ) → entered_by self.old rank call.now ≡ Disagrees other → IsOk result }
         ensures after { IfOk result (λ entered. IsBoardAfter self.old self.new rank call.now entered) }
         ensures err { OnErr result (self.new ≡ self.old) }
     {
@@ -55,6 +59,16 @@ impl Board {
         let entered = instances.enter(self.alloc, rank, call)?;
         self.stages.insert(comm, instances)?;
         Ok(entered)
+    }
+
+    /// How many Enters a rank has made on a communicator: the instance of its next one. Takes no memory.
+    pub fn enters_on(&self, comm: Comm, rank: u8) -> u32
+        ensures { result ≡ enters_on self.now comm rank }
+    {
+        match self.stages.get(&comm) {
+            Some(instances) => instances.enters_by(rank),
+            None => 0,
+        }
     }
 
     /// Whether a rank has entered an instance. Takes no memory.

@@ -1,8 +1,9 @@
 //! The instances of one communicator's collectives.
-ghost use Rattle.std.specs.Prelude.{◌≡◌, ◌-◌, ◌<◌, ◌≤◌, [], ℕ, length, map, IfOk, IsTrue, OnErr, OnOk, slice_index, vec_len};
+ghost use Rattle.std.specs.Prelude.{◌≡◌, ◌-◌, ◌<◌, ◌≤◌, [], ℕ, length, map, IfOk, IsOk, IsTrue, OnErr, OnOk, slice_index, vec_len};
 ghost use Rattle.mpi_call.specs.Calls.{is_enter};
 ghost use Rattle.collectives.specs.Entrants.{first_against, has_entered, ints_by, AllAgree};
 ghost use Rattle.collectives.specs.Instances.{answer_of, enters_by, instance_at, Gains, IsInstancesAfter, Loses};
+ghost use Rattle.collectives.specs.declared.instances.Entered.TheVariants.{Disagrees};
 
 use crate::entrants::{Entrant, Entrants};
 use mpi_call::call::{self, Call};
@@ -79,6 +80,9 @@ impl Instances {
         requires call { IsTrue (is_enter call.now) }
         requires count { enters_by self.old rank < 4000000000 }
         ensures answer { IfOk result (λ entered. entered ≡ answer_of self.old rank call.now) }
+
+        // An Enter that disagrees takes no memory.
+        ensures disagrees { (other : ℕ) → answer_of self.old rank call.now ≡ Disagrees other → IsOk result }
         ensures after { IfOk result (λ entered. IsInstancesAfter self.old self.new rank call.now entered) }
         ensures err { OnErr result (self.new ≡ self.old) }
     {

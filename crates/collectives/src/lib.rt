@@ -7,3 +7,5 @@
 pub mod board;
 pub mod entrants;
 pub mod instances;
+#[cfg(test)]
+mod tests;

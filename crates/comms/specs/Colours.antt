@@ -1,6 +1,6 @@
 -- What a Split makes of the colours that were entered.
 -- (MPI 3.1, Groups, Contexts, Communicators, and Caching, "Communicator Constructors".)
-use Rattle.std.specs.Prelude.{ℕ, ◌+◌, ℤ, List, [], map, filter, length, Bool, not, nat_lt, if◌then◌else◌}
+use Rattle.std.specs.Prelude.{ℕ, ◌+◌, ℤ, List, map, filter, length, not, nat_lt, if◌then◌else◌}
 use Rattle.std.specs.List.{dedup, position_or_len}
 use Rattle.std.specs.Ordering.{int_eq}
 use Rattle.mpi_call.specs.Made.{by_key, split_into}

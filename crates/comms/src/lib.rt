@@ -3,4 +3,7 @@
 
 pub mod colours;
 pub mod communicators;
+pub mod groups;
 pub mod numbers;
+#[cfg(test)]
+mod tests;

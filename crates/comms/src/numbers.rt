@@ -1,5 +1,5 @@
 //! Lists of communicators' numbers.
-ghost use Rattle.std.specs.Prelude.{◌≡◌, ◌++◌, ◌∷◌, [], IfOk, OnErr, OnOk, replicate};
+ghost use Rattle.std.specs.Prelude.{◌≡◌, ◌++◌, ◌∷◌, [], IfOk, OnErr, OnOk, replicate, slice_index};
 
 use mpi_call::call::Comm;
 use std::alloc::{AllocError, Global};
@@ -46,10 +46,13 @@ impl Numbers {
         Ok(Numbers { values })
     }
 
-    /// The numbers in order.
-    pub fn as_slice(&self) -> &[Comm]
-        ensures { result.now ≡ self.now }
+    /// The number at a place, 0 past the end. Takes no memory.
+    pub fn at(&self, place: usize) -> Comm
+        ensures { result ≡ slice_index self.now place }
     {
-        &self.values
+        match self.values.get(place) {
+            Some(number) => *number,
+            None => 0,
+        }
     }
 }

@@ -234,7 +234,17 @@ type ResultRow<'a> = (
 
 #[test]
 fn results_are_as_the_tables_say(rt: HostRuntime) -> Result<(), Fail> {
-    let rows: [ResultRow; 9] = [
+    let rows: [ResultRow; 10] = [
+        (
+            "a sum of three",
+            Kind::Allreduce,
+            None,
+            Some(Op::Sum),
+            1,
+            &[&[1], &[2], &[3]],
+            0,
+            &[6],
+        ),
         (
             "a product up to the second",
             Kind::Scan,
@@ -358,7 +368,7 @@ fn splits_are_by_key_and_then_by_place(rt: HostRuntime) -> Result<(), Fail> {
             "two of one colour",
             Kind::Split,
             &[&[1, 0], &[-32766, 0], &[1, 0]],
-            2,
+            0,
             &[0, 2],
         ),
         (

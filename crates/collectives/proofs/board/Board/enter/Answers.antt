@@ -1,7 +1,7 @@
 use Rattle.std.proofs.Common.{◌≡◌, ◌∙◌, ◌<◌, ap, sym, subst, List, [], ℕ, refl, rules}
 use Rattle.std.proofs.lemmas.Result.{IfOk-weaker, on_err_weaker}
 use Rattle.mpi_call.specs.Calls.{comm_of}
-use Rattle.collectives.proofs.BoardLemmas.{board_after, board_after_first, known, same_written, sets_at, sets_is, unknown, Sets}
+use Rattle.collectives.proofs.BoardLemmas.{board_after, board_after_first, first_joins, known, same_written, sets_at, sets_is, unknown, Sets}
 use Rattle.collectives.specs.Boards.{instances_on, Stages}
 use Rattle.std.specs.BTreeMap.{BTreeMap}
 use Rattle.collectives.specs.Instances.{answer_of, enters_by}
@@ -60,3 +60,19 @@ returns-clause-after c =
     c.comm_of-comm.ensures c.new-instances.ensures none
     (sets_at old c.args.self.now new c.comm_of-comm.result c.enter-2.new.self view (sets_is old new c.comm_of-comm.result c.enter-2.new.self c.in_ok-insert.ensures.updates.0))
     c.in_ok-entered.ensures.answer c.in_ok-entered.ensures.after
+
+pub returns-in-Some-clause-disagrees : goal.returns-in-Some-clause-disagrees
+returns-in-Some-clause-disagrees c = λ other disagrees.
+    let is : c.in-Some.instances.now ≡ instances_on c.args.self.now (comm_of c.args.call.now) =
+    known c.self.inside.stages.entries c.args.self.now c.comm_of-comm.result (comm_of c.args.call.now) c.in-Some.instances.now c.in-Some.ensures.value c.self.view_is c.comm_of-comm.ensures in
+    c.enter.ensures.disagrees other (ap (λ (all : List (List Entrant)). answer_of all c.args.rank c.args.call.now) is ∙ disagrees)
+
+pub returns-in_err-entered-clause-disagrees : goal.returns-in_err-entered-clause-disagrees
+returns-in_err-entered-clause-disagrees c = λ other disagrees. absurd (
+    first_joins c.args.self.now c.args.rank c.args.call.now other
+    (unknown c.self.inside.stages.entries c.args.self.now c.comm_of-comm.result (comm_of c.args.call.now) c.in-None.ensures.value c.self.view_is c.comm_of-comm.ensures) disagrees)
+
+pub returns-in_err-insert-clause-disagrees : goal.returns-in_err-insert-clause-disagrees
+returns-in_err-insert-clause-disagrees c = λ other disagrees. absurd (
+    first_joins c.args.self.now c.args.rank c.args.call.now other
+    (unknown c.self.inside.stages.entries c.args.self.now c.comm_of-comm.result (comm_of c.args.call.now) c.in-None.ensures.value c.self.view_is c.comm_of-comm.ensures) disagrees)

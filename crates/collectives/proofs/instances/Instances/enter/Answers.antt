@@ -1,7 +1,7 @@
 use Rattle.std.proofs.Common.{◌≡◌, ◌∙◌, ◌<◌, ◌≤◌, ap, ap₂, sym, List, ℕ, get_or, arith, length, Some, None, vec_len}
 use Rattle.mpi_call.specs.Calls.{is_enter}
 use Rattle.mpi_call.specs.declared.call.Call.{Call}
-use Rattle.collectives.proofs.InstanceLemmas.{count_is, joins_is, kept_after_enter, next_within}
+use Rattle.collectives.proofs.InstanceLemmas.{count_is, joins_is, joins_not, kept_after_enter, next_within}
 use Rattle.collectives.specs.Entrants.{first_against}
 use Rattle.collectives.specs.Instances.{enters_by, instance_at}
 use Rattle.collectives.specs.declared.entrants.Entrant.{Entrant}
@@ -42,3 +42,21 @@ returns-clause-answer c =
     let count : c.count_of-instance.result ≡ get_or c.self.inside.counts.items c.args.rank 0 = c.count_of-instance.ensures ∙ ap (λ (counts : List ℕ). get_or counts c.args.rank 0) c.deref.ensures.value in
     joins_is c.self.inside.lists.items c.args.self.now c.self.inside.counts.items c.deref-2.result.now c.args.rank c.args.call.now c.count_of-instance.result None
     c.self.invariant c.self.view_is c.deref-2.ensures.value count c.in-None.ensures
+
+pub returns-in_err-call-clause-disagrees : goal.returns-in_err-call-clause-disagrees
+returns-in_err-call-clause-disagrees c = λ other disagrees. absurd (
+    let count : c.count_of-instance.result ≡ get_or c.self.inside.counts.items c.args.rank 0 = c.count_of-instance.ensures ∙ ap (λ (counts : List ℕ). get_or counts c.args.rank 0) c.deref.ensures.value in
+    joins_not c.self.inside.lists.items c.args.self.now c.self.inside.counts.items c.deref-2.result.now c.args.rank c.args.call.now c.count_of-instance.result
+    c.self.invariant c.self.view_is c.deref-2.ensures.value count c.in-None.ensures other disagrees)
+
+pub returns-in_err-reserve-clause-disagrees : goal.returns-in_err-reserve-clause-disagrees
+returns-in_err-reserve-clause-disagrees c = λ other disagrees. absurd (
+    let count : c.count_of-instance.result ≡ get_or c.self.inside.counts.items c.args.rank 0 = c.count_of-instance.ensures ∙ ap (λ (counts : List ℕ). get_or counts c.args.rank 0) c.deref.ensures.value in
+    joins_not c.self.inside.lists.items c.args.self.now c.self.inside.counts.items c.deref-2.result.now c.args.rank c.args.call.now c.count_of-instance.result
+    c.self.invariant c.self.view_is c.deref-2.ensures.value count c.in-None.ensures other disagrees)
+
+pub returns-in_err-add-clause-disagrees : goal.returns-in_err-add-clause-disagrees
+returns-in_err-add-clause-disagrees c = λ other disagrees. absurd (
+    let count : c.count_of-instance.result ≡ get_or c.self.inside.counts.items c.args.rank 0 = c.count_of-instance.ensures ∙ ap (λ (counts : List ℕ). get_or counts c.args.rank 0) c.deref.ensures.value in
+    joins_not c.self.inside.lists.items c.args.self.now c.self.inside.counts.items c.deref-2.result.now c.args.rank c.args.call.now c.count_of-instance.result
+    c.self.invariant c.self.view_is c.deref-2.ensures.value count c.in-None.ensures other disagrees)
