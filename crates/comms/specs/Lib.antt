@@ -1,3 +1,0 @@
-pub mod Communicators
-pub mod Candidates
-pub mod Colours
