@@ -1,5 +1,5 @@
 -- Lists in which each element is a step after those before it.
-use Rattle.std.proofs.Common.{◌≡◌, List, [], ◌∷◌, ◌++◌, append_assoc, append-nil, subst}
+use Rattle.std.proofs.Common.{List, [], ◌∷◌, ◌++◌, append_assoc, append-nil, subst}
 use Rattle.run_model.specs.Lists.{Along}
 
 -- one more step at the end

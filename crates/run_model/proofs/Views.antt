@@ -1,6 +1,6 @@
 -- The views of longer histories.
-use Rattle.std.proofs.Common.{◌≡◌, ◌≢◌, ◌≤◌, ◌+◌, ℕ, List, [], ◌∷◌, ◌++◌, ◌==◌, ◌⊎◌, Bool, true, false, inl, inr, refl, sym, ◌∙◌, length, append-nil, arith}
-use Rattle.std.proofs.lemmas.Bool.{eqb-true, eq-eqb}
+use Rattle.std.proofs.Common.{◌≡◌, ◌≤◌, ℕ, List, [], ◌∷◌, ◌++◌, ◌==◌, ◌⊎◌, Bool, true, false, inl, inr, refl, ◌∙◌, length, append-nil, arith}
+use Rattle.std.proofs.lemmas.Bool.{eq-eqb}
 use Rattle.run_model.specs.declared.event.Event.{Event}
 use Rattle.run_model.specs.Views.{view_of}
 

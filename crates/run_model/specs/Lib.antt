@@ -9,3 +9,4 @@ pub mod Due
 pub mod Allowed
 pub mod Run
 pub mod Program
+pub mod Fits

@@ -3,12 +3,15 @@
 //!
 //! The definitions stand in `specs/`: what ranks have seen (`Views`), communicators and instances of collectives
 //! (`Communicators`, `Inputs`), pairs of sends and receives (`Pairs`), readiness (`Readiness`), halts that are due (`Due`),
-//! allowed replies (`Allowed`), runs (`Run`), and what every program keeps (`Program`).
+//! allowed replies (`Allowed`), runs (`Run`), the shape of a reply (`Shape`), and what every program keeps (`Program`).
 #![tactic(auto)]
 
+mod communicators;
 pub mod event;
 pub mod history;
 pub mod lists;
 pub mod program;
+pub mod shape;
+pub mod starts;
 #[cfg(test)]
 mod tests;

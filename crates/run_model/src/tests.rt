@@ -1,10 +1,11 @@
-//! A history, and the lists beside it.
+//! A history, the lists beside it, and the shape of replies.
 use crate::event::Event;
 use crate::history::History;
 use crate::lists::{Outputs, Variable, Variables, View};
-use mpi_call::call::Call;
-use mpi_call::lists::Ints;
-use mpi_call::reply::Reply;
+use crate::shape::{Fit, shape};
+use mpi_call::call::{Call, Source, Tag, TakeMode};
+use mpi_call::lists::{Ints, Starts};
+use mpi_call::reply::{Got, Item, Items, Reply};
 use wiz_base::Bytes;
 
 #[test]
@@ -40,4 +41,42 @@ fn histories_and_lists_grow(rt: HostRuntime) {
     };
     assert!(&rt; variables.push(variable).is_ok());
     assert!(&rt; variables.as_slice()[0].values.as_slice()[0] == 7);
+}
+
+#[test]
+fn replies_have_the_shape_of_their_calls(rt: HostRuntime) {
+    let alloc = rt.alloc();
+    let mut view = View::new(alloc);
+    let post = Call::Post {
+        comm: 0,
+        source: Source::From(0),
+        tag: Tag::Is(5),
+        room: 1,
+    };
+    assert!(&rt; shape(2, 1, &view, &post, &Reply::Done) == Fit::Fits);
+    assert!(&rt; shape(2, 1, &view, &post, &Reply::NotYet) == Fit::Misfits);
+    assert!(&rt; view.push((post, Reply::Done)).is_ok());
+    let take = Call::Take {
+        starts: Starts::from_slice(alloc, &[0]).expect(&rt, "a start"),
+        mode: TakeMode::All,
+    };
+    // A message by its tag and how many ints it has, and whether the receive may give it.
+    let rows: [(u32, &[i32], Fit); 4] = [
+        (5, &[7], Fit::Fits),
+        (5, &[], Fit::Fits),
+        (5, &[7, 8], Fit::Misfits),
+        (6, &[7], Fit::Misfits),
+    ];
+    for (tag, ints, fit) in rows {
+        let ints = Ints::from_slice(alloc, ints).expect(&rt, "ints");
+        let mut items = Items::new(alloc);
+        let got = Got::Message {
+            source: 0,
+            start: 0,
+            tag,
+            ints,
+        };
+        assert!(&rt; items.push(Item { index: 0, got }).is_ok());
+        assert!(&rt; shape(2, 1, &view, &take, &Reply::Took(items)) == fit);
+    }
 }

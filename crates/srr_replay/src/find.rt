@@ -1,25 +1,14 @@
 //! Looking starts and entries up.
-ghost use Rattle.std.specs.Prelude.{◌≡◌, ◌&&◌, ◌∷◌, [], option_map};
-ghost use Rattle.mpi_call.specs.Calls.{is_starting, listed_by};
+ghost use Rattle.std.specs.Prelude.{◌≡◌, option_map};
 ghost use Rattle.mpi_call.specs.Collectives.{is_member};
-ghost use Rattle.run_model.specs.Views.{view_of, start_at, taken_of, items_taken, is_done};
+ghost use Rattle.run_model.specs.Views.{view_of, start_at, taken_of};
 ghost use Rattle.srr_entry.specs.Entries.{entries_for};
 
 use mpi_call::call::Call;
-use mpi_call::reply::{Item, Reply};
 use run_model::event::Event;
+use run_model::starts::{is_start, is_taken_by};
 use srr_entry::entry::Entry;
 use srr_entry::log::Entries;
-
-/// Whether an event with this call and reply is a start.
-fn is_start(call: &Call, reply: &Reply) -> bool
-    ensures { result ≡ is_starting call.now && is_done reply.now }
-{
-    matches!(
-        call,
-        Call::Send { .. } | Call::Post { .. } | Call::Enter { .. }
-    ) && matches!(reply, Reply::Done)
-}
 
 /// The rank's start with this number.
 pub fn find_start(events: &[Event], rank: u8, number: u32) -> Option<&Call>
@@ -37,34 +26,6 @@ pub fn find_start(events: &[Event], rank: u8, number: u32) -> Option<&Call>
         rest = after;
     }
     None
-}
-
-/// Whether a start is among those that these items completed.
-fn is_among(starts: &[u32], items: &[Item], number: u32) -> bool
-    ensures { result ≡ is_member (items_taken starts.now items.now) number }
-{
-    let mut rest = items;
-    while let [item, after @ ..] = rest {
-        let start = starts.get(item.index as usize).copied().unwrap_or(0);
-        if start == number {
-            return true;
-        }
-        rest = after;
-    }
-    false
-}
-
-/// Whether a call and its reply completed the rank's start with this number.
-fn is_taken_by(call: &Call, reply: &Reply, number: u32) -> bool
-    ensures { result ≡ is_member (taken_of ((call.now, reply.now) ∷ [])) number }
-{
-    match reply {
-        Reply::Took(items) => match call {
-            Call::Take { starts, mode: _ } => is_among(starts.as_slice(), items.as_slice(), number),
-            _ => is_among(&[], items.as_slice(), number),
-        },
-        _ => false,
-    }
 }
 
 /// Whether the rank's start with this number was taken.
