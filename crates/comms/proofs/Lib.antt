@@ -1,0 +1,4 @@
+pub mod ColourLemmas
+pub mod CommsLemmas
+pub mod GroupLemmas
+pub mod NumberLemmas

@@ -1,0 +1,3 @@
+pub mod Communicators
+pub mod Candidates
+pub mod Colours
