@@ -1,6 +1,7 @@
 //! The texts of calls and replies. After a refusal the bytes hold a part of the text.
 ghost use Rattle.std.specs.Prelude.{◌≡◌, ◌++◌, OnOk, codes, true};
 ghost use Rattle.mpi_call.specs.Calls.{is_enter};
+ghost use Rattle.mpi_call.specs.declared.call.Call.TheVariants.{Post, Send};
 ghost use Rattle.wiz_base.specs.Decimals.{number_text};
 ghost use Rattle.wiz_cli.specs.CallTexts.{aborter_text, at_start_text, call_text, envelope_text, fault_text, got_text, halt_text, ints_text, item_text, joined, kind_text, mode_text, name_text, numbers_text, op_text, probe_text, reply_text, root_text, source_text, tag_text};
 
@@ -179,27 +180,13 @@ pub fn push_call(out: &mut Bytes, call: &Call) -> Result<(), AllocError>
             dest,
             tag,
             ints,
-        } => {
-            push_text(out, b"send comm=")?;
-            push_decimal(out, *comm as u64)?;
-            push_text(out, b" to=")?;
-            push_decimal(out, *dest as u64)?;
-            push_text(out, b" tag=")?;
-            push_decimal(out, *tag as u64)?;
-            push_text(out, b" data=")?;
-            push_ints(out, ints.as_slice())
-        }
+        } => push_send(out, *comm, *dest, *tag, ints.as_slice()),
         Call::Post {
             comm,
             source,
             tag,
             room,
-        } => {
-            push_text(out, b"post comm=")?;
-            push_envelope(out, *comm, source, tag)?;
-            push_text(out, b" room=")?;
-            push_decimal(out, *room as u64)
-        }
+        } => push_post(out, *comm, source, tag, *room),
         Call::Enter { .. } => push_enter(out, call),
         Call::Take { starts, mode } => {
             push_text(out, b"take ")?;
@@ -227,6 +214,34 @@ pub fn push_call(out: &mut Bytes, call: &Call) -> Result<(), AllocError>
         }
         Call::End => push_text(out, b"end"),
     }
+}
+
+fn push_send(out: &mut Bytes, comm: u32, dest: u8, tag: u32, ints: &[i32]) -> Result<(), AllocError>
+    ensures { OnOk result (out.new ≡ out.old ++ call_text (Send comm dest tag ints.now)) }
+{
+    push_text(out, b"send comm=")?;
+    push_decimal(out, comm as u64)?;
+    push_text(out, b" to=")?;
+    push_decimal(out, dest as u64)?;
+    push_text(out, b" tag=")?;
+    push_decimal(out, tag as u64)?;
+    push_text(out, b" data=")?;
+    push_ints(out, ints)
+}
+
+fn push_post(
+    out: &mut Bytes,
+    comm: u32,
+    source: &Source,
+    tag: &Tag,
+    room: u32,
+) -> Result<(), AllocError>
+    ensures { OnOk result (out.new ≡ out.old ++ call_text (Post comm source.now tag.now room)) }
+{
+    push_text(out, b"post comm=")?;
+    push_envelope(out, comm, source, tag)?;
+    push_text(out, b" room=")?;
+    push_decimal(out, room as u64)
 }
 
 fn push_probe(out: &mut Bytes, wait: bool) -> Result<(), AllocError>
