@@ -3,3 +3,4 @@ pub mod LogLemmas
 pub mod ShapeLemmas
 pub mod ReplaysLemmas
 pub mod RoundsLemmas
+pub mod WorkedExamples
