@@ -1,0 +1,10 @@
+pub mod Bytes
+pub mod Openings
+pub mod Literals
+pub mod Words
+pub mod Comments
+pub mod Texts
+pub mod Steps
+pub mod Readings
+pub mod Places
+pub mod NoMemory
