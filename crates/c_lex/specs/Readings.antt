@@ -46,5 +46,5 @@ AreTokens text tokens = Reads text false 0 (Tokens tokens)
 
 -- this is the first fault of a text, with its line and column
 abbrev pub IsFirstFault : List ℕ → SourceFault → Type 0
-IsFirstFault text fault =
-    (place : ℕ) × Reads text false 0 (FirstFault place fault.why) × IsPlaceOf text place fault.line fault.column
+IsFirstFault text first =
+    (place : ℕ) × Reads text false 0 (FirstFault place first.why) × IsPlaceOf text place first.line first.column

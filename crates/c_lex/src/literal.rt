@@ -1,7 +1,7 @@
 //! The numbers of C.
-ghost use Rattle.std.specs.Prelude.{◌≡◌, ◌≤◌, SomeIff, slice_range, length};
-ghost use Rattle.std.specs.Str.Parse.{IsNumeral, digits_value};
-ghost use Rattle.c_lex.specs.Literals.{IsLiteral, base, digits_of, literal_value, prefix_length};
+ghost use Rattle.std.specs.Prelude.{◌≡◌, ◌≤◌, SomeIff, length};
+ghost use Rattle.std.specs.Str.Parse.{AllDigits, digits_value};
+ghost use Rattle.c_lex.specs.Literals.{IsLiteral, base, literal_value, prefix_length};
 
 /// The largest number of a text.
 const LARGEST: u64 = 2147483647;
