@@ -1,11 +1,182 @@
 -- A text has one reading.
 use Rattle.std.proofs.Common.{◌≡◌, ◌⊎◌, inl, inr, ◌<◌, ◌≤◌, ◌+◌, ◌-◌, ℕ, zero, suc, Bool, true, false, List, [], ◌∷◌, ◌++◌, length, slice_index, refl, sym, ap, ◌∙◌, subst, arith, append_assoc}
+use Rattle.std.specs.Prelude.{slice_range, nat_le, codes}
+use Rattle.std.specs.Str.{bytes_eq}
+use Rattle.std.proofs.lemmas.Bool.{cases_order, cases_le, le-leb}
 use Rattle.c_lex.specs.Bytes.{IsRun, is_of}
+use Rattle.c_lex.specs.Openings.{opening, opening_of}
+use Rattle.c_lex.specs.Words.{IsDirective, is_left_out}
+use Rattle.c_lex.specs.Comments.{IsFirstClose, NeverCloses, IsLimit, IsComment, IsOpenComment, closes}
+use Rattle.c_lex.specs.Texts.{Inside, ends, goes_on, IsText, IsBadInside, IsOpenText}
+use Rattle.c_lex.specs.Steps as steps
+use Rattle.c_lex.specs.Steps.{Stands, IsStep}
+use Rattle.c_lex.specs.Readings as readings
+use Rattle.c_lex.specs.Readings.{Reading, Tokens, FirstFault, Reads, with_token, token_at, stays_on_define}
 use Rattle.c_lex.specs.declared.bytes.ByteClass.{ByteClass}
+use Rattle.c_lex.specs.declared.bytes.ByteClass.TheVariants.{Space, InWord, InLine, Printable}
+use Rattle.c_lex.specs.declared.opening.Opening.{Opening}
+use Rattle.c_lex.specs.declared.opening.Opening.TheVariants as opens
 use Rattle.c_lex.specs.declared.token.Token.{Token}
-use Rattle.c_lex.specs.Readings.{Reading, Tokens, FirstFault}
+use Rattle.c_lex.specs.declared.token.TokenKind.{TokenKind}
+use Rattle.c_lex.specs.declared.token.TokenKind.TheVariants as kinds
+use Rattle.c_lex.specs.declared.fault.Why.{Why}
+use Rattle.c_lex.specs.declared.fault.Why.TheVariants as whys
+use Rattle.c_lex.specs.declared.step.Step.{Step}
+use Rattle.c_lex.specs.declared.step.Step.TheVariants.{Skip, Piece, Bad}
+
+-- a run has one end
+pub run_one : {class : ByteClass} {text : List ℕ} {from limit a b : ℕ} → IsRun class text from limit a → IsRun class text from limit b → a ≡ b
+run_one {class} {text} {from} {limit} {a} {b} u v = elim (cases_order a b) [
+  | inl e ↦ e
+  | inr (inl less) ↦ absurd (let h = v.high in let t = v.each a u.low less in let f = u.longest (omega arith) in cc)
+  | inr (inr more) ↦ absurd (let h = u.high in let t = u.each b v.low more in let f = v.longest (omega arith) in cc)
+]
+
+-- the characters of a text end at one place
+pub inside_one : {text : List ℕ} {at a b : ℕ} → Inside text at a → Inside text at b → a ≡ b
+inside_one (ends e) (ends f) = refl
+inside_one (ends e) (goes_on p i) = absurd (omega arith)
+inside_one (goes_on p i) (ends e) = absurd (omega arith)
+inside_one (goes_on p i) (goes_on q j) = inside_one i j
+
+limit_one : (text : List ℕ) (on_define : Bool) (at a b : ℕ) → IsLimit text on_define at a → IsLimit text on_define at b → a ≡ b
+limit_one text true at a b u v = run_one u v
+limit_one text false at a b u v = u ∙ sym v
+
+close_one : {text : List ℕ} {from limit a b : ℕ} → IsFirstClose text from limit a → IsFirstClose text from limit b → a ≡ b
+close_one {text} {from} {limit} {a} {b} u v = elim (cases_order a b) [
+  | inl e ↦ e
+  | inr (inl less) ↦ absurd (let t = u.is in let f = v.first a u.low less in cc)
+  | inr (inr more) ↦ absurd (let t = v.is in let f = u.first b v.low more in cc)
+]
+
+comment_one : {text : List ℕ} {on_define : Bool} {at a b : ℕ} → IsComment text on_define at a → IsComment text on_define at b → a ≡ b
+comment_one {text} {on_define} {at} {a} {b} u v =
+    let e : v.limit ≡ u.limit = limit_one text on_define at v.limit u.limit v.limited u.limited in
+    close_one u.closed (subst (λ limit. IsFirstClose text (at + 2) limit b) e v.closed)
+
+never_open : {text : List ℕ} {on_define : Bool} {at a : ℕ} → IsComment text on_define at a → IsOpenComment text on_define at → ⊥
+never_open {text} {on_define} {at} {a} u v =
+    let e : v.limit ≡ u.limit = limit_one text on_define at v.limit u.limit v.limited u.limited in
+    let never : NeverCloses text (at + 2) u.limit = subst (λ limit. NeverCloses text (at + 2) limit) e v.never in
+    let t = u.closed.is in let f = never a u.closed.low u.closed.high in cc
+
+directive_one : {text : List ℕ} {at a b : ℕ} {word other : List ℕ} → IsDirective text at a word → IsDirective text at b other → (a ≡ b) × (word ≡ other)
+directive_one {text} {at} {a} {b} {word} {other} u v =
+    let e : v.from ≡ u.from = run_one v.spaces u.spaces in
+    let f : a ≡ b = run_one u.run (subst (λ from. IsRun InWord text from (length text) b) e v.run) in
+    let g : slice_range text v.from b ≡ slice_range text u.from a = ap (λ from. slice_range text from b) e ∙ ap (λ end. slice_range text u.from end) (sym f) in
+    (f, u.is ∙ sym g ∙ sym v.is)
+
+same_word : {word other : List ℕ} (name : List ℕ) → word ≡ other → bytes_eq word name ≡ true → bytes_eq other name ≡ false → ⊥
+same_word name e t f = let k = ap (λ w. bytes_eq w name) e in cc
+
+text_one : {text : List ℕ} {at a b : ℕ} → IsText text at a → IsText text at b → a ≡ b
+text_one u v = inside_one u.inside v.inside
+
+never_bad : {text : List ℕ} {at a place : ℕ} → IsText text at a → IsBadInside text at place → ⊥
+never_bad {text} {at} {a} {place} u v =
+    let e : v.close ≡ a = inside_one v.inside u.inside in
+    let f : place ≡ a = run_one (subst (λ close. IsRun Printable text (at + 1) close place) e v.printable) u.printable in
+    let before = v.before in
+    omega arith
+
+bad_one : {text : List ℕ} {at a b : ℕ} → IsBadInside text at a → IsBadInside text at b → a ≡ b
+bad_one {text} {at} {a} {b} u v =
+    let e : v.close ≡ u.close = inside_one v.inside u.inside in
+    run_one u.printable (subst (λ close. IsRun Printable text (at + 1) close b) e v.printable)
+
+-- one thing stands at a place
+pub one_step : (text : List ℕ) (on_define : Bool) (at : ℕ) {o : Opening} {s t : Step} → Stands text on_define at o s → Stands text on_define at o t → s ≡ t
+one_step text m at (steps.define_ends h) (steps.define_ends k) = refl
+one_step text m at (steps.define_line_ends h) (steps.define_line_ends k) = refl
+one_step text m at (steps.define_line_ends h) (steps.line_ends k) = cc
+one_step text m at (steps.line_ends h) (steps.define_line_ends k) = cc
+one_step text m at (steps.line_ends h) (steps.line_ends k) = refl
+one_step text m at steps.space steps.space = refl
+one_step text m at (steps.line_comment u) (steps.line_comment v) = ap Skip (run_one u v)
+one_step text m at (steps.comment u) (steps.comment v) = ap (λ close. Skip (close + 2)) (comment_one u v)
+one_step text m at (steps.comment u) (steps.open_comment v) = absurd (never_open u v)
+one_step text m at (steps.open_comment u) (steps.comment v) = absurd (never_open v u)
+one_step text m at (steps.open_comment u) (steps.open_comment v) = refl
+one_step text m at (steps.include d i u) (steps.include e j v) =
+    ap Skip (run_one u (subst (λ end. IsRun InLine text end (length text) _) (sym (directive_one d e).0) v))
+one_step text m at (steps.include d i u) (steps.define e n y) = absurd (same_word (codes "include") (directive_one d e).1 i n)
+one_step text m at (steps.include d i u) (steps.other_directive e n f) = absurd (same_word (codes "include") (directive_one d e).1 i n)
+one_step text m at (steps.define d n y) (steps.include e i u) = absurd (same_word (codes "include") (directive_one e d).1 i n)
+one_step text m at (steps.define d n y) (steps.define e k z) = ap (Piece kinds.Define) (directive_one d e).0
+one_step text m at (steps.define d n y) (steps.other_directive e k f) = absurd (same_word (codes "define") (directive_one d e).1 y f)
+one_step text m at (steps.other_directive d n f) (steps.include e i u) = absurd (same_word (codes "include") (directive_one e d).1 i n)
+one_step text m at (steps.other_directive d n f) (steps.define e k y) = absurd (same_word (codes "define") (directive_one e d).1 y f)
+one_step text m at (steps.other_directive d n f) (steps.other_directive e k g) = refl
+one_step text m at (steps.name u h) (steps.name v k) = ap (Piece kinds.Name) (run_one u v)
+one_step text m at (steps.name u h) (steps.left_out_word v k) = let e = ap (λ end. is_left_out (slice_range text at end)) (run_one u v) in cc
+one_step text m at (steps.left_out_word u h) (steps.name v k) = let e = ap (λ end. is_left_out (slice_range text at end)) (run_one u v) in cc
+one_step text m at (steps.left_out_word u h) (steps.left_out_word v k) = refl
+one_step text m at (steps.number u h) (steps.number v k) = ap (Piece kinds.Number) (run_one u v)
+one_step text m at (steps.number u h) (steps.bad_literal v k) = absurd (k (rw (run_one u v) at h))
+one_step text m at (steps.bad_literal u h) (steps.number v k) = absurd (h (rw (run_one v u) at k))
+one_step text m at (steps.bad_literal u h) (steps.bad_literal v k) = refl
+one_step text m at (steps.quoted u) (steps.quoted v) = ap (λ close. Piece kinds.Text (close + 1)) (text_one u v)
+one_step text m at (steps.quoted u) (steps.bad_inside v) = absurd (never_bad u v)
+one_step text m at (steps.quoted u) (steps.open_text v) = absurd (v.open_there (ap (slice_index text) (inside_one v.inside u.inside) ∙ u.closed))
+one_step text m at (steps.bad_inside u) (steps.quoted v) = absurd (never_bad v u)
+one_step text m at (steps.bad_inside u) (steps.bad_inside v) = ap (λ place. Bad place whys.BadByte) (bad_one u v)
+one_step text m at (steps.bad_inside u) (steps.open_text v) = absurd (v.open_there (ap (slice_index text) (inside_one v.inside u.inside) ∙ u.closed))
+one_step text m at (steps.open_text u) (steps.quoted v) = absurd (u.open_there (ap (slice_index text) (inside_one u.inside v.inside) ∙ v.closed))
+one_step text m at (steps.open_text u) (steps.bad_inside v) = absurd (u.open_there (ap (slice_index text) (inside_one u.inside v.inside) ∙ v.closed))
+one_step text m at (steps.open_text u) (steps.open_text v) = refl
+one_step text m at steps.mark steps.mark = refl
+one_step text m at steps.bad_byte steps.bad_byte = refl
+
+-- the text ends, and no define's line does
+nothing_at_end : (text : List ℕ) (at : ℕ) (step : Step) → Stands text false at opens.TextEnd step → ⊥
+nothing_at_end text at step (steps.define_ends h) = cc
+
+ends_or_goes_on : {A : Type 0} (text : List ℕ) (at : ℕ) (step : Step) → opening text at ≡ opens.TextEnd → IsStep text false at step → A
+ends_or_goes_on text at step e s = absurd (nothing_at_end text at step (subst (λ o. Stands text false at o step) e s))
+
+-- a place has one reading
+pub one_reading : (text : List ℕ) {on_define : Bool} {at : ℕ} {r q : Reading} → Reads text on_define at r → Reads text on_define at q → r ≡ q
+one_reading text (readings.ends e) (readings.ends f) = refl
+one_reading text (readings.ends e) (readings.skip s r) = ends_or_goes_on text _ _ e s
+one_reading text (readings.ends e) (readings.token s r) = ends_or_goes_on text _ _ e s
+one_reading text (readings.ends e) (readings.fault s) = ends_or_goes_on text _ _ e s
+one_reading text (readings.skip s r) (readings.ends e) = ends_or_goes_on text _ _ e s
+one_reading text (readings.skip {on_define = m} {end = a} {reading = x} s r) (readings.skip {end = b} {reading = y} t q) =
+    let e = one_step text _ _ s t in
+    let f : b ≡ a = cc in
+    one_reading text r (subst (λ end. Reads text m end y) f q)
+one_reading text (readings.skip s r) (readings.token t q) = let e = one_step text _ _ s t in cc
+one_reading text (readings.skip s r) (readings.fault t) = let e = one_step text _ _ s t in cc
+one_reading text (readings.token s r) (readings.ends e) = ends_or_goes_on text _ _ e s
+one_reading text (readings.token s r) (readings.skip t q) = let e = one_step text _ _ s t in cc
+one_reading text (readings.token {on_define = m} {at = at} {end = a} {kind = k} {reading = x} s r) (readings.token {end = b} {kind = j} {reading = y} t q) =
+    let e = one_step text _ _ s t in
+    let f : b ≡ a = cc in
+    let g : j ≡ k = cc in
+    let h : x ≡ y = one_reading text r (subst (λ end. Reads text (stays_on_define k m) end y) f (subst (λ kind. Reads text (stays_on_define kind m) b y) g q)) in
+    cc
+one_reading text (readings.token s r) (readings.fault t) = let e = one_step text _ _ s t in cc
+one_reading text (readings.fault s) (readings.ends e) = ends_or_goes_on text _ _ e s
+one_reading text (readings.fault s) (readings.skip t q) = let e = one_step text _ _ s t in cc
+one_reading text (readings.fault s) (readings.token t q) = let e = one_step text _ _ s t in cc
+one_reading text (readings.fault s) (readings.fault t) = let e = one_step text _ _ s t in cc
 
 -- the tokens before a reading
 abbrev pub after : List Token → Reading → Reading
 after found (Tokens tokens) = Tokens (found ++ tokens)
 after found (FirstFault place why) = FirstFault place why
+
+pub after_one : (found : List Token) (token : Token) (reading : Reading) → after (found ++ token ∷ []) reading ≡ after found (with_token token reading)
+after_one found token (Tokens tokens) = ap Tokens (append_assoc found (token ∷ []) tokens)
+after_one found token (FirstFault place why) = refl
+
+pub opening_past : (text : List ℕ) (at : ℕ) → length text ≤ at → opening text at ≡ opens.TextEnd
+opening_past text at past = let h : nat_le (length text) at ≡ true = le-leb (length text) at past in rw h refl
+
+pub opening_inside : (text : List ℕ) (at : ℕ) {o : Opening} → opening text at ≡ o → (o ≡ opens.TextEnd → ⊥) → at < length text
+opening_inside text at {o} e other = elim (cases_le (length text) at) [
+  | inl past ↦ absurd (other (sym e ∙ opening_past text at past))
+  | inr less ↦ less
+]

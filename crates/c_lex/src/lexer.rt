@@ -1,5 +1,5 @@
 //! The tokens of a text.
-ghost use Rattle.std.specs.Prelude.{◌≡◌, ◌≤◌, ◌<◌, ◌++◌, ◌∷◌, ◌-◌, ◌⊎◌, Bool, List, ℕ, OnOk, IfOk, IfErr, MatchResult, length};
+ghost use Rattle.std.specs.Prelude.{◌≡◌, ◌≤◌, ◌<◌, ◌++◌, ◌∷◌, [], ◌⊎◌, List, ℕ, OnOk, IfOk, IfErr, MatchResult, length};
 ghost use Rattle.c_lex.specs.NoMemory.{no_memory};
 ghost use Rattle.c_lex.specs.Readings.{AreTokens, IsFirstFault, stays_on_define, token_at};
 ghost use Rattle.c_lex.specs.declared.token.Token.{Token};

@@ -1,5 +1,5 @@
 //! Names, and the words of directives.
-ghost use Rattle.std.specs.Prelude.{◌≡◌, ◌↔◌, ◌<◌, Bool, IsTrue, length, map};
+ghost use Rattle.std.specs.Prelude.{◌≡◌, ◌<◌, Bool, length};
 ghost use Rattle.std.specs.List.{list_any};
 ghost use Rattle.std.specs.Str.{bytes_eq};
 ghost use Rattle.c_lex.specs.Words.{is_left_out};
@@ -45,14 +45,9 @@ fn is_left_out(word: &[u8]) -> bool
 }
 
 fn is_among(words: &[&str], word: &[u8]) -> bool
-    ensures { result ≡ list_any (bytes_eq word.now) (map (λ other. other.now) words.now) }
+    ensures { result ≡ list_any (λ other. bytes_eq word.now other.now) words.now }
 {
-    for other in words {
-        if is_same(word, other.as_bytes()) {
-            return true;
-        }
-    }
-    false
+    words.iter().any(|other| is_same(word, other.as_bytes()))
 }
 
 fn is_same(word: &[u8], other: &[u8]) -> bool
