@@ -1,8 +1,9 @@
 -- A text has one reading.
 use Rattle.std.proofs.Common.{◌≡◌, ◌⊎◌, inl, inr, ◌<◌, ◌≤◌, ◌+◌, ◌-◌, ℕ, zero, suc, Bool, true, false, List, [], ◌∷◌, ◌++◌, length, slice_index, refl, sym, ap, ◌∙◌, subst, arith, append_assoc}
-use Rattle.std.specs.Prelude.{slice_range, nat_le, codes}
+use Rattle.std.specs.Prelude.{slice_range, nat_le, codes, if◌then◌else◌}
 use Rattle.std.specs.Str.{bytes_eq}
-use Rattle.std.proofs.lemmas.Bool.{cases_order, cases_le, le-leb}
+use Rattle.std.proofs.lemmas.Bool.{cases_order, le-leb, leb-true, false_from_ne_true}
+use Rattle.std.proofs.lemmas.List.{append-nil}
 use Rattle.c_lex.specs.Bytes.{IsRun, is_of}
 use Rattle.c_lex.specs.Openings.{opening, opening_of}
 use Rattle.c_lex.specs.Words.{IsDirective, is_left_out}
@@ -11,7 +12,7 @@ use Rattle.c_lex.specs.Texts.{Inside, ends, goes_on, IsText, IsBadInside, IsOpen
 use Rattle.c_lex.specs.Steps as steps
 use Rattle.c_lex.specs.Steps.{Stands, IsStep}
 use Rattle.c_lex.specs.Readings as readings
-use Rattle.c_lex.specs.Readings.{Reading, Tokens, FirstFault, Reads, with_token, token_at, stays_on_define}
+use Rattle.c_lex.specs.Readings.{Reading, Tokens, FirstFault, Reads, with_token, token_at, stays_on_define, IsFirstFault}
 use Rattle.c_lex.specs.declared.bytes.ByteClass.{ByteClass}
 use Rattle.c_lex.specs.declared.bytes.ByteClass.TheVariants.{Space, InWord, InLine, Printable}
 use Rattle.c_lex.specs.declared.opening.Opening.{Opening}
@@ -19,6 +20,8 @@ use Rattle.c_lex.specs.declared.opening.Opening.TheVariants as opens
 use Rattle.c_lex.specs.declared.token.Token.{Token}
 use Rattle.c_lex.specs.declared.token.TokenKind.{TokenKind}
 use Rattle.c_lex.specs.declared.token.TokenKind.TheVariants as kinds
+use Rattle.c_lex.specs.Places.{IsLineBegin, IsPlaceOf}
+use Rattle.c_lex.specs.declared.fault.SourceFault.{SourceFault}
 use Rattle.c_lex.specs.declared.fault.Why.{Why}
 use Rattle.c_lex.specs.declared.fault.Why.TheVariants as whys
 use Rattle.c_lex.specs.declared.step.Step.{Step}
@@ -99,8 +102,8 @@ one_step text m at (steps.comment u) (steps.comment v) = ap (λ close. Skip (clo
 one_step text m at (steps.comment u) (steps.open_comment v) = absurd (never_open u v)
 one_step text m at (steps.open_comment u) (steps.comment v) = absurd (never_open v u)
 one_step text m at (steps.open_comment u) (steps.open_comment v) = refl
-one_step text m at (steps.include d i u) (steps.include e j v) =
-    ap Skip (run_one u (subst (λ end. IsRun InLine text end (length text) _) (sym (directive_one d e).0) v))
+one_step text m at (steps.include d i u) (steps.include {stop = stop} e j v) =
+    ap Skip (run_one u (subst (λ end. IsRun InLine text end (length text) stop) (sym (directive_one d e).0) v))
 one_step text m at (steps.include d i u) (steps.define e n y) = absurd (same_word (codes "include") (directive_one d e).1 i n)
 one_step text m at (steps.include d i u) (steps.other_directive e n f) = absurd (same_word (codes "include") (directive_one d e).1 i n)
 one_step text m at (steps.define d n y) (steps.include e i u) = absurd (same_word (codes "include") (directive_one e d).1 i n)
@@ -175,8 +178,65 @@ after_one found token (FirstFault place why) = refl
 pub opening_past : (text : List ℕ) (at : ℕ) → length text ≤ at → opening text at ≡ opens.TextEnd
 opening_past text at past = let h : nat_le (length text) at ≡ true = le-leb (length text) at past in rw h refl
 
-pub opening_inside : (text : List ℕ) (at : ℕ) {o : Opening} → opening text at ≡ o → (o ≡ opens.TextEnd → ⊥) → at < length text
-opening_inside text at {o} e other = elim (cases_le (length text) at) [
-  | inl past ↦ absurd (other (sym e ∙ opening_past text at past))
-  | inr less ↦ less
+-- a place with a byte is not the text's end
+never_end : (a b c d e f g h i : Bool) → (if a then opens.Newline else (if b then opens.Space else (if c then opens.LineComment else (if d then opens.BlockComment else (if e then opens.Directive else (if f then opens.Word else (if g then opens.Digits else (if h then opens.Quote else (if i then opens.Sign else opens.Nothing))))))))) ≡ opens.TextEnd → ⊥
+never_end true b c d e f g h i p = cc
+never_end false true c d e f g h i p = cc
+never_end false false true d e f g h i p = cc
+never_end false false false true e f g h i p = cc
+never_end false false false false true f g h i p = cc
+never_end false false false false false true g h i p = cc
+never_end false false false false false false true h i p = cc
+never_end false false false false false false false true i p = cc
+never_end false false false false false false false false true p = cc
+never_end false false false false false false false false false p = cc
+
+pub end_past : (text : List ℕ) (at : ℕ) → opening text at ≡ opens.TextEnd → at < length text → ⊥
+end_past text at e less =
+    let h : nat_le (length text) at ≡ false = false_from_ne_true _ (λ t. let past = leb-true (length text) at t in omega arith) in
+    never_end _ _ _ _ _ _ _ _ _ (rw h at e)
+
+pub on_define_at_end : (text : List ℕ) (on_define : Bool) (at : ℕ) → (at < length text) ⊎ (on_define ≡ true) → opening text at ≡ opens.TextEnd → on_define ≡ true
+on_define_at_end text m at (inl less) e = absurd (end_past text at e less)
+on_define_at_end text m at (inr define) e = define
+
+pub piece_inside : (text : List ℕ) (on_define : Bool) (at : ℕ) (kind : TokenKind) (end : ℕ) → at ≤ length text → steps.EndsWithin text on_define at (Piece kind end) → end ≤ length text
+piece_inside text m at kinds.EndLine end inside h = let e = h.0 in omega arith
+piece_inside text m at kinds.Name end inside h = h.1
+piece_inside text m at kinds.Number end inside h = h.1
+piece_inside text m at kinds.Text end inside h = h.1
+piece_inside text m at kinds.Mark end inside h = h.1
+piece_inside text m at kinds.Define end inside h = h.1
+
+begin_one : {text : List ℕ} {place a b : ℕ} → IsLineBegin text place a → IsLineBegin text place b → a ≡ b
+begin_one {text} {place} {a} {b} u v = elim (cases_order a b) [
+  | inl e ↦ e
+  | inr (inl less) ↦ absurd (apart a b u v less)
+  | inr (inr more) ↦ absurd (apart b a v u more)
 ]
+  where
+    apart : (a b : ℕ) → IsLineBegin text place a → IsLineBegin text place b → a < b → ⊥
+    apart a b u v less = elim v.first [
+      | inl e ↦ omega arith
+      | inr e ↦ u.same_line (b - 1) (omega arith) (let before = v.before in omega arith) e
+    ]
+
+pub fault_one : (text : List ℕ) (first other : SourceFault) → IsFirstFault text first → IsFirstFault text other → first ≡ other
+fault_one text first other u v =
+    let e = one_reading text u.1 v.1 in
+    let why : first.why ≡ other.why = cc in
+    let place : v.0 ≡ u.0 = cc in
+    let there : IsPlaceOf text u.0 other.line other.column = subst (λ at. IsPlaceOf text at other.line other.column) place v.2 in
+    let begin : u.2.begin ≡ there.begin = begin_one u.2.begins there.begins in
+    let line : first.line ≡ other.line = u.2.line_is ∙ sym there.line_is in
+    let column : first.column ≡ other.column = u.2.column_is ∙ ap (λ b. u.0 - b + 1) begin ∙ sym there.column_is in
+    let fault_of : ℕ → ℕ → Why → SourceFault = λ l c w. record { line = l; column = c; why = w } in
+    ap (λ l. fault_of l first.column first.why) line ∙ ap (λ c. fault_of other.line c first.why) column ∙ ap (fault_of other.line other.column) why
+
+-- what was found is all, where the text ends
+pub read_all : (text : List ℕ) (on_define : Bool) (at : ℕ) (found : List Token)
+    → ((reading : Reading) → Reads text on_define at reading → Reads text false 0 (after found reading))
+    → on_define ≡ false → length text ≤ at → Reads text false 0 (Tokens found)
+read_all text m at found onward no_define past =
+    subst (Reads text false 0) (ap Tokens (append-nil found))
+    (onward (Tokens []) (subst (λ define. Reads text define at (Tokens [])) (sym no_define) (readings.ends (opening_past text at past))))

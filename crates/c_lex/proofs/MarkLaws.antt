@@ -1,7 +1,7 @@
 -- A mark has a byte, and ends within the text.
 use Rattle.std.proofs.Common.{◌≡◌, ◌≢◌, ◌⊎◌, inl, inr, ℕ, ◌+◌, ◌<◌, ◌≤◌, Bool, true, false, if◌then◌else◌, List, length, get_or, slice_index, refl, sym, ap, ◌∙◌, arith}
 use Rattle.std.specs.Prelude.{◌==◌, ◌&&◌, ◌||◌}
-use Rattle.std.proofs.lemmas.Bool.{cases_le, eqb-true}
+use Rattle.std.proofs.lemmas.Bool.{cases_lt, eqb-true}
 use Rattle.std.proofs.lemmas.List.{get_or_past}
 use Rattle.c_lex.specs.Openings.{is_mark, is_mark_of_three, is_mark_of_two, is_doubled, stands_before_equals, longest_mark, mark_length}
 
@@ -44,13 +44,13 @@ pub mark_length-within : (text : List ℕ) (at : ℕ) → at < length text → a
 mark_length-within text at low = within_of text at _ _ _ low three two
   where
     three : is_mark_of_three (slice_index text at) (slice_index text (at + 1)) (slice_index text (at + 2)) ≡ true → at + 2 < length text
-    three h = elim (cases_le (length text) (at + 2)) [
-      | inl past ↦ absurd (let z = past_is_zero text (at + 2) past in let t = third _ _ _ h in omega arith)
-      | inr less ↦ less
+    three h = elim (cases_lt (at + 2) (length text)) [
+      | inl less ↦ less
+      | inr past ↦ absurd (let z : slice_index text (at + 2) ≡ 0 = past_is_zero text (at + 2) past in let t : slice_index text (at + 2) ≡ 61 = third (slice_index text at) (slice_index text (at + 1)) (slice_index text (at + 2)) h in omega arith)
     ]
 
     two : is_mark_of_two (slice_index text at) (slice_index text (at + 1)) ≡ true → at + 1 < length text
-    two h = elim (cases_le (length text) (at + 1)) [
-      | inl past ↦ absurd (no_second (slice_index text at) (rw (past_is_zero text (at + 1) past) at h))
-      | inr less ↦ less
+    two h = elim (cases_lt (at + 1) (length text)) [
+      | inl less ↦ less
+      | inr past ↦ absurd (no_second (slice_index text at) (rw (past_is_zero text (at + 1) past) at h))
     ]
