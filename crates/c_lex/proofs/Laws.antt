@@ -141,30 +141,30 @@ ends_or_goes_on text at step e s = absurd (nothing_at_end text at step (subst (�
 
 -- a place has one reading
 pub one_reading : (text : List ℕ) {on_define : Bool} {at : ℕ} {r q : Reading} → Reads text on_define at r → Reads text on_define at q → r ≡ q
-one_reading text (readings.ends e) (readings.ends f) = refl
-one_reading text (readings.ends e) (readings.skip s r) = ends_or_goes_on text _ _ e s
-one_reading text (readings.ends e) (readings.token s r) = ends_or_goes_on text _ _ e s
-one_reading text (readings.ends e) (readings.fault s) = ends_or_goes_on text _ _ e s
-one_reading text (readings.skip s r) (readings.ends e) = ends_or_goes_on text _ _ e s
+one_reading text (readings.at_end e) (readings.at_end f) = refl
+one_reading text (readings.at_end e) (readings.skip s r) = ends_or_goes_on text _ _ e s
+one_reading text (readings.at_end e) (readings.piece s r) = ends_or_goes_on text _ _ e s
+one_reading text (readings.at_end e) (readings.bad s) = ends_or_goes_on text _ _ e s
+one_reading text (readings.skip s r) (readings.at_end e) = ends_or_goes_on text _ _ e s
 one_reading text (readings.skip {on_define = m} {end = a} {reading = x} s r) (readings.skip {end = b} {reading = y} t q) =
     let e = one_step text _ _ s t in
     let f : b ≡ a = cc in
     one_reading text r (subst (λ end. Reads text m end y) f q)
-one_reading text (readings.skip s r) (readings.token t q) = let e = one_step text _ _ s t in cc
-one_reading text (readings.skip s r) (readings.fault t) = let e = one_step text _ _ s t in cc
-one_reading text (readings.token s r) (readings.ends e) = ends_or_goes_on text _ _ e s
-one_reading text (readings.token s r) (readings.skip t q) = let e = one_step text _ _ s t in cc
-one_reading text (readings.token {on_define = m} {at = at} {end = a} {kind = k} {reading = x} s r) (readings.token {end = b} {kind = j} {reading = y} t q) =
+one_reading text (readings.skip s r) (readings.piece t q) = let e = one_step text _ _ s t in cc
+one_reading text (readings.skip s r) (readings.bad t) = let e = one_step text _ _ s t in cc
+one_reading text (readings.piece s r) (readings.at_end e) = ends_or_goes_on text _ _ e s
+one_reading text (readings.piece s r) (readings.skip t q) = let e = one_step text _ _ s t in cc
+one_reading text (readings.piece {on_define = m} {at = at} {end = a} {kind = k} {reading = x} s r) (readings.piece {end = b} {kind = j} {reading = y} t q) =
     let e = one_step text _ _ s t in
     let f : b ≡ a = cc in
     let g : j ≡ k = cc in
     let h : x ≡ y = one_reading text r (subst (λ end. Reads text (stays_on_define k m) end y) f (subst (λ kind. Reads text (stays_on_define kind m) b y) g q)) in
     cc
-one_reading text (readings.token s r) (readings.fault t) = let e = one_step text _ _ s t in cc
-one_reading text (readings.fault s) (readings.ends e) = ends_or_goes_on text _ _ e s
-one_reading text (readings.fault s) (readings.skip t q) = let e = one_step text _ _ s t in cc
-one_reading text (readings.fault s) (readings.token t q) = let e = one_step text _ _ s t in cc
-one_reading text (readings.fault s) (readings.fault t) = let e = one_step text _ _ s t in cc
+one_reading text (readings.piece s r) (readings.bad t) = let e = one_step text _ _ s t in cc
+one_reading text (readings.bad s) (readings.at_end e) = ends_or_goes_on text _ _ e s
+one_reading text (readings.bad s) (readings.skip t q) = let e = one_step text _ _ s t in cc
+one_reading text (readings.bad s) (readings.piece t q) = let e = one_step text _ _ s t in cc
+one_reading text (readings.bad s) (readings.bad t) = let e = one_step text _ _ s t in cc
 
 -- the tokens before a reading
 abbrev pub after : List Token → Reading → Reading
@@ -239,4 +239,4 @@ pub read_all : (text : List ℕ) (on_define : Bool) (at : ℕ) (found : List Tok
     → on_define ≡ false → length text ≤ at → Reads text false 0 (Tokens found)
 read_all text m at found onward no_define past =
     subst (Reads text false 0) (ap Tokens (append-nil found))
-    (onward (Tokens []) (subst (λ define. Reads text define at (Tokens [])) (sym no_define) (readings.ends (opening_past text at past))))
+    (onward (Tokens []) (subst (λ define. Reads text define at (Tokens [])) (sym no_define) (readings.at_end (opening_past text at past))))

@@ -19,7 +19,7 @@ some_of false false false h = cc
 pub mark_length-some : (text : List ℕ) (at : ℕ) → is_mark (slice_index text at) ≡ true → 0 < mark_length text at
 mark_length-some text at h = some_of _ _ _ h
 
-past_is_zero : (text : List ℕ) (k : ℕ) → length text ≤ k → slice_index text k ≡ 0
+pub past_is_zero : (text : List ℕ) (k : ℕ) → length text ≤ k → slice_index text k ≡ 0
 past_is_zero text k past = get_or_past text k 0 past
 
 third : (f s t : ℕ) → is_mark_of_three f s t ≡ true → t ≡ 61

@@ -1,5 +1,5 @@
 -- The tokens of a text, or its first fault.
-use Rattle.std.specs.Prelude.{◌≡◌, ◌-◌, ℕ, Bool, true, false, List, [], ◌∷◌}
+use Rattle.std.specs.Prelude.{◌≡◌, ◌≤◌, ◌+◌, ◌-◌, length, ℕ, Bool, true, false, List, [], ◌∷◌}
 use Rattle.c_lex.specs.Openings.{opening}
 use Rattle.c_lex.specs.Steps.{IsStep}
 use Rattle.c_lex.specs.Places.{IsPlaceOf}
@@ -32,17 +32,22 @@ stays_on_define kind on_define = on_define
 
 -- what the text from a place on gives, on a line that is a define or elsewhere
 pub data Reads (text : List ℕ) : Bool → ℕ → Reading → Type 0 where
-  ends : {at : ℕ} → opening text at ≡ TextEnd → Reads text false at (Tokens [])
+  at_end : {at : ℕ} → opening text at ≡ TextEnd → Reads text false at (Tokens [])
   skip : {on_define : Bool} {at end : ℕ} {reading : Reading} → IsStep text on_define at (Skip end)
       → Reads text on_define end reading → Reads text on_define at reading
-  token : {on_define : Bool} {at end : ℕ} {kind : TokenKind} {reading : Reading} → IsStep text on_define at (Piece kind end)
+  piece : {on_define : Bool} {at end : ℕ} {kind : TokenKind} {reading : Reading} → IsStep text on_define at (Piece kind end)
       → Reads text (stays_on_define kind on_define) end reading → Reads text on_define at (with_token (token_at kind at end) reading)
-  fault : {on_define : Bool} {at place : ℕ} {why : Why} → IsStep text on_define at (Bad place why)
+  bad : {on_define : Bool} {at place : ℕ} {why : Why} → IsStep text on_define at (Bad place why)
       → Reads text on_define at (FirstFault place why)
 
 -- these are the tokens of a text
 abbrev pub AreTokens : List ℕ → List Token → Type 0
 AreTokens text tokens = Reads text false 0 (Tokens tokens)
+
+-- each within the text, and none before the place where the one before it ends
+abbrev pub AreSlices : List ℕ → ℕ → List Token → Type 0
+AreSlices text from [] = from ≤ length text
+AreSlices text from (token ∷ tokens) = (from ≤ token.start) × AreSlices text (token.start + token.len) tokens
 
 -- this is the first fault of a text, with its line and column
 abbrev pub IsFirstFault : List ℕ → SourceFault → Type 0

@@ -1,7 +1,7 @@
 //! The tokens of a text.
 ghost use Rattle.std.specs.Prelude.{◌≡◌, ◌≤◌, ◌<◌, ◌++◌, ◌∷◌, [], ◌⊎◌, List, ℕ, OnOk, IfOk, IfErr, MatchResult, length};
 ghost use Rattle.c_lex.specs.NoMemory.{no_memory};
-ghost use Rattle.c_lex.specs.Readings.{AreTokens, IsFirstFault, stays_on_define, token_at};
+ghost use Rattle.c_lex.specs.Readings.{AreSlices, AreTokens, IsFirstFault, stays_on_define, token_at};
 ghost use Rattle.c_lex.specs.declared.token.Token.{Token};
 ghost use Rattle.c_lex.specs.declared.fault.SourceFault.{SourceFault};
 
@@ -15,6 +15,7 @@ use std::alloc::{AllocError, Global};
 pub fn tokens(alloc: Global, text: &[u8]) -> Result<TokenList, SourceFault>
     requires { length text.now ≤ 65536 }
     ensures list { IfOk result (λ list. AreTokens text.now list) }
+    ensures slices { IfOk result (λ list. AreSlices text.now 0 list) }
     ensures fault { IfErr result (λ fault. (fault ≡ no_memory) ⊎ IsFirstFault text.now fault) }
     ensures only_list { (list : List Token) → AreTokens text.now list → MatchResult result (λ found. found ≡ list) (λ fault. fault ≡ no_memory) }
     ensures only_fault { (first : SourceFault) → IsFirstFault text.now first → MatchResult result (λ _. ⊥) (λ fault. (fault ≡ no_memory) ⊎ (fault ≡ first)) }
