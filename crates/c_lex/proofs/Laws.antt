@@ -7,7 +7,7 @@ use Rattle.std.proofs.lemmas.List.{append-nil}
 use Rattle.c_lex.specs.Bytes.{IsRun, is_of}
 use Rattle.c_lex.specs.Openings.{opening, opening_of}
 use Rattle.c_lex.specs.Words.{IsDirective, is_left_out}
-use Rattle.c_lex.specs.Comments.{IsFirstClose, NeverCloses, IsLimit, IsComment, IsOpenComment, closes}
+use Rattle.c_lex.specs.Comments.{IsFirstClose, NeverCloses, IsComment, IsSplitComment}
 use Rattle.c_lex.specs.Texts.{Inside, ends, goes_on, IsText, IsBadInside, IsOpenText}
 use Rattle.c_lex.specs.Steps as steps
 use Rattle.c_lex.specs.Steps.{Stands, IsStep}
@@ -42,27 +42,22 @@ inside_one (ends e) (goes_on p i) = absurd (omega arith)
 inside_one (goes_on p i) (ends e) = absurd (omega arith)
 inside_one (goes_on p i) (goes_on q j) = inside_one i j
 
-limit_one : (text : List ℕ) (on_define : Bool) (at a b : ℕ) → IsLimit text on_define at a → IsLimit text on_define at b → a ≡ b
-limit_one text true at a b u v = run_one u v
-limit_one text false at a b u v = u ∙ sym v
-
-close_one : {text : List ℕ} {from limit a b : ℕ} → IsFirstClose text from limit a → IsFirstClose text from limit b → a ≡ b
-close_one {text} {from} {limit} {a} {b} u v = elim (cases_order a b) [
+close_one : {text : List ℕ} {from a b : ℕ} → IsFirstClose text from a → IsFirstClose text from b → a ≡ b
+close_one {text} {from} {a} {b} u v = elim (cases_order a b) [
   | inl e ↦ e
   | inr (inl less) ↦ absurd (let t = u.is in let f = v.first a u.low less in cc)
   | inr (inr more) ↦ absurd (let t = v.is in let f = u.first b v.low more in cc)
 ]
 
-comment_one : {text : List ℕ} {on_define : Bool} {at a b : ℕ} → IsComment text on_define at a → IsComment text on_define at b → a ≡ b
-comment_one {text} {on_define} {at} {a} {b} u v =
-    let e : v.limit ≡ u.limit = limit_one text on_define at v.limit u.limit v.limited u.limited in
-    close_one u.closed (subst (λ limit. IsFirstClose text (at + 2) limit b) e v.closed)
+never_endless : {text : List ℕ} {from a : ℕ} → IsFirstClose text from a → NeverCloses text from → ⊥
+never_endless {text} {from} {a} u never = let t = u.is in let f = never a u.low u.high in cc
 
-never_open : {text : List ℕ} {on_define : Bool} {at a : ℕ} → IsComment text on_define at a → IsOpenComment text on_define at → ⊥
-never_open {text} {on_define} {at} {a} u v =
-    let e : v.limit ≡ u.limit = limit_one text on_define at v.limit u.limit v.limited u.limited in
-    let never : NeverCloses text (at + 2) u.limit = subst (λ limit. NeverCloses text (at + 2) limit) e v.never in
-    let t = u.closed.is in let f = never a u.closed.low u.closed.high in cc
+never_split : {text : List ℕ} {on_define : Bool} {at a : ℕ} → IsComment text on_define at a → on_define ≡ true → IsSplitComment text at → ⊥
+never_split {text} {on_define} {at} {a} u define v =
+    let e : v.close ≡ a = close_one v.closed u.closed in
+    let f : v.newline ≡ a = run_one (subst (λ close. IsRun InLine text at close v.newline) e v.run) (u.on_line define) in
+    let before = v.before in
+    omega arith
 
 directive_one : {text : List ℕ} {at a b : ℕ} {word other : List ℕ} → IsDirective text at a word → IsDirective text at b other → (a ≡ b) × (word ≡ other)
 directive_one {text} {at} {a} {b} {word} {other} u v =
@@ -98,10 +93,15 @@ one_step text m at (steps.line_ends h) (steps.define_line_ends k) = cc
 one_step text m at (steps.line_ends h) (steps.line_ends k) = refl
 one_step text m at steps.space steps.space = refl
 one_step text m at (steps.line_comment u) (steps.line_comment v) = ap Skip (run_one u v)
-one_step text m at (steps.comment u) (steps.comment v) = ap (λ close. Skip (close + 2)) (comment_one u v)
-one_step text m at (steps.comment u) (steps.open_comment v) = absurd (never_open u v)
-one_step text m at (steps.open_comment u) (steps.comment v) = absurd (never_open v u)
-one_step text m at (steps.open_comment u) (steps.open_comment v) = refl
+one_step text m at (steps.comment u) (steps.comment v) = ap (λ close. Skip (close + 2)) (close_one u.closed v.closed)
+one_step text m at (steps.comment u) (steps.endless_comment v) = absurd (never_endless u.closed v)
+one_step text m at (steps.comment u) (steps.split_comment d v) = absurd (never_split u d v)
+one_step text m at (steps.endless_comment u) (steps.comment v) = absurd (never_endless v.closed u)
+one_step text m at (steps.endless_comment u) (steps.endless_comment v) = refl
+one_step text m at (steps.endless_comment u) (steps.split_comment d v) = refl
+one_step text m at (steps.split_comment d u) (steps.comment v) = absurd (never_split v d u)
+one_step text m at (steps.split_comment d u) (steps.endless_comment v) = refl
+one_step text m at (steps.split_comment d u) (steps.split_comment e v) = refl
 one_step text m at (steps.include d i u) (steps.include {stop = stop} e j v) =
     ap Skip (run_one u (subst (λ end. IsRun InLine text end (length text) stop) (sym (directive_one d e).0) v))
 one_step text m at (steps.include d i u) (steps.define e n y) = absurd (same_word (codes "include") (directive_one d e).1 i n)

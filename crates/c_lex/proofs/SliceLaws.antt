@@ -3,7 +3,6 @@ use Rattle.std.proofs.Common.{◌≡◌, ◌⊎◌, inl, inr, ◌<◌, ◌≤◌
 use Rattle.std.proofs.lemmas.Bool.{cases_lt}
 use Rattle.c_lex.specs.Openings.{opening}
 use Rattle.std.specs.Prelude.{slice_index}
-use Rattle.c_lex.specs.Comments.{IsLimit}
 use Rattle.c_lex.specs.Texts.{Inside, ends, goes_on, character_length}
 use Rattle.c_lex.specs.Steps as steps
 use Rattle.c_lex.specs.Steps.{Stands}
@@ -43,10 +42,6 @@ closed_inside text k e = elim (cases_lt k (length text)) [
   | inr past ↦ absurd (let z : slice_index text k ≡ 0 = past_is_zero text k past in omega arith)
 ]
 
-limit_inside : (text : List ℕ) (on_define : Bool) (at limit : ℕ) → IsLimit text on_define at limit → limit ≤ length text
-limit_inside text true at limit h = h.high
-limit_inside text false at limit h = omega arith
-
 pub goes_on_inside : (text : List ℕ) (on_define : Bool) (at : ℕ) {o : Opening} {step : Step} → at ≤ length text → opening text at ≡ o → Stands text on_define at o step → GoesOn text at step
 goes_on_inside text m at low e (steps.define_ends h) = (omega arith, low)
 goes_on_inside text m at low e (steps.define_line_ends h) = (omega arith, low)
@@ -54,8 +49,9 @@ goes_on_inside text m at low e (steps.line_ends h) = let less = inside text at o
 goes_on_inside text m at low e steps.space = let less = inside text at opens.Space e (λ q. cc) in (omega arith, omega arith)
 goes_on_inside text m at low e (steps.line_comment u) = let a = u.low in (omega arith, u.high)
 goes_on_inside text m at low e (steps.comment u) =
-    let a = u.closed.low in let b = u.closed.high in let z = limit_inside text m at u.limit u.limited in (omega arith, omega arith)
-goes_on_inside text m at low e (steps.open_comment u) = tt
+    let a = u.closed.low in let b = u.closed.high in (omega arith, omega arith)
+goes_on_inside text m at low e (steps.endless_comment u) = tt
+goes_on_inside text m at low e (steps.split_comment d u) = tt
 goes_on_inside text m at low e (steps.include d i u) =
     let a = d.spaces.low in let b = d.run.low in let z = u.low in (omega arith, u.high)
 goes_on_inside text m at low e (steps.define d i y) = let a = d.spaces.low in let b = d.run.low in (omega arith, d.run.high)

@@ -8,27 +8,24 @@ abbrev pub closes : List ℕ → ℕ → Bool
 closes text k = (slice_index text k == 42) && (slice_index text (k + 1) == 47)
 
 -- the first one from a place on
-pub record IsFirstClose (text : List ℕ) (from limit close : ℕ) : Type 0 where
+pub record IsFirstClose (text : List ℕ) (from close : ℕ) : Type 0 where
   pub low : from ≤ close
-  pub high : close + 2 ≤ limit
+  pub high : close + 2 ≤ length text
   pub is : closes text close ≡ true
   pub first : (k : ℕ) → from ≤ k → k < close → closes text k ≡ false
 
-abbrev pub NeverCloses : List ℕ → ℕ → ℕ → Type 0
-NeverCloses text from limit = (k : ℕ) → from ≤ k → k + 2 ≤ limit → closes text k ≡ false
+abbrev pub NeverCloses : List ℕ → ℕ → Type 0
+NeverCloses text from = (k : ℕ) → from ≤ k → k + 2 ≤ length text → closes text k ≡ false
 
--- a comment ends before the text does and, on a line that is a define, before that line does
-abbrev pub IsLimit : List ℕ → Bool → ℕ → ℕ → Type 0
-IsLimit text true at limit = IsRun InLine text at (length text) limit
-IsLimit text false at limit = limit ≡ length text
-
--- from `/*` to the first `*/` behind it
+-- from `/*` to the first `*/` behind it; a comment that stands on a line that is a define has no newline
 pub record IsComment (text : List ℕ) (on_define : Bool) (at close : ℕ) : Type 0 where
-  pub limit : ℕ
-  pub limited : IsLimit text on_define at limit
-  pub closed : IsFirstClose text (at + 2) limit close
+  pub closed : IsFirstClose text (at + 2) close
+  pub on_line : on_define ≡ true → IsRun InLine text at close close
 
-pub record IsOpenComment (text : List ℕ) (on_define : Bool) (at : ℕ) : Type 0 where
-  pub limit : ℕ
-  pub limited : IsLimit text on_define at limit
-  pub never : NeverCloses text (at + 2) limit
+-- a comment with a newline in it
+pub record IsSplitComment (text : List ℕ) (at : ℕ) : Type 0 where
+  pub close : ℕ
+  pub closed : IsFirstClose text (at + 2) close
+  pub newline : ℕ
+  pub run : IsRun InLine text at close newline
+  pub before : newline < close

@@ -5,7 +5,7 @@ use Rattle.c_lex.specs.Bytes.{IsRun}
 use Rattle.c_lex.specs.Openings.{opening, mark_length}
 use Rattle.c_lex.specs.Literals.{IsLiteral}
 use Rattle.c_lex.specs.Words.{IsDirective, is_left_out}
-use Rattle.c_lex.specs.Comments.{IsComment, IsOpenComment}
+use Rattle.c_lex.specs.Comments.{IsComment, IsSplitComment, NeverCloses}
 use Rattle.c_lex.specs.Texts.{IsText, IsBadInside, IsOpenText}
 use Rattle.c_lex.specs.declared.bytes.ByteClass.TheVariants.{InLine, InWord}
 use Rattle.c_lex.specs.declared.opening.Opening.{Opening}
@@ -24,7 +24,8 @@ pub data Stands (text : List ℕ) (on_define : Bool) (at : ℕ) : Opening → St
   line_comment : {end : ℕ} → IsRun InLine text (at + 1) (length text) end
       → Stands text on_define at opens.LineComment (Skip end)
   comment : {close : ℕ} → IsComment text on_define at close → Stands text on_define at opens.BlockComment (Skip (close + 2))
-  open_comment : IsOpenComment text on_define at → Stands text on_define at opens.BlockComment (Bad at OpenComment)
+  endless_comment : NeverCloses text (at + 2) → Stands text on_define at opens.BlockComment (Bad at OpenComment)
+  split_comment : on_define ≡ true → IsSplitComment text at → Stands text on_define at opens.BlockComment (Bad at OpenComment)
   include : {end stop : ℕ} {word : List ℕ} → IsDirective text at end word → bytes_eq word (codes "include") ≡ true
       → IsRun InLine text end (length text) stop → Stands text on_define at opens.Directive (Skip stop)
   define : {end : ℕ} {word : List ℕ} → IsDirective text at end word → bytes_eq word (codes "include") ≡ false

@@ -1,6 +1,6 @@
 //! Comments.
-ghost use Rattle.std.specs.Prelude.{◌≡◌, ◌≤◌, ◌<◌, Bool, MatchOption, length};
-ghost use Rattle.c_lex.specs.Comments.{IsFirstClose, IsLimit, NeverCloses};
+ghost use Rattle.std.specs.Prelude.{◌≤◌, ◌<◌, Bool, MatchOption, length};
+ghost use Rattle.c_lex.specs.Comments.{IsFirstClose, NeverCloses};
 ghost use Rattle.c_lex.specs.Steps.{EndsWithin, Stands};
 ghost use Rattle.c_lex.specs.declared.opening.Opening.TheVariants as opens;
 
@@ -26,37 +26,26 @@ pub fn block_comment(text: &[u8], on_define: bool, at: usize) -> Step
     ensures stands { Stands text.now on_define at opens.BlockComment result }
     ensures within { EndsWithin text.now on_define at result }
 {
-    let limit = limit(text, on_define, at);
-    match first_close(text, at + 2, limit) {
-        Some(close) => Step::Skip { end: close + 2 },
-        None => Step::Bad {
-            place: at,
-            why: Why::OpenComment,
-        },
+    let open = Step::Bad {
+        place: at,
+        why: Why::OpenComment,
+    };
+    let Some(close) = first_close(text, at + 2) else {
+        return open;
+    };
+    if on_define && run_end(ByteClass::InLine, text, at, close) < close {
+        return open;
     }
+    Step::Skip { end: close + 2 }
 }
 
-/// Where a comment has to end at the latest.
-fn limit(text: &[u8], on_define: bool, at: usize) -> usize
-    requires { at ≤ length text.now }
-    ensures limit { IsLimit text.now on_define at result }
-    ensures within { result ≤ length text.now }
-{
-    if on_define {
-        run_end(ByteClass::InLine, text, at, text.len())
-    } else {
-        text.len()
-    }
-}
-
-/// The first closing mark from a place on that ends within the limit.
-fn first_close(text: &[u8], from: usize, limit: usize) -> Option<usize>
-    requires limit { limit ≤ length text.now }
-    requires fits { limit ≤ 65536 }
-    ensures { MatchOption result (NeverCloses text.now from limit) (λ close. IsFirstClose text.now from limit close) }
+/// The first closing mark from a place on.
+fn first_close(text: &[u8], from: usize) -> Option<usize>
+    requires { length text.now ≤ 65536 }
+    ensures { MatchOption result (NeverCloses text.now from) (λ close. IsFirstClose text.now from close) }
 {
     let mut close = from;
-    while close < limit && close + 1 < limit {
+    while close < text.len() && close + 1 < text.len() {
         if text[close] == b'*' && text[close + 1] == b'/' {
             return Some(close);
         }

@@ -1,4 +1,4 @@
-use Rattle.std.proofs.Common.{◌≡◌, ◌≤◌, ◌<◌, ◌-◌, ℕ, false}
+use Rattle.std.proofs.Common.{◌≡◌, ◌≤◌, ◌<◌, ◌-◌, ℕ, false, length}
 use Rattle.c_lex.specs.Comments.{closes}
 use Rattle.c_lex.proofs.comment.first_close.Given as goal
 
@@ -9,4 +9,4 @@ invariant-loop-close l = record {
 }
 
 abbrev pub decreases-loop-close : goal.decreases-loop-close
-decreases-loop-close l = l.limit - l.close
+decreases-loop-close l = length l.text - l.close
