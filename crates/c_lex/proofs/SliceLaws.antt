@@ -65,7 +65,7 @@ goes_on_inside text m at low e (steps.quoted {close = close} u) =
 goes_on_inside text m at low e (steps.bad_inside u) = tt
 goes_on_inside text m at low e (steps.open_text u) = tt
 goes_on_inside text m at low e steps.mark =
-    let less = inside text at opens.Sign e (λ q. cc) in let z = mark_length-within text at less in (omega arith, z)
+    let z = mark_length-within text at low in (omega arith, z)
 goes_on_inside text m at low e steps.bad_byte = tt
 
 AreSlicesOf : List ℕ → ℕ → Reading → Type 0

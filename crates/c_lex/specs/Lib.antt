@@ -1,4 +1,5 @@
 pub mod Bytes
+pub mod Marks
 pub mod Openings
 pub mod Literals
 pub mod Words

@@ -2,7 +2,8 @@
 use Rattle.std.specs.Prelude.{◌≡◌, ◌≢◌, ◌≤◌, ◌<◌, ◌+◌, ℕ, Bool, true, false, List, length, slice_range, codes}
 use Rattle.std.specs.Str.{bytes_eq}
 use Rattle.c_lex.specs.Bytes.{IsRun}
-use Rattle.c_lex.specs.Openings.{opening, mark_length}
+use Rattle.c_lex.specs.Marks.{mark_length}
+use Rattle.c_lex.specs.Openings.{opening}
 use Rattle.c_lex.specs.Literals.{IsLiteral}
 use Rattle.c_lex.specs.Words.{IsDirective, is_left_out}
 use Rattle.c_lex.specs.Comments.{IsComment, IsSplitComment, NeverCloses}

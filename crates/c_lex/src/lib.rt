@@ -6,6 +6,7 @@ mod comment;
 pub mod fault;
 pub mod lexer;
 pub mod literal;
+mod mark;
 mod opening;
 mod piece;
 mod place;

@@ -1,8 +1,9 @@
 //! What begins at a place, by its first bytes.
-ghost use Rattle.std.specs.Prelude.{◌≡◌, ◌≤◌, ◌+◌, ◌<◌, ◌^◌, length, slice_index};
-ghost use Rattle.c_lex.specs.Openings.{begins_line, is_doubled, is_mark, mark_length, opening, stands_before_equals};
+ghost use Rattle.std.specs.Prelude.{◌≡◌, ◌≤◌, length, slice_index};
+ghost use Rattle.c_lex.specs.Openings.{begins_line, opening};
 
 use crate::bytes::{is_letter, is_space};
+use crate::mark::mark_length;
 
 /// What a place begins, whether or not that is well formed.
 #[derive(Clone, Copy)]
@@ -46,7 +47,7 @@ pub fn opening_at(text: &[u8], at: usize) -> Opening
         Opening::Digits
     } else if byte == b'"' {
         Opening::Quote
-    } else if is_mark(byte) {
+    } else if mark_length(text, at) > 0 {
         Opening::Sign
     } else {
         Opening::Nothing
@@ -77,41 +78,4 @@ fn begins_line(text: &[u8], at: usize) -> bool
         from -= 1;
     }
     true
-}
-
-/// How many bytes the longest mark from this place on has; 0 where none begins.
-pub fn mark_length(text: &[u8], at: usize) -> usize
-    requires { at < length text.now }
-    ensures { result ≡ mark_length text.now at }
-{
-    let first = text[at];
-    let second = byte_at(text, at + 1);
-    if second == first && (first == b'<' || first == b'>') && byte_at(text, at + 2) == b'=' {
-        return 3;
-    }
-    if second == b'=' && stands_before_equals(first) || second == first && is_doubled(first) {
-        return 2;
-    }
-    if is_mark(first) { 1 } else { 0 }
-}
-
-/// Whether a byte and `=` are a mark.
-fn stands_before_equals(byte: u8) -> bool
-    ensures { result ≡ stands_before_equals byte }
-{
-    b"=!<>+-*/%&|^".contains(&byte)
-}
-
-/// Whether a byte twice is a mark.
-fn is_doubled(byte: u8) -> bool
-    ensures { result ≡ is_doubled byte }
-{
-    b"<>&|+-".contains(&byte)
-}
-
-/// Whether a byte alone is a mark.
-fn is_mark(byte: u8) -> bool
-    ensures { result ≡ is_mark byte }
-{
-    b"(){}[];,.?:=<>+-*/%!~&|^".contains(&byte)
 }

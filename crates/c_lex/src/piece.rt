@@ -1,6 +1,6 @@
 //! Numbers, texts and marks.
-ghost use Rattle.std.specs.Prelude.{◌≡◌, ◌≤◌, ◌<◌, ◌+◌, Bool, true, length, slice_index};
-ghost use Rattle.c_lex.specs.Openings.{is_mark};
+ghost use Rattle.std.specs.Prelude.{◌≡◌, ◌≤◌, ◌<◌, ◌+◌, Bool, length};
+ghost use Rattle.c_lex.specs.Marks.{mark_length};
 ghost use Rattle.c_lex.specs.Texts.{Inside, character_length};
 ghost use Rattle.c_lex.specs.Steps.{EndsWithin, Stands};
 ghost use Rattle.c_lex.specs.declared.opening.Opening.TheVariants as opens;
@@ -8,7 +8,8 @@ ghost use Rattle.c_lex.specs.declared.opening.Opening.TheVariants as opens;
 use crate::bytes::{ByteClass, run_end};
 use crate::fault::Why;
 use crate::literal::literal_value;
-use crate::opening::{byte_at, mark_length};
+use crate::mark::mark_length;
+use crate::opening::byte_at;
 use crate::step::Step;
 use crate::token::TokenKind;
 
@@ -34,7 +35,7 @@ pub fn number(text: &[u8], at: usize) -> Step
 /// A mark.
 pub fn mark(text: &[u8], at: usize) -> Step
     requires inside { at < length text.now }
-    requires mark { is_mark (slice_index text.now at) ≡ true }
+    requires mark { 0 < mark_length text.now at }
     ensures stands { (on_define : Bool) → Stands text.now on_define at opens.Sign result }
     ensures within { (on_define : Bool) → EndsWithin text.now on_define at result }
 {
