@@ -1,8 +1,8 @@
 pub mod Bytes
+pub mod Words
 pub mod Marks
 pub mod Openings
 pub mod Literals
-pub mod Words
 pub mod Comments
 pub mod Texts
 pub mod Steps

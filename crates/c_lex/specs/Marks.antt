@@ -1,15 +1,7 @@
 -- The marks of C. (ISO C, "Punctuators".)
-use Rattle.std.specs.Prelude.{◌==◌, ℕ, if◌then◌else◌, nat_eq, List, [], ◌∷◌, length, drop, codes}
+use Rattle.std.specs.Prelude.{ℕ, if◌then◌else◌, nat_eq, List, [], ◌∷◌, length, drop, codes}
 use Rattle.std.specs.List.{starts_with}
-
--- the words that single blanks divide
-abbrev pub onto_first : ℕ → List (List ℕ) → List (List ℕ)
-onto_first byte [] = (byte ∷ []) ∷ []
-onto_first byte (word ∷ words) = (byte ∷ word) ∷ words
-
-abbrev pub words : List ℕ → List (List ℕ)
-words [] = [] ∷ []
-words (byte ∷ bytes) = if byte == 32 then [] ∷ words bytes else onto_first byte (words bytes)
+use Rattle.c_lex.specs.Words.{words}
 
 -- the longest first
 unfoldable pub marks : List (List ℕ)

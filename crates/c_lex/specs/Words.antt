@@ -1,16 +1,22 @@
 -- Words that are no names here, and the words of directives. (ISO C, "Keywords" and "Preprocessing directives".)
-use Rattle.std.specs.Prelude.{◌≡◌, ◌+◌, ℕ, Bool, List, [], ◌∷◌, length, slice_range, codes}
+use Rattle.std.specs.Prelude.{◌≡◌, ◌==◌, ◌+◌, ℕ, Bool, if◌then◌else◌, List, [], ◌∷◌, length, slice_range, codes}
 use Rattle.std.specs.List.{list_any}
 use Rattle.std.specs.Str.{bytes_eq}
 use Rattle.c_lex.specs.Bytes.{IsRun}
 use Rattle.c_lex.specs.declared.bytes.ByteClass.TheVariants.{Space, InWord}
 
+-- the words that single blanks divide
+abbrev pub onto_first : ℕ → List (List ℕ) → List (List ℕ)
+onto_first byte [] = (byte ∷ []) ∷ []
+onto_first byte (word ∷ words) = (byte ∷ word) ∷ words
+
+abbrev pub words : List ℕ → List (List ℕ)
+words [] = [] ∷ []
+words (byte ∷ bytes) = if byte == 32 then [] ∷ words bytes else onto_first byte (words bytes)
+
 abbrev pub left_out_words : List (List ℕ)
 left_out_words =
-    codes "auto" ∷ codes "case" ∷ codes "const" ∷ codes "default" ∷ codes "double" ∷ codes "enum" ∷ codes "extern"
-    ∷ codes "float" ∷ codes "goto" ∷ codes "inline" ∷ codes "long" ∷ codes "register" ∷ codes "restrict" ∷ codes "short"
-    ∷ codes "signed" ∷ codes "sizeof" ∷ codes "static" ∷ codes "struct" ∷ codes "switch" ∷ codes "typedef"
-    ∷ codes "union" ∷ codes "unsigned" ∷ codes "volatile" ∷ []
+    words (codes "auto case const default double enum extern float goto inline long register restrict short signed sizeof static struct switch typedef union unsigned volatile")
 
 abbrev pub is_left_out : List ℕ → Bool
 is_left_out word = list_any (bytes_eq word) left_out_words
