@@ -1,20 +1,20 @@
 -- A text has one reading.
-use Rattle.std.proofs.Common.{◌≡◌, ◌⊎◌, inl, inr, ◌<◌, ◌≤◌, ◌+◌, ◌-◌, ℕ, zero, suc, Bool, true, false, List, [], ◌∷◌, ◌++◌, length, slice_index, refl, sym, ap, ◌∙◌, subst, arith, append_assoc}
+use Rattle.std.proofs.Common.{◌≡◌, ◌⊎◌, inl, inr, ◌<◌, ◌≤◌, ◌+◌, ◌-◌, ℕ, Bool, true, false, List, [], ◌∷◌, ◌++◌, length, slice_index, refl, sym, ap, ◌∙◌, subst, arith, append_assoc}
 use Rattle.std.specs.Prelude.{slice_range, nat_le, codes, if◌then◌else◌}
 use Rattle.std.specs.Str.{bytes_eq}
 use Rattle.std.proofs.lemmas.Bool.{cases_order, le-leb, leb-true, false_from_ne_true}
 use Rattle.std.proofs.lemmas.List.{append-nil}
-use Rattle.c_lex.specs.Bytes.{IsRun, is_of}
-use Rattle.c_lex.specs.Openings.{opening, opening_of}
+use Rattle.c_lex.specs.Bytes.{IsRun}
+use Rattle.c_lex.specs.Openings.{opening}
 use Rattle.c_lex.specs.Words.{IsDirective, is_left_out}
 use Rattle.c_lex.specs.Comments.{IsFirstClose, NeverCloses, IsComment, IsSplitComment}
-use Rattle.c_lex.specs.Texts.{Inside, ends, goes_on, IsText, IsBadInside, IsOpenText}
+use Rattle.c_lex.specs.Texts.{Inside, ends, goes_on, IsText, IsBadInside}
 use Rattle.c_lex.specs.Steps as steps
 use Rattle.c_lex.specs.Steps.{Stands, IsStep}
 use Rattle.c_lex.specs.Readings as readings
 use Rattle.c_lex.specs.Readings.{Reading, Tokens, FirstFault, Reads, with_token, token_at, stays_on_define, IsFirstFault}
 use Rattle.c_lex.specs.declared.bytes.ByteClass.{ByteClass}
-use Rattle.c_lex.specs.declared.bytes.ByteClass.TheVariants.{Space, InWord, InLine, Printable}
+use Rattle.c_lex.specs.declared.bytes.ByteClass.TheVariants.{InWord, InLine, Printable}
 use Rattle.c_lex.specs.declared.opening.Opening.{Opening}
 use Rattle.c_lex.specs.declared.opening.Opening.TheVariants as opens
 use Rattle.c_lex.specs.declared.token.Token.{Token}

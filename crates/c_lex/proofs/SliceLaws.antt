@@ -1,9 +1,9 @@
 -- Tokens are slices of the text in order.
-use Rattle.std.proofs.Common.{◌≡◌, ◌⊎◌, inl, inr, ◌<◌, ◌≤◌, ◌+◌, ◌-◌, ℕ, Bool, true, false, List, [], ◌∷◌, length, refl, sym, ap, ◌∙◌, subst, arith}
+use Rattle.std.proofs.Common.{◌≡◌, inl, inr, ◌<◌, ◌≤◌, ◌+◌, ◌-◌, ℕ, Bool, List, [], ◌∷◌, length, refl, sym, ◌∙◌, subst, arith}
 use Rattle.std.proofs.lemmas.Bool.{cases_lt}
 use Rattle.c_lex.specs.Openings.{opening}
 use Rattle.std.specs.Prelude.{slice_index}
-use Rattle.c_lex.specs.Texts.{Inside, ends, goes_on, character_length}
+use Rattle.c_lex.specs.Texts.{Inside, ends, goes_on}
 use Rattle.c_lex.specs.Steps as steps
 use Rattle.c_lex.specs.Steps.{Stands}
 use Rattle.c_lex.specs.Readings as readings
@@ -12,7 +12,6 @@ use Rattle.c_lex.specs.declared.opening.Opening.{Opening}
 use Rattle.c_lex.specs.declared.opening.Opening.TheVariants as opens
 use Rattle.c_lex.specs.declared.token.Token.{Token}
 use Rattle.c_lex.specs.declared.token.TokenKind.{TokenKind}
-use Rattle.c_lex.specs.declared.fault.Why.{Why}
 use Rattle.c_lex.specs.declared.step.Step.{Step}
 use Rattle.c_lex.specs.declared.step.Step.TheVariants.{Skip, Piece, Bad}
 use Rattle.c_lex.proofs.MarkLaws.{mark_length-within, past_is_zero}

@@ -1,5 +1,5 @@
 -- The numbers of C. (ISO C, "Integer constants", without suffixes.)
-use Rattle.std.specs.Prelude.{◌≡◌, ◌≤◌, ◌==◌, ◌&&◌, ◌||◌, ℕ, Bool, if◌then◌else◌, List, slice_index, drop}
+use Rattle.std.specs.Prelude.{◌≤◌, ◌==◌, ◌&&◌, ◌||◌, ℕ, if◌then◌else◌, List, slice_index, drop}
 use Rattle.std.specs.Str.Parse.{IsNumeral, digits_value}
 
 -- behind `0x` or `0X` the digits are hexadecimal

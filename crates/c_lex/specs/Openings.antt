@@ -1,5 +1,5 @@
 -- What begins at a place, which its first bytes tell. (ISO C, "Lexical elements".)
-use Rattle.std.specs.Prelude.{◌==◌, ◌&&◌, ◌||◌, ◌+◌, ℕ, zero, suc, Bool, true, false, if◌then◌else◌, nat_le, nat_lt, List, length, slice_index}
+use Rattle.std.specs.Prelude.{◌==◌, ◌&&◌, ◌||◌, ◌+◌, ℕ, zero, suc, Bool, true, if◌then◌else◌, nat_le, nat_lt, List, length, slice_index}
 use Rattle.c_lex.specs.Marks.{mark_length}
 use Rattle.c_lex.specs.Bytes.{is_space, is_digit, is_letter}
 use Rattle.c_lex.specs.declared.opening.Opening.{Opening}

@@ -1,5 +1,5 @@
 -- Texts between marks on one line. (ISO C, "String literals".)
-use Rattle.std.specs.Prelude.{◌≡◌, ◌≢◌, ◌≤◌, ◌<◌, ◌+◌, ◌==◌, ◌&&◌, ◌||◌, ℕ, Bool, nat_le, if◌then◌else◌, List, length, slice_index}
+use Rattle.std.specs.Prelude.{◌≡◌, ◌≢◌, ◌<◌, ◌+◌, ◌==◌, ◌||◌, ℕ, Bool, nat_le, if◌then◌else◌, List, length, slice_index}
 use Rattle.c_lex.specs.Bytes.{IsRun}
 use Rattle.c_lex.specs.declared.bytes.ByteClass.TheVariants.{Printable}
 

@@ -34,8 +34,8 @@ fn tokens_are_slices_in_order(rt: HostRuntime) -> Result<(), Fail> {
         let mut words = expected.split(' ');
         for token in list.as_slice() {
             let start = token.start as usize;
-            let word = &text.as_bytes()[start..start + token.len as usize];
-            assert_eq!(rt; Some(word), words.next().map(|word| word.as_bytes()));
+            let word = text.as_bytes().get(start..start + token.len as usize);
+            assert_eq!(rt; word, words.next().map(|word| word.as_bytes()));
         }
         assert_eq!(rt; words.next().unwrap_or(""), "");
     }

@@ -1,4 +1,4 @@
-use Rattle.std.proofs.Common.{◌≡◌, true, subst, arith}
+use Rattle.std.proofs.Common.{◌≡◌, subst, arith}
 use Rattle.c_lex.specs.Bytes.{IsRun}
 use Rattle.c_lex.specs.Steps.{comment, endless_comment, split_comment}
 use Rattle.c_lex.specs.declared.bytes.ByteClass.TheVariants.{InLine}

@@ -1,4 +1,3 @@
-use Rattle.std.proofs.Common.{◌≡◌}
 use Rattle.c_lex.proofs.Laws.{one_reading, fault_one}
 use Rattle.c_lex.proofs.lexer.one_reading.Goals as goal
 

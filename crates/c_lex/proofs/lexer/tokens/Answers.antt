@@ -1,5 +1,5 @@
-use Rattle.std.proofs.Common.{◌≡◌, ◌++◌, List, [], false, inr, sym, ap, ◌∙◌, subst, arith}
-use Rattle.c_lex.specs.Readings.{AreTokens, IsFirstFault, Reads, Tokens, FirstFault, skip, piece, bad, token_at, with_token}
+use Rattle.std.proofs.Common.{false, inr, sym, ap, ◌∙◌, subst}
+use Rattle.c_lex.specs.Readings.{Reads, FirstFault, skip, piece, bad, token_at, with_token}
 use Rattle.c_lex.proofs.Laws.{after, after_one, fault_one, one_reading, piece_inside, read_all}
 use Rattle.c_lex.proofs.SliceLaws.{tokens_are_slices}
 use Rattle.c_lex.proofs.lexer.tokens.Goals as goal

@@ -1,4 +1,4 @@
-use Rattle.std.proofs.Common.{◌≡◌, ◌≤◌, ◌+◌, ◌-◌, ◌*◌, ℕ, Bool, true, false, cond, List, length}
+use Rattle.std.proofs.Common.{◌≤◌, ◌+◌, ◌-◌, ◌*◌, false, cond, length}
 use Rattle.c_lex.specs.Readings.{Reading, Reads}
 use Rattle.c_lex.proofs.Laws.{after}
 use Rattle.c_lex.proofs.lexer.tokens.Given as goal

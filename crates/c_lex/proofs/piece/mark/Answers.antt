@@ -1,4 +1,4 @@
-use Rattle.std.proofs.Common.{◌+◌, sym, subst, arith}
+use Rattle.std.proofs.Common.{◌+◌, sym, subst}
 use Rattle.c_lex.specs.Steps.{Stands, mark}
 use Rattle.c_lex.specs.declared.opening.Opening.TheVariants as opens
 use Rattle.c_lex.specs.declared.token.TokenKind.TheVariants as kinds

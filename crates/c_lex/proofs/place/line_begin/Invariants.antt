@@ -1,4 +1,4 @@
-use Rattle.std.proofs.Common.{◌≡◌, ◌≢◌, ◌≤◌, ◌<◌, ℕ, slice_index}
+use Rattle.std.proofs.Common.{◌≢◌, ◌≤◌, ◌<◌, ℕ, slice_index}
 use Rattle.c_lex.proofs.place.line_begin.Given as goal
 
 abbrev pub invariant-loop-begin : goal.invariant-loop-begin

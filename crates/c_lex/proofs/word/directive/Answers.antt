@@ -1,5 +1,4 @@
-use Rattle.std.proofs.Common.{refl, sym, ◌∙◌, ◌+◌, List, ℕ, length, slice_index}
-use Rattle.c_lex.specs.Words.{IsDirective}
+use Rattle.std.proofs.Common.{refl, sym, ◌∙◌}
 use Rattle.c_lex.specs.Steps.{include, define, other_directive}
 use Rattle.c_lex.proofs.word.directive.Goals as goal
 
