@@ -66,9 +66,6 @@ directive_one {text} {at} {a} {b} {word} {other} u v =
     let g : slice_range text v.from b ≡ slice_range text u.from a = ap (λ from. slice_range text from b) e ∙ ap (λ end. slice_range text u.from end) (sym f) in
     (f, u.is ∙ sym g ∙ sym v.is)
 
-same_word : {word other : List ℕ} (name : List ℕ) → word ≡ other → bytes_eq word name ≡ true → bytes_eq other name ≡ false → ⊥
-same_word name e t f = let k = ap (λ w. bytes_eq w name) e in cc
-
 text_one : {text : List ℕ} {at a b : ℕ} → IsText text at a → IsText text at b → a ≡ b
 text_one u v = inside_one u.inside v.inside
 
@@ -102,16 +99,16 @@ one_step text m at (steps.endless_comment u) (steps.split_comment d v) = refl
 one_step text m at (steps.split_comment d u) (steps.comment v) = absurd (never_split v d u)
 one_step text m at (steps.split_comment d u) (steps.endless_comment v) = refl
 one_step text m at (steps.split_comment d u) (steps.split_comment e v) = refl
-one_step text m at (steps.include d i u) (steps.include {stop = stop} e j v) =
+one_step text m at (steps.include d u) (steps.include {stop = stop} e v) =
     ap Skip (run_one u (subst (λ end. IsRun InLine text end (length text) stop) (sym (directive_one d e).0) v))
-one_step text m at (steps.include d i u) (steps.define e n y) = absurd (same_word (codes "include") (directive_one d e).1 i n)
-one_step text m at (steps.include d i u) (steps.other_directive e n f) = absurd (same_word (codes "include") (directive_one d e).1 i n)
-one_step text m at (steps.define d n y) (steps.include e i u) = absurd (same_word (codes "include") (directive_one e d).1 i n)
-one_step text m at (steps.define d n y) (steps.define e k z) = ap (Piece kinds.Define) (directive_one d e).0
-one_step text m at (steps.define d n y) (steps.other_directive e k f) = absurd (same_word (codes "define") (directive_one d e).1 y f)
-one_step text m at (steps.other_directive d n f) (steps.include e i u) = absurd (same_word (codes "include") (directive_one e d).1 i n)
-one_step text m at (steps.other_directive d n f) (steps.define e k y) = absurd (same_word (codes "define") (directive_one e d).1 y f)
-one_step text m at (steps.other_directive d n f) (steps.other_directive e k g) = refl
+one_step text m at (steps.include d u) (steps.define e) = absurd (let same = (directive_one d e).1 in cc)
+one_step text m at (steps.include d u) (steps.other_directive e i n) = absurd (i (sym (directive_one d e).1))
+one_step text m at (steps.define d) (steps.include e u) = absurd (let same = (directive_one d e).1 in cc)
+one_step text m at (steps.define d) (steps.define e) = ap (Piece kinds.Define) (directive_one d e).0
+one_step text m at (steps.define d) (steps.other_directive e i n) = absurd (n (sym (directive_one d e).1))
+one_step text m at (steps.other_directive d i n) (steps.include e u) = absurd (i (directive_one d e).1)
+one_step text m at (steps.other_directive d i n) (steps.define e) = absurd (n (directive_one d e).1)
+one_step text m at (steps.other_directive d i n) (steps.other_directive e j k) = refl
 one_step text m at (steps.name u h) (steps.name v k) = ap (Piece kinds.Name) (run_one u v)
 one_step text m at (steps.name u h) (steps.left_out_word v k) = let e = ap (λ end. is_left_out (slice_range text at end)) (run_one u v) in cc
 one_step text m at (steps.left_out_word u h) (steps.name v k) = let e = ap (λ end. is_left_out (slice_range text at end)) (run_one u v) in cc

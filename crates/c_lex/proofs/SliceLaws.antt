@@ -51,9 +51,9 @@ goes_on_inside text m at low e (steps.comment u) =
     let a = u.closed.low in let b = u.closed.high in (omega arith, omega arith)
 goes_on_inside text m at low e (steps.endless_comment u) = tt
 goes_on_inside text m at low e (steps.split_comment d u) = tt
-goes_on_inside text m at low e (steps.include d i u) =
+goes_on_inside text m at low e (steps.include d u) =
     let a = d.spaces.low in let b = d.run.low in let z = u.low in (omega arith, u.high)
-goes_on_inside text m at low e (steps.define d i y) = let a = d.spaces.low in let b = d.run.low in (omega arith, d.run.high)
+goes_on_inside text m at low e (steps.define d) = let a = d.spaces.low in let b = d.run.low in (omega arith, d.run.high)
 goes_on_inside text m at low e (steps.other_directive d i y) = tt
 goes_on_inside text m at low e (steps.name u h) = let a = u.low in (omega arith, u.high)
 goes_on_inside text m at low e (steps.left_out_word u h) = tt

@@ -1,6 +1,5 @@
 -- What stands at a place of a text: nothing of account up to some place, a token, or a fault.
-use Rattle.std.specs.Prelude.{◌≡◌, ◌≤◌, ◌<◌, ◌+◌, ℕ, Bool, true, false, List, length, slice_range, codes}
-use Rattle.std.specs.Str.{bytes_eq}
+use Rattle.std.specs.Prelude.{◌≡◌, ◌≢◌, ◌≤◌, ◌<◌, ◌+◌, ℕ, Bool, true, false, List, length, slice_range, codes}
 use Rattle.c_lex.specs.Bytes.{IsRun}
 use Rattle.c_lex.specs.Marks.{mark_length}
 use Rattle.c_lex.specs.Openings.{opening}
@@ -27,12 +26,11 @@ pub data Stands (text : List ℕ) (on_define : Bool) (at : ℕ) : Opening → St
   comment : {close : ℕ} → IsComment text on_define at close → Stands text on_define at opens.BlockComment (Skip (close + 2))
   endless_comment : NeverCloses text (at + 2) → Stands text on_define at opens.BlockComment (Bad at OpenComment)
   split_comment : on_define ≡ true → IsSplitComment text at → Stands text on_define at opens.BlockComment (Bad at OpenComment)
-  include : {end stop : ℕ} {word : List ℕ} → IsDirective text at end word → bytes_eq word (codes "include") ≡ true
-      → IsRun InLine text end (length text) stop → Stands text on_define at opens.Directive (Skip stop)
-  define : {end : ℕ} {word : List ℕ} → IsDirective text at end word → bytes_eq word (codes "include") ≡ false
-      → bytes_eq word (codes "define") ≡ true → Stands text on_define at opens.Directive (Piece kinds.Define end)
-  other_directive : {end : ℕ} {word : List ℕ} → IsDirective text at end word → bytes_eq word (codes "include") ≡ false
-      → bytes_eq word (codes "define") ≡ false → Stands text on_define at opens.Directive (Bad at LeftOut)
+  include : {end stop : ℕ} → IsDirective text at end (codes "include") → IsRun InLine text end (length text) stop
+      → Stands text on_define at opens.Directive (Skip stop)
+  define : {end : ℕ} → IsDirective text at end (codes "define") → Stands text on_define at opens.Directive (Piece kinds.Define end)
+  other_directive : {end : ℕ} {word : List ℕ} → IsDirective text at end word → word ≢ codes "include" → word ≢ codes "define"
+      → Stands text on_define at opens.Directive (Bad at LeftOut)
   name : {end : ℕ} → IsRun InWord text (at + 1) (length text) end → is_left_out (slice_range text at end) ≡ false
       → Stands text on_define at opens.Word (Piece kinds.Name end)
   left_out_word : {end : ℕ} → IsRun InWord text (at + 1) (length text) end → is_left_out (slice_range text at end) ≡ true
