@@ -1,5 +1,5 @@
 -- Tokens are slices of the text in order.
-use Rattle.std.proofs.Common.{◌≡◌, inl, inr, ◌<◌, ◌≤◌, ◌+◌, ◌-◌, ℕ, Bool, List, [], ◌∷◌, length, refl, sym, ◌∙◌, subst, arith}
+use Rattle.std.proofs.Common.{◌≡◌, inl, inr, ◌<◌, ◌≤◌, ◌+◌, ◌-◌, ℕ, zero, suc, Bool, List, [], ◌∷◌, length, get_or, refl, sym, ◌∙◌, subst, arith}
 use Rattle.std.proofs.lemmas.Bool.{cases_lt}
 use Rattle.c_lex.specs.Openings.{opening}
 use Rattle.std.specs.Prelude.{slice_index}
@@ -72,32 +72,39 @@ AreSlicesOf text from (Tokens tokens) = AreSlices text from tokens
 AreSlicesOf text from (FirstFault place why) = Unit {0}
 
 from_later : (text : List ℕ) (from later : ℕ) (tokens : List Token) → from ≤ later → AreSlices text later tokens → AreSlices text from tokens
-from_later text from later [] h s = omega arith
-from_later text from later (token ∷ tokens) h s = let a = s.0 in (omega arith, s.1)
+from_later text from later [] h s = tt
+from_later text from later (token ∷ tokens) h s = let a = s.0 in (omega arith, s.1, s.2)
 
 later_of : (text : List ℕ) (from later : ℕ) (reading : Reading) → from ≤ later → AreSlicesOf text later reading → AreSlicesOf text from reading
 unfolding AreSlicesOf
 later_of text from later (Tokens tokens) h s = from_later text from later tokens h s
 later_of text from later (FirstFault place why) h s = tt
 
-one_more : (text : List ℕ) (kind : TokenKind) (at end : ℕ) (reading : Reading) → at ≤ end → AreSlicesOf text end reading → AreSlicesOf text at (with_token (token_at kind at end) reading)
+one_more : (text : List ℕ) (kind : TokenKind) (at end : ℕ) (reading : Reading) → at ≤ end → end ≤ length text → AreSlicesOf text end reading → AreSlicesOf text at (with_token (token_at kind at end) reading)
 unfolding AreSlicesOf
-one_more text kind at end (Tokens tokens) h s =
+one_more text kind at end (Tokens tokens) h k s =
     let e : end ≡ at + (end - at) = omega arith in
-    (omega arith, subst (λ z. AreSlices text z tokens) e s)
-one_more text kind at end (FirstFault place why) h s = tt
+    (omega arith, omega arith, subst (λ z. AreSlices text z tokens) e s)
+one_more text kind at end (FirstFault place why) h k s = tt
 
 slices_of : (text : List ℕ) {on_define : Bool} {at : ℕ} {reading : Reading} → at ≤ length text → Reads text on_define at reading → AreSlicesOf text at reading
 unfolding AreSlicesOf
-slices_of text low (readings.at_end e) = low
+slices_of text low (readings.at_end e) = tt
 slices_of text low (readings.skip {on_define = m} {at = at} {end = end} {reading = r} s q) =
     let g = goes_on_inside text m at low refl s in
     later_of text at end r g.0 (slices_of text g.1 q)
 slices_of text low (readings.piece {on_define = m} {at = at} {end = end} {kind = kind} {reading = r} s q) =
     let g = goes_on_inside text m at low refl s in
-    one_more text kind at end r g.0 (slices_of text g.1 q)
+    one_more text kind at end r g.0 g.1 (slices_of text g.1 q)
 slices_of text low (readings.bad s) = tt
 
 pub tokens_are_slices : (text : List ℕ) (tokens : List Token) → AreTokens text tokens → AreSlices text 0 tokens
 unfolding AreSlicesOf
 tokens_are_slices text tokens h = slices_of text (omega arith) h
+
+-- so each token can be cut out of the text
+pub slice_inside : (text : List ℕ) (from : ℕ) (tokens : List Token) (k : ℕ) (default : Token) → AreSlices text from tokens → k < length tokens
+    → (get_or tokens k default).start + (get_or tokens k default).len ≤ length text
+slice_inside text from [] k default s below = absurd (omega arith)
+slice_inside text from (token ∷ tokens) zero default s below = s.1
+slice_inside text from (token ∷ tokens) (suc k) default s below = slice_inside text (token.start + token.len) tokens k default s.2 (omega arith)

@@ -46,8 +46,9 @@ AreTokens text tokens = Reads text false 0 (Tokens tokens)
 
 -- each within the text, and none before the place where the one before it ends
 abbrev pub AreSlices : List ℕ → ℕ → List Token → Type 0
-AreSlices text from [] = from ≤ length text
-AreSlices text from (token ∷ tokens) = (from ≤ token.start) × AreSlices text (token.start + token.len) tokens
+AreSlices text from [] = Unit {0}
+AreSlices text from (one ∷ others) =
+    (from ≤ one.start) × (one.start + one.len ≤ length text) × AreSlices text (one.start + one.len) others
 
 -- this is the first fault of a text, with its line and column
 abbrev pub IsFirstFault : List ℕ → SourceFault → Type 0

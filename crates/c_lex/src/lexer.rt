@@ -1,9 +1,10 @@
 //! The tokens of a text.
-ghost use Rattle.std.specs.Prelude.{◌≡◌, ◌≤◌, ◌<◌, ◌++◌, ◌∷◌, [], ◌⊎◌, List, ℕ, OnOk, IfOk, IfErr, MatchResult, length};
+ghost use Rattle.std.specs.Prelude.{◌≡◌, ◌≢◌, ◌≤◌, ◌<◌, ◌++◌, ◌∷◌, [], ◌⊎◌, List, ℕ, OnOk, IfOk, IfErr, MatchResult, length};
 ghost use Rattle.c_lex.specs.NoMemory.{no_memory};
 ghost use Rattle.c_lex.specs.Readings.{AreSlices, AreTokens, IsFirstFault, stays_on_define, token_at};
 ghost use Rattle.c_lex.specs.declared.token.Token.{Token};
 ghost use Rattle.c_lex.specs.declared.fault.SourceFault.{SourceFault};
+ghost use Rattle.c_lex.specs.declared.fault.Why.TheVariants.{NoMemory};
 
 use crate::fault::SourceFault;
 use crate::place::fault_at;
@@ -63,9 +64,10 @@ fn stays_on_define(kind: TokenKind, on_define: bool) -> bool
     }
 }
 
-/// A text has one list of tokens or one first fault, never both.
+/// A text has one list of tokens or one first fault, never both. A fault of a text is none of memory.
 pub fn one_reading()
     ensures one_list { (text : List ℕ) (list other : List Token) → AreTokens text list → AreTokens text other → list ≡ other }
     ensures one_fault { (text : List ℕ) (fault other : SourceFault) → IsFirstFault text fault → IsFirstFault text other → fault ≡ other }
+    ensures has_place { (text : List ℕ) (fault : SourceFault) → IsFirstFault text fault → fault.why ≢ NoMemory }
     ensures never_both { (text : List ℕ) (list : List Token) (fault : SourceFault) → AreTokens text list → IsFirstFault text fault → ⊥ }
 {}
