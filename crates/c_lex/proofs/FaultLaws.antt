@@ -1,11 +1,11 @@
 -- A fault of a text is none of memory.
-use Rattle.std.proofs.Common.{◌≡◌, ◌≢◌, ℕ, Bool, List}
+use Rattle.std.proofs.Common.{◌≢◌, ℕ, Bool, List}
 use Rattle.c_lex.specs.Steps as steps
 use Rattle.c_lex.specs.Steps.{Stands}
 use Rattle.c_lex.specs.Readings as readings
 use Rattle.c_lex.specs.Readings.{Reading, Tokens, FirstFault, Reads, with_token, token_at, IsFirstFault}
 use Rattle.c_lex.specs.declared.fault.SourceFault.{SourceFault}
-use Rattle.c_lex.specs.declared.fault.Why.TheVariants.{BadByte, OpenComment, OpenText, BadLiteral, LeftOut, NoMemory}
+use Rattle.c_lex.specs.declared.fault.Why.TheVariants.{NoMemory}
 use Rattle.c_lex.specs.declared.opening.Opening.{Opening}
 use Rattle.c_lex.specs.declared.token.Token.{Token}
 use Rattle.c_lex.specs.declared.step.Step.{Step}

@@ -18,8 +18,10 @@ pub fn tokens(alloc: Global, text: &[u8]) -> Result<TokenList, SourceFault>
     ensures list { IfOk result (λ list. AreTokens text.now list) }
     ensures slices { IfOk result (λ list. AreSlices text.now 0 list) }
     ensures fault { IfErr result (λ fault. (fault ≡ no_memory) ⊎ IsFirstFault text.now fault) }
-    ensures only_list { (list : List Token) → AreTokens text.now list → MatchResult result (λ found. found ≡ list) (λ fault. fault ≡ no_memory) }
-    ensures only_fault { (first : SourceFault) → IsFirstFault text.now first → MatchResult result (λ _. ⊥) (λ fault. (fault ≡ no_memory) ⊎ (fault ≡ first)) }
+    ensures only_list { (list : List Token) → AreTokens text.now list
+        → MatchResult result (λ found. found ≡ list) (λ fault. fault ≡ no_memory) }
+    ensures only_fault { (first : SourceFault) → IsFirstFault text.now first
+        → MatchResult result (λ _. ⊥) (λ fault. (fault ≡ no_memory) ⊎ (fault ≡ first)) }
 {
     let mut found = TokenList::new(alloc);
     let mut at = 0;
@@ -66,8 +68,11 @@ fn stays_on_define(kind: TokenKind, on_define: bool) -> bool
 
 /// A text has one list of tokens or one first fault, never both. A fault of a text is none of memory.
 pub fn one_reading()
-    ensures one_list { (text : List ℕ) (list other : List Token) → AreTokens text list → AreTokens text other → list ≡ other }
-    ensures one_fault { (text : List ℕ) (fault other : SourceFault) → IsFirstFault text fault → IsFirstFault text other → fault ≡ other }
+    ensures one_list { (text : List ℕ) (list other : List Token)
+        → AreTokens text list → AreTokens text other → list ≡ other }
+    ensures one_fault { (text : List ℕ) (fault other : SourceFault)
+        → IsFirstFault text fault → IsFirstFault text other → fault ≡ other }
     ensures has_place { (text : List ℕ) (fault : SourceFault) → IsFirstFault text fault → fault.why ≢ NoMemory }
-    ensures never_both { (text : List ℕ) (list : List Token) (fault : SourceFault) → AreTokens text list → IsFirstFault text fault → ⊥ }
+    ensures never_both { (text : List ℕ) (list : List Token) (fault : SourceFault)
+        → AreTokens text list → IsFirstFault text fault → ⊥ }
 {}

@@ -6,8 +6,8 @@ ghost use Rattle.c_lex.specs.Literals.{IsLiteral, base, literal_value, prefix_le
 /// The largest number of a text.
 const LARGEST: u64 = 2147483647;
 
-/// The number that a literal spells: `0x` or `0X` and hexadecimal digits, `0` and octal digits, or decimal digits. `None`
-/// where the word is no literal, or above 2147483647. Takes no memory.
+/// The number that a literal spells: `0x` or `0X` and hexadecimal digits, `0` and octal digits, or
+/// decimal digits. `None` where the word is no literal, or above 2147483647. Takes no memory.
 pub fn literal_value(word: &[u8]) -> Option<u32>
     ensures { SomeIff result (IsLiteral word.now) (literal_value word.now) }
 {
@@ -50,7 +50,8 @@ fn base(word: &[u8]) -> u32
 fn value_up_to(base: u32, digits: &[u8]) -> Option<u64>
     requires low { 2 ≤ base }
     requires high { base ≤ 16 }
-    ensures { SomeIff result (AllDigits base digits.now × (digits_value base digits.now ≤ 2147483647)) (digits_value base digits.now) }
+    ensures { SomeIff result (AllDigits base digits.now × (digits_value base digits.now ≤ 2147483647))
+        (digits_value base digits.now) }
 {
     let mut value: u64 = 0;
     for byte in digits {
