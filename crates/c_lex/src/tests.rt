@@ -104,6 +104,7 @@ fn the_first_fault_is_given(rt: HostRuntime) -> Result<(), Fail> {
 
 #[test]
 fn literals_have_values(rt: HostRuntime) {
+    one_reading();
     for (word, expected) in [
         ("0", Some(0)),
         ("010", Some(8)),
