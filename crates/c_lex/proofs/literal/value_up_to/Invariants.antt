@@ -1,0 +1,10 @@
+use Rattle.std.proofs.Common.{◌≡◌, ◌≤◌, take}
+use Rattle.std.specs.Str.Parse.{AllDigits, digits_value}
+use Rattle.c_lex.proofs.literal.value_up_to.Given as goal
+
+abbrev pub invariant-loop-byte : goal.invariant-loop-byte
+invariant-loop-byte l = record {
+  digits : AllDigits l.base (take l.byte-index l.digits);
+  value : l.value ≡ digits_value l.base (take l.byte-index l.digits);
+  small : l.value ≤ 2147483647;
+}

@@ -1,0 +1,11 @@
+pub mod Bytes
+pub mod Words
+pub mod Marks
+pub mod Openings
+pub mod Literals
+pub mod Comments
+pub mod Texts
+pub mod Steps
+pub mod Readings
+pub mod Places
+pub mod NoMemory

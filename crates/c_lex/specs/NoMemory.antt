@@ -1,0 +1,6 @@
+-- Want of memory, which has no place in the text.
+use Rattle.c_lex.specs.declared.fault.SourceFault.{SourceFault}
+use Rattle.c_lex.specs.declared.fault.Why.TheVariants.{NoMemory}
+
+abbrev pub no_memory : SourceFault
+no_memory = record { line = 1; column = 1; why = NoMemory }

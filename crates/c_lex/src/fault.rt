@@ -1,0 +1,52 @@
+//! Why a text is no program.
+use std::alloc::AllocError;
+use thiserror::Error;
+
+/// Why a text is refused. Of two reasons at one place, the one that stands first here is given.
+#[derive(Clone, Copy, Debug, PartialEq, Eq)]
+pub enum Why {
+    /// A byte that begins no token, or one outside 32 to 126 in a text.
+    BadByte,
+    /// A comment without its end. On a line that is a define it has to end on that line.
+    OpenComment,
+    /// A text without its closing mark on its line.
+    OpenText,
+    /// A number that is none of C's, or above 2147483647.
+    BadLiteral,
+    Unexpected,
+    TooDeep,
+    Unknown,
+    Twice,
+    WrongType,
+    WrongCount,
+    NoMain,
+    BadFormat,
+    /// A word, a directive or a name of C or MPI that this language leaves out.
+    LeftOut,
+    NoMemory,
+}
+
+/// A refusal and its place. Both numbers count from 1, the column in bytes.
+#[derive(Clone, Copy, Debug, PartialEq, Eq, Error)]
+#[error("{line}:{column} {why:?}")]
+pub struct SourceFault {
+    pub line: u32,
+    pub column: u32,
+    pub why: Why,
+}
+
+impl From<AllocError> for SourceFault {
+    ghost use Rattle.std.specs.Prelude.{◌≡◌};
+    ghost use Rattle.c_lex.specs.NoMemory.{no_memory};
+
+    ghost from_gives = { λ _ fault. fault ≡ no_memory };
+
+    /// Want of memory has no place: it is given at the first one.
+    fn from(_error: AllocError) -> Self {
+        SourceFault {
+            line: 1,
+            column: 1,
+            why: Why::NoMemory,
+        }
+    }
+}

@@ -1,0 +1,78 @@
+//! The tokens of a text.
+ghost use Rattle.std.specs.Prelude.{◌≡◌, ◌≢◌, ◌≤◌, ◌<◌, ◌++◌, ◌∷◌, [], ◌⊎◌, List, ℕ, OnOk, IfOk, IfErr, MatchResult, length};
+ghost use Rattle.c_lex.specs.NoMemory.{no_memory};
+ghost use Rattle.c_lex.specs.Readings.{AreSlices, AreTokens, IsFirstFault, stays_on_define, token_at};
+ghost use Rattle.c_lex.specs.declared.token.Token.{Token};
+ghost use Rattle.c_lex.specs.declared.fault.SourceFault.{SourceFault};
+ghost use Rattle.c_lex.specs.declared.fault.Why.TheVariants.{NoMemory};
+
+use crate::fault::SourceFault;
+use crate::place::fault_at;
+use crate::step::{Step, step_at};
+use crate::token::{Token, TokenKind, TokenList};
+use std::alloc::{AllocError, Global};
+
+/// The tokens of a text, or its first fault, in time linear in the text.
+pub fn tokens(alloc: Global, text: &[u8]) -> Result<TokenList, SourceFault>
+    requires { length text.now ≤ 65536 }
+    ensures list { IfOk result (λ list. AreTokens text.now list) }
+    ensures slices { IfOk result (λ list. AreSlices text.now 0 list) }
+    ensures fault { IfErr result (λ fault. (fault ≡ no_memory) ⊎ IsFirstFault text.now fault) }
+    ensures only_list { (list : List Token) → AreTokens text.now list
+        → MatchResult result (λ found. found ≡ list) (λ fault. fault ≡ no_memory) }
+    ensures only_fault { (first : SourceFault) → IsFirstFault text.now first
+        → MatchResult result (λ _. ⊥) (λ fault. (fault ≡ no_memory) ⊎ (fault ≡ first)) }
+{
+    let mut found = TokenList::new(alloc);
+    let mut at = 0;
+    let mut on_define = false;
+    while at < text.len() || on_define {
+        match step_at(text, on_define, at) {
+            Step::Skip { end } => {
+                at = end;
+            }
+            Step::Piece { kind, end } => {
+                push(&mut found, kind, at, end)?;
+                on_define = stays_on_define(kind, on_define);
+                at = end;
+            }
+            Step::Bad { place, why } => return Err(fault_at(text, place, why)),
+        }
+    }
+    Ok(found)
+}
+
+/// One more token, from one place to another.
+fn push(found: &mut TokenList, kind: TokenKind, start: usize, end: usize) -> Result<(), AllocError>
+    requires order { start ≤ end }
+    requires fits { end ≤ 65536 }
+    ensures { OnOk result (found.new ≡ found.old ++ token_at kind start end ∷ []) }
+{
+    found.push(Token {
+        kind,
+        start: start as u32,
+        len: (end - start) as u32,
+    })
+}
+
+/// Whether the line behind a token is a define's.
+fn stays_on_define(kind: TokenKind, on_define: bool) -> bool
+    ensures { result ≡ stays_on_define kind on_define }
+{
+    match kind {
+        TokenKind::Define => true,
+        TokenKind::EndLine => false,
+        _ => on_define,
+    }
+}
+
+/// A text has one list of tokens or one first fault, never both. A fault of a text is none of memory.
+pub fn one_reading()
+    ensures one_list { (text : List ℕ) (list other : List Token)
+        → AreTokens text list → AreTokens text other → list ≡ other }
+    ensures one_fault { (text : List ℕ) (fault other : SourceFault)
+        → IsFirstFault text fault → IsFirstFault text other → fault ≡ other }
+    ensures has_place { (text : List ℕ) (fault : SourceFault) → IsFirstFault text fault → fault.why ≢ NoMemory }
+    ensures never_both { (text : List ℕ) (list : List Token) (fault : SourceFault)
+        → AreTokens text list → IsFirstFault text fault → ⊥ }
+{}

@@ -1,0 +1,23 @@
+//! Tokens of a C source text.
+#![tactic(auto)]
+
+mod bytes;
+mod comment;
+pub mod fault;
+pub mod lexer;
+pub mod literal;
+mod mark;
+mod opening;
+mod piece;
+mod place;
+mod step;
+pub mod token;
+mod word;
+
+pub use fault::{SourceFault, Why};
+pub use lexer::{one_reading, tokens};
+pub use literal::literal_value;
+pub use token::{Token, TokenKind, TokenList};
+
+#[cfg(test)]
+mod tests;
