@@ -55,7 +55,7 @@ run3 =
 entries3 : entries_from 3 (0 ∷ 1 ∷ 2 ∷ []) 2 [] (view_of run3 2) ≡ Posted ∷ marked 0 (Inside 1 0) ∷ Posted ∷ marked 0 (Inside 0 0) ∷ EntryEnded ∷ []
 entries3 = refl
 
--- row 4: ranks 0 and 2 in a group
+-- the same run, where ranks 0 and 2 are a group
 entries4 : entries_from 3 (0 ∷ 2 ∷ []) 2 [] (view_of run3 2) ≡ Posted ∷ marked 0 (Outside 1 0 9 (pos 1 ∷ [])) ∷ Posted ∷ marked 0 (Inside 0 0) ∷ EntryEnded ∷ []
 entries4 = refl
 
@@ -79,26 +79,26 @@ wait3 : answer_of (log_of [] 3 run3 (0 ∷ 1 ∷ 2 ∷ [])) None (view_of (event
 unfolding fits
 wait3 = refl
 
--- row 16: the send goes to 0
+-- the named start is a Send to another rank
 diverged16 : answer_of (log_of [] 3 run3 (0 ∷ 1 ∷ 2 ∷ [])) None (view_of (event 1 (Send 0 0 9 (pos 1 ∷ [])) Done None ∷ event 2 receive Done None ∷ [])) ((receive, Done) ∷ []) 2 (Take (0 ∷ []) All) ≡ Diverged (record { rank = 2; call_number = 1; entry = marked 0 (Inside 1 0); call = Take (0 ∷ []) All; found = Some (record { rank = 1; start = 0; call = Send 0 0 9 (pos 1 ∷ []) }) })
 unfolding fits
 diverged16 = refl
 
--- row 9: both wait for ever
+-- two ranks that both receive first wait for ever
 abbrev run9 : List Event
 run9 = event 0 (Post 0 (From 1) (Is 5) 1) Done None ∷ event 1 (Post 0 (From 0) (Is 5) 1) Done None ∷ []
 
 stuck9 : can_go 2 run9 (view_of run9 0) 0 (Take (0 ∷ []) All) ≡ false
 stuck9 = refl
 
--- row 12: a probe
+-- a probe finds a message
 abbrev run12 : List Event
 run12 = event 0 (Send 0 1 3 (pos 0 ∷ [])) Done None ∷ []
 
 open12 : has_open 2 run12 1 0 Any AnyTag ≡ true
 open12 = refl
 
--- row 30: a start never made
+-- a start that was never made
 bad30 : due 2 [] [] 0 (Take (0 ∷ []) All) ≡ Some (BadRequest 0 0)
 bad30 = refl
 
