@@ -1,5 +1,8 @@
+pub mod FindLemmas
 pub mod FitsLemmas
+pub mod FormLemmas
 pub mod LogLemmas
+pub mod MemberLemmas
 pub mod ShapeLemmas
 pub mod ReplaysLemmas
 pub mod RoundsLemmas

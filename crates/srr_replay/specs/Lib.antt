@@ -3,5 +3,6 @@ pub mod Fits
 pub mod Filling
 pub mod Breaks
 pub mod Replays
+pub mod Seen
 pub mod Rounds
 pub mod Stands

@@ -2,9 +2,12 @@
 #![tactic(auto)]
 
 mod answer;
+mod asked;
 mod counts;
 mod find;
+mod fit;
 pub mod replay;
 pub mod replayed;
+mod seen;
 pub mod serial;
 pub mod step;

@@ -1,0 +1,1 @@
+//! What an entry that fits rests on: what is missing, what disagrees, and the reply.
