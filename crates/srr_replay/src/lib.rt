@@ -6,6 +6,7 @@ mod asked;
 mod counts;
 mod find;
 mod fit;
+mod missing;
 pub mod replay;
 pub mod replayed;
 mod seen;

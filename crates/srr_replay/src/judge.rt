@@ -1,1 +1,0 @@
-//! What an entry that fits rests on: what is missing, what disagrees, and the reply.
