@@ -3,7 +3,7 @@ pub mod FitsLemmas
 pub mod FormLemmas
 pub mod LogLemmas
 pub mod MemberLemmas
-pub mod MissingLemmas
+pub mod MissingMarks
 pub mod ShapeLemmas
 pub mod ReplaysLemmas
 pub mod RoundsLemmas

@@ -1,5 +1,6 @@
 //! Looking starts and entries up.
-ghost use Rattle.std.specs.Prelude.{◌≡◌, ◌<◌, ◌^◌, None, length, option_map, slice_get};
+ghost use Rattle.std.specs.Prelude.{◌≡◌, ◌<◌, ◌^◌, None, true, IfSome, length, option_map, slice_get};
+ghost use Rattle.mpi_call.specs.Calls.{is_enter};
 ghost use Rattle.mpi_call.specs.Collectives.{is_member};
 ghost use Rattle.run_model.specs.Communicators.{entered_from, instance_of, is_on, known_after, learned};
 ghost use Rattle.run_model.specs.Views.{view_of, start_at, taken_of};
@@ -88,7 +89,8 @@ pub fn count_enters(events: &[Event], rank: u8, number: u32, comm: Comm) -> u32
 
 /// Whether a call is an Enter on a communicator.
 fn is_on(call: &Call, comm: Comm) -> bool
-    ensures { result ≡ is_on comm call.now }
+    ensures on { result ≡ is_on comm call.now }
+    ensures enter { result ≡ true → is_enter call.now ≡ true }
 {
     match call {
         Call::Enter { comm: on, .. } => *on == comm,
@@ -105,7 +107,8 @@ pub fn find_enter<'e>(
     instance: u32,
 ) -> Option<Enter<'e>>
     requires { length events.now < 2 ^ 32 }
-    ensures { option_map entered_of result ≡ slice_get (entered_from comm 0 (option_map (λ members. members.now) first.entry) (view_of events.now rank)) instance }
+    ensures enter { IfSome result (λ found. is_enter found.call.now ≡ true) }
+    ensures found { option_map entered_of result ≡ slice_get (entered_from comm 0 (option_map (λ members. members.now) first.entry) (view_of events.now rank)) instance }
 {
     let mut known = first;
     let mut number = 0;

@@ -3,6 +3,7 @@
 
 mod answer;
 mod asked;
+mod clash;
 mod counts;
 mod find;
 mod fit;

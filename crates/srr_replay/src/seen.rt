@@ -1,5 +1,6 @@
 //! The events of a replay, and what each rank has seen in them.
-ghost use Rattle.std.specs.Prelude.{◌≡◌, ◌<◌, ◌++◌, ◌∷◌, [], IfOk, OnOk, OnErr, length, option_map};
+ghost use Rattle.std.specs.Prelude.{◌≡◌, ◌<◌, ◌++◌, ◌∷◌, [], IfOk, IfSome, OnOk, OnErr, true, length, option_map};
+ghost use Rattle.mpi_call.specs.Calls.{is_enter};
 ghost use Rattle.mpi_call.specs.Collectives.{is_member};
 ghost use Rattle.run_model.specs.Communicators.{enter_at, instance_of, is_on, members_in};
 ghost use Rattle.run_model.specs.Lists.{world};
@@ -130,7 +131,8 @@ impl Seen {
 
     /// A rank's Enter of an instance.
     pub fn entered(&self, rank: u8, comm: Comm, instance: u32) -> Option<Enter<'_>>
-        ensures { option_map entered_of result ≡ enter_at self.now.ranks (view_of self.now.events rank) comm instance }
+        ensures enter { IfSome result (λ found. is_enter found.call.now ≡ true) }
+        ensures found { option_map entered_of result ≡ enter_at self.now.ranks (view_of self.now.events rank) comm instance }
     {
         let known = if comm == 0 { Some(&self.world) } else { None };
         find_enter(self.events.as_slice(), known, rank, comm, instance)

@@ -10,7 +10,7 @@ loop-rest-preserved-then-is_on c =
       (omega arith)
       ∙ ap (λ k. c.loop-rest.count + k)
       (instance_of-on c.args.comm c.args.rank c.loop-rest.left c.loop-rest.rest.now c.event-item.result _ c.in-len1-up.len_at_least c.event-item.is
-      c.if-event-rank.true (sym c.is_start.ensures ∙ c.if-is_start.true) more (sym c.is_on.ensures ∙ c.if-is_on.true))
+      c.if-event-rank.true (sym c.is_start.ensures ∙ c.if-is_start.true) more (sym c.is_on.ensures.on ∙ c.if-is_on.true))
       ∙ c.loop-rest.invariant.counted;
       fits = omega (arith, c.loop-rest.invariant.fits, more);
     }
@@ -22,7 +22,7 @@ loop-rest-preserved-else-is_on c =
       counted =
       ap (λ k. c.loop-rest.count + k)
       (instance_of-off c.args.comm c.args.rank c.loop-rest.left c.loop-rest.rest.now c.event-item.result _ c.in-len1-up.len_at_least c.event-item.is
-      c.if-event-rank.true (sym c.is_start.ensures ∙ c.if-is_start.true) more (sym c.is_on.ensures ∙ c.if-is_on.false))
+      c.if-event-rank.true (sym c.is_start.ensures ∙ c.if-is_start.true) more (sym c.is_on.ensures.on ∙ c.if-is_on.false))
       ∙ c.loop-rest.invariant.counted;
       fits = omega (arith, c.loop-rest.invariant.fits, more);
     }
