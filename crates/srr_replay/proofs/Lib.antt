@@ -4,3 +4,6 @@ pub mod ShapeLemmas
 pub mod ReplaysLemmas
 pub mod RoundsLemmas
 pub mod WorkedExamples
+pub mod Filled
+pub mod Answers
+pub mod Confluence

@@ -4,6 +4,7 @@
 mod answer;
 mod counts;
 mod find;
+pub mod laws;
 pub mod replay;
 pub mod replayed;
 pub mod serial;
