@@ -5,3 +5,5 @@ pub mod Breaks
 pub mod Replays
 pub mod Rounds
 pub mod Stands
+pub mod Rests
+pub mod Laws
