@@ -15,3 +15,4 @@ pub mod RunAnswers
 pub mod MissingLemmas
 pub mod NumberLemmas
 pub mod Cut
+pub mod WholeReplays
