@@ -10,7 +10,7 @@ use Rattle.run_model.specs.Views.{Next}
 use Rattle.srr_entry.specs.declared.log.Log.{Log}
 use Rattle.srr_replay.specs.declared.replayed.Replayed.{Replayed}
 use Rattle.srr_replay.specs.declared.replayed.Stand.{Stand}
-use Rattle.srr_replay.specs.Laws.{BeginsRun, EachStand, HasAllOf, HasNotDiverged, HasTheCut, IsDone, IsReplayOf}
+use Rattle.srr_replay.specs.Laws.{BeginsRun, EachStand, HasAllOf, HasNotDiverged, HasTheCut, IsDone, IsReplayOfRun}
 use Rattle.srr_replay.specs.Replays.{Stop}
 use Rattle.srr_replay.specs.Stands.{IsReplayed, printed_of, stand_of}
 
@@ -32,15 +32,15 @@ same_outputs f g (rank ∷ group) each =
     let rest = same_outputs f g group (λ r member. each r (or_right (rank == r) (is_member group r) member)) in
     ap₂ (λ x xs. x ∷ xs) first rest
 
-pub IsReplayOf-laws : (next : Next) (output : ℕ → ℕ → List Reply → List ℕ) (variables : ℕ → ℕ → List Reply → List Variable) (log : Log) (stop : Stop) (run : List Event) (replayed : Replayed)
+pub IsReplayOfRun-laws : (next : Next) (output : ℕ → ℕ → List Reply → List ℕ) (variables : ℕ → ℕ → List Reply → List Variable) (log : Log) (stop : Stop) (run : List Event) (replayed : Replayed)
     → IsReplayed next output variables log stop replayed
     → BeginsRun output log replayed.events.events run
     → EachStand HasNotDiverged next variables log stop replayed.events.events
     → HasTheCut log stop replayed.events.events run
     → (stop ≡ None → HasAllOf output log replayed.events.events run)
     → (stop ≡ None → EachStand IsDone next variables log stop replayed.events.events)
-    → IsReplayOf output log stop run replayed
-IsReplayOf-laws next output variables log stop run replayed is begins agree cut whole done =
+    → IsReplayOfRun output log stop run replayed
+IsReplayOfRun-laws next output variables log stop run replayed is begins agree cut whole done =
     let stands : ℕ → Option Stand = stand_of next variables log stop replayed.events.events in
     record {
       begins = begins;

@@ -51,7 +51,7 @@ HasTheCut log stop events run =
     (rank number : ℕ) → (number < length (view_of events rank)) ↔ IsInCut log.ranks log.group (view_of run) stop rank number
 
 -- a whole replay beside a run with its log
-pub record IsReplayOf (output : ℕ → ℕ → List Reply → List ℕ) (log : Log) (stop : Stop) (run : List Event) (replayed : Replayed) : Type 0 where
+pub record IsReplayOfRun (output : ℕ → ℕ → List Reply → List ℕ) (log : Log) (stop : Stop) (run : List Event) (replayed : Replayed) : Type 0 where
   pub begins : BeginsRun output log replayed.events.events run
   pub cut : HasTheCut log stop replayed.events.events run
   pub agrees : All HasNotDiverged replayed.ends
@@ -61,4 +61,4 @@ pub record IsReplayOf (output : ℕ → ℕ → List Reply → List ℕ) (log : 
 
 -- beside every run with its log
 abbrev pub IsReplayOfEveryRun : Next → (ℕ → ℕ → List Reply → List ℕ) → Log → Stop → Replayed → Type 0
-IsReplayOfEveryRun next output log stop replayed = (run : List Event) → IsRunWith next log run → IsReplayOf output log stop run replayed
+IsReplayOfEveryRun next output log stop replayed = (run : List Event) → IsRunWith next log run → IsReplayOfRun output log stop run replayed

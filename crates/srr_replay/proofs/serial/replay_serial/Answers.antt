@@ -1,12 +1,12 @@
 use Rattle.std.proofs.Common.{◌∙◌}
-use Rattle.srr_replay.proofs.WholeReplays.{IsReplayOf-laws}
+use Rattle.srr_replay.proofs.WholeReplays.{IsReplayOfRun-laws}
 use Rattle.srr_replay.proofs.serial.replay_serial.Goals as goal
 
 pub returns-clause-runs : goal.returns-clause-runs
 returns-clause-runs g c = λ run is.
     let program = c.in_ok-moved.ensures.program ∙ c.loop-replay.invariant.program in
     let stop = c.in_ok-moved.ensures.stop ∙ c.loop-replay.invariant.stop in
-    IsReplayOf-laws (g.P.Program.next c.args.program.now) (g.P.Program.output c.args.program.now) (g.P.Program.variables c.args.program.now)
+    IsReplayOfRun-laws (g.P.Program.next c.args.program.now) (g.P.Program.output c.args.program.now) (g.P.Program.variables c.args.program.now)
     c.args.log.now c.args.stop run _
     (rw (program, stop) at c.in_ok-replayed.ensures)
     (c.begins_every_run.ensures.begins run is)
