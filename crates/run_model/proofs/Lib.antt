@@ -1,3 +1,17 @@
 pub mod Along
 pub mod Views
+pub mod Prefixes
+pub mod StartLemmas
+pub mod Places
+pub mod Gathering
 pub mod CommunicatorLaws
+pub mod Enters
+pub mod TrueReplies
+pub mod Halts
+pub mod Matched
+pub mod Agreement
+pub mod Instances
+pub mod Origins
+pub mod TakeShapes
+pub mod Shapes
+pub mod RunLaws

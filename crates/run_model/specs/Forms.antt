@@ -9,10 +9,10 @@ use Rattle.run_model.specs.Program.{IsInForm}
 use Rattle.run_model.specs.Views.{View, start_at}
 
 -- the members of a communicator of rank `me`: ranks below n, none twice, `me` among them
-pub record AreMembersFor (n me : ℕ) (members : List ℕ) : Type 0 where
+pub record AreMembers (n me : ℕ) (members : List ℕ) : Type 0 where
   pub below : are_below n members ≡ true
   pub distinct : is_distinct members ≡ true
-  pub me_too : is_member members me ≡ true
+  pub has_me : is_member members me ≡ true
 
 -- an Enter that was made on a communicator known by then
 pub record IsEnteredBy (n me : ℕ) (own : View) (comm : ℕ) (entered : Entered) : Type 0 where
@@ -25,5 +25,5 @@ pub record IsEnteredBy (n me : ℕ) (own : View) (comm : ℕ) (entered : Entered
 
 pub record IsInOrder (n me : ℕ) (own : View) : Type 0 where
   pub starts : (k : ℕ) (call : Call) → start_at own k ≡ Some call → IsInForm n own me call
-  pub known : (comm : ℕ) (members : List ℕ) → known_in n own comm ≡ Some members → AreMembersFor n me members
+  pub known : (comm : ℕ) (members : List ℕ) → known_in n own comm ≡ Some members → AreMembers n me members
   pub entered : (comm instance : ℕ) (one : Entered) → enter_at n own comm instance ≡ Some one → IsEnteredBy n me own comm one

@@ -6,3 +6,5 @@ pub mod Replays
 pub mod Seen
 pub mod Rounds
 pub mod Stands
+pub mod Rests
+pub mod Laws

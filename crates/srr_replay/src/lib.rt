@@ -7,6 +7,7 @@ mod clash;
 mod counts;
 mod find;
 mod fit;
+pub mod laws;
 mod missing;
 pub mod replay;
 pub mod replayed;

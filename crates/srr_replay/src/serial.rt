@@ -3,10 +3,12 @@ ghost use Rattle.std.specs.Prelude.{◌≡◌, ◌<◌, ◌≤◌, ◌++◌, ◌
 ghost use Rattle.mpi_call.specs.Collectives.{is_distinct, is_member};
 ghost use Rattle.run_model.specs.Program.{IsAfter};
 ghost use Rattle.srr_replay.specs.Built.{AsksBuilt};
+ghost use Rattle.srr_replay.specs.Laws.{IsReplayOfEveryRun};
 ghost use Rattle.srr_replay.specs.Replays.{IsExhausted, Replays};
 ghost use Rattle.srr_replay.specs.Rounds.{GrowsBy, HasNoStep, IsReplayable, RunAll};
 ghost use Rattle.srr_replay.specs.Stands.{IsReplayed, printed_of, stand_of};
 
+use crate::laws::{begins_every_run, has_all_of_every_run, has_the_cut};
 use crate::replay::Replay;
 use crate::replayed::{Replayed, Stand, Stands};
 use crate::step::Step;
@@ -115,7 +117,8 @@ pub fn replay_serial<P: Program, R: RankRun<Of = P>>(
     requires log { IsReplayable log.now }
     requires built { AsksBuilt (P.next program.now) }
     requires runs { RunAll R.standing program.now log.now [] runs.items }
-    ensures { IfOk result (λ replayed. IsReplayed (P.next program.now) (P.output program.now) (P.variables program.now) log.now stop replayed) }
+    ensures replay { IfOk result (λ replayed. IsReplayed (P.next program.now) (P.output program.now) (P.variables program.now) log.now stop replayed) }
+    ensures runs { IfOk result (λ replayed. IsReplayOfEveryRun (P.next program.now) (P.output program.now) log.now stop replayed) }
 {
     let mut replay = Replay::new(alloc, program, log, stop)?;
     let mut count = 0;
@@ -126,7 +129,11 @@ pub fn replay_serial<P: Program, R: RankRun<Of = P>>(
         }
         count = replay.len();
     }
-    finish(alloc, log, replay, runs.as_mut_slice())
+    let replayed = finish(alloc, log, replay, runs.as_mut_slice())?;
+    begins_every_run(program, log, &stop, &replayed.events);
+    has_the_cut(program, log, &stop, &replayed.events);
+    has_all_of_every_run(program, log, &stop, &replayed.events);
+    Ok(replayed)
 }
 
 /// The stands and outputs of a replay that can go no further, with its events.

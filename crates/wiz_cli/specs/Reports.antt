@@ -1,12 +1,16 @@
 -- What a command comes to, and how it is told.
-use Rattle.std.specs.Prelude.{◌≡◌, ◌<◌, ◌≤◌, ◌⊎◌, ℕ, List, [], ◌∷◌, ◌++◌, Option, Some, None, Bool, true, false, ◌&&◌, not, if◌then◌else◌, IfSome, length, take, codes}
+use Rattle.std.specs.Prelude.{◌≡◌, ◌≢◌, ◌<◌, ◌≤◌, ◌⊎◌, ℕ, List, [], ◌∷◌, ◌++◌, Option, Some, None, Bool, true, false, ◌&&◌, not, if◌then◌else◌, IfSome, length, map, take, codes}
 use Rattle.std.specs.List.{list_any}
-use Rattle.run_model.specs.Views.{Kept}
+use Rattle.mpi_call.specs.declared.reply.Reply.{Reply}
+use Rattle.mpi_call.specs.Collectives.{is_member}
+use Rattle.run_model.specs.declared.event.Event.{Event}
+use Rattle.run_model.specs.Views.{Kept, view_of}
 use Rattle.srr_entry.specs.declared.log.Log.{Log}
 use Rattle.srr_replay.specs.declared.replayed.Replayed.{Replayed}
 use Rattle.srr_replay.specs.declared.replayed.Stand.{Stand}
 use Rattle.srr_replay.specs.declared.replayed.Stand.TheVariants.{AtBreak, Diverged, Starved}
-use Rattle.srr_replay.specs.Stands.{IsReplayed}
+use Rattle.srr_replay.specs.Laws.{IsReplayOfEveryRun, IsRunWith}
+use Rattle.srr_replay.specs.Stands.{IsReplayed, printed_of}
 use Rattle.wiz_cli.specs.declared.outcome.Refusal.{Refusal}
 use Rattle.wiz_cli.specs.declared.outcome.Refusal.TheVariants.{Words, Missing, ReadFault, Program, Log as LogRefused, TooLong}
 use Rattle.wiz_cli.specs.declared.outcome.Outcome.{Outcome}
@@ -19,11 +23,12 @@ use Rattle.wiz_cli.specs.TraceTexts.{trace_text}
 use Rattle.wiz_cli.specs.Words.{IsReplayOf}
 use Rattle.wiz_io.specs.Files.{Files, HasRisen}
 
--- a whole replay of a log's group with the program whose text stands in it
+-- a whole replay of a log's group with the program whose text stands in it, beside every run of that program with that log
 pub record IsReplayOfLog (log : Log) (replayed : Replayed) : Type 0 where
   pub program : SmallProgram
   pub is_program : IsSmallText log.program program
   pub replay : IsReplayed (next_of program) (output_of program) (variables_of program) log None replayed
+  pub runs : IsReplayOfEveryRun (next_of program) (output_of program) log None replayed
 
 -- what comes of a log: its program is not of the small form, or its group is replayed
 abbrev pub IsLogOutcome : Log → Outcome → Type 0
@@ -124,3 +129,27 @@ IsReport words files reads reads' before after faults faults' status run replays
     (status ≡ 11)
     ⊎ ((name : List ℕ) × (outcome : Outcome) × IsOutcome words files reads reads' name outcome
     × IsTold outcome name before after faults faults' status run replays)
+
+-- each rank of the group has its whole view and output of the run, and the status tells of no divergence and no starvation
+pub record IsShown (output : ℕ → ℕ → List Reply → List ℕ) (log : Log) (run : List Event) (replayed : Replayed) (status : ℕ) : Type 0 where
+  pub views : (rank : ℕ) → is_member log.group rank ≡ true → view_of replayed.events.events rank ≡ view_of run rank
+  pub outputs : replayed.outputs ≡ map (printed_of output log.ranks run) log.group
+  pub not_diverged : status ≢ 9
+  pub not_starved : status ≢ 10
+
+-- the named file holds the text of a log, and each run of the log's program with this log is shown
+pub record ShowsEveryRun (words : List (List ℕ)) (files : Option Files) (replayed : Replayed) (status : ℕ) : Type 0 where
+  pub name : List ℕ
+  pub bytes : List ℕ
+  pub log : Log
+  pub program : SmallProgram
+  pub is_named : IsReplayOf words name
+  pub is_there : IfSome files (λ told. told name ≡ Some bytes)
+  pub is_text : IsSmallLogText bytes log
+  pub is_program : IsSmallText log.program program
+  pub shown : (run : List Event) → IsRunWith (next_of program) log run → IsShown (output_of program) log run replayed status
+
+-- the replays of a report, at most one, show every run
+abbrev pub ShowEveryRun : List (List ℕ) → Option Files → List Replayed → ℕ → Type 0
+ShowEveryRun words files [] status = Unit {0}
+ShowEveryRun words files (replayed ∷ more) status = (more ≡ []) × ShowsEveryRun words files replayed status

@@ -1,6 +1,7 @@
 //! The replay of a log file.
 ghost use Rattle.std.specs.Prelude.{◌≡◌, [], IfOk, Err, None, length, ◌≤◌};
 ghost use Rattle.srr_entry.specs.declared.log.Log.{Log};
+ghost use Rattle.srr_replay.specs.Laws.{IsReplayOfEveryRun};
 ghost use Rattle.srr_replay.specs.Rounds.{IsReplayable, RunAll};
 ghost use Rattle.srr_replay.specs.Stands.{IsReplayed};
 ghost use Rattle.wiz_cli.specs.Courses.{next_of, output_of, variables_of};
@@ -73,7 +74,8 @@ fn replay_log(alloc: Global, log: &Log) -> Result<Outcome, AllocError>
 /// The replay of a log's group with a program.
 fn replay_group(alloc: Global, program: &SmallProgram, log: &Log) -> Result<Replayed, AllocError>
     requires { IsReplayable log.now }
-    ensures { IfOk result (λ replayed. IsReplayed (next_of program.now) (output_of program.now) (variables_of program.now) log.now None replayed) }
+    ensures replay { IfOk result (λ replayed. IsReplayed (next_of program.now) (output_of program.now) (variables_of program.now) log.now None replayed) }
+    ensures runs { IfOk result (λ replayed. IsReplayOfEveryRun (next_of program.now) (output_of program.now) log.now None replayed) }
 {
     let runs = start_all(alloc, program, log)?;
     replay_serial(alloc, program, log, runs, None)
