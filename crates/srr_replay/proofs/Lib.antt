@@ -1,3 +1,5 @@
+pub mod CollectiveLemmas
+pub mod FillLemmas
 pub mod FindLemmas
 pub mod FitsLemmas
 pub mod FormLemmas

@@ -3,6 +3,7 @@ pub mod Fits
 pub mod Filling
 pub mod Breaks
 pub mod Replays
+pub mod Collectives
 pub mod Seen
 pub mod Rounds
 pub mod Stands

@@ -5,6 +5,7 @@ mod answer;
 mod asked;
 mod clash;
 mod counts;
+mod fill;
 mod find;
 mod fit;
 pub mod laws;
