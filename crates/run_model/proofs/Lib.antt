@@ -15,3 +15,4 @@ pub mod Origins
 pub mod TakeShapes
 pub mod Shapes
 pub mod RunLaws
+pub mod Orders
