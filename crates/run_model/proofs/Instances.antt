@@ -36,7 +36,7 @@ pub record SameInstances (n : ℕ) (V : ℕ → View) : Type 0 where
   pub members : (r s comm : ℕ) (one two : List ℕ) → known_in n (V r) comm ≡ Some one → known_in n (V s) comm ≡ Some two → one ≡ two
   pub fine : (r comm : ℕ) (members : List ℕ) → r < n → known_in n (V r) comm ≡ Some members → AreMembers n r members
 
-on_own : (call : Call) → is_enter call ≡ true → is_on (comm_of call) call ≡ true
+pub on_own : (call : Call) → is_enter call ≡ true → is_on (comm_of call) call ≡ true
 on_own (Enter comm kind root op count ints) h = eq-eqb comm comm refl
 on_own call h = absurd (cc)
 

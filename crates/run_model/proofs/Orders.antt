@@ -1,5 +1,5 @@
 -- The views that a lawful program's ranks come to are in order.
-use Rattle.std.proofs.Common.{◌&&◌, ◌++◌, ◌<◌, ◌==◌, ◌∙◌, ◌∷◌, ◌≡◌, ◌≤◌, ◌⊎◌, Bool, List, None, Option, Some, [], append-nil, false, inl, inr, length, refl, slice_get, slice_index, subst, sym, true, ℕ, ℤ}
+use Rattle.std.proofs.Common.{◌&&◌, ◌++◌, ◌<◌, ◌==◌, ◌∙◌, ◌∷◌, ◌≡◌, ◌≤◌, ◌⊎◌, List, None, Option, Some, [], append-nil, false, inl, inr, length, refl, slice_get, slice_index, subst, sym, true, ℕ, ℤ}
 use Rattle.std.proofs.lemmas.Bool.{and_parts, eqb-true}
 use Rattle.std.specs.List.{list_all}
 use Rattle.mpi_call.specs.declared.call.Call.{Call}
@@ -10,14 +10,13 @@ use Rattle.mpi_call.specs.declared.reply.Got.TheVariants.{Made}
 use Rattle.mpi_call.specs.declared.reply.Item.{Item}
 use Rattle.mpi_call.specs.declared.reply.Reply.{Reply}
 use Rattle.mpi_call.specs.declared.reply.Reply.TheVariants.{Done, NotYet, Peeked, Stopped, Took}
-use Rattle.mpi_call.specs.declared.call.TakeMode.{TakeMode}
-use Rattle.mpi_call.specs.Calls.{comm_of, is_enter, makes}
+use Rattle.mpi_call.specs.Calls.{makes}
 use Rattle.mpi_call.specs.Collectives.{IsEnterOf, is_distinct, is_member, is_uncoloured}
-use Rattle.run_model.specs.Communicators.{Entered, enter_at, is_on, known_after, known_first, known_in, learned, made_in_got, made_in_items, or_members}
+use Rattle.run_model.specs.Communicators.{Entered, known_first, known_in, learned, made_in_got, made_in_items, or_members}
 use Rattle.run_model.specs.Forms.{AreMembers, IsEnteredBy, IsInOrder}
 use Rattle.run_model.specs.Lists.{are_below, world}
 use Rattle.run_model.specs.Program.{AsksInBounds, EntersInForm, IsInForm, IsRankOf, IsSeen, IsViewOf}
-use Rattle.run_model.specs.Shape.{are_members, can_take, got_fits, gots_fit, has_count, has_shape, rises}
+use Rattle.run_model.specs.Shape.{can_take, got_fits, gots_fit, has_count, has_shape}
 use Rattle.run_model.specs.Views.{Next, View, is_start, start_at, starts_of}
 use Rattle.run_model.proofs.Agreement.{AreMembers-world}
 use Rattle.run_model.proofs.Along.{Along-keeps, Along-snoc}

@@ -268,7 +268,12 @@ fn result_fits(n: u8, rank: u8, view: &[(Call, Reply)], call: &Call, len: usize)
     ensures { (ints : List ℤ) → len ≡ length ints → result ≡ got_fits n view.now rank (Some call.now) (Joined ints) }
 {
     match call {
-        Call::Enter { comm, .. } => is_result_length(call, count_members(n, view, *comm), rank, len),
+        Call::Enter { comm, .. } => is_result_length(
+            call,
+            count_members(n, view, *comm),
+            rank,
+            len,
+        ),
         _ => false,
     }
 }
@@ -280,7 +285,10 @@ pub fn is_result_length(call: &Call, members: usize, rank: u8, len: usize) -> bo
 {
     match call {
         Call::Enter {
-            kind, root, count, ..
+            kind,
+            root,
+            count,
+            ..
         } => {
             let at_root = is_root(root, rank);
             let count = *count as usize;

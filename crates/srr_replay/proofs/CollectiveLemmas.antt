@@ -1,21 +1,20 @@
 -- The inputs of a collective whose needed members have entered and agree.
-use Rattle.std.proofs.Common.{◌≡◌, ◌<◌, ◌&&◌, ◌==◌, ℕ, zero, suc, ℤ, List, [], ◌∷◌, Option, Some, None, Bool, true, false, inl, inr, refl, sym, ap, ◌∙◌, subst, length, get_or, arith, Ok, Err, Result}
+use Rattle.std.proofs.Common.{◌≡◌, ◌<◌, ◌&&◌, ◌==◌, ℕ, zero, suc, ℤ, List, [], ◌∷◌, Option, Some, None, Bool, true, inl, inr, refl, sym, ap, ◌∙◌, subst, length, get_or, arith, Ok, Err, Result}
 use Rattle.std.proofs.lemmas.Bool.{and_parts, eqb-true, ltb-true}
 use Rattle.mpi_call.specs.declared.call.Call.{Call}
-use Rattle.mpi_call.specs.Calls.{comm_of, ints_of, is_enter}
-use Rattle.mpi_call.specs.Collectives.{AreInputsOf, IsEnterOf, agree, input_length, is_member, needs}
+use Rattle.mpi_call.specs.Calls.{comm_of}
+use Rattle.mpi_call.specs.Collectives.{AreInputsOf, IsEnterOf, agree, needs}
 use Rattle.mpi_call.proofs.MemberLemmas.{is_member_at}
 use Rattle.run_model.specs.declared.event.Event.{Event}
 use Rattle.run_model.specs.Communicators.{Entered, enter_at, instance_of, members_in}
-use Rattle.run_model.specs.Forms.{AreInOrder, AreMembers, IsInOrder}
-use Rattle.run_model.specs.Inputs.{gather, inputs_of}
+use Rattle.run_model.specs.Inputs.{inputs_of}
 use Rattle.run_model.specs.Lists.{same_ranks}
 use Rattle.run_model.specs.Views.{View, view_of}
 use Rattle.run_model.proofs.Agreement.{below_member, input_length-agree}
 use Rattle.run_model.proofs.Instances.{gather-at, gather-length}
 use Rattle.run_model.proofs.Views.{test_cases}
 use Rattle.srr_replay.specs.declared.step.Found.{Found}
-use Rattle.srr_replay.specs.Breaks.{break_enter, break_inner, break_members, has_members, or_found}
+use Rattle.srr_replay.specs.Breaks.{break_enter, break_members, has_members, or_found}
 use Rattle.srr_replay.specs.Collectives.{IsCollective}
 use Rattle.srr_replay.specs.Filling.{absent_of}
 use Rattle.srr_replay.proofs.FormLemmas.{IsInForm, in_form}
@@ -28,11 +27,11 @@ same_ranks-is (x ∷ xs) (y ∷ ys) h =
     let parts = and_parts (x == y) (same_ranks xs ys) h in
     ap (λ z. z ∷ xs) (eqb-true x y parts.0) ∙ ap (λ zs. y ∷ zs) (same_ranks-is xs ys parts.1)
 
-or_none-first : (first rest : Option Found) → or_found first rest ≡ None → first ≡ None
+pub or_none-first : (first rest : Option Found) → or_found first rest ≡ None → first ≡ None
 or_none-first None rest h = refl
 or_none-first (Some found) rest h = absurd (cc)
 
-or_none-rest : (first rest : Option Found) → or_found first rest ≡ None → rest ≡ None
+pub or_none-rest : (first rest : Option Found) → or_found first rest ≡ None → rest ≡ None
 or_none-rest None rest h = h
 or_none-rest (Some found) rest h = absurd (cc)
 

@@ -1,10 +1,10 @@
 -- Replies that are made piece by piece.
-use Rattle.std.proofs.Common.{◌≡◌, ℕ, ℤ, List, [], ◌∷◌, ◌++◌, Option, Some, None, Bool, true, false, refl, sym, ap, ◌∙◌, append_assoc, append-nil, Result, Ok, Err}
+use Rattle.std.proofs.Common.{◌≡◌, ℕ, ℤ, List, [], ◌∷◌, ◌++◌, refl, sym, ap, append_assoc, Result, Ok, Err}
 use Rattle.mpi_call.specs.declared.reply.Got.{Got}
 use Rattle.mpi_call.specs.declared.reply.Item.{Item}
 use Rattle.run_model.specs.Inputs.{push_ints}
 use Rattle.srr_replay.specs.declared.step.Missing.{Missing}
-use Rattle.srr_replay.specs.Filling.{absent_of, missing_of, push_item}
+use Rattle.srr_replay.specs.Filling.{push_item}
 
 -- items before those of the others
 abbrev pub items_before : List Item → Result (List Item) Missing → Result (List Item) Missing

@@ -6,7 +6,7 @@ use Rattle.mpi_call.specs.declared.call.Call.{Call}
 use Rattle.mpi_call.specs.declared.reply.Reply.{Reply}
 use Rattle.mpi_call.specs.Calls.{is_starting}
 use Rattle.run_model.specs.declared.event.Event.{Event}
-use Rattle.run_model.specs.Communicators.{count_on, instance_of, is_on, known_after, learned}
+use Rattle.run_model.specs.Communicators.{instance_of, is_on, known_after, learned}
 use Rattle.run_model.specs.Views.{View, is_done, view_of}
 use Rattle.run_model.proofs.CommunicatorLaws.{known_after-some}
 

@@ -3,7 +3,7 @@ use Rattle.std.proofs.Common.{◌≡◌, ℕ, List, Some, true, ap, sym, subst}
 use Rattle.mpi_call.specs.declared.call.Call.{Call}
 use Rattle.mpi_call.specs.declared.call.Call.TheVariants.{Enter}
 use Rattle.mpi_call.specs.Calls.{comm_of, is_enter}
-use Rattle.mpi_call.specs.Collectives.{IsEnterOf, is_member}
+use Rattle.mpi_call.specs.Collectives.{IsEnterOf}
 use Rattle.run_model.specs.Communicators.{known_in, members_in, or_none}
 use Rattle.run_model.specs.Forms.{AreMembers, IsInOrder}
 use Rattle.run_model.specs.Views.{View, start_at}

@@ -1,7 +1,6 @@
 pub mod CollectiveLemmas
 pub mod FillLemmas
 pub mod FindLemmas
-pub mod FitsLemmas
 pub mod FormLemmas
 pub mod LogLemmas
 pub mod MemberLemmas

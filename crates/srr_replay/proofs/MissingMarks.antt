@@ -1,15 +1,14 @@
 -- What an entry rests on.
-use Rattle.std.proofs.Common.{◌≡◌, ℕ, ℤ, List, [], ◌∷◌, Option, Some, None, Bool, true, false, ◌&&◌, refl, Result, Ok, Err, option_map}
+use Rattle.std.proofs.Common.{◌≡◌, ℕ, ℤ, List, Option, Some, None, true, refl, Result, Ok, Err, option_map}
 use Rattle.mpi_call.specs.declared.call.Call.{Call}
-use Rattle.mpi_call.specs.declared.call.Call.TheVariants.{Enter, Take}
+use Rattle.mpi_call.specs.declared.call.Call.TheVariants.{Enter, Post}
+use Rattle.mpi_call.specs.declared.call.Source.TheVariants.{Any, From, Null}
 use Rattle.mpi_call.specs.declared.reply.Got.{Got}
 use Rattle.mpi_call.specs.declared.reply.Item.{Item}
 use Rattle.mpi_call.specs.Calls.{comm_of, is_enter}
 use Rattle.run_model.specs.Communicators.{instance_of}
 use Rattle.run_model.specs.Views.{View, start_at}
-use Rattle.srr_entry.specs.declared.entry.Mark.{Mark}
 use Rattle.srr_entry.specs.declared.entry.Mark.TheVariants.{Inner, Made as MarkMade}
-use Rattle.srr_entry.specs.declared.entry.Marked.{Marked}
 use Rattle.srr_replay.specs.declared.step.Missing.{Missing}
 use Rattle.srr_replay.specs.declared.step.Missing.TheVariants.{Member}
 use Rattle.srr_replay.specs.Filling.{absent_of, joined, made_new, missing_of, push_item}
@@ -27,17 +26,23 @@ missing_of-some index (Ok got) rest missing some = absurd (cc)
 missing_of-some index (Err other) rest missing some = some
 
 -- marks of collectives stand for Enters
-enter_for-inner : (n : ℕ) (group : List ℕ) (me : ℕ) (own : View) (found : Option Call) (call : Call) → mark_fits n group me own found Inner ≡ true → found ≡ Some call → is_enter call ≡ true
+pub enter_for-inner : (n : ℕ) (group : List ℕ) (me : ℕ) (own : View) (found : Option Call) (call : Call) → mark_fits n group me own found Inner ≡ true → found ≡ Some call → is_enter call ≡ true
 enter_for-inner n group me own None call fit is = absurd (cc)
 enter_for-inner n group me own (Some (Enter comm kind root op count ints)) call fit is = let same : Enter comm kind root op count ints ≡ call = cc in rw (← same) refl
+enter_for-inner n group me own (Some (Post on Any wanted room)) call fit is = absurd (cc)
+enter_for-inner n group me own (Some (Post on (From from) wanted room)) call fit is = absurd (cc)
+enter_for-inner n group me own (Some (Post on Null wanted room)) call fit is = absurd (cc)
 enter_for-inner n group me own (Some other) call fit is = absurd (cc)
 
 pub IsEnterAt-inner : (n : ℕ) (group : List ℕ) (me : ℕ) (own : View) (k : ℕ) → mark_fits n group me own (start_at own k) Inner ≡ true → IsEnterAt own k
 IsEnterAt-inner n group me own k fit = λ call is. enter_for-inner n group me own (start_at own k) call fit is
 
-enter_for-made : (n : ℕ) (group : List ℕ) (me : ℕ) (own : View) (found : Option Call) (comm : ℕ) (call : Call) → mark_fits n group me own found (MarkMade comm) ≡ true → found ≡ Some call → is_enter call ≡ true
+pub enter_for-made : (n : ℕ) (group : List ℕ) (me : ℕ) (own : View) (found : Option Call) (comm : ℕ) (call : Call) → mark_fits n group me own found (MarkMade comm) ≡ true → found ≡ Some call → is_enter call ≡ true
 enter_for-made n group me own None comm call fit is = absurd (cc)
 enter_for-made n group me own (Some (Enter on kind root op count ints)) comm call fit is = let same : Enter on kind root op count ints ≡ call = cc in rw (← same) refl
+enter_for-made n group me own (Some (Post on Any wanted room)) comm call fit is = absurd (cc)
+enter_for-made n group me own (Some (Post on (From from) wanted room)) comm call fit is = absurd (cc)
+enter_for-made n group me own (Some (Post on Null wanted room)) comm call fit is = absurd (cc)
 enter_for-made n group me own (Some other) comm call fit is = absurd (cc)
 
 pub IsEnterAt-made : (n : ℕ) (group : List ℕ) (me : ℕ) (own : View) (k comm : ℕ) → mark_fits n group me own (start_at own k) (MarkMade comm) ≡ true → IsEnterAt own k

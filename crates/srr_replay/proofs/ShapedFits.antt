@@ -46,7 +46,7 @@ pub uncoloured_inner : (n : ℕ) (group : List ℕ) (me : ℕ) (own : View) (ent
 uncoloured_inner n group me own enter member un =
     all_within-me group (needs enter (members_in n own (comm_of enter)) me) me (members_in n own (comm_of enter)) (λ who. needs-uncoloured enter (members_in n own (comm_of enter)) me who un) member
 
-not_true : (b : Bool) → not b ≡ true → b ≡ false
+pub not_true : (b : Bool) → not b ≡ true → b ≡ false
 not_true true h = absurd (cc)
 not_true false h = refl
 

@@ -1,4 +1,3 @@
-pub mod Built
 pub mod Fits
 pub mod Filling
 pub mod Breaks

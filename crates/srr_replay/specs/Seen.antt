@@ -1,5 +1,5 @@
 -- What a replay has seen so far.
-use Rattle.std.specs.Prelude.{ℕ, List, Option, option_map}
+use Rattle.std.specs.Prelude.{ℕ, List, option_map}
 use Rattle.run_model.specs.declared.event.Event.{Event}
 use Rattle.run_model.specs.Communicators.{Entered}
 use Rattle.srr_replay.specs.declared.clash.Clash.{Clash}

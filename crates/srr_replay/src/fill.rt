@@ -231,13 +231,7 @@ fn result_for(
 }
 
 /// The communicator that the rank's collective makes.
-fn made_of(
-    alloc: Global,
-    seen: &Seen,
-    rank: u8,
-    start: u32,
-    comm: Comm,
-) -> Result<Got, AllocError>
+fn made_of(alloc: Global, seen: &Seen, rank: u8, start: u32, comm: Comm) -> Result<Got, AllocError>
     requires rank { rank < seen.now.ranks }
     requires order { AreInOrder seen.now.ranks seen.now.events }
     requires enter { (call : Call) → start_at (view_of seen.now.events rank) start ≡ Some call → (is_enter call ≡ true) × (makes call ≡ true) }

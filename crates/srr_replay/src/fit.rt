@@ -132,7 +132,10 @@ fn mark_fits(group: &[u8], seen: &Seen, rank: u8, start: u32, mark: &Mark) -> bo
         Mark::Nothing => is_from_null(call),
         Mark::Inside { source, .. } => takes_from(call, *source),
         Mark::Outside {
-            source, tag, ints, ..
+            source,
+            tag,
+            ints,
+            ..
         } => takes_message(call, *source, *tag, ints.as_slice().len()),
         Mark::Inner => is_enter(call) && !makes(call) && is_inner(group, seen, rank, start, call),
         Mark::Outer { ints } => {

@@ -128,13 +128,7 @@ fn missing_for(seen: &Seen, rank: u8, start: u32, call: &Call) -> Option<Missing
 }
 
 /// The first member that a collective's result needs and that has not entered the instance.
-fn first_absent(
-    seen: &Seen,
-    call: &Call,
-    members: &Ranks,
-    rank: u8,
-    instance: u32,
-) -> Option<u8>
+fn first_absent(seen: &Seen, call: &Call, members: &Ranks, rank: u8, instance: u32) -> Option<u8>
     requires form { IsEnterOf call.now members.now rank }
     requires member { is_member members.now rank ≡ true }
     ensures { result ≡ absent_of (gather (needs call.now members.now rank) (λ m. enter_at seen.now.ranks (view_of seen.now.events m) (comm_of call.now) instance) members.now) }

@@ -2,7 +2,6 @@
 ghost use Rattle.std.specs.Prelude.{◌≡◌, ◌<◌, ◌≤◌, ◌++◌, ◌∷◌, [], OnOk, OnErr, IfOk, length, map, Some, true, false};
 ghost use Rattle.mpi_call.specs.Collectives.{is_distinct, is_member};
 ghost use Rattle.run_model.specs.Program.{IsAfter};
-ghost use Rattle.srr_replay.specs.Built.{AsksBuilt};
 ghost use Rattle.srr_replay.specs.Laws.{IsReplayOfEveryRun};
 ghost use Rattle.srr_replay.specs.Replays.{IsExhausted, Replays};
 ghost use Rattle.srr_replay.specs.Rounds.{GrowsBy, HasNoStep, IsReplayable, RunAll};
@@ -115,7 +114,6 @@ pub fn replay_serial<P: Program, R: RankRun<Of = P>>(
     stop: Option<(u8, u32)>,
 ) -> Result<Replayed, AllocError>
     requires log { IsReplayable log.now }
-    requires built { AsksBuilt (P.next program.now) }
     requires runs { RunAll R.standing program.now log.now [] runs.items }
     ensures replay { IfOk result (λ replayed. IsReplayed (P.next program.now) (P.output program.now) (P.variables program.now) log.now stop replayed) }
     ensures runs { IfOk result (λ replayed. IsReplayOfEveryRun (P.next program.now) (P.output program.now) log.now stop replayed) }

@@ -10,7 +10,7 @@ use Rattle.srr_replay.proofs.clash.first_clash.Given as goal
 abbrev pub invariant-loop-rest : goal.invariant-loop-rest
 invariant-loop-rest l = record {
   same : break_members l.call l.members (needs l.call l.members l.rank) (λ m. enter_at l.seen.ranks (view_of l.seen.events m) (comm_of l.call) l.instance) l.rest
-  ≡ break_members l.call l.members (needs l.call l.members l.rank) (λ m. enter_at l.seen.ranks (view_of l.seen.events m) (comm_of l.call) l.instance) l.members;
+      ≡ break_members l.call l.members (needs l.call l.members l.rank) (λ m. enter_at l.seen.ranks (view_of l.seen.events m) (comm_of l.call) l.instance) l.members;
   among : AreAmong l.rest l.members;
 }
 

@@ -12,7 +12,7 @@ use Rattle.srr_replay.proofs.fill.inputs.Given as goal
 abbrev pub invariant-loop-rest : goal.invariant-loop-rest
 invariant-loop-rest l = record {
   same : gather (needs l.call l.members l.rank) (λ m. enter_at l.seen.ranks (view_of l.seen.events m) (comm_of l.call) l.instance) l.members
-  ≡ inputs_before l.found (gather (needs l.call l.members l.rank) (λ m. enter_at l.seen.ranks (view_of l.seen.events m) (comm_of l.call) l.instance) l.rest);
+      ≡ inputs_before l.found (gather (needs l.call l.members l.rank) (λ m. enter_at l.seen.ranks (view_of l.seen.events m) (comm_of l.call) l.instance) l.rest);
   there : absent_of (gather (needs l.call l.members l.rank) (λ m. enter_at l.seen.ranks (view_of l.seen.events m) (comm_of l.call) l.instance) l.rest) ≡ None;
   among : AreAmong l.rest l.members;
 }

@@ -1,4 +1,3 @@
-use Rattle.std.proofs.Common.{sym}
 use Rattle.srr_replay.proofs.CollectiveLemmas.{form_of, inputs_are}
 use Rattle.srr_replay.proofs.fill.result_for.Goals as goal
 

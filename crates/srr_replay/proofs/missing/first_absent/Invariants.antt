@@ -11,7 +11,7 @@ use Rattle.srr_replay.proofs.missing.first_absent.Given as goal
 abbrev pub invariant-loop-rest : goal.invariant-loop-rest
 invariant-loop-rest l = record {
   same : absent_of (gather (needs l.call l.members l.rank) (λ m. enter_at l.seen.ranks (view_of l.seen.events m) (comm_of l.call) l.instance) l.rest)
-  ≡ absent_of (gather (needs l.call l.members l.rank) (λ m. enter_at l.seen.ranks (view_of l.seen.events m) (comm_of l.call) l.instance) l.members);
+      ≡ absent_of (gather (needs l.call l.members l.rank) (λ m. enter_at l.seen.ranks (view_of l.seen.events m) (comm_of l.call) l.instance) l.members);
   among : AreAmong l.rest l.members;
 }
 

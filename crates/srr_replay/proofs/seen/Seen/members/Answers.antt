@@ -1,5 +1,5 @@
-use Rattle.std.proofs.Common.{◌≡◌, ◌∙◌, sym, ap}
-use Rattle.run_model.specs.Communicators.{members_in, or_none}
+use Rattle.std.proofs.Common.{◌∙◌, sym, ap}
+use Rattle.run_model.specs.Communicators.{or_none}
 use Rattle.run_model.specs.Lists.{world}
 use Rattle.run_model.specs.Views.{view_of}
 use Rattle.run_model.proofs.CommunicatorLaws.{known_after-some}
