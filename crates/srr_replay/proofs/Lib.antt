@@ -16,3 +16,4 @@ pub mod MissingLemmas
 pub mod NumberLemmas
 pub mod Cut
 pub mod WholeReplays
+pub mod Starved
