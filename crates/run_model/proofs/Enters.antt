@@ -8,7 +8,6 @@ use Rattle.run_model.specs.Inputs.{gather}
 use Rattle.run_model.specs.Lists.{IsPrefixOf, world}
 use Rattle.run_model.specs.Views.{View, is_start, start_at, starts_of}
 use Rattle.run_model.proofs.CommunicatorLaws.{known_after-some}
-use Rattle.run_model.proofs.Gathering.{pushed}
 use Rattle.run_model.proofs.StartLemmas.{slice_get-below, slice_get-last, slice_get-push, starts_of-append}
 use Rattle.run_model.proofs.Views.{test_cases}
 

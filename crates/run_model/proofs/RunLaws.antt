@@ -7,7 +7,7 @@ use Rattle.mpi_call.specs.declared.reply.Reply.{Reply}
 use Rattle.mpi_call.specs.declared.reply.Reply.TheVariants.{Done, NotYet, Peeked, Stopped, Took}
 use Rattle.run_model.specs.declared.event.Event.{Event}
 use Rattle.run_model.specs.Lists.{world}
-use Rattle.run_model.specs.Pairs.{IsMatched, named}
+use Rattle.run_model.specs.Pairs.{IsMatched}
 use Rattle.run_model.specs.Program.{EndsExactly, EntersInForm, IsRankOf, IsSeen, IsViewOf, ends}
 use Rattle.run_model.specs.Run.{IsEvent, IsRun}
 use Rattle.run_model.specs.Shape.{has_shape}
