@@ -39,21 +39,21 @@ use Rattle.srr_replay.proofs.Prefix.{Begins-run, answer-replied, begins_run, ent
 use Rattle.srr_replay.proofs.RunAnswers.{answer_whole}
 
 -- The places of a replay that can go no further are those that no breakpoint blocks.
-record SplitAt {A : Type 0} (xs : List A) (k : ℕ) : Type 0 where
-  front : List A
-  here : A
-  rest : List A
-  whole : xs ≡ front ++ here ∷ rest
-  long : length front ≡ k
+pub record SplitAt {A : Type 0} (xs : List A) (k : ℕ) : Type 0 where
+  pub front : List A
+  pub here : A
+  pub rest : List A
+  pub whole : xs ≡ front ++ here ∷ rest
+  pub long : length front ≡ k
 
-split_at : {A : Type 0} (xs : List A) (k : ℕ) → k < length xs → SplitAt xs k
+pub split_at : {A : Type 0} (xs : List A) (k : ℕ) → k < length xs → SplitAt xs k
 split_at [] k h = absurd (omega arith)
 split_at (x ∷ xs) zero h = record { front = []; here = x; rest = xs; whole = refl; long = refl }
 split_at (x ∷ xs) (suc k) h =
     let later = split_at xs k (omega arith) in
     record { front = x ∷ later.front; here = later.here; rest = later.rest; whole = ap (λ l. x ∷ l) later.whole; long = ap suc later.long }
 
-same_front : {A : Type 0} (xs ys : List A) (x y : A) (p q : List A) → length xs ≡ length ys → xs ++ x ∷ p ≡ ys ++ y ∷ q → (xs ≡ ys) × (x ≡ y)
+pub same_front : {A : Type 0} (xs ys : List A) (x y : A) (p q : List A) → length xs ≡ length ys → xs ++ x ∷ p ≡ ys ++ y ∷ q → (xs ≡ ys) × (x ≡ y)
 same_front [] [] x y p q l e = (refl, cc)
 same_front [] (b ∷ ys) x y p q l e = absurd (omega (arith, l))
 same_front (a ∷ xs) [] x y p q l e = absurd (omega (arith, l))
@@ -63,7 +63,7 @@ same_front (a ∷ xs) (b ∷ ys) x y p q l e =
     let rest = same_front xs ys x y p q (omega (arith, l)) tails in
     (ap (λ h. h ∷ xs) heads ∙ ap (λ t. b ∷ t) rest.0, rest.1)
 
-same_length : {A : Type 0} (xs ys p q : List A) → length xs ≡ length ys → xs ++ p ≡ ys ++ q → xs ≡ ys
+pub same_length : {A : Type 0} (xs ys p q : List A) → length xs ≡ length ys → xs ++ p ≡ ys ++ q → xs ≡ ys
 same_length [] [] p q l e = refl
 same_length [] (b ∷ ys) p q l e = absurd (omega (arith, l))
 same_length (a ∷ xs) [] p q l e = absurd (omega (arith, l))
@@ -235,7 +235,7 @@ has_free : (next : Next) (log : Log) (stop : Stop) (run events : List Event) →
 has_free next log stop run events lawful is all =
     walk run (HasFree log.ranks log.group (view_of run) stop events) (free_step next log stop run events lawful is all) [] run refl (λ rank number member below free. absurd (omega arith))
 
-longer_of : {A : Type 0} (xs ys : List A) (number : ℕ) → IsPrefixOf xs ys → number < length xs → number < length ys
+pub longer_of : {A : Type 0} (xs ys : List A) (number : ℕ) → IsPrefixOf xs ys → number < length xs → number < length ys
 longer_of xs ys number prefix below =
     let whole : length xs + length prefix.0 ≡ length ys = sym (length-append xs prefix.0) ∙ ap length prefix.1 in
     omega arith
@@ -269,11 +269,11 @@ nothing_in : {A : Type 0} (xs : List A) → length xs ≡ 0 → xs ≡ []
 nothing_in [] h = refl
 nothing_in (x ∷ xs) h = absurd (omega (arith, h))
 
-at_most : (a b : ℕ) → ((number : ℕ) → number < a → number < b) → a ≤ b
+pub at_most : (a b : ℕ) → ((number : ℕ) → number < a → number < b) → a ≤ b
 at_most zero b each = omega arith
 at_most (suc a) b each = (let last = each a (omega arith) in omega arith)
 
-nothing_more : {A : Type 0} (xs ys : List A) → IsPrefixOf xs ys → length ys ≤ length xs → xs ≡ ys
+pub nothing_more : {A : Type 0} (xs ys : List A) → IsPrefixOf xs ys → length ys ≤ length xs → xs ≡ ys
 nothing_more xs ys prefix short =
     let whole : length xs + length prefix.0 ≡ length ys = sym (length-append xs prefix.0) ∙ ap length prefix.1 in
     let none : length prefix.0 ≡ 0 = omega arith in

@@ -21,3 +21,4 @@ pub mod MissingLemmas
 pub mod NumberLemmas
 pub mod Cut
 pub mod WholeReplays
+pub mod Starved

@@ -42,7 +42,7 @@ in_run-event : (next : Next) (n : ℕ) (before : List Event) (event : Event) (ra
 in_run-event next n before event rank view call reply step rank_is view_is call_is reply_is =
     (rw (← view_is, ← call_is, ← rank_is) step.call, rw (← call_is, ← reply_is, ← rank_is) step.reply)
 
-in_run : (next : Next) (n : ℕ) (run : List Event) (rank : ℕ) (view : View) (call : Call) (reply : Reply) (rest : View) → IsRun next n run → view_of run rank ≡ view ++ (call, reply) ∷ rest → InRun next n run rank view call reply
+pub in_run : (next : Next) (n : ℕ) (run : List Event) (rank : ℕ) (view : View) (call : Call) (reply : Reply) (rest : View) → IsRun next n run → view_of run rank ≡ view ++ (call, reply) ∷ rest → InRun next n run rank view call reply
 in_run next n run rank view call reply rest all e =
     let at = place run rank view call reply rest e in
     let whole : IsRun next n (at.before ++ at.event ∷ at.after) = let P : List Event → Type 0 = λ l. IsRun next n l in subst P at.whole all in

@@ -1,5 +1,6 @@
 -- What a replay of a run's log shows of the run.
 use Rattle.std.specs.Prelude.{◌≡◌, ◌<◌, ◌⊎◌, ◌↔◌, ℕ, List, [], Some, None, true, false, All, length, map}
+use Rattle.std.specs.List.{Contains}
 use Rattle.mpi_call.specs.declared.reply.Reply.{Reply}
 use Rattle.mpi_call.specs.Collectives.{is_member}
 use Rattle.run_model.specs.declared.event.Event.{Event}
@@ -11,8 +12,9 @@ use Rattle.srr_entry.specs.declared.log.Log.{Log}
 use Rattle.srr_entry.specs.Entries.{log_of}
 use Rattle.srr_replay.specs.declared.replayed.Replayed.{Replayed}
 use Rattle.srr_replay.specs.declared.replayed.Stand.{Stand}
-use Rattle.srr_replay.specs.declared.replayed.Stand.TheVariants.{Ended, LogEnded, Diverged}
+use Rattle.srr_replay.specs.declared.replayed.Stand.TheVariants.{Ended, LogEnded, AtBreak, Diverged, Starved}
 use Rattle.srr_replay.specs.declared.step.Divergence.{Divergence}
+use Rattle.srr_replay.specs.declared.step.Missing.{Missing}
 use Rattle.srr_replay.specs.Replays.{Stop}
 use Rattle.srr_replay.specs.Rests.{IsInCut}
 use Rattle.srr_replay.specs.Stands.{printed_of, stand_of}
@@ -45,6 +47,12 @@ abbrev pub EachStand : (Stand → Type 0) → Next → (ℕ → ℕ → List Rep
 EachStand P next variables log stop events =
     (rank : ℕ) (stand : Stand) → is_member log.group rank ≡ true → stand_of next variables log stop events rank ≡ Some stand → P stand
 
+-- where a rank of the group is starved, some rank of it stands at the breakpoint
+abbrev pub StarvesBehindABreak : Next → (ℕ → ℕ → List Reply → List Variable) → Log → Stop → List Event → Type 0
+StarvesBehindABreak next variables log stop events =
+    (rank : ℕ) (missing : Missing) → is_member log.group rank ≡ true → stand_of next variables log stop events rank ≡ Some (Starved missing)
+    → (at : ℕ) × (standing : List Variable) × (is_member log.group at ≡ true) × (stand_of next variables log stop events at ≡ Some (AtBreak standing))
+
 -- the places that were replayed are the cut of the breakpoint
 abbrev pub HasTheCut : Log → Stop → List Event → List Event → Type 0
 HasTheCut log stop events run =
@@ -55,6 +63,7 @@ pub record IsReplayOfRun (output : ℕ → ℕ → List Reply → List ℕ) (log
   pub begins : BeginsRun output log replayed.events.events run
   pub cut : HasTheCut log stop replayed.events.events run
   pub agrees : All HasNotDiverged replayed.ends
+  pub starved : (missing : Missing) → Contains replayed.ends (Starved missing) → (standing : List Variable) × Contains replayed.ends (AtBreak standing)
   pub views : stop ≡ None → (rank : ℕ) → is_member log.group rank ≡ true → view_of replayed.events.events rank ≡ view_of run rank
   pub outputs : stop ≡ None → replayed.outputs ≡ map (printed_of output log.ranks run) log.group
   pub ends : stop ≡ None → All IsDone replayed.ends

@@ -28,7 +28,8 @@ rests_enter n own me k None = []
 rests_enter n own me k (Some enter) =
     rests_members (comm_of enter) (instance_of own k (comm_of enter)) (needs enter (members_in n own (comm_of enter)) me) (members_in n own (comm_of enter))
 
--- a message from inside the group rests on its Send, a collective result from inside on the Enters that it needs
+-- a message from inside the group rests on its Send, a collective result from inside on the Enters that it needs. (That of an
+-- undefined colour needs the rank's own Enter alone, an earlier call of the rank.)
 abbrev pub rests_mark : ℕ → View → ℕ → ℕ → Mark → List Missing
 rests_mark n own me k (Inside source start) = Start source start ∷ []
 rests_mark n own me k Inner = rests_enter n own me k (start_at own k)

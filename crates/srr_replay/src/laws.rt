@@ -3,7 +3,7 @@
 ghost use Rattle.std.specs.Prelude.{◌≡◌, ℕ, List, Option, None};
 ghost use Rattle.run_model.specs.declared.event.Event.{Event};
 ghost use Rattle.run_model.specs.Views.{view_of};
-ghost use Rattle.srr_replay.specs.Laws.{BeginsRun, EachStand, HasAllOf, HasNotDiverged, HasTheCut, IsDone, IsRunWith};
+ghost use Rattle.srr_replay.specs.Laws.{BeginsRun, EachStand, HasAllOf, HasNotDiverged, HasTheCut, IsDone, IsRunWith, StarvesBehindABreak};
 ghost use Rattle.srr_replay.specs.Replays.{IsWholeReplay, Replays};
 ghost use Rattle.srr_replay.specs.Stands.{printed_of, stand_of};
 
@@ -38,10 +38,11 @@ pub fn has_all_of_every_run<P: Program>(
 {}
 
 /// The exact cut: a replay that can go no further has exactly the places of each run with this log that its breakpoint does
-/// not cut off.
+/// not cut off; and where a rank is starved, the rank of the breakpoint stands at it.
 pub fn has_the_cut<P: Program>(program: &P, log: &Log, stop: &Option<(u8, u32)>, events: &History)
     requires { IsWholeReplay (P.next program.now) log.now stop.now events.now.events }
-    ensures { (run : List Event) → IsRunWith (P.next program.now) log.now run → HasTheCut log.now stop.now events.now.events run }
+    ensures places { (run : List Event) → IsRunWith (P.next program.now) log.now run → HasTheCut log.now stop.now events.now.events run }
+    ensures stands { (run : List Event) → IsRunWith (P.next program.now) log.now run → StarvesBehindABreak (P.next program.now) (P.variables program.now) log.now stop.now events.now.events }
 {}
 
 /// Confluence: any two replays of one log that can go no further give each rank the same view, the same output and the

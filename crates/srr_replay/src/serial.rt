@@ -1,13 +1,15 @@
 //! A whole replay on one thread.
-ghost use Rattle.std.specs.Prelude.{◌≡◌, ◌<◌, ◌≤◌, ◌++◌, ◌∷◌, [], OnOk, OnErr, IfOk, length, map, Some, true, false};
+ghost use Rattle.std.specs.Prelude.{◌≡◌, ◌<◌, ◌≤◌, ◌++◌, ◌∷◌, [], OnOk, OnErr, IfOk, length, map, Some, true, false, ℕ, List};
 ghost use Rattle.mpi_call.specs.Collectives.{is_distinct, is_member};
+ghost use Rattle.run_model.specs.declared.event.Event.{Event};
 ghost use Rattle.run_model.specs.Program.{IsAfter};
+ghost use Rattle.run_model.specs.Views.{view_of};
 ghost use Rattle.srr_replay.specs.Laws.{IsReplayOfEveryRun};
-ghost use Rattle.srr_replay.specs.Replays.{IsExhausted, Replays};
+ghost use Rattle.srr_replay.specs.Replays.{IsExhausted, IsWholeReplay, Replays};
 ghost use Rattle.srr_replay.specs.Rounds.{GrowsBy, HasNoStep, IsReplayable, RunAll};
 ghost use Rattle.srr_replay.specs.Stands.{IsReplayed, printed_of, stand_of};
 
-use crate::laws::{begins_every_run, has_all_of_every_run, has_the_cut};
+use crate::laws::{begins_every_run, has_all_of_every_run, has_the_cut, replays_agree};
 use crate::replay::Replay;
 use crate::replayed::{Replayed, Stand, Stands};
 use crate::step::Step;
@@ -117,6 +119,7 @@ pub fn replay_serial<P: Program, R: RankRun<Of = P>>(
     requires runs { RunAll R.standing program.now log.now [] runs.items }
     ensures replay { IfOk result (λ replayed. IsReplayed (P.next program.now) (P.output program.now) (P.variables program.now) log.now stop replayed) }
     ensures runs { IfOk result (λ replayed. IsReplayOfEveryRun (P.next program.now) (P.output program.now) log.now stop replayed) }
+    ensures alike { IfOk result (λ replayed. (other : List Event) → IsWholeReplay (P.next program.now) log.now stop other → (rank : ℕ) → view_of replayed.events.events rank ≡ view_of other rank) }
 {
     let mut replay = Replay::new(alloc, program, log, stop)?;
     let mut count = 0;
@@ -131,6 +134,7 @@ pub fn replay_serial<P: Program, R: RankRun<Of = P>>(
     begins_every_run(program, log, &stop, &replayed.events);
     has_the_cut(program, log, &stop, &replayed.events);
     has_all_of_every_run(program, log, &stop, &replayed.events);
+    replays_agree(program, log, &stop);
     Ok(replayed)
 }
 

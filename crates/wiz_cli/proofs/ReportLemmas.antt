@@ -1,5 +1,5 @@
 -- What comes of a file, from what comes of its bytes; and reports.
-use Rattle.std.proofs.Common.{◌≡◌, ◌≢◌, ◌<◌, ◌≤◌, ◌⊎◌, ℕ, suc, List, [], ◌∷◌, Option, Some, None, IfSome, Ok, length, false, inl, inr, refl, arith}
+use Rattle.std.proofs.Common.{◌≡◌, ◌≢◌, ◌≤◌, ◌⊎◌, ℕ, suc, List, [], ◌∷◌, Option, Some, None, IfSome, Ok, length, false, inl, inr, refl, arith}
 use Rattle.std.specs.List.{All, list_any}
 use Rattle.run_model.specs.declared.event.Event.{Event}
 use Rattle.run_model.specs.Views.{Kept}
