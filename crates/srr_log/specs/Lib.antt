@@ -1,3 +1,5 @@
 pub mod EntryText
 pub mod Bounds
 pub mod LogText
+pub mod Pieces
+pub mod EntryReading

@@ -1,6 +1,11 @@
 //! The text of a log, format 1.
 #![tactic(auto)]
 
+mod entry_line;
 pub mod entry_text;
+pub mod fault;
+mod lists;
+mod mark;
+mod pieces;
 #[cfg(test)]
 mod tests;
