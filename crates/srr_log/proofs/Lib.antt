@@ -1,2 +1,5 @@
 pub mod PieceLaws
 pub mod ListLaws
+pub mod NoByteLaws
+pub mod MarkLaws
+pub mod EntryLaws
