@@ -29,7 +29,7 @@ use Rattle.srr_log.proofs.MarkLaws.{listed_read, listed_said, rises_rise, rise_r
 abbrev IsItem : ℕ → List ℕ → Marked → Type 0
 IsItem n group item = IsSmallNumber item.index × IsMark n group item.mark
 
-item_read : (n : ℕ) (group : List ℕ) → n ≤ 64 → (item : Marked) → IsItem n group item → item_in n group (item_text item) ≡ some item
+item_read : (n : ℕ) (group : List ℕ) → n ≤ 256 → (item : Marked) → IsItem n group item → item_in n group (item_text item) ≡ some item
 unfolding item_in
 item_read n group few item good =
     rw (cut_at 61 (decimal_text item.index) (mark_text item.mark) (decimal_text-excludes item.index 61 (λ digit. omega (arith, digit.1))),
@@ -48,7 +48,7 @@ item_said n group text item e =
     let P : Marked → Type 0 = λ item. IsItem n group item × (text ≡ item_text item) in
     subst P same ((index.0, mark.0), cut_some 61 text a.0.0 a.0.1 a.1 ∙ ap (λ xs. xs ++ 61 ∷ a.0.1) index.1 ∙ ap (λ xs. decimal_text b.0 ++ 61 ∷ xs) mark.1)
 
-items_read : (n : ℕ) (group : List ℕ) → n ≤ 64 → (item : Marked) (items : List Marked) → RiseFrom 0 (indices (item ∷ items)) → All (IsItem n group) (item ∷ items)
+items_read : (n : ℕ) (group : List ℕ) → n ≤ 256 → (item : Marked) (items : List Marked) → RiseFrom 0 (indices (item ∷ items)) → All (IsItem n group) (item ∷ items)
     → items_in n group (item_text item ++ each_behind 32 (map item_text items)) ≡ some (item ∷ items)
 unfolding items_in
 items_read n group few item items up good =
@@ -69,11 +69,11 @@ items_said n group text items e =
     subst P g.1 ((long, rises_rise 0 (indices a.0) g.0, All-from_recursion (IsItem n group) a.0 l.3), ap (λ xs. 116 ∷ 32 ∷ xs) l.4 ∙ ap (λ xs. 116 ∷ each_behind 32 (map item_text xs)) (sym l.2))
 
 -- probes
-peek_read : (n : ℕ) (group : List ℕ) → n ≤ 64 → (source start : ℕ) → IsSender n group true source → IsSmallNumber start → peek_in n group (name_text source start) ≡ some (PeekedInside source start)
+peek_read : (n : ℕ) (group : List ℕ) → n ≤ 256 → (source start : ℕ) → IsSender n group true source → IsSmallNumber start → peek_in n group (name_text source start) ≡ some (PeekedInside source start)
 unfolding peek_in
 peek_read n group few source start sender small = rw (short_name source start, inside_read n group source start few sender small) refl
 
-peek_read_long : (n : ℕ) (group : List ℕ) → n ≤ 64 → (source start tag count : ℕ) → IsSender n group false source → IsSmallNumber start → IsTag tag → count ≤ 65536
+peek_read_long : (n : ℕ) (group : List ℕ) → n ≤ 256 → (source start tag count : ℕ) → IsSender n group false source → IsSmallNumber start → IsTag tag → count ≤ 65536
     → peek_in n group (tagged_text source start tag ++ 58 ∷ decimal_text count) ≡ some (PeekedOutside source start tag count)
 unfolding peek_in
 peek_read_long n group few source start tag count sender small tag_small fits =
@@ -153,7 +153,7 @@ fault_said number fault e = elim (pick (number == 1) DivideByZero _ fault e) [
 one_digit : (n : ℕ) (rest : List ℕ) → n < 10 → decimal_text n ++ rest ≡ (48 + n) ∷ rest
 one_digit n rest below = ap (λ xs. xs ++ rest) (decimal_text-digit n below)
 
-detailed_read : (n rank : ℕ) (kind other : List ℕ) → n ≤ 64 → rank < n → detailed_in n kind (decimal_text rank ++ 32 ∷ other) ≡ detail_in kind rank other
+detailed_read : (n rank : ℕ) (kind other : List ℕ) → n ≤ 256 → rank < n → detailed_in n kind (decimal_text rank ++ 32 ∷ other) ≡ detail_in kind rank other
 unfolding detailed_in
 detailed_read n rank kind other few below =
     rw (cut_at 32 (decimal_text rank) other (no_byte_decimal 32 rank (omega arith)), rank_read n rank (omega arith) below) refl
@@ -176,7 +176,7 @@ digit_named : (n : ℕ) (other : List ℕ) → (halt_in n (49 ∷ 32 ∷ other) 
 unfolding halt_in named_in cut
 digit_named n other = (refl, refl, refl, refl)
 
-halt_read : (n : ℕ) → n ≤ 64 → (halt : Halt) → IsHalt n halt → halt_in n (decimal_text (halt_number halt) ++ halt_details halt) ≡ some halt
+halt_read : (n : ℕ) → n ≤ 256 → (halt : Halt) → IsHalt n halt → halt_in n (decimal_text (halt_number halt) ++ halt_details halt) ≡ some halt
 unfolding halt_in named_in cut
 halt_read n few (Aborted rank code) good =
     ap (halt_in n) (one_digit 1 (halt_details (Aborted rank code)) (omega arith)) ∙ (digit_named n (decimal_text rank ++ 32 ∷ number_text code)).0
@@ -279,7 +279,7 @@ long_read : (n : ℕ) (group text : List ℕ) → (entry_in n group (116 ∷ 32 
 unfolding entry_in long_entry_in behind
 long_read n group text = (refl, refl, refl)
 
-pub entry_read : (n : ℕ) (group : List ℕ) → n ≤ 64 → (entry : Entry) → IsEntry n group entry → entry_in n group (entry_line entry) ≡ some entry
+pub entry_read : (n : ℕ) (group : List ℕ) → n ≤ 256 → (entry : Entry) → IsEntry n group entry → entry_in n group (entry_line entry) ≡ some entry
 entry_read n group few Sent good = (letters_read n group).0
 entry_read n group few Posted good = (letters_read n group).1
 entry_read n group few Entered good = (letters_read n group).2

@@ -3,3 +3,4 @@ pub mod ListLaws
 pub mod NoByteLaws
 pub mod MarkLaws
 pub mod EntryLaws
+pub mod LineLaws

@@ -82,7 +82,7 @@ pub all_below : (n : ℕ) (ranks : List ℕ) → AllByRecursion (λ rank. rank <
 all_below n [] below = refl
 all_below n (rank ∷ ranks) (here, below) = and_from (nat_lt rank n) (are_below n ranks) (lt-ltb rank n here) (all_below n ranks below)
 
-pub ranks_read : (mark n rank : ℕ) (ranks : List ℕ) → mark < 48 → n ≤ 64 → are_below n (rank ∷ ranks) ≡ true
+pub ranks_read : (mark n rank : ℕ) (ranks : List ℕ) → mark < 48 → n ≤ 256 → are_below n (rank ∷ ranks) ≡ true
     → ranks_in mark n (decimal_text rank ++ each_behind mark (map decimal_text ranks)) ≡ some (rank ∷ ranks)
 ranks_read mark n rank ranks low few below =
     listed_read (rank_in n) decimal_text (λ rank. rank < n) (λ rank below. rank_read n rank (omega arith) below) mark (λ rank. no_byte_decimal mark rank low) rank ranks (below_all n (rank ∷ ranks) below)
@@ -105,7 +105,7 @@ rise_rises least [] up = refl
 rise_rises least (number ∷ numbers) (here, up) = and_from (nat_le least number) (rises (number + 1) numbers) (le-leb least number here) (rise_rises (number + 1) numbers up)
 
 -- names
-pub inside_read : (n : ℕ) (group : List ℕ) (source start : ℕ) → n ≤ 64 → IsSender n group true source → IsSmallNumber start → inside_in n group (name_text source start) ≡ some (source, start)
+pub inside_read : (n : ℕ) (group : List ℕ) (source start : ℕ) → n ≤ 256 → IsSender n group true source → IsSmallNumber start → inside_in n group (name_text source start) ≡ some (source, start)
 unfolding inside_in
 inside_read n group source start few sender small =
     rw (cut_at 46 (decimal_text source) (decimal_text start) (no_byte_decimal 46 source (omega arith)), rank_read n source (omega arith) sender.0, number_read 999999 start small, sender.1) refl
@@ -131,7 +131,7 @@ tagged_text source start tag = name_text source start ++ (46 ∷ decimal_text ta
 tagged_is : (source start tag : ℕ) → tagged_text source start tag ≡ decimal_text source ++ 46 ∷ (decimal_text start ++ 46 ∷ decimal_text tag)
 tagged_is source start tag = append_assoc (decimal_text source) (46 ∷ decimal_text start) (46 ∷ decimal_text tag)
 
-pub outside_read : (n : ℕ) (group : List ℕ) (source start tag : ℕ) → n ≤ 64 → IsSender n group false source → IsSmallNumber start → IsTag tag
+pub outside_read : (n : ℕ) (group : List ℕ) (source start tag : ℕ) → n ≤ 256 → IsSender n group false source → IsSmallNumber start → IsTag tag
     → outside_in n group (tagged_text source start tag) ≡ some (source, start, tag)
 unfolding outside_in
 outside_read n group source start tag few sender small tag_small =
@@ -180,12 +180,12 @@ pub long_name : (source start tag : ℕ) (rest : List ℕ) → cut 58 (tagged_te
 long_name source start tag rest = cut_at 58 (tagged_text source start tag) rest (no_colon_tagged source start tag)
 
 -- messages
-message_read : (n : ℕ) (group : List ℕ) → n ≤ 64 → (source start : ℕ) → IsSender n group true source → IsSmallNumber start
+message_read : (n : ℕ) (group : List ℕ) → n ≤ 256 → (source start : ℕ) → IsSender n group true source → IsSmallNumber start
     → message_in n group (name_text source start) ≡ some (Inside source start)
 unfolding message_in
 message_read n group few source start sender small = rw (short_name source start, inside_read n group source start few sender small) refl
 
-message_read_long : (n : ℕ) (group : List ℕ) → n ≤ 64 → (source start tag : ℕ) (ints : List ℤ) → IsSender n group false source → IsSmallNumber start → IsTag tag → AreInts 65536 ints
+message_read_long : (n : ℕ) (group : List ℕ) → n ≤ 256 → (source start tag : ℕ) (ints : List ℤ) → IsSender n group false source → IsSmallNumber start → IsTag tag → AreInts 65536 ints
     → message_in n group (tagged_text source start tag ++ 58 ∷ ints_text ints) ≡ some (Outside source start tag ints)
 unfolding message_in
 message_read_long n group few source start tag ints sender small tag_small good =
@@ -218,7 +218,7 @@ made_read : (n comm : ℕ) → IsSmallNumber comm → made_in n (decimal_text co
 unfolding made_in
 made_read n comm small = rw (cut_none 58 (decimal_text comm) (no_colon comm), number_read 999999 comm small) refl
 
-made_read_long : (n comm : ℕ) (members : List ℕ) → n ≤ 64 → (0 < comm) → IsSmallNumber comm → (0 < length members) → (length members ≤ 64) → (are_below n members ≡ true)
+made_read_long : (n comm : ℕ) (members : List ℕ) → n ≤ 256 → (0 < comm) → IsSmallNumber comm → (0 < length members) → (length members ≤ 64) → (are_below n members ≡ true)
     → made_in n (decimal_text comm ++ 58 ∷ by_commas (map decimal_text members)) ≡ some (MadeOutside comm members)
 unfolding made_in
 made_read_long n comm [] few above small many fits below = absurd (omega arith)
@@ -283,7 +283,7 @@ letter_read : (n : ℕ) (group : List ℕ) → (mark_in n group (codes "s") ≡ 
 unfolding mark_in
 letter_read n group = (refl, refl, refl)
 
-pub mark_read : (n : ℕ) (group : List ℕ) → n ≤ 64 → (mark : Mark) → IsMark n group mark → mark_in n group (mark_text mark) ≡ some mark
+pub mark_read : (n : ℕ) (group : List ℕ) → n ≤ 256 → (mark : Mark) → IsMark n group mark → mark_in n group (mark_text mark) ≡ some mark
 mark_read n group few MarkSent good = (letter_read n group).0
 mark_read n group few Nothing good = (letter_read n group).1
 mark_read n group few (Inside source start) good = number_long n group source (46 ∷ decimal_text start) ∙ message_read n group few source start good.0 good.1

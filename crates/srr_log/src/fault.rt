@@ -1,4 +1,7 @@
 //! Why a text is no log.
+ghost use Rattle.std.specs.Prelude.{◌≡◌};
+ghost use Rattle.srr_log.specs.Refused.{refused};
+
 use std::alloc::AllocError;
 use thiserror::Error;
 
@@ -48,5 +51,33 @@ impl From<AllocError> for Unread {
 
     fn from(_error: AllocError) -> Self {
         Unread::NoMemory
+    }
+}
+
+/// Why reading stopped: a fault with so many bytes from its place to the text's end.
+#[derive(Clone, Copy)]
+pub enum Stop {
+    NoMemory,
+    Fault { why: LogWhy, left: usize },
+}
+
+impl From<AllocError> for Stop {
+    ghost use Rattle.std.specs.Prelude.{◌≡◌};
+    ghost use Rattle.srr_log.specs.declared.fault.Stop.TheVariants.{NoMemory};
+
+    ghost from_gives = { λ _ stop. stop ≡ NoMemory };
+
+    fn from(_error: AllocError) -> Self {
+        Stop::NoMemory
+    }
+}
+
+/// A line that was not read is a fault with this reason.
+pub fn refused(unread: Unread, why: LogWhy, left: usize) -> Stop
+    ensures { result ≡ refused unread why left }
+{
+    match unread {
+        Unread::NotAllowed => Stop::Fault { why, left },
+        Unread::NoMemory => Stop::NoMemory,
     }
 }
