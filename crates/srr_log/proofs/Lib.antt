@@ -4,3 +4,4 @@ pub mod NoByteLaws
 pub mod MarkLaws
 pub mod EntryLaws
 pub mod LineLaws
+pub mod StateLaws

@@ -8,5 +8,6 @@ mod line;
 mod lists;
 mod mark;
 mod pieces;
+pub mod read_log;
 #[cfg(test)]
 mod tests;
