@@ -5,3 +5,5 @@ pub mod MarkLaws
 pub mod EntryLaws
 pub mod LineLaws
 pub mod StateLaws
+pub mod LogLaws
+pub mod ReadLaws
