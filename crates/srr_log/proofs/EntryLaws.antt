@@ -1,7 +1,6 @@
 -- An entry's line, both ways.
-use Rattle.std.proofs.Common.{◌≡◌, ◌≢◌, ℕ, ◌+◌, ◌<◌, ◌≤◌, ◌⊎◌, inl, inr, Bool, true, false, List, [], ◌∷◌, ◌++◌, map, length, refl, sym, ◌∙◌, ap, subst, arith, append_assoc}
+use Rattle.std.proofs.Common.{◌≡◌, ℕ, ◌+◌, ◌<◌, ◌≤◌, inl, inr, true, false, List, [], ◌∷◌, ◌++◌, map, length, refl, sym, ◌∙◌, ap, subst, arith}
 use Rattle.std.specs.Prelude.{◌==◌, All, codes, Option, Some, None, ℤ, FitsSigned, if◌then◌else◌}
-use Rattle.std.specs.List.{AllByRecursion}
 use Rattle.std.specs.Str.{bytes_eq}
 use Rattle.std.proofs.lemmas.Bool.{eqb-true}
 use Rattle.std.proofs.lemmas.List.Elements.{All-from_recursion, recursion_from_All}
@@ -11,7 +10,6 @@ use Rattle.mpi_call.specs.declared.call.Fault.TheVariants.{DivideByZero, OutOfBo
 use Rattle.mpi_call.specs.declared.call.Halt.{Halt}
 use Rattle.mpi_call.specs.declared.call.Halt.TheVariants.{Aborted, Trapped, Truncated, Mismatched, BadRequest, Limit, Stuck}
 use Rattle.mpi_call.specs.Halts.{fault_number}
-use Rattle.srr_entry.specs.declared.entry.Mark.{Mark}
 use Rattle.srr_entry.specs.declared.entry.Marked.{Marked}
 use Rattle.srr_entry.specs.declared.entry.Entry.{Entry}
 use Rattle.srr_entry.specs.declared.entry.Entry.TheVariants.{Sent, Posted, Entered, Ended, Took, NotYet, PeekedInside, PeekedOutside, Stopped}
@@ -19,10 +17,10 @@ use Rattle.wiz_base.specs.Decimals.{decimal_text, number_text}
 use Rattle.wiz_base.proofs.DecimalLaws.{decimal_text-excludes, decimal_text-digit}
 use Rattle.srr_log.specs.EntryText.{each_behind, name_text, mark_text, item_text, halt_number, halt_details, entry_line}
 use Rattle.srr_log.specs.Bounds.{RiseFrom, IsSmallNumber, IsSender, IsTag, IsMark, IsHalt, IsEntry}
-use Rattle.srr_log.specs.Pieces.{◌>>=◌, behind, cut, pieces, all_of, number_in, int_in, rank_in}
+use Rattle.srr_log.specs.Pieces.{◌>>=◌, behind, cut, number_in, int_in, rank_in}
 use Rattle.srr_log.specs.EntryReading.{rises, indices, inside_in, outside_in, mark_in, item_in, all_items_in, items_in, peek_cut, peek_in, fault_of, detail_in, detailed_in, named_in, halt_in, long_entry, long_entry_in, entry_in}
 use Rattle.srr_log.proofs.PieceLaws.{some, bind_some, guard_some, same_word, behind_some, cut_at, cut_some, number_read, number_said, int_read, int_said, rank_read, rank_said}
-use Rattle.srr_log.proofs.NoByteLaws.{NoByte, no_byte_decimal, no_byte_item}
+use Rattle.srr_log.proofs.NoByteLaws.{no_byte_decimal, no_byte_item}
 use Rattle.srr_log.proofs.MarkLaws.{listed_read, listed_said, rises_rise, rise_rises, inside_read, inside_said, tagged_text, outside_read, outside_said, short_name, long_name, mark_read, mark_said, pick, branch}
 
 -- completed starts
@@ -32,8 +30,11 @@ IsItem n group item = IsSmallNumber item.index × IsMark n group item.mark
 item_read : (n : ℕ) (group : List ℕ) → n ≤ 256 → (item : Marked) → IsItem n group item → item_in n group (item_text item) ≡ some item
 unfolding item_in
 item_read n group few item good =
-    rw (cut_at 61 (decimal_text item.index) (mark_text item.mark) (decimal_text-excludes item.index 61 (λ digit. omega (arith, digit.1))),
-    number_read 999999 item.index good.0, mark_read n group few item.mark good.1) refl
+    rw (
+      cut_at 61 (decimal_text item.index) (mark_text item.mark) (decimal_text-excludes item.index 61 (λ digit. omega (arith, digit.1))),
+      number_read 999999 item.index good.0,
+      mark_read n group few item.mark good.1,
+    ) refl
 
 item_said : (n : ℕ) (group text : List ℕ) (item : Marked) → item_in n group text ≡ some item → IsItem n group item × (text ≡ item_text item)
 unfolding item_in
@@ -52,8 +53,10 @@ items_read : (n : ℕ) (group : List ℕ) → n ≤ 256 → (item : Marked) (ite
     → items_in n group (item_text item ++ each_behind 32 (map item_text items)) ≡ some (item ∷ items)
 unfolding items_in
 items_read n group few item items up good =
-    rw (listed_read (item_in n group) item_text (IsItem n group) (item_read n group few) 32 (λ item. no_byte_item 32 item (omega arith)) item items (recursion_from_All (IsItem n group) (item ∷ items) good),
-    rise_rises 0 (indices (item ∷ items)) up) refl
+    rw (
+      listed_read (item_in n group) item_text (IsItem n group) (item_read n group few) 32 (λ item. no_byte_item 32 item (omega arith)) item items (recursion_from_All (IsItem n group) (item ∷ items) good),
+      rise_rises 0 (indices (item ∷ items)) up,
+    ) refl
 
 abbrev IsLineOf : ℕ → List ℕ → List ℕ → Entry → Type 0
 IsLineOf n group line entry = IsEntry n group entry × (line ≡ entry_line entry)

@@ -7,3 +7,5 @@ pub mod LineLaws
 pub mod StateLaws
 pub mod LogLaws
 pub mod ReadLaws
+pub mod FaultLaws
+pub mod WriteLaws

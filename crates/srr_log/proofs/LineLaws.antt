@@ -1,25 +1,22 @@
 -- Each line, both ways.
-use Rattle.std.proofs.Common.{◌≡◌, ◌≢◌, ℕ, ◌+◌, ◌<◌, ◌≤◌, ◌⊎◌, inl, inr, Bool, true, false, List, [], ◌∷◌, ◌++◌, map, length, refl, sym, ◌∙◌, ap, subst, arith, append_assoc, eq-eqb}
-use Rattle.std.specs.Prelude.{◌==◌, ◌&&◌, All, codes, Option, Some, None, nat_lt, if◌then◌else◌}
-use Rattle.std.specs.Char.{IsAsciiDigit}
-use Rattle.std.proofs.lemmas.Bool.{cases_Bool, eqb-true, lt-ltb, ltb-true, ltb-false, and_from, and_cases, false_from_ne_true, and_parts, true≢false}
+use Rattle.std.proofs.Common.{◌≡◌, ◌≢◌, ℕ, ◌<◌, ◌≤◌, inl, inr, true, false, List, [], ◌∷◌, ◌++◌, map, length, refl, sym, ◌∙◌, ap, subst, arith, eq-eqb}
+use Rattle.std.specs.Prelude.{◌==◌, ◌&&◌, codes, None, nat_lt, if◌then◌else◌}
+use Rattle.std.proofs.lemmas.Bool.{eqb-true, lt-ltb, ltb-true, ltb-false, and_cases, false_from_ne_true, and_parts, true≢false}
 use Rattle.std.proofs.lemmas.List.{append_cancel_right}
-use Rattle.run_model.specs.Lists.{are_below}
 use Rattle.srr_entry.specs.declared.entry.Entry.{Entry}
 use Rattle.wiz_base.specs.Decimals.{decimal_text}
 use Rattle.wiz_base.specs.Readings.{IsDecimal}
 use Rattle.wiz_base.proofs.DecimalLaws.{decimal_text-digit}
-use Rattle.srr_log.specs.declared.fault.LogWhy.{LogWhy}
 use Rattle.srr_log.specs.declared.fault.LogWhy.TheVariants.{BadHead, BadVersion}
 use Rattle.srr_log.specs.EntryText.{each_behind, entry_line}
-use Rattle.srr_log.specs.Bounds.{RiseFrom, IsGroup, IsEntry, is_last}
-use Rattle.srr_log.specs.Faults.{IsOtherVersion, IsReason}
+use Rattle.srr_log.specs.Bounds.{IsGroup, IsEntry, is_last}
+use Rattle.srr_log.specs.Faults.{IsReason}
 use Rattle.srr_log.specs.Parts.{head_line}
 use Rattle.srr_log.specs.Pieces.{◌>>=◌, behind, cut, number_in}
 use Rattle.srr_log.specs.EntryReading.{rises, ranks_in, entry_in}
 use Rattle.srr_log.specs.LineReading.{ranks_line_in, group_line_in, size_line_in, rank_line_in, entry_line_in}
-use Rattle.srr_log.proofs.PieceLaws.{some, said_cases, bind_some, guard_some, guard_none, behind_word, behind_some, cut_at, cut_some, number_read, number_said}
-use Rattle.srr_log.proofs.NoByteLaws.{NoByte, no_byte_cons, no_byte_nil, no_byte_append, no_byte_decimal, no_byte_behind, no_byte_map}
+use Rattle.srr_log.proofs.PieceLaws.{some, bind_some, guard_some, guard_none, behind_word, behind_some, cut_at, cut_some, number_read, number_said}
+use Rattle.srr_log.proofs.NoByteLaws.{no_byte_decimal}
 use Rattle.srr_log.proofs.MarkLaws.{rises_rise, rise_rises, ranks_read, ranks_said}
 use Rattle.srr_log.proofs.EntryLaws.{entry_read, entry_said}
 
@@ -72,8 +69,13 @@ size_line_said line size e =
 pub rank_line_read : (rank count : ℕ) → rank ≤ 255 → count ≤ 999064 → rank_line_in rank (codes "rank " ++ decimal_text rank ++ (32 ∷ decimal_text count)) ≡ some count
 unfolding rank_line_in
 rank_line_read rank count small fits =
-    rw (behind_word (codes "rank ") (decimal_text rank ++ 32 ∷ decimal_text count), cut_at 32 (decimal_text rank) (decimal_text count) (no_byte_decimal 32 rank (omega arith)),
-    number_read 255 rank small, number_read 999064 count fits, eq-eqb rank rank refl) refl
+    rw (
+      behind_word (codes "rank ") (decimal_text rank ++ 32 ∷ decimal_text count),
+      cut_at 32 (decimal_text rank) (decimal_text count) (no_byte_decimal 32 rank (omega arith)),
+      number_read 255 rank small,
+      number_read 999064 count fits,
+      eq-eqb rank rank refl,
+    ) refl
 
 pub rank_line_said : (rank : ℕ) (line : List ℕ) (count : ℕ) → rank_line_in rank line ≡ some count → (count ≤ 999064) × (line ≡ codes "rank " ++ decimal_text rank ++ (32 ∷ decimal_text count))
 unfolding rank_line_in
@@ -86,9 +88,11 @@ rank_line_said rank line count e =
     let named = number_said 255 b.0.0 d.0 d.1 in
     let said = number_said 999064 b.0.1 f.0 f.1 in
     let P : ℕ → Type 0 = λ count. (count ≤ 999064) × (line ≡ codes "rank " ++ decimal_text rank ++ (32 ∷ decimal_text count)) in
-    subst P g.1
-    (said.0, behind_some (codes "rank ") line a.0 a.1
-    ∙ ap (λ xs. codes "rank " ++ xs) (cut_some 32 a.0 b.0.0 b.0.1 b.1 ∙ ap (λ xs. xs ++ 32 ∷ b.0.1) (named.1 ∙ ap decimal_text (eqb-true d.0 rank g.0)) ∙ ap (λ xs. decimal_text rank ++ 32 ∷ xs) said.1))
+    subst P g.1 (
+      said.0,
+      behind_some (codes "rank ") line a.0 a.1
+          ∙ ap (λ xs. codes "rank " ++ xs) (cut_some 32 a.0 b.0.0 b.0.1 b.1 ∙ ap (λ xs. xs ++ 32 ∷ b.0.1) (named.1 ∙ ap decimal_text (eqb-true d.0 rank g.0)) ∙ ap (λ xs. decimal_text rank ++ 32 ∷ xs) said.1),
+    )
 
 no_others : (others : ℕ) → nat_lt 0 others ≡ false → others ≡ 0
 no_others others none = let few = ltb-false 0 others none in omega arith
@@ -99,9 +103,9 @@ pub entry_line_read : (n : ℕ) (group : List ℕ) (others : ℕ) (entry : Entry
 unfolding entry_line_in
 entry_line_read n group others entry few good last =
     let test : (is_last entry && nat_lt 0 others) ≡ false = false_from_ne_true (is_last entry && nat_lt 0 others) (λ e.
-        let parts = and_parts (is_last entry) (nat_lt 0 others) e in
-        let none = last parts.0 in
-        let some' = ltb-true 0 others parts.1 in omega arith) in
+    let parts = and_parts (is_last entry) (nat_lt 0 others) e in
+    let none = last parts.0 in
+    let some' = ltb-true 0 others parts.1 in omega arith) in
     rw (entry_read n group few entry good, test) refl
 
 pub entry_line_said : (n : ℕ) (group : List ℕ) (others : ℕ) (line : List ℕ) (entry : Entry) → entry_line_in n group others line ≡ some entry

@@ -1,6 +1,6 @@
 -- Parts that run to the end are those of a log, and each beginning of them can be completed.
-use Rattle.std.proofs.Common.{◌≡◌, ◌≢◌, ℕ, zero, suc, ◌+◌, ◌-◌, ◌<◌, ◌≤◌, ◌⊎◌, inl, inr, true, List, [], ◌∷◌, ◌++◌, map, length, replicate, refl, sym, ◌∙◌, ap, subst, arith, append_assoc}
-use Rattle.std.specs.Prelude.{All, codes, nat_lt}
+use Rattle.std.proofs.Common.{◌≡◌, ◌≢◌, ℕ, zero, suc, ◌+◌, ◌<◌, ◌≤◌, true, List, [], ◌∷◌, ◌++◌, map, length, replicate, refl, sym, ◌∙◌, ap, subst, arith}
+use Rattle.std.specs.Prelude.{nat_lt}
 use Rattle.std.specs.List.{AllByRecursion}
 use Rattle.std.proofs.lemmas.Bool.{lt-ltb, ltb-true, and_from, and_parts}
 use Rattle.std.proofs.lemmas.List.{nil_from_length, length-replicate}
@@ -9,11 +9,10 @@ use Rattle.run_model.specs.Lists.{are_below}
 use Rattle.srr_entry.specs.declared.entry.Entry.{Entry}
 use Rattle.srr_entry.specs.declared.entry.Entry.TheVariants.{Sent}
 use Rattle.srr_entry.specs.declared.log.Log.{Log}
-use Rattle.wiz_base.specs.Decimals.{decimal_text}
 use Rattle.srr_log.specs.EntryText.{entry_line}
-use Rattle.srr_log.specs.LogText.{line, head_text, group_text, program_text, entries_text, list_head_text, list_text, lists_text, log_text, IsLogText}
-use Rattle.srr_log.specs.Bounds.{IsGroup, IsEntry, AreEntries, IsList, is_last, IsInBounds}
-use Rattle.srr_log.specs.Parts.{Part, head_line, ranks_line, group_line, size_line, program_bytes, rank_line, entry_part, end_line, part_line, part_text, parts_text, lists_parts, log_parts}
+use Rattle.srr_log.specs.LogText.{line, head_text, group_text, program_text, entries_text, list_head_text, lists_text, log_text}
+use Rattle.srr_log.specs.Bounds.{IsGroup, AreEntries, IsList, IsInBounds}
+use Rattle.srr_log.specs.Parts.{Part, head_line, ranks_line, group_line, size_line, program_bytes, rank_line, entry_part, end_line, parts_text, lists_parts, log_parts}
 use Rattle.srr_log.specs.Faults.{SomeLog}
 use Rattle.srr_log.specs.Reading.{State, at_head, at_ranks, at_group, at_size, at_program, at_list, at_entry, at_end, entries_left, Allows, next, after, Runs, expected, IsOpen}
 use Rattle.srr_log.proofs.StateLaws.{IsSmallState, runs_append, after_append, runs_split, parts_text-append, after_entries}
@@ -127,10 +126,11 @@ log_from_lists : (n : ℕ) (group program : List ℕ) (parts : List Part) → (0
 log_from_lists n group program parts some' few good fits to =
     let l = lists_of n group 0 group parts to in
     let none : l.entries ≡ [] = nil_from_length l.entries l.many in
-    let is : lists_parts group l.lists (end_line ∷ []) ≡ parts = sym (l.is ∙ ap (λ es. map entry_part es ++ lists_parts group l.lists (end_line ∷ [])) none) in
-    (record { ranks = n; group = group; program = program; lists = l.lists },
-    record { ranks = (some', few); group = good; program = fits; as_many = l.as_many; lists = All-from_recursion (IsList n group) l.lists l.all },
-    ap (λ ps. head_line ∷ ranks_line n ∷ group_line group ∷ size_line (length program) ∷ program_bytes program ∷ ps) is)
+    let is : lists_parts group l.lists (end_line ∷ []) ≡ parts = sym (l.is ∙ ap (λ es. map entry_part es ++ lists_parts group l.lists (end_line ∷ [])) none) in (
+      record { ranks = n; group = group; program = program; lists = l.lists },
+      record { ranks = (some', few); group = good; program = fits; as_many = l.as_many; lists = All-from_recursion (IsList n group) l.lists l.all },
+      ap (λ ps. head_line ∷ ranks_line n ∷ group_line group ∷ size_line (length program) ∷ program_bytes program ∷ ps) is,
+    )
 
 log_from_program : (n : ℕ) (group : List ℕ) (size : ℕ) (parts : List Part) → (0 < n) → (n ≤ 64) → IsGroup n group → size ≤ 65536 → RunsTo (at_program n group size) parts
     → SomeLog (head_line ∷ ranks_line n ∷ group_line group ∷ size_line size ∷ parts)
@@ -173,7 +173,7 @@ reached_entries : (n : ℕ) (group : List ℕ) (left : ℕ) (ranks : List ℕ) �
 reached_entries n group zero ranks few below = (few, below)
 reached_entries n group (suc left) ranks few below = (few, below)
 
-reached_next : (state : State) (part : Part) → IsReached state → Allows state part → IsReached (next state part)
+pub reached_next : (state : State) (part : Part) → IsReached state → Allows state part → IsReached (next state part)
 reached_next at_head part reached ok = tt
 reached_next at_ranks (ranks_line ranks) reached ok = ok
 reached_next (at_group n) (group_line group) reached ok = (reached.1, ok.2)

@@ -1,5 +1,5 @@
 -- Lists, names and marks, both ways: what is read is spelled so, and what is spelled so is read.
-use Rattle.std.proofs.Common.{◌≡◌, ◌≢◌, ℕ, ◌+◌, ◌<◌, ◌≤◌, ◌⊎◌, inl, inr, Bool, true, false, List, [], ◌∷◌, ◌++◌, map, length, refl, sym, ◌∙◌, ap, subst, arith, append_assoc, length-append, eq-eqb}
+use Rattle.std.proofs.Common.{◌≡◌, ℕ, ◌+◌, ◌<◌, ◌≤◌, ◌⊎◌, inl, inr, Bool, true, false, List, [], ◌∷◌, ◌++◌, map, length, refl, sym, ◌∙◌, ap, subst, arith, append_assoc, length-append}
 use Rattle.std.specs.Prelude.{◌==◌, ◌&&◌, All, codes, Option, Some, None, ℤ, FitsSigned, nat_le, nat_lt, if◌then◌else◌}
 use Rattle.std.specs.Char.{IsAsciiDigit}
 use Rattle.std.specs.List.{AllByRecursion}
@@ -18,8 +18,8 @@ use Rattle.srr_log.specs.EntryText.{each_behind, by_commas, ints_text, name_text
 use Rattle.srr_log.specs.Bounds.{RiseFrom, IsSmallNumber, IsTag, AreInts, IsSender, IsMark}
 use Rattle.srr_log.specs.Pieces.{◌>>=◌, behind, cut, pieces, all_of, number_in, int_in, rank_in}
 use Rattle.srr_log.specs.EntryReading.{rises, ints_in, few_ints_in, ranks_in, inside_in, outside_in, message_cut, message_in, made_cut, made_in, long_mark, long_mark_in, mark_in}
-use Rattle.srr_log.proofs.PieceLaws.{some, said_cases, bind_some, guard_some, guard_none, same_word, behind_some, cut_at, cut_none, cut_some, pieces_joined, joined_pieces, some_pieces, all_of_map, map_all_of, number_read, number_said, int_read, int_said, rank_read, rank_said}
-use Rattle.srr_log.proofs.NoByteLaws.{NoByte, no_byte_append, no_byte_cons, no_byte_nil, no_byte_decimal, no_byte_number}
+use Rattle.srr_log.proofs.PieceLaws.{some, bind_some, guard_some, guard_none, same_word, behind_some, cut_at, cut_none, cut_some, pieces_joined, joined_pieces, some_pieces, all_of_map, map_all_of, number_read, number_said, int_read, int_said, rank_read, rank_said}
+use Rattle.srr_log.proofs.NoByteLaws.{NoByte, no_byte_append, no_byte_cons, no_byte_decimal, no_byte_number}
 
 -- elements with such marks between
 module _ {A : Type 0} (said : List ℕ → Option A) (spelled : A → List ℕ) (Good : A → Type 0) where
@@ -49,9 +49,11 @@ pub few_ints_read : (most : ℕ) (ints : List ℤ) → AreInts most ints → few
 unfolding few_ints_in
 few_ints_read most [] good = refl
 few_ints_read most (z ∷ zs) (few, good) =
-    rw (long_text (number_text z) (each_behind 44 (map number_text zs)) (number_text-nonempty z),
-    listed_read int_in number_text (λ int. FitsSigned w32 int) int_read 44 (λ z. no_byte_number 44 z (omega arith)) z zs (recursion_from_All (λ int. FitsSigned w32 int) (z ∷ zs) good),
-    le-leb (length (z ∷ zs)) most few) refl
+    rw (
+      long_text (number_text z) (each_behind 44 (map number_text zs)) (number_text-nonempty z),
+      listed_read int_in number_text (λ int. FitsSigned w32 int) int_read 44 (λ z. no_byte_number 44 z (omega arith)) z zs (recursion_from_All (λ int. FitsSigned w32 int) (z ∷ zs) good),
+      le-leb (length (z ∷ zs)) most few,
+    ) refl
 
 pub few_ints_said : (most : ℕ) (text : List ℕ) (ints : List ℤ) → few_ints_in most text ≡ some ints → AreInts most ints × (text ≡ ints_text ints)
 unfolding few_ints_in
@@ -136,9 +138,14 @@ pub outside_read : (n : ℕ) (group : List ℕ) (source start tag : ℕ) → n �
 unfolding outside_in
 outside_read n group source start tag few sender small tag_small =
     ap (outside_in n group) (tagged_is source start tag)
-    ∙ rw (cut_at 46 (decimal_text source) (decimal_text start ++ 46 ∷ decimal_text tag) (no_byte_decimal 46 source (omega arith)),
-    cut_at 46 (decimal_text start) (decimal_text tag) (no_byte_decimal 46 start (omega arith)),
-    rank_read n source (omega arith) sender.0, number_read 999999 start small, number_read 2147483647 tag tag_small, sender.1) refl
+    ∙ rw (
+      cut_at 46 (decimal_text source) (decimal_text start ++ 46 ∷ decimal_text tag) (no_byte_decimal 46 source (omega arith)),
+      cut_at 46 (decimal_text start) (decimal_text tag) (no_byte_decimal 46 start (omega arith)),
+      rank_read n source (omega arith) sender.0,
+      number_read 999999 start small,
+      number_read 2147483647 tag tag_small,
+      sender.1,
+    ) refl
 
 pub outside_said : (n : ℕ) (group text : List ℕ) (source start tag : ℕ) → outside_in n group text ≡ some (source, start, tag)
     → IsSender n group false source × IsSmallNumber start × IsTag tag × (text ≡ tagged_text source start tag)
@@ -154,9 +161,9 @@ outside_said n group text source start tag e =
     let number = number_said 999999 b.0.0 f.0 f.1 in
     let last = number_said 2147483647 b.0.1 h.0 h.1 in
     let is : text ≡ tagged_text d.0 f.0 h.0 =
-        cut_some 46 text a.0.0 a.0.1 a.1 ∙ ap (λ xs. xs ++ 46 ∷ a.0.1) rank.1
-        ∙ ap (λ xs. decimal_text d.0 ++ 46 ∷ xs) (cut_some 46 a.0.1 b.0.0 b.0.1 b.1 ∙ ap (λ xs. xs ++ 46 ∷ b.0.1) number.1 ∙ ap (λ xs. decimal_text f.0 ++ 46 ∷ xs) last.1)
-        ∙ sym (tagged_is d.0 f.0 h.0) in
+    cut_some 46 text a.0.0 a.0.1 a.1 ∙ ap (λ xs. xs ++ 46 ∷ a.0.1) rank.1
+    ∙ ap (λ xs. decimal_text d.0 ++ 46 ∷ xs) (cut_some 46 a.0.1 b.0.0 b.0.1 b.1 ∙ ap (λ xs. xs ++ 46 ∷ b.0.1) number.1 ∙ ap (λ xs. decimal_text f.0 ++ 46 ∷ xs) last.1)
+    ∙ sym (tagged_is d.0 f.0 h.0) in
     let P : ℕ × ℕ × ℕ → Type 0 = λ name. IsSender n group false name.0 × IsSmallNumber name.1 × IsTag name.2 × (text ≡ tagged_text name.0 name.1 name.2) in
     subst P g.1 ((rank.0, g.0), number.0, last.0, is)
 
@@ -223,8 +230,13 @@ made_read_long : (n comm : ℕ) (members : List ℕ) → n ≤ 256 → (0 < comm
 unfolding made_in
 made_read_long n comm [] few above small many fits below = absurd (omega arith)
 made_read_long n comm (member ∷ members) few above small many fits below =
-    rw (cut_at 58 (decimal_text comm) (decimal_text member ++ each_behind 44 (map decimal_text members)) (no_colon comm), number_read 999999 comm small,
-    ranks_read 44 n member members (omega arith) few below, lt-ltb 0 comm above, le-leb (length (member ∷ members)) 64 fits) refl
+    rw (
+      cut_at 58 (decimal_text comm) (decimal_text member ++ each_behind 44 (map decimal_text members)) (no_colon comm),
+      number_read 999999 comm small,
+      ranks_read 44 n member members (omega arith) few below,
+      lt-ltb 0 comm above,
+      le-leb (length (member ∷ members)) 64 fits,
+    ) refl
 
 abbrev pub IsMadeText : ℕ → List ℕ → List ℕ → Mark → Type 0
 IsMadeText n group text mark = IsMark n group mark × (109 ∷ 46 ∷ text ≡ mark_text mark)
@@ -244,8 +256,8 @@ made_said_cut n group text (Some parts) mark is e =
     let members = ranks_said 44 n parts.1 b.0 b.1 in
     let many : 0 < length b.0 = let long : length b.0 ≡ length (members.0 ∷ members.1) = ap length members.2 in omega arith in
     let is' : text ≡ decimal_text a.0 ++ 58 ∷ by_commas (map decimal_text b.0) =
-        cut_some 58 text parts.0 parts.1 is ∙ ap (λ xs. xs ++ 58 ∷ parts.1) comm.1
-        ∙ ap (λ xs. decimal_text a.0 ++ 58 ∷ xs) (members.4 ∙ ap (λ xs. by_commas (map decimal_text xs)) (sym members.2)) in
+    cut_some 58 text parts.0 parts.1 is ∙ ap (λ xs. xs ++ 58 ∷ parts.1) comm.1
+    ∙ ap (λ xs. decimal_text a.0 ++ 58 ∷ xs) (members.4 ∙ ap (λ xs. by_commas (map decimal_text xs)) (sym members.2)) in
     subst (IsMadeText n group text) g.1 ((ltb-true 0 a.0 tests.0, comm.0, many, leb-true (length b.0) 64 tests.1, members.3), ap (λ xs. 109 ∷ 46 ∷ xs) is')
 
 made_said : (n : ℕ) (group text : List ℕ) (mark : Mark) → made_in n text ≡ some mark → IsMadeText n group text mark
@@ -263,8 +275,13 @@ digit_first n = by (decimal_text n) (decimal_text-bytes n) (decimal_text-nonempt
 digit_long : (n : ℕ) (group : List ℕ) (digit : ℕ) (text : List ℕ) → IsAsciiDigit digit → mark_in n group (digit ∷ text) ≡ message_in n group (digit ∷ text)
 unfolding mark_in long_mark_in behind
 digit_long n group digit text is =
-    rw (ne_eqb digit 115 (λ e. omega (arith, is.1)), ne_eqb digit 110 (λ e. omega (arith, is.1)), ne_eqb digit 99 (λ e. omega (arith, is.1)),
-    ne_eqb 99 digit (λ e. omega (arith, is.1)), ne_eqb 109 digit (λ e. omega (arith, is.1))) refl
+    rw (
+      ne_eqb digit 115 (λ e. omega (arith, is.1)),
+      ne_eqb digit 110 (λ e. omega (arith, is.1)),
+      ne_eqb digit 99 (λ e. omega (arith, is.1)),
+      ne_eqb 99 digit (λ e. omega (arith, is.1)),
+      ne_eqb 109 digit (λ e. omega (arith, is.1)),
+    ) refl
 
 number_long : (n : ℕ) (group : List ℕ) (number : ℕ) (text : List ℕ) → mark_in n group (decimal_text number ++ text) ≡ message_in n group (decimal_text number ++ text)
 number_long n group number text =
@@ -289,7 +306,7 @@ mark_read n group few Nothing good = (letter_read n group).1
 mark_read n group few (Inside source start) good = number_long n group source (46 ∷ decimal_text start) ∙ message_read n group few source start good.0 good.1
 mark_read n group few (Outside source start tag ints) good =
     let is : mark_text (Outside source start tag ints) ≡ decimal_text source ++ ((46 ∷ decimal_text start) ++ ((46 ∷ decimal_text tag) ++ (58 ∷ ints_text ints))) =
-        append_assoc (name_text source start) (46 ∷ decimal_text tag) (58 ∷ ints_text ints) ∙ append_assoc (decimal_text source) (46 ∷ decimal_text start) ((46 ∷ decimal_text tag) ++ (58 ∷ ints_text ints)) in
+    append_assoc (name_text source start) (46 ∷ decimal_text tag) (58 ∷ ints_text ints) ∙ append_assoc (decimal_text source) (46 ∷ decimal_text start) ((46 ∷ decimal_text tag) ++ (58 ∷ ints_text ints)) in
     ap (mark_in n group) is ∙ number_long n group source ((46 ∷ decimal_text start) ++ ((46 ∷ decimal_text tag) ++ (58 ∷ ints_text ints))) ∙ ap (message_in n group) (sym is)
     ∙ message_read_long n group few source start tag ints good.0 good.1 good.2 good.3
 mark_read n group few Inner good = (letter_read n group).2

@@ -1,14 +1,14 @@
 -- What pieces say, both ways.
-use Rattle.std.proofs.Common.{◌≡◌, ◌≢◌, ℕ, zero, suc, ◌+◌, ◌-◌, ◌<◌, ◌≤◌, ◌⊎◌, inl, inr, Bool, true, false, List, [], ◌∷◌, ◌++◌, map, length, take, drop, refl, sym, ◌∙◌, ap, subst, arith, append_assoc, eq-eqb}
-use Rattle.std.specs.Prelude.{◌==◌, ◌&&◌, All, codes, slice_index, Option, Some, None, Result, Ok, Err, MatchOption, ⊤, ℤ, pos, negsuc, neg_ℤ, FitsSigned, nat_le, nat_lt, if◌then◌else◌}
+use Rattle.std.proofs.Common.{◌≡◌, ◌≢◌, ℕ, suc, ◌+◌, ◌<◌, ◌≤◌, ◌⊎◌, inl, inr, Bool, true, false, List, [], ◌∷◌, ◌++◌, map, length, take, drop, refl, sym, ◌∙◌, ap, subst, arith, eq-eqb}
+use Rattle.std.specs.Prelude.{◌==◌, ◌&&◌, All, slice_index, Option, Some, None, Result, Ok, Err, MatchOption, ℤ, pos, negsuc, neg_ℤ, FitsSigned, nat_le, nat_lt, if◌then◌else◌}
 use Rattle.std.specs.Borrow.{Bor}
 use Rattle.std.specs.Char.{IsAsciiDigit}
-use Rattle.std.specs.List.{join_with_byte, AllByRecursion, slice_split, onto_first}
+use Rattle.std.specs.List.{join_with_byte, AllByRecursion, onto_first}
 use Rattle.std.specs.Result.{OkIff, result_ok}
 use Rattle.std.specs.Str.{bytes_eq}
 use Rattle.std.specs.Str.Parse.{digits_value}
 use Rattle.std.proofs.Math.Seq.{drop-cons}
-use Rattle.std.proofs.lemmas.Bool.{cases_Bool, ne_eqb, eqb-true, eqb-false, and_parts, le-leb, leb-true, lt-ltb, ltb-true}
+use Rattle.std.proofs.lemmas.Bool.{cases_Bool, ne_eqb, eqb-true, and_parts, le-leb, leb-true, lt-ltb, ltb-true}
 use Rattle.std.proofs.lemmas.List.{append-nil, take-append-drop}
 use Rattle.std.proofs.lemmas.List.Elements.{All-head, All-tail, All-weaker}
 use Rattle.std.proofs.lemmas.List.Splits.{slice_split_at, slice_split_none, join_with_byte-slice_split}
@@ -17,7 +17,6 @@ use Rattle.std.proofs.lemmas.Slice.Eq.{bytes_eq-Decides}
 use mir.Syntax.{w32}
 use Rattle.wiz_base.specs.Decimals.{decimal_text, number_text}
 use Rattle.std.proofs.Math.Facts.{sfits_widen}
-use Rattle.std.specs.Int.{w64}
 use Rattle.wiz_base.specs.declared.fault.NumberFault.{NumberFault}
 use Rattle.wiz_base.specs.Readings.{IsDecimalUpTo, IsReading}
 use Rattle.wiz_base.proofs.ReadingLaws.{IsReading-unique}
@@ -91,7 +90,7 @@ cut_none mark (byte ∷ text) none =
 
 with_byte_some : (byte : ℕ) (o : Option (List ℕ × List ℕ)) (front rest : List ℕ) → with_byte byte o ≡ some (front, rest)
     → (before : List ℕ) × (o ≡ some (before, rest)) × (front ≡ byte ∷ before)
-with_byte_some byte (Some parts) front rest e = 
+with_byte_some byte (Some parts) front rest e =
     let same = some_pair_parts (byte ∷ parts.0) front parts.1 rest e in
     (parts.0, ap (λ (xs : List ℕ). some (parts.0, xs)) same.1, sym same.0)
 with_byte_some byte None front rest e = absurd (cc)
@@ -118,7 +117,7 @@ pub cut_place : (mark at : ℕ) (text : List ℕ) → All (λ byte. byte ≢ mar
     → cut mark text ≡ some (take at text, drop (at + 1) text)
 cut_place mark at text none within here =
     let whole : text ≡ take at text ++ mark ∷ drop (at + 1) text =
-        sym (take-append-drop at text) ∙ ap (λ xs. take at text ++ xs) (drop-cons text at 0 within ∙ (let next : suc at ≡ at + 1 = omega arith in rw (here, next) refl)) in
+    sym (take-append-drop at text) ∙ ap (λ xs. take at text ++ xs) (drop-cons text at 0 within ∙ (let next : suc at ≡ at + 1 = omega arith in rw (here, next) refl)) in
     ap (cut mark) whole ∙ cut_at mark (take at text) (drop (at + 1) text) none
 
 -- a list with such marks between its pieces

@@ -1,6 +1,6 @@
 -- A log's parts, read one behind the other.
-use Rattle.std.proofs.Common.{◌≡◌, ◌≢◌, ℕ, ◌<◌, ◌≤◌, inl, inr, List, [], ◌∷◌, ◌++◌, map, length, drop, refl, sym, ◌∙◌, ap, subst, arith, append_assoc}
-use Rattle.std.specs.Prelude.{Result, Ok, Err}
+use Rattle.std.proofs.Common.{◌≡◌, ℕ, ◌<◌, inl, inr, List, [], ◌∷◌, ◌++◌, map, length, drop, refl, sym, ◌∙◌, ap, subst, arith, append_assoc}
+use Rattle.std.specs.Prelude.{Err}
 use Rattle.std.proofs.Math.Seq.{drop-length}
 use Rattle.std.proofs.lemmas.Bool.{cases_lt}
 use Rattle.std.proofs.lemmas.List.{nil_from_length}
@@ -9,9 +9,9 @@ use Rattle.srr_entry.specs.declared.log.Log.{Log}
 use Rattle.srr_log.specs.declared.fault.LogWhy.TheVariants.{Extra}
 use Rattle.srr_log.specs.declared.fault.Stop.{Stop}
 use Rattle.srr_log.specs.declared.fault.Stop.TheVariants.{Fault}
-use Rattle.srr_log.specs.Parts.{Part, head_line, ranks_line, group_line, size_line, program_bytes, rank_line, entry_part, end_line, parts_text, lists_parts, log_parts}
+use Rattle.srr_log.specs.Parts.{Part, head_line, ranks_line, group_line, size_line, program_bytes, rank_line, entry_part, end_line, lists_parts, log_parts}
 use Rattle.srr_log.specs.Reading.{State, Reads, after, at_end, at_group, at_head, at_list, at_ranks, at_size}
-use Rattle.srr_log.proofs.StateLaws.{AreRead, read_then, reads_behind, after_lists, after_append, fault_here}
+use Rattle.srr_log.proofs.StateLaws.{AreRead, read_then, reads_behind, after_lists, after_append}
 
 pub read_ranks : (text first second : List ℕ) → text ≡ first → AreRead at_head (head_line ∷ []) first second → AreRead at_head (head_line ∷ []) text second
 read_ranks text first second is read = (read.0, is ∙ read.1)
@@ -49,7 +49,7 @@ reads_end_stop n group program lists text first rest stop (front, to) fault =
     let P : State → Type 0 = λ s. Reads {A = Unit {0}} s (λ _. end_line ∷ []) first (Err stop) rest in
     reads_behind {A = Unit {0}} at_head (before_end n group program lists) (λ _. end_line ∷ []) log_parts text first rest [] stop front.0 front.1 (subst P (sym to) fault)
 
-lists_before : (group : List ℕ) (lists : List (List Entry)) (parts : List Part) → lists_parts group lists [] ++ parts ≡ lists_parts group lists parts
+pub lists_before : (group : List ℕ) (lists : List (List Entry)) (parts : List Part) → lists_parts group lists [] ++ parts ≡ lists_parts group lists parts
 lists_before [] lists parts = refl
 lists_before (rank ∷ group) [] parts = refl
 lists_before (rank ∷ group) (entries ∷ lists) parts =
@@ -68,7 +68,7 @@ read_whole n group program lists text first second (front, to) read =
     let both = read_then at_head (before_end n group program lists) (end_line ∷ []) text first second front (subst P (sym to) read) in
     let last : after at_head (before_end n group program lists ++ end_line ∷ []) ≡ at_end = after_append at_head (before_end n group program lists) (end_line ∷ []) ∙ ap (λ s. after s (end_line ∷ [])) to in
     let same : before_end n group program lists ++ end_line ∷ [] ≡ log_parts (log_of_parts n group program lists) =
-        ap (λ ps. head_line ∷ ranks_line n ∷ group_line group ∷ size_line (length program) ∷ program_bytes program ∷ ps) (lists_before group lists (end_line ∷ [])) in
+    ap (λ ps. head_line ∷ ranks_line n ∷ group_line group ∷ size_line (length program) ∷ program_bytes program ∷ ps) (lists_before group lists (end_line ∷ [])) in
     let Q : List Part → Type 0 = λ parts. AreRead at_head parts text second × (after at_head parts ≡ at_end) in
     subst Q same (both, last)
 

@@ -1,7 +1,6 @@
 -- Which part may come next, what its line says, and the faults where none comes.
-use Rattle.std.proofs.Common.{◌≡◌, ◌≢◌, ℕ, zero, suc, ◌+◌, ◌-◌, ◌<◌, ◌≤◌, ◌⊎◌, inl, inr, Bool, true, false, List, [], ◌∷◌, ◌++◌, map, length, drop, replicate, refl, sym, ◌∙◌, ap, subst, arith, append_assoc, length-append}
-use Rattle.std.specs.Prelude.{◌&&◌, All, IfOk, slice_index, codes, nat_lt, Option, Some, None, Result, Ok, Err, if◌then◌else◌}
-use Rattle.std.specs.Borrow.{Bor}
+use Rattle.std.proofs.Common.{◌≡◌, ◌≢◌, ℕ, suc, ◌+◌, ◌-◌, ◌<◌, ◌≤◌, inl, inr, Bool, true, List, [], ◌∷◌, ◌++◌, map, length, drop, refl, sym, ◌∙◌, ap, subst, arith, append_assoc}
+use Rattle.std.specs.Prelude.{◌&&◌, IfOk, slice_index, codes, nat_lt, Option, Some, None, Result, Ok, Err, if◌then◌else◌}
 use Rattle.std.specs.Str.{bytes_eq}
 use Rattle.std.proofs.Math.Seq.{drop-append_seam}
 use Rattle.std.proofs.lemmas.Bool.{and_parts, ltb-true, false_from_ne_true}
@@ -10,21 +9,20 @@ use Rattle.srr_entry.specs.declared.entry.Entry.{Entry}
 use Rattle.wiz_base.specs.Decimals.{decimal_text}
 use Rattle.wiz_base.specs.Lines.{HasNoNewline}
 use Rattle.srr_log.specs.declared.fault.LogWhy.{LogWhy}
-use Rattle.srr_log.specs.declared.fault.LogWhy.TheVariants.{Short, Extra, BadNumber}
+use Rattle.srr_log.specs.declared.fault.LogWhy.TheVariants.{Short, BadNumber}
 use Rattle.srr_log.specs.declared.fault.Stop.{Stop}
 use Rattle.srr_log.specs.declared.fault.Stop.TheVariants.{NoMemory, Fault}
 use Rattle.srr_log.specs.declared.fault.Unread.{Unread}
 use Rattle.srr_log.specs.declared.fault.Unread.TheVariants.{NotAllowed, NoMemory as UnreadMemory}
-use Rattle.srr_log.specs.EntryText.{each_behind, entry_line}
+use Rattle.srr_log.specs.EntryText.{each_behind}
 use Rattle.srr_log.specs.LogText.{line}
-use Rattle.srr_log.specs.Bounds.{IsGroup, IsEntry, is_last}
 use Rattle.srr_log.specs.Parts.{Part, head_line, ranks_line, group_line, size_line, program_bytes, rank_line, entry_part, end_line, part_line, part_text, parts_text, lists_parts}
 use Rattle.srr_log.specs.Faults.{IsWhole, HasNoEnd, IsReason}
 use Rattle.srr_log.specs.Pieces.{◌>>=◌, Gives}
 use Rattle.srr_log.specs.LineReading.{ranks_line_in, group_line_in, size_line_in, rank_line_in, entry_line_in}
-use Rattle.srr_log.specs.Reading.{State, at_head, at_ranks, at_group, at_size, at_program, at_list, at_entry, at_end, entries_left, Allows, next, after, Runs, expected, IsOpen, IsBadAt, FaultAt, FaultFrom, Reads, IsNextLine}
+use Rattle.srr_log.specs.Reading.{State, at_head, at_ranks, at_group, at_size, at_program, at_list, at_entry, at_end, entries_left, Allows, next, after, Runs, expected, IsOpen, FaultAt, FaultFrom, Reads, IsNextLine}
 use Rattle.srr_log.specs.Refused.{refused}
-use Rattle.srr_log.proofs.PieceLaws.{some, said_cases, bind_some, guard_some, same_word, cut_at}
+use Rattle.srr_log.proofs.PieceLaws.{some, bind_some, guard_some, same_word}
 use Rattle.srr_log.proofs.NoByteLaws.{NoByte, no_byte_cons, no_byte_nil, no_byte_append, no_byte_decimal, no_byte_behind, no_byte_map, no_line_entry}
 use Rattle.srr_log.proofs.LineLaws.{ranks_line_read, ranks_line_said, group_line_read, group_line_said, size_line_read, size_line_said, rank_line_read, rank_line_said, entry_line_read, entry_line_said}
 
@@ -176,18 +174,21 @@ short_line state text is none = fault_here state text Short 0 (inl (refl, refl, 
 pub bad_line : (state : State) (text bytes rest : List ℕ) (why : LogWhy) → IsLineState state → IsSmallState state → line_in state bytes ≡ None → HasNoNewline bytes → text ≡ bytes ++ 10 ∷ rest
     → IsReason (expected state) (bytes ++ 10 ∷ []) why → FaultFrom state text why (length text)
 bad_line state text bytes rest why is small none plain whole reason =
-    fault_here state text why (length text) (inr (refl, inr record {
-      open' = open_line state is;
-      found = bytes ++ 10 ∷ [];
-      behind = rest;
-      whole = line_whole state bytes is plain;
-      is = whole ∙ sym (append_assoc bytes (10 ∷ []) rest);
-      none = λ part ok e.
-          let same : part_line part ≡ bytes = append_cancel_right (part_line part) bytes (10 ∷ []) e in
-          let found : some part ≡ None = sym (line_read state part small is ok) ∙ ap (line_in state) same ∙ none in
-          absurd (cc);
-      reason = reason;
-    }))
+    fault_here state text why (length text) (inr (
+      refl,
+      inr record {
+        open' = open_line state is;
+        found = bytes ++ 10 ∷ [];
+        behind = rest;
+        whole = line_whole state bytes is plain;
+        is = whole ∙ sym (append_assoc bytes (10 ∷ []) rest);
+        none = λ part ok e.
+            let same : part_line part ≡ bytes = append_cancel_right (part_line part) bytes (10 ∷ []) e in
+            let found : some part ≡ None = sym (line_read state part small is ok) ∙ ap (line_in state) same ∙ none in
+            absurd (cc);
+        reason = reason;
+      },
+    ))
 
 -- parts, and parts behind them
 pub runs_append : (state : State) (parts others : List Part) → Runs state parts → Runs (after state parts) others → Runs state (parts ++ others)
@@ -209,9 +210,13 @@ parts_text-append (part ∷ parts) others behind = ap (line (part_line part)) (p
 -- a fault behind parts that were read is the whole's
 pub fault_behind : (state : State) (parts : List Part) (text rest : List ℕ) (why : LogWhy) (left : ℕ) → Runs state parts → text ≡ parts_text parts rest
     → FaultFrom (after state parts) rest why left → FaultFrom state text why left
-fault_behind state parts text rest why left run is (others, last, run', is', fault) =
-    (parts ++ others, last, runs_append state parts others run run', is ∙ ap (parts_text parts) is' ∙ sym (parts_text-append parts others last),
-    subst (λ s. FaultAt s last why left) (sym (after_append state parts others)) fault)
+fault_behind state parts text rest why left run is (others, last, run', is', fault) = (
+  parts ++ others,
+  last,
+  runs_append state parts others run run',
+  is ∙ ap (parts_text parts) is' ∙ sym (parts_text-append parts others last),
+  subst (λ s. FaultAt s last why left) (sym (after_append state parts others)) fault,
+)
 
 -- what a line's reader answers
 module _ {A : Type 0} (state : State) (spelled : A → List Part) where
@@ -267,18 +272,21 @@ program_part n group size part ok = absurd ok
 
 bad_program : (n : ℕ) (group : List ℕ) (size : ℕ) (text found rest : List ℕ) → text ≡ found ++ rest → length found ≡ size + 1 → drop size found ≢ 10 ∷ [] → FaultFrom (at_program n group size) text BadNumber (length text)
 bad_program n group size text found rest whole many apart =
-    fault_here (at_program n group size) text BadNumber (length text) (inr (refl, inr record {
-      open' = tt;
-      found = found;
-      behind = rest;
-      whole = many ∙ ap (λ k. k + 1) (sym (length-replicate size 0));
-      is = whole;
-      none = λ part ok e.
-          let p = program_part n group size part ok in
-          let text_is : p.0 ++ 10 ∷ [] ≡ found = ap part_text (sym p.1) ∙ e in
-          apart (ap (drop size) (sym text_is) ∙ ap (λ k. drop k (p.0 ++ 10 ∷ [])) (sym p.2) ∙ drop-append_seam p.0 (10 ∷ []));
-      reason = refl;
-    }))
+    fault_here (at_program n group size) text BadNumber (length text) (inr (
+      refl,
+      inr record {
+        open' = tt;
+        found = found;
+        behind = rest;
+        whole = many ∙ ap (λ k. k + 1) (sym (length-replicate size 0));
+        is = whole;
+        none = λ part ok e.
+            let p = program_part n group size part ok in
+            let text_is : p.0 ++ 10 ∷ [] ≡ found = ap part_text (sym p.1) ∙ e in
+            apart (ap (drop size) (sym text_is) ∙ ap (λ k. drop k (p.0 ++ 10 ∷ [])) (sym p.2) ∙ drop-append_seam p.0 (10 ∷ []));
+        reason = refl;
+      },
+    ))
 
 pub reads_bad_program : (n : ℕ) (group : List ℕ) (size left : ℕ) (text found rest rest' : List ℕ) → text ≡ found ++ rest → length found ≡ size + 1 → drop size found ≢ 10 ∷ [] → left ≡ length text
     → Reads (at_program n group size) (λ program. program_bytes program ∷ []) text (Err (Fault BadNumber left)) rest'
@@ -316,7 +324,7 @@ pub entries_onward : (n : ℕ) (group : List ℕ) (count left : ℕ) (behind tex
     → AreRead (entries_left n group count behind) (map entry_part now) text rest
 entries_onward n group count left behind text middle rest entries now entry many some' read one grown =
     let here : after (entries_left n group count behind) (map entry_part entries) ≡ at_entry n group (left - 1) behind =
-        ap (λ k. after (entries_left n group k behind) (map entry_part entries)) (sym many) ∙ after_entries n group left behind entries ∙ ap (λ k. entries_left n group k behind) (let k : left ≡ suc (left - 1) = omega arith in k) in
+    ap (λ k. after (entries_left n group k behind) (map entry_part entries)) (sym many) ∙ after_entries n group left behind entries ∙ ap (λ k. entries_left n group k behind) (let k : left ≡ suc (left - 1) = omega arith in k) in
     let P : State → Type 0 = λ s. AreRead s (entry_part entry ∷ []) middle rest in
     let both = read_then (entries_left n group count behind) (map entry_part entries) (entry_part entry ∷ []) text middle rest read (subst P (sym here) one) in
     let Q : List Part → Type 0 = λ parts. AreRead (entries_left n group count behind) parts text rest in
@@ -327,7 +335,7 @@ pub entries_stop : (n : ℕ) (group : List ℕ) (count left : ℕ) (behind text 
     → Reads (entries_left n group count behind) (λ entries. map entry_part entries) text (Err stop) rest'
 entries_stop n group count left behind text middle rest rest' entries stop many some' read one =
     let here : after (entries_left n group count behind) (map entry_part entries) ≡ at_entry n group (left - 1) behind =
-        ap (λ k. after (entries_left n group k behind) (map entry_part entries)) (sym many) ∙ after_entries n group left behind entries ∙ ap (λ k. entries_left n group k behind) (let k : left ≡ suc (left - 1) = omega arith in k) in
+    ap (λ k. after (entries_left n group k behind) (map entry_part entries)) (sym many) ∙ after_entries n group left behind entries ∙ ap (λ k. entries_left n group k behind) (let k : left ≡ suc (left - 1) = omega arith in k) in
     let P : State → Type 0 = λ s. Reads s (λ entry. entry_part entry ∷ []) middle (Err stop) rest in
     reads_behind (entries_left n group count behind) (map entry_part entries) (λ entry. entry_part entry ∷ []) (λ entries. map entry_part entries) text middle rest rest' stop read.0 read.1 (subst P (sym here) one)
 
@@ -359,7 +367,7 @@ pub lists_onward : (n : ℕ) (group text middle rest : List ℕ) (lists now : Li
     → AreRead (at_list n group group) (lists_parts group now []) text rest
 lists_onward n group text middle rest lists now entries index many within read one grown =
     let here : after (at_list n group group) (lists_parts group lists []) ≡ at_list n group (slice_index group index ∷ drop (index + 1) group) =
-        after_lists n group group lists (omega arith) ∙ ap (at_list n group) (ap (λ k. drop k group) many ∙ drop_more group index 0 within) in
+    after_lists n group group lists (omega arith) ∙ ap (at_list n group) (ap (λ k. drop k group) many ∙ drop_more group index 0 within) in
     let P : State → Type 0 = λ s. AreRead s (rank_line (slice_index group index) (length entries) ∷ map entry_part entries) middle rest in
     let both = read_then (at_list n group group) (lists_parts group lists []) (rank_line (slice_index group index) (length entries) ∷ map entry_part entries) text middle rest read (subst P (sym here) one) in
     let Q : List Part → Type 0 = λ parts. AreRead (at_list n group group) parts text rest in
@@ -372,7 +380,7 @@ pub lists_stop : (n : ℕ) (group text middle rest rest' : List ℕ) (lists : Li
     → Reads (at_list n group group) (λ lists. lists_parts group lists []) text (Err stop) rest'
 lists_stop n group text middle rest rest' lists index stop many within read one =
     let here : after (at_list n group group) (lists_parts group lists []) ≡ at_list n group (slice_index group index ∷ drop (index + 1) group) =
-        after_lists n group group lists (omega arith) ∙ ap (at_list n group) (ap (λ k. drop k group) many ∙ drop_more group index 0 within) in
+    after_lists n group group lists (omega arith) ∙ ap (at_list n group) (ap (λ k. drop k group) many ∙ drop_more group index 0 within) in
     let P : State → Type 0 = λ s. Reads s (λ entries. rank_line (slice_index group index) (length entries) ∷ map entry_part entries) middle (Err stop) rest in
     reads_behind (at_list n group group) (lists_parts group lists []) (λ entries. rank_line (slice_index group index) (length entries) ∷ map entry_part entries) (λ lists. lists_parts group lists []) text middle rest rest' stop read.0 read.1 (subst P (sym here) one)
 

@@ -5,7 +5,7 @@ use Rattle.wiz_base.specs.Decimals.{decimal_text}
 use Rattle.wiz_base.specs.Lines.{HasNoNewline}
 use Rattle.srr_log.specs.declared.fault.LogFault.{LogFault}
 use Rattle.srr_log.specs.declared.fault.LogWhy.{LogWhy}
-use Rattle.srr_log.specs.declared.fault.LogWhy.TheVariants.{BadHead, BadNumber, BadGroup, BadEntry, Short, Extra, BadVersion}
+use Rattle.srr_log.specs.declared.fault.LogWhy.TheVariants.{BadHead, BadNumber, BadGroup, BadEntry, Short, Extra, BadVersion, NoMemory}
 use Rattle.srr_log.specs.Bounds.{IsInBounds}
 use Rattle.srr_log.specs.Parts.{Part, head_line, ranks_line, group_line, size_line, program_bytes, rank_line, entry_part, end_line, part_text, parts_text, log_parts}
 
@@ -71,3 +71,7 @@ abbrev pub IsFirstFault : List ℕ → LogFault → Type 0
 IsFirstFault text fault = (front : List Part) × (rest : List ℕ) × (text ≡ parts_text front rest)
     × (((fault.why ≡ Short) × (fault.at ≡ length text) × IsShort front rest)
     ⊎ ((fault.at + length rest ≡ length text) × (IsExtra front rest fault.why ⊎ IsBad front rest fault.why)))
+
+-- want of memory has no place
+abbrev pub no_memory : LogFault
+no_memory = record { at = 0; why = NoMemory }

@@ -11,3 +11,4 @@ mod pieces;
 pub mod read_log;
 #[cfg(test)]
 mod tests;
+pub mod write_log;

@@ -71,7 +71,11 @@ pub fn rank_line(line: &[u8], rank: u8) -> Option<u32>
     let (named, count) = cut(behind(line, b"rank ")?, b' ')?;
     let named = number(named, 255)?;
     let count = number(count, 999_064)?;
-    if named == rank as u32 { Some(count) } else { None }
+    if named == rank as u32 {
+        Some(count)
+    } else {
+        None
+    }
 }
 
 /// An entry before so many others: the end and a halt stand only as the last.

@@ -1,7 +1,12 @@
 //! Reading a log part by part.
-ghost use Rattle.std.specs.Prelude.{◌≡◌, ◌↔◌, ◌++◌, ◌∷◌, [], ℕ, List, OnOk, IfOk, IsTrue, length, map};
-ghost use Rattle.srr_log.specs.Parts.{Part, head_line, ranks_line, group_line, size_line, program_bytes, rank_line, entry_part, end_line, lists_parts, log_parts};
-ghost use Rattle.srr_log.specs.Reading.{IsNextLine, Reads, at_end, at_entry, at_group, at_head, at_list, at_program, at_ranks, at_size, entries_left};
+ghost use Rattle.std.specs.Prelude.{◌≡◌, ◌↔◌, ◌<◌, ◌^◌, ◌⊎◌, ◌++◌, ◌∷◌, [], ℕ, List, OnOk, IfOk, IfErr, MatchResult, IsTrue, length, map};
+ghost use Rattle.srr_entry.specs.declared.log.Log.{Log};
+ghost use Rattle.srr_log.specs.declared.fault.LogFault.{LogFault};
+ghost use Rattle.srr_log.specs.Bounds.{IsInBounds};
+ghost use Rattle.srr_log.specs.Faults.{IsFirstFault, no_memory};
+ghost use Rattle.srr_log.specs.LogText.{IsLogText, log_text};
+ghost use Rattle.srr_log.specs.Parts.{Part, head_line, ranks_line, group_line, size_line, program_bytes, rank_line, entry_part, end_line, lists_parts, log_parts, parts_text};
+ghost use Rattle.srr_log.specs.Reading.{IsNextLine, IsPlaced, IsWithin, Reads, at_end, at_entry, at_group, at_head, at_list, at_program, at_ranks, at_size, entries_left};
 
 use crate::fault::{LogFault, LogWhy, Stop, refused};
 use crate::line;
@@ -190,12 +195,7 @@ fn list(
 }
 
 /// The list of each rank of the group.
-fn lists(
-    alloc: Global,
-    cursor: &mut Cursor<'_>,
-    ranks: u8,
-    group: &[u8],
-) -> Result<Lists, Stop>
+fn lists(alloc: Global, cursor: &mut Cursor<'_>, ranks: u8, group: &[u8]) -> Result<Lists, Stop>
     ensures read { Reads (at_list ranks group.now group.now) (λ lists. lists_parts group.now lists []) cursor.old result cursor.new }
     ensures many { IfOk result (λ lists. length lists ≡ length group.now) }
 {
@@ -254,3 +254,50 @@ fn read(alloc: Global, text: &[u8]) -> Result<Log, Stop>
         lists,
     })
 }
+
+/// Reads a log, or tells what is wrong with the first part of the text that no log has there. Takes time and memory linear
+/// in the text.
+pub fn read_log(alloc: Global, text: &[u8]) -> Result<Log, LogFault>
+    requires { length text.now < 2 ^ 32 }
+    ensures log { IfOk result (λ log. IsLogText text.now log) }
+    ensures fault { IfErr result (λ fault. (fault ≡ no_memory) ⊎ IsFirstFault text.now fault) }
+    ensures only_log { (log : Log) → IsLogText text.now log
+        → MatchResult result (λ found. found ≡ log) (λ fault. fault ≡ no_memory) }
+    ensures only_fault { (first : LogFault) → IsFirstFault text.now first
+        → MatchResult result (λ _. ⊥) (λ fault. (fault ≡ no_memory) ⊎ (fault ≡ first)) }
+{
+    match read(alloc, text) {
+        Ok(log) => Ok(log),
+        Err(stop) => Err(fault_of(text, stop)),
+    }
+}
+
+/// The fault with its place.
+fn fault_of(text: &[u8], stop: Stop) -> LogFault
+    requires few { length text.now < 2 ^ 32 }
+    requires fits { IsWithin stop (length text.now) }
+    ensures { IsPlaced stop (length text.now) result }
+{
+    match stop {
+        Stop::NoMemory => LogFault {
+            at: 0,
+            why: LogWhy::NoMemory,
+        },
+        Stop::Fault { why, left } => LogFault {
+            at: (text.len() - left) as u32,
+            why,
+        },
+    }
+}
+
+/// Different logs have different texts, and none begins another. A text has one log or one first fault, never both.
+pub fn one_reading()
+    ensures texts { (log other : Log) (more : List ℕ) → IsInBounds log → IsInBounds other
+        → log_text log ++ more ≡ log_text other → (log ≡ other) × (more ≡ []) }
+    ensures one_log { (text : List ℕ) (log other : Log) → IsLogText text log → IsLogText text other → log ≡ other }
+    ensures one_fault { (text : List ℕ) (fault other : LogFault)
+        → IsFirstFault text fault → IsFirstFault text other → fault ≡ other }
+    ensures never_both { (text : List ℕ) (log : Log) (fault : LogFault)
+        → IsLogText text log → IsFirstFault text fault → ⊥ }
+    ensures parts { (log : Log) → log_text log ≡ parts_text (log_parts log) [] }
+{}

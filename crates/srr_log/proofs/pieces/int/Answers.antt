@@ -1,4 +1,4 @@
-use Rattle.std.proofs.Common.{◌≡◌, ℤ, ◌∙◌, FitsSigned, w32, w64, subst}
+use Rattle.std.proofs.Common.{ℤ, ◌∙◌, FitsSigned, w32, w64, subst}
 use Rattle.std.specs.Result.{OkIff}
 use Rattle.std.proofs.lemmas.Int.{to_z-of_z}
 use Rattle.srr_log.proofs.PieceLaws.{int_is, int_is_none}

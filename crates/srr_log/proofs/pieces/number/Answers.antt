@@ -1,4 +1,3 @@
-use Rattle.std.proofs.Common.{◌∙◌, refl, sym}
 use Rattle.srr_log.proofs.PieceLaws.{number_is}
 use Rattle.srr_log.proofs.pieces.number.Goals as goal
 

@@ -1,4 +1,4 @@
-use Rattle.std.proofs.Common.{◌≢◌, [], ◌∷◌, refl, sym, ◌∙◌, drop}
+use Rattle.std.proofs.Common.{◌≢◌, [], ◌∷◌, refl, ◌∙◌, drop}
 use Rattle.srr_log.proofs.StateLaws.{reads_bad_program}
 use Rattle.srr_log.proofs.read_log.bytes.Goals as goal
 

@@ -1,4 +1,4 @@
-use Rattle.std.proofs.Common.{[], ◌∷◌, refl, sym, ap, arith}
+use Rattle.std.proofs.Common.{[], ◌∷◌, refl, arith}
 use Rattle.srr_log.specs.declared.fault.LogWhy.TheVariants.{BadGroup}
 use Rattle.srr_log.specs.Parts.{group_line}
 use Rattle.srr_log.specs.LineReading.{group_line_in}

@@ -1,4 +1,4 @@
-use Rattle.std.proofs.Common.{◌≡◌, ◌+◌, [], ◌∷◌, ◌++◌, length, drop, refl, ap, sym, ◌∙◌, subst, arith, length-append, List}
+use Rattle.std.proofs.Common.{◌≡◌, ◌+◌, [], ◌∷◌, ◌++◌, length, drop, ap, sym, ◌∙◌, subst, arith, length-append, List}
 use Rattle.std.proofs.lemmas.Result.{err_from_is_err_and}
 use Rattle.srr_entry.specs.declared.entry.Entry.{Entry}
 use Rattle.srr_log.specs.Parts.{lists_parts}

@@ -1,4 +1,4 @@
-use Rattle.std.proofs.Common.{[], ◌∷◌, refl, sym, ap}
+use Rattle.std.proofs.Common.{[], ◌∷◌, refl, sym}
 use Rattle.srr_log.specs.Parts.{ranks_line}
 use Rattle.srr_log.specs.Reading.{at_ranks}
 use Rattle.srr_log.proofs.StateLaws.{reads_line, reads_bad}

@@ -1,9 +1,9 @@
-use Rattle.std.proofs.Common.{◌≡◌, ◌≢◌, ℕ, List, [], ◌∷◌, ◌++◌, length, refl, sym, ◌∙◌, ap, subst, arith}
-use Rattle.std.specs.Prelude.{Result, Ok, Err}
+use Rattle.std.proofs.Common.{ℕ, List, [], ◌∷◌, length, refl, sym, ◌∙◌, ap, subst, arith}
+use Rattle.std.specs.Prelude.{Err}
 use Rattle.std.proofs.lemmas.Result.{err_from_is_err_and}
 use Rattle.srr_entry.specs.declared.entry.Entry.{Entry}
-use Rattle.srr_log.specs.Parts.{head_line, ranks_line, group_line, size_line, program_bytes, end_line, lists_parts, log_parts}
-use Rattle.srr_log.specs.Reading.{Reads, at_end, at_group, at_head, at_list, at_ranks, at_size}
+use Rattle.srr_log.specs.Parts.{head_line, ranks_line, group_line, size_line, program_bytes, lists_parts, log_parts}
+use Rattle.srr_log.specs.Reading.{Reads, at_head, at_list}
 use Rattle.srr_log.proofs.ReadLaws.{read_ranks, read_group, read_program, read_lists, read_end, reads_end_stop, read_whole, reads_extra, read_all, log_of_parts}
 use Rattle.srr_log.proofs.StateLaws.{AreRead, reads_behind}
 use Rattle.srr_log.proofs.read_log.read.Goals as goal
