@@ -20,7 +20,7 @@ IsFileOutcome-bytes files name before after bytes (Refused Words) is short h = a
 IsFileOutcome-bytes files name before after bytes (Refused Missing) is short h = absurd h.2
 IsFileOutcome-bytes files name before after bytes (Refused ReadFault) is short h = absurd h.2
 IsFileOutcome-bytes files name before after bytes (Refused Program) is short h = (bytes, is, short, h)
-IsFileOutcome-bytes files name before after bytes (Refused LogRefused) is short h = (bytes, is, short, h)
+IsFileOutcome-bytes files name before after bytes (Refused (LogRefused fault)) is short h = (bytes, is, short, h)
 IsFileOutcome-bytes files name before after bytes (Refused TooLong) is short h = absurd h.2
 IsFileOutcome-bytes files name before after bytes (WasReplayed replayed) is short h = (bytes, is, short, h)
 
@@ -29,7 +29,7 @@ IsOutcome-file words files before after name (Refused Words) is h = absurd h
 IsOutcome-file words files before after name (Refused Missing) is h = (is, h)
 IsOutcome-file words files before after name (Refused ReadFault) is h = (is, h)
 IsOutcome-file words files before after name (Refused Program) is h = (is, h)
-IsOutcome-file words files before after name (Refused LogRefused) is h = (is, h)
+IsOutcome-file words files before after name (Refused (LogRefused fault)) is h = (is, h)
 IsOutcome-file words files before after name (Refused TooLong) is h = (is, h)
 IsOutcome-file words files before after name (WasReplayed replayed) is h = (is, h)
 

@@ -6,6 +6,10 @@ use Rattle.mpi_call.specs.Collectives.{is_member}
 use Rattle.run_model.specs.declared.event.Event.{Event}
 use Rattle.run_model.specs.Views.{Kept, view_of}
 use Rattle.srr_entry.specs.declared.log.Log.{Log}
+use Rattle.srr_log.specs.declared.fault.LogWhy.{LogWhy}
+use Rattle.srr_log.specs.declared.fault.LogWhy.TheVariants.{BadHead, BadNumber, BadGroup, BadEntry, Short, Extra, BadVersion, Digest, NoMemory}
+use Rattle.srr_log.specs.Faults.{IsFirstFault}
+use Rattle.srr_log.specs.LogText.{IsLogText}
 use Rattle.srr_replay.specs.declared.replayed.Replayed.{Replayed}
 use Rattle.srr_replay.specs.declared.replayed.Stand.{Stand}
 use Rattle.srr_replay.specs.declared.replayed.Stand.TheVariants.{AtBreak, Diverged, Starved}
@@ -17,10 +21,10 @@ use Rattle.wiz_cli.specs.declared.outcome.Outcome.{Outcome}
 use Rattle.wiz_cli.specs.declared.outcome.Outcome.TheVariants.{Refused, Replayed as WasReplayed}
 use Rattle.wiz_cli.specs.declared.small_program.SmallProgram.{SmallProgram}
 use Rattle.wiz_cli.specs.Courses.{next_of, output_of, variables_of}
-use Rattle.wiz_cli.specs.SmallLogs.{IsSmallLogText}
 use Rattle.wiz_cli.specs.SmallTexts.{IsSmallText}
 use Rattle.wiz_cli.specs.TraceTexts.{trace_text}
 use Rattle.wiz_cli.specs.Words.{IsReplayOf}
+use Rattle.wiz_base.specs.Decimals.{decimal_text}
 use Rattle.wiz_io.specs.Files.{Files, HasRisen}
 
 -- a whole replay of a log's group with the program whose text stands in it, beside every run of that program with that log
@@ -36,10 +40,10 @@ IsLogOutcome log (Refused Program) = (program : SmallProgram) → IsSmallText lo
 IsLogOutcome log (Refused refusal) = ⊥
 IsLogOutcome log (WasReplayed replayed) = IsReplayOfLog log replayed
 
--- what comes of a file's bytes: they are no small log text, or that of a log of which this comes
+-- what comes of a file's bytes: they have a first fault, or are the text of a log of which this comes
 abbrev pub IsBytesOutcome : List ℕ → Outcome → Type 0
-IsBytesOutcome bytes (Refused LogRefused) = (log : Log) → IsSmallLogText bytes log → ⊥
-IsBytesOutcome bytes outcome = (log : Log) × IsSmallLogText bytes log × IsLogOutcome log outcome
+IsBytesOutcome bytes (Refused (LogRefused fault)) = IsFirstFault bytes fault
+IsBytesOutcome bytes outcome = (log : Log) × IsLogText bytes log × IsLogOutcome log outcome
 
 -- what comes of a file, by the files as they were, where they are told, and the counts of read faults before and after:
 -- it is missing, it could not be read, it is longer than a log file may be, or this comes of its bytes
@@ -63,8 +67,20 @@ refusal_status Words = 1
 refusal_status Missing = 2
 refusal_status ReadFault = 3
 refusal_status Program = 5
-refusal_status LogRefused = 8
+refusal_status (LogRefused fault) = 8
 refusal_status TooLong = 12
+
+-- what is wrong with a log
+abbrev pub why_text : LogWhy → List ℕ
+why_text BadHead = codes "bad head"
+why_text BadNumber = codes "bad number"
+why_text BadGroup = codes "bad group"
+why_text BadEntry = codes "bad entry"
+why_text Short = codes "short"
+why_text Extra = codes "extra"
+why_text BadVersion = codes "bad version"
+why_text Digest = codes "digest"
+why_text NoMemory = codes "no memory"
 
 -- its message
 abbrev pub message_text : Refusal → List ℕ → List ℕ
@@ -72,7 +88,7 @@ message_text Words name = codes "refused words\n"
 message_text Missing name = codes "no file " ++ name ++ codes "\n"
 message_text ReadFault name = codes "cannot read " ++ name ++ codes "\n"
 message_text Program name = codes "program 1:1 not built\n"
-message_text LogRefused name = codes "log refused\n"
+message_text (LogRefused fault) name = codes "log " ++ decimal_text fault.at ++ (32 ∷ why_text fault.why) ++ codes "\n"
 message_text TooLong name = codes "too long " ++ name ++ codes "\n"
 
 abbrev pub is_diverged : Stand → Bool
@@ -145,7 +161,7 @@ pub record ShowsEveryRun (words : List (List ℕ)) (files : Option Files) (repla
   pub program : SmallProgram
   pub is_named : IsReplayOf words name
   pub is_there : IfSome files (λ told. told name ≡ Some bytes)
-  pub is_text : IsSmallLogText bytes log
+  pub is_text : IsLogText bytes log
   pub is_program : IsSmallText log.program program
   pub shown : (run : List Event) → IsRunWith (next_of program) log run → IsShown (output_of program) log run replayed status
 

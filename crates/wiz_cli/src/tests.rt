@@ -58,13 +58,15 @@ fn answers<R: Threads + Wait + Sync + AllocGlobal>(
 #[test]
 fn commands_have_their_status_and_output(rt: HostRuntime) {
     let replay: &[&str] = &["replay", "L", "--serial"];
-    let table: [(&[&str], &[u8], u8, &[u8]); 10] = [
+    let table: [(&[&str], &[u8], u8, &[u8]); 12] = [
         (replay, FIRST, 0, FIRST_TRACE),
         (replay, DIVERGED, 9, DIVERGED_TRACE),
         (replay, STARVED, 10, STARVED_TRACE),
         (replay, ALONE, 0, ALONE_TRACE),
         (replay, NO_ENTRY, 0, NO_ENTRY_TRACE),
         (replay, NOT_BUILT, 5, b"program 1:1 not built\n"),
+        (replay, &FIRST[..270], 8, b"log 270 short\n"),
+        (replay, b"srr 2\n", 8, b"log 0 bad version\n"),
         (&["replay", "L9", "--serial"], FIRST, 2, b"no file L9\n"),
         (&[], FIRST, 1, b"refused words\n"),
         (&["play"], FIRST, 1, b"refused words\n"),
@@ -73,16 +75,4 @@ fn commands_have_their_status_and_output(rt: HostRuntime) {
     for (words, log, status, printed) in table {
         assert!(&rt; answers(&rt, words, log, status, printed));
     }
-}
-
-#[test]
-fn a_cut_or_longer_log_is_refused(rt: HostRuntime) {
-    let replay: &[&str] = &["replay", "L", "--serial"];
-    for end in 0..FIRST.len() {
-        assert!(&rt; answers(&rt, replay, &FIRST[..end], 8, b"log refused\n"));
-    }
-    let mut longer = Vec::new(rt.alloc());
-    longer.extend_from_slice(FIRST).expect(&rt, "bytes");
-    longer.push(b'\n').expect(&rt, "bytes");
-    assert!(&rt; answers(&rt, replay, longer.as_slice(), 8, b"log refused\n"));
 }
