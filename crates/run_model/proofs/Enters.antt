@@ -12,16 +12,19 @@ use Rattle.run_model.proofs.StartLemmas.{slice_get-below, slice_get-last, slice_
 use Rattle.run_model.proofs.Views.{test_cases}
 
 -- Enters, their members, and what stays as a rank goes on.
-pub known_after-append : (comm : ℕ) (known : Option (List ℕ)) (xs ys : View) → known_after comm known (xs ++ ys) ≡ known_after comm (known_after comm known xs) ys
+pub known_after-append : (comm : ℕ) (known : Option (List ℕ)) (xs ys : View)
+    → known_after comm known (xs ++ ys) ≡ known_after comm (known_after comm known xs) ys
 known_after-append comm known [] ys = refl
 known_after-append comm known ((call, reply) ∷ xs) ys = known_after-append comm (learned comm known reply) xs ys
 
 -- members once known stay known
-pub known_in-kept : (n : ℕ) (xs ys : View) (comm : ℕ) (members : List ℕ) → IsPrefixOf xs ys → known_in n xs comm ≡ Some members → known_in n ys comm ≡ Some members
+pub known_in-kept : (n : ℕ) (xs ys : View) (comm : ℕ) (members : List ℕ) → IsPrefixOf xs ys → known_in n xs comm ≡ Some members
+    → known_in n ys comm ≡ Some members
 known_in-kept n xs ys comm members prefix h =
     rw (← prefix.1, known_after-append comm (known_first n comm) xs prefix.0, h) (known_after-some comm members prefix.0)
 
-pub entered_from-split : (comm number : ℕ) (known : Option (List ℕ)) (xs ys : View) → entered_from comm number known (xs ++ ys) ≡ entered_from comm number known xs ++ entered_from comm (number + length (starts_of xs)) (known_after comm known xs) ys
+pub entered_from-split : (comm number : ℕ) (known : Option (List ℕ)) (xs ys : View)
+    → entered_from comm number known (xs ++ ys) ≡ entered_from comm number known xs ++ entered_from comm (number + length (starts_of xs)) (known_after comm known xs) ys
 entered_from-split comm number known [] ys = (let e : number + 0 ≡ number = omega arith in rw e)
 entered_from-split comm number known ((call, reply) ∷ xs) ys =
     elim (test_cases (is_start (call, reply))) [
@@ -38,7 +41,8 @@ entered_from-split comm number known ((call, reply) ∷ xs) ys =
       | inr h ↦ rw (h, entered_from-split comm number (learned comm known reply) xs ys)
     ]
 
-pub entered_from-count : (comm number : ℕ) (known : Option (List ℕ)) (view : View) → length (entered_from comm number known view) ≡ count_on comm (starts_of view)
+pub entered_from-count : (comm number : ℕ) (known : Option (List ℕ)) (view : View)
+    → length (entered_from comm number known view) ≡ count_on comm (starts_of view)
 entered_from-count comm number known [] = refl
 entered_from-count comm number known ((call, reply) ∷ view) =
     elim (test_cases (is_start (call, reply))) [
@@ -50,7 +54,9 @@ entered_from-count comm number known ((call, reply) ∷ view) =
     ]
 
 -- a rank's own Enter stands at its instance
-pub own_at : (comm number : ℕ) (known : Option (List ℕ)) (view : View) (k : ℕ) (enter : Call) → slice_get (starts_of view) k ≡ Some enter → is_on comm enter ≡ true → (entered : Entered) × (slice_get (entered_from comm number known view) (count_on comm (take k (starts_of view))) ≡ Some entered) × (entered.call ≡ enter)
+pub own_at : (comm number : ℕ) (known : Option (List ℕ)) (view : View) (k : ℕ) (enter : Call)
+    → slice_get (starts_of view) k ≡ Some enter → is_on comm enter ≡ true
+    → (entered : Entered) × (slice_get (entered_from comm number known view) (count_on comm (take k (starts_of view))) ≡ Some entered) × (entered.call ≡ enter)
 own_at comm number known [] k enter h on = absurd (cc)
 own_at comm number known ((call, reply) ∷ view) zero enter h on =
     elim (test_cases (is_start (call, reply))) [
@@ -74,7 +80,9 @@ own_at comm number known ((call, reply) ∷ view) (suc k) enter h on =
     ]
 
 -- an Enter's members are what was known, and stay so where something was known
-pub members_kept : (comm number : ℕ) (known : Option (List ℕ)) (view : View) (instance : ℕ) (entered : Entered) (members : List ℕ) → slice_get (entered_from comm number known view) instance ≡ Some entered → entered.members ≡ Some members → known_after comm known view ≡ Some members
+pub members_kept : (comm number : ℕ) (known : Option (List ℕ)) (view : View) (instance : ℕ) (entered : Entered) (members : List ℕ)
+    → slice_get (entered_from comm number known view) instance ≡ Some entered → entered.members ≡ Some members
+    → known_after comm known view ≡ Some members
 members_kept comm number known [] instance entered members h e = absurd (cc)
 members_kept comm number known ((call, reply) ∷ view) zero entered members h e =
     elim (test_cases (is_start (call, reply))) [
@@ -101,7 +109,8 @@ members_kept comm number known ((call, reply) ∷ view) (suc instance) entered m
 
 -- Runs keep their instances apart.
 -- the instance of a start stays
-pub instance_of-kept : (xs ys : View) (k comm : ℕ) (call : Call) → IsPrefixOf xs ys → start_at xs k ≡ Some call → instance_of ys k comm ≡ instance_of xs k comm
+pub instance_of-kept : (xs ys : View) (k comm : ℕ) (call : Call) → IsPrefixOf xs ys → start_at xs k ≡ Some call
+    → instance_of ys k comm ≡ instance_of xs k comm
 instance_of-kept xs ys k comm call prefix h =
     let below : k < length (starts_of xs) = slice_get-below (starts_of xs) k call h in
     let low : k ≤ length (starts_of xs) = omega arith in
@@ -116,7 +125,9 @@ pub record NewEnter (n : ℕ) (view : View) (call : Call) (reply : Reply) (comm 
   pub call_is : entered.call ≡ call
   pub members_are : entered.members ≡ known_in n view comm
 
-pub enter_back : (n : ℕ) (view : View) (call : Call) (reply : Reply) (comm instance : ℕ) (entered : Entered) → enter_at n (view ++ (call, reply) ∷ []) comm instance ≡ Some entered → (enter_at n view comm instance ≡ Some entered) ⊎ NewEnter n view call reply comm instance entered
+pub enter_back : (n : ℕ) (view : View) (call : Call) (reply : Reply) (comm instance : ℕ) (entered : Entered)
+    → enter_at n (view ++ (call, reply) ∷ []) comm instance ≡ Some entered
+    → (enter_at n view comm instance ≡ Some entered) ⊎ NewEnter n view call reply comm instance entered
 enter_back n view call reply comm instance entered h =
     let split = entered_from-split comm 0 (known_first n comm) view ((call, reply) ∷ []) in
     let at : slice_get (entered_from comm 0 (known_first n comm) view ++ entered_from comm (0 + length (starts_of view)) (known_in n view comm) ((call, reply) ∷ [])) instance ≡ Some entered = rw split at h in
@@ -138,7 +149,8 @@ enter_back n view call reply comm instance entered h =
       | inr t ↦ inl (rw (t, append-nil) at at)
     ]
 
-pub gather-needed : (needed other : ℕ → Bool) (find : ℕ → Option Entered) (members : List ℕ) → ((m : ℕ) → needed m ≡ other m) → gather needed find members ≡ gather other find members
+pub gather-needed : (needed other : ℕ → Bool) (find : ℕ → Option Entered) (members : List ℕ) → ((m : ℕ) → needed m ≡ other m)
+    → gather needed find members ≡ gather other find members
 gather-needed needed other find [] same = refl
 gather-needed needed other find (m ∷ members) same = rw (same m, gather-needed needed other find members same)
 

@@ -39,26 +39,31 @@ stopped_same a b reply me p q own =
     let same : a ≡ b = cc in
     subst (OwnHalt me) same own
 
-held_own : (test : Bool) (stuck : Type 0) (reply : Reply) (halt : Halt) (me : ℕ) → IsHeld test stuck reply → reply ≡ Stopped halt → OwnHalt me halt
+held_own : (test : Bool) (stuck : Type 0) (reply : Reply) (halt : Halt) (me : ℕ) → IsHeld test stuck reply → reply ≡ Stopped halt
+    → OwnHalt me halt
 held_own true stuck reply halt me is h = (let no : NotYet ≡ Stopped halt = sym is ∙ h in absurd (cc))
 held_own false stuck reply halt me is h = stopped_same Stuck halt reply me is.1 h (record { own = λ rank no. absurd (cc) })
 
-taken_own : (long : Option ℕ) (items : List Item) (reply : Reply) (halt : Halt) (me : ℕ) → reply ≡ taken_reply me long items → reply ≡ Stopped halt → OwnHalt me halt
+taken_own : (long : Option ℕ) (items : List Item) (reply : Reply) (halt : Halt) (me : ℕ) → reply ≡ taken_reply me long items
+    → reply ≡ Stopped halt → OwnHalt me halt
 taken_own None items reply halt me is h = (let no : Took items ≡ Stopped halt = sym is ∙ h in absurd (cc))
 taken_own (Some k) items reply halt me is h = stopped_same (Truncated me k) halt reply me is h (record { own = λ rank t. eqb-true me rank t })
 
-take_own : (condition : Bool) (stuck : Type 0) (n : ℕ) (before : List Event) (own : View) (me : ℕ) (starts : List ℕ) (mode : TakeMode) (reply : Reply) (halt : Halt) → IsTakeAnswer condition stuck n before own me starts mode reply → reply ≡ Stopped halt → OwnHalt me halt
+take_own : (condition : Bool) (stuck : Type 0) (n : ℕ) (before : List Event) (own : View) (me : ℕ) (starts : List ℕ) (mode : TakeMode) (reply : Reply) (halt : Halt)
+    → IsTakeAnswer condition stuck n before own me starts mode reply → reply ≡ Stopped halt → OwnHalt me halt
 take_own true stuck n before own me starts mode reply halt is h = taken_own (first_long own starts is.items) is.items reply halt me is.reply_is h
 take_own false stuck n before own me starts mode reply halt is h = held_own (is_test mode) stuck reply halt me is h
 
-peek_own : (found : Bool) (stuck : Type 0) (before : List Event) (me comm : ℕ) (source : Source) (tag : Tag) (wait : Bool) (reply : Reply) (halt : Halt) → IsPeekAnswer found stuck before me comm source tag wait reply → reply ≡ Stopped halt → OwnHalt me halt
+peek_own : (found : Bool) (stuck : Type 0) (before : List Event) (me comm : ℕ) (source : Source) (tag : Tag) (wait : Bool) (reply : Reply) (halt : Halt)
+    → IsPeekAnswer found stuck before me comm source tag wait reply → reply ≡ Stopped halt → OwnHalt me halt
 peek_own true stuck before me comm source tag wait reply halt is h = (let no : Peeked is.send.0 is.send.1 is.t (length is.ints) ≡ Stopped halt = sym is.reply_is ∙ h in absurd (cc))
 peek_own false stuck before me comm source tag wait reply halt is h = held_own (not wait) stuck reply halt me is h
 
 done_own : (reply : Reply) (halt : Halt) (me : ℕ) → reply ≡ Done → reply ≡ Stopped halt → OwnHalt me halt
 done_own reply halt me is h = (let no : Done ≡ Stopped halt = sym is ∙ h in absurd (cc))
 
-answer_own : (stuck : Type 0) (n : ℕ) (before : List Event) (own : View) (me : ℕ) (call : Call) (reply : Reply) (halt : Halt) → IsAnswer stuck n before own me call reply → reply ≡ Stopped halt → OwnHalt me halt
+answer_own : (stuck : Type 0) (n : ℕ) (before : List Event) (own : View) (me : ℕ) (call : Call) (reply : Reply) (halt : Halt)
+    → IsAnswer stuck n before own me call reply → reply ≡ Stopped halt → OwnHalt me halt
 answer_own stuck n before own me (Take starts mode) reply halt is h = take_own (holds mode (flags_of n before own me starts)) stuck n before own me starts mode reply halt is h
 answer_own stuck n before own me (Peek comm source tag wait) reply halt is h = peek_own (has_open n before me comm source tag) stuck before me comm source tag wait reply halt is h
 answer_own stuck n before own me (Send comm dest tag ints) reply halt is h = done_own reply halt me is h
@@ -68,7 +73,8 @@ answer_own stuck n before own me (Abort code) reply halt is h = done_own reply h
 answer_own stuck n before own me (Trap fault) reply halt is h = done_own reply halt me is h
 answer_own stuck n before own me End reply halt is h = done_own reply halt me is h
 
-halt_at-own : (n : ℕ) (before : List Event) (own : View) (me : ℕ) (call : Call) (halt : Halt) → halt_at n before own me call ≡ Some halt → OwnHalt me halt
+halt_at-own : (n : ℕ) (before : List Event) (own : View) (me : ℕ) (call : Call) (halt : Halt)
+    → halt_at n before own me call ≡ Some halt → OwnHalt me halt
 halt_at-own n before own me (Abort code) halt h = (let e : Aborted me code ≡ halt = cc in subst (OwnHalt me) e (record { own = λ rank t. eqb-true me rank t }))
 halt_at-own n before own me (Trap fault) halt h = (let e : Trapped me fault ≡ halt = cc in subst (OwnHalt me) e (record { own = λ rank t. eqb-true me rank t }))
 halt_at-own n before own me (Enter comm kind root op count ints) halt h =
@@ -86,14 +92,16 @@ halt_at-own n before own me (Post comm source tag room) halt h = absurd (cc)
 halt_at-own n before own me (Peek comm source tag wait) halt h = absurd (cc)
 halt_at-own n before own me End halt h = absurd (cc)
 
-first_own : (n : ℕ) (before : List Event) (own : View) (me : ℕ) (call : Call) (halt : Halt) → halted before ≡ None → due n before own me call ≡ Some halt → OwnHalt me halt
+first_own : (n : ℕ) (before : List Event) (own : View) (me : ℕ) (call : Call) (halt : Halt) → halted before ≡ None
+    → due n before own me call ≡ Some halt → OwnHalt me halt
 first_own n before own me call halt none h =
     elim (test_cases (is_full before)) [
       | inl t ↦ (let some : Some Limit ≡ Some halt = rw (none, t) at h in let e : Limit ≡ halt = cc in subst (OwnHalt me) e (record { own = λ rank u. absurd (cc) }))
       | inr t ↦ halt_at-own n before own me call halt (rw (none, t) at h)
     ]
 
-allowed_own : (next : Next) (n : ℕ) (before : List Event) (me : ℕ) (call : Call) (reply : Reply) (halt : Halt) → halted before ≡ None → IsAllowed next n before me call reply → reply ≡ Stopped halt → OwnHalt me halt
+allowed_own : (next : Next) (n : ℕ) (before : List Event) (me : ℕ) (call : Call) (reply : Reply) (halt : Halt)
+    → halted before ≡ None → IsAllowed next n before me call reply → reply ≡ Stopped halt → OwnHalt me halt
 allowed_own next n before me call reply halt none is h =
     let own : View = view_of before me in
     let F : Option Halt → Type 0 = λ x. IsAllowedBy x (IsStuck next n before) n before own me call reply in
@@ -119,7 +127,8 @@ was_stopped-front ((call, reply) ∷ xs) ys h =
       | inr t ↦ or_right _ _ (was_stopped-front xs ys t)
     ]
 
-was_stopped-last : (xs : View) (call : Call) (reply : Reply) → is_stopped reply ≡ true → was_stopped (xs ++ (call, reply) ∷ []) ≡ true
+was_stopped-last : (xs : View) (call : Call) (reply : Reply) → is_stopped reply ≡ true
+    → was_stopped (xs ++ (call, reply) ∷ []) ≡ true
 was_stopped-last [] call reply h = or_left _ _ h
 was_stopped-last ((c, r) ∷ xs) call reply h = or_right _ _ (was_stopped-last xs call reply h)
 
@@ -131,7 +140,8 @@ or_else-none : (a : Option Halt) → or_else a None ≡ a
 or_else-none None = refl
 or_else-none (Some halt) = refl
 
-halted-push : (before : List Event) (event : Event) → halted (before ++ event ∷ []) ≡ or_else (halted before) (halt_in event.reply)
+halted-push : (before : List Event) (event : Event)
+    → halted (before ++ event ∷ []) ≡ or_else (halted before) (halt_in event.reply)
 halted-push [] event = or_else-none (halt_in event.reply)
 halted-push (x ∷ before) event = rw (halted-push before event) (or_else-assoc (halt_in x.reply) (halted before) (halt_in event.reply))
 
@@ -145,7 +155,8 @@ halt_in-stopped (Peeked source start tag count) halt h = absurd (cc)
 pub record NamedStopped (events : List Event) : Type 0 where
   pub each : (halt : Halt) (rank : ℕ) → halted events ≡ Some halt → names rank halt ≡ true → was_stopped (view_of events rank) ≡ true
 
-pub named_more : (next : Next) (n : ℕ) (before : List Event) (event : Event) → NamedStopped before → IsEvent next n before event → NamedStopped (before ++ event ∷ [])
+pub named_more : (next : Next) (n : ℕ) (before : List Event) (event : Event) → NamedStopped before → IsEvent next n before event
+    → NamedStopped (before ++ event ∷ [])
 named_more next n before event all step =
     record {
       each = λ halt rank h named. elim (option_cases (halted before)) [

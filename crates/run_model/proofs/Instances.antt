@@ -16,10 +16,11 @@ use Rattle.run_model.specs.Inputs.{gather, inputs_of}
 use Rattle.run_model.specs.Pairs.{Name}
 use Rattle.run_model.specs.Run.{AreNumbered, IsIn, MadeTwo, SameOrigin, numbers_of}
 use Rattle.run_model.specs.Views.{View, is_start, start_at, starts_of, view_of}
-use Rattle.run_model.specs.Forms.{AreMembers}
-use Rattle.run_model.proofs.Agreement.{AreMembers-made, input_length-agree}
+use Rattle.run_model.proofs.Agreement.{input_length-agree}
 use Rattle.run_model.proofs.Enters.{NewEnter, enter_back, gather-needed, instance_of-kept, known_in-kept, members_kept, not_world, own_at}
 use Rattle.run_model.proofs.Gathering.{inputs-kept, pushed, with_some}
+use Rattle.run_model.specs.Forms.{AreMembers}
+use Rattle.run_model.proofs.MemberLists.{AreMembers-made}
 use Rattle.run_model.proofs.Prefixes.{Begins, Begins-more}
 use Rattle.run_model.proofs.StartLemmas.{start_at-kept}
 use Rattle.run_model.proofs.Views.{option_cases, test_cases, view_of-append, view_of-mine, view_of-other}
@@ -50,7 +51,8 @@ pub record OwnEnter (n : ℕ) (V : ℕ → View) (r k : ℕ) (enter : Call) : Ty
   pub all : members_in n (V r) (comm_of enter) ≡ members
   pub form : IsEnterOf enter members r
 
-pub own_enter : (n : ℕ) (V : ℕ → View) (r k : ℕ) (enter : Call) → SameInstances n V → start_at (V r) k ≡ Some enter → is_enter enter ≡ true → OwnEnter n V r k enter
+pub own_enter : (n : ℕ) (V : ℕ → View) (r k : ℕ) (enter : Call) → SameInstances n V → start_at (V r) k ≡ Some enter
+    → is_enter enter ≡ true → OwnEnter n V r k enter
 own_enter n V r k enter same at is =
     let C : ℕ = comm_of enter in
     let mine = own_at C 0 (known_first n C) (V r) k enter at (on_own enter is) in
@@ -65,7 +67,9 @@ pub record OtherEnter (m : ℕ) (enter : Call) (members : List ℕ) (entered : E
   pub known : entered.members ≡ Some members
   pub form : IsEnterOf entered.call members m
 
-pub other_enter : (n : ℕ) (V : ℕ → View) (r k m : ℕ) (enter : Call) (entered : Entered) → SameInstances n V → (own : OwnEnter n V r k enter) → enter_at n (V m) (comm_of enter) (instance_of (V r) k (comm_of enter)) ≡ Some entered → OtherEnter m enter own.members entered
+pub other_enter : (n : ℕ) (V : ℕ → View) (r k m : ℕ) (enter : Call) (entered : Entered) → SameInstances n V
+    → (own : OwnEnter n V r k enter) → enter_at n (V m) (comm_of enter) (instance_of (V r) k (comm_of enter)) ≡ Some entered
+    → OtherEnter m enter own.members entered
 other_enter n V r k m enter entered same own found =
     let C : ℕ = comm_of enter in
     let I : ℕ = instance_of (V r) k C in
@@ -77,7 +81,8 @@ other_enter n V r k m enter entered same own found =
     record { agrees = rw own.call_is at agreed; known = join.known ∙ ap (λ x. Some x) equal; form = subst F equal join.form }
 
 -- gathered inputs: one for each member, and what each needed member entered
-pub gather-length : (needed : ℕ → Bool) (find : ℕ → Option Entered) (members : List ℕ) (inputs : List (List ℤ)) → gather needed find members ≡ Ok inputs → length inputs ≡ length members
+pub gather-length : (needed : ℕ → Bool) (find : ℕ → Option Entered) (members : List ℕ) (inputs : List (List ℤ))
+    → gather needed find members ≡ Ok inputs → length inputs ≡ length members
 gather-length needed find [] inputs h = (let e : [] ≡ inputs = cc in ap length (sym e))
 gather-length needed find (m ∷ members) inputs h =
     elim (test_cases (needed m)) [
@@ -90,7 +95,9 @@ gather-length needed find (m ∷ members) inputs h =
           ap length (sym rest.2) ∙ ap suc (gather-length needed find members rest.0 rest.1))
     ]
 
-pub gather-at : (needed : ℕ → Bool) (find : ℕ → Option Entered) (members : List ℕ) (inputs : List (List ℤ)) (place : ℕ) → gather needed find members ≡ Ok inputs → place < length members → needed (get_or members place 0) ≡ true → (entered : Entered) × (find (get_or members place 0) ≡ Some entered) × (get_or inputs place [] ≡ ints_of entered.call)
+pub gather-at : (needed : ℕ → Bool) (find : ℕ → Option Entered) (members : List ℕ) (inputs : List (List ℤ)) (place : ℕ)
+    → gather needed find members ≡ Ok inputs → place < length members → needed (get_or members place 0) ≡ true
+    → (entered : Entered) × (find (get_or members place 0) ≡ Some entered) × (get_or inputs place [] ≡ ints_of entered.call)
 gather-at needed find [] inputs place h below need = absurd (omega arith)
 gather-at needed find (m ∷ members) inputs zero h below need =
     let some = with_some m (find m) (gather needed find members) inputs (rw need at h) in
@@ -110,7 +117,9 @@ gather-at needed find (m ∷ members) inputs (suc place) h below need =
     ]
 
 -- they are inputs of the Enter, by the table
-pub inputs_fit : (n : ℕ) (V : ℕ → View) (r k : ℕ) (enter : Call) (inputs : List (List ℤ)) → SameInstances n V → start_at (V r) k ≡ Some enter → is_enter enter ≡ true → inputs_of n V (V r) r k enter ≡ Ok inputs → AreInputsOf enter (members_in n (V r) (comm_of enter)) inputs r
+pub inputs_fit : (n : ℕ) (V : ℕ → View) (r k : ℕ) (enter : Call) (inputs : List (List ℤ)) → SameInstances n V
+    → start_at (V r) k ≡ Some enter → is_enter enter ≡ true → inputs_of n V (V r) r k enter ≡ Ok inputs
+    → AreInputsOf enter (members_in n (V r) (comm_of enter)) inputs r
 inputs_fit n V r k enter inputs same at is gathered =
     let C : ℕ = comm_of enter in
     let I : ℕ = instance_of (V r) k C in
@@ -130,7 +139,10 @@ inputs_fit n V r k enter inputs same at is gathered =
     subst F (sym own.all) fit
 
 -- what the rank itself entered is among them, where it is needed
-pub input_own : (n : ℕ) (V : ℕ → View) (r k : ℕ) (enter : Call) (inputs : List (List ℤ)) → SameInstances n V → start_at (V r) k ≡ Some enter → is_enter enter ≡ true → inputs_of n V (V r) r k enter ≡ Ok inputs → is_member (members_in n (V r) (comm_of enter)) r ≡ true → input_of (members_in n (V r) (comm_of enter)) inputs r ≡ ints_of enter
+pub input_own : (n : ℕ) (V : ℕ → View) (r k : ℕ) (enter : Call) (inputs : List (List ℤ)) → SameInstances n V
+    → start_at (V r) k ≡ Some enter → is_enter enter ≡ true → inputs_of n V (V r) r k enter ≡ Ok inputs
+    → is_member (members_in n (V r) (comm_of enter)) r ≡ true
+    → input_of (members_in n (V r) (comm_of enter)) inputs r ≡ ints_of enter
 input_own n V r k enter inputs same at is gathered member =
     let C : ℕ = comm_of enter in
     let I : ℕ = instance_of (V r) k C in
@@ -159,7 +171,8 @@ pub record Provenance (n : ℕ) (V : ℕ → View) (r comm : ℕ) (members : Lis
   pub given : members ≡ members_made enter (members_in n (V r) (comm_of enter)) inputs r
 
 -- two of one origin have the same members
-same_made : (n : ℕ) (V : ℕ → View) (r s comm : ℕ) (one two : List ℕ) (p : Provenance n V r comm one) (q : Provenance n V s comm two) → SameInstances n V → SameOrigin V r p.k s q.k p.enter q.enter → one ≡ two
+same_made : (n : ℕ) (V : ℕ → View) (r s comm : ℕ) (one two : List ℕ) (p : Provenance n V r comm one) (q : Provenance n V s comm two)
+    → SameInstances n V → SameOrigin V r p.k s q.k p.enter q.enter → one ≡ two
 same_made n V r s comm one two p q same origin =
     let C : ℕ = comm_of q.enter in
     let I : ℕ = instance_of (V s) q.k C in
@@ -185,7 +198,8 @@ same_made n V r s comm one two p q same origin =
     g1 ∙ (ap (λ x. members_made p.enter M x r) inputs ∙ (members_made-same p.enter q.enter M q.inputs r s agreed origin.colour ∙ sym g2))
 
 -- a communicator's new members are such as it can have
-fine_made : (n : ℕ) (V : ℕ → View) (r comm : ℕ) (members : List ℕ) → SameInstances n V → r < n → Provenance n V r comm members → AreMembers n r members
+fine_made : (n : ℕ) (V : ℕ → View) (r comm : ℕ) (members : List ℕ) → SameInstances n V → r < n → Provenance n V r comm members
+    → AreMembers n r members
 fine_made n V r comm members same below p =
     let own = own_enter n V r p.k p.enter same p.at p.is in
     let fine = same.fine r (comm_of p.enter) own.members below own.known in
@@ -208,7 +222,8 @@ pub numbers_of-append : (xs ys : View) → numbers_of (xs ++ ys) ≡ numbers_of 
 numbers_of-append [] ys = refl
 numbers_of-append ((call, reply) ∷ xs) ys = rw (numbers_of-append xs ys, append_assoc)
 
-provenance_kept : (n : ℕ) (V W : ℕ → View) (r comm : ℕ) (members : List ℕ) → Begins V W → SameInstances n V → Provenance n V r comm members → Provenance n W r comm members
+provenance_kept : (n : ℕ) (V W : ℕ → View) (r comm : ℕ) (members : List ℕ) → Begins V W → SameInstances n V
+    → Provenance n V r comm members → Provenance n W r comm members
 provenance_kept n V W r comm members begins same p =
     let C : ℕ = comm_of p.enter in
     let own = own_enter n V r p.k p.enter same p.at p.is in
@@ -250,7 +265,9 @@ pub record Instances (n : ℕ) (V : ℕ → View) : Type 0 where
   pub same : SameInstances n V
   pub sources : (r comm : ℕ) (members : List ℕ) → known_in n (V r) comm ≡ Some members → (comm == 0) ≡ false → Sourced n V V r comm members
 
-enter_cases : (n : ℕ) (before : List Event) (event : Event) (r comm instance : ℕ) (entered : Entered) → enter_at n (view_of (before ++ event ∷ []) r) comm instance ≡ Some entered → (enter_at n (view_of before r) comm instance ≡ Some entered) ⊎ ((event.rank ≡ r) × NewEnter n (view_of before event.rank) event.call event.reply comm instance entered)
+enter_cases : (n : ℕ) (before : List Event) (event : Event) (r comm instance : ℕ) (entered : Entered)
+    → enter_at n (view_of (before ++ event ∷ []) r) comm instance ≡ Some entered
+    → (enter_at n (view_of before r) comm instance ≡ Some entered) ⊎ ((event.rank ≡ r) × NewEnter n (view_of before event.rank) event.call event.reply comm instance entered)
 enter_cases n before event r comm instance entered h =
     elim (test_cases (event.rank == r)) [
       | inl t ↦ (
@@ -263,7 +280,9 @@ enter_cases n before event r comm instance entered h =
       | inr t ↦ inl (rw (view_of-other before event r t) at h)
     ]
 
-known_cases : (n : ℕ) (before : List Event) (event : Event) (r comm : ℕ) (members : List ℕ) → known_in n (view_of (before ++ event ∷ []) r) comm ≡ Some members → (known_in n (view_of before r) comm ≡ Some members) ⊎ ((r ≡ event.rank) × (known_in n (view_of before event.rank) comm ≡ None))
+known_cases : (n : ℕ) (before : List Event) (event : Event) (r comm : ℕ) (members : List ℕ)
+    → known_in n (view_of (before ++ event ∷ []) r) comm ≡ Some members
+    → (known_in n (view_of before r) comm ≡ Some members) ⊎ ((r ≡ event.rank) × (known_in n (view_of before event.rank) comm ≡ None))
 known_cases n before event r comm members h =
     elim (test_cases (event.rank == r)) [
       | inl t ↦ (
@@ -280,7 +299,10 @@ known_cases n before event r comm members h =
     ]
 
 -- what a new communicator's members are, they are for all who have it
-new_members : (n : ℕ) (before : List Event) (event : Event) (s comm : ℕ) (one two : List ℕ) → Instances n (view_of before) → KeepsInstances n before event → known_in n (view_of before event.rank) comm ≡ None → known_in n (view_of (before ++ event ∷ []) event.rank) comm ≡ Some one → known_in n (view_of before s) comm ≡ Some two → one ≡ two
+new_members : (n : ℕ) (before : List Event) (event : Event) (s comm : ℕ) (one two : List ℕ) → Instances n (view_of before)
+    → KeepsInstances n before event → known_in n (view_of before event.rank) comm ≡ None
+    → known_in n (view_of (before ++ event ∷ []) event.rank) comm ≡ Some one → known_in n (view_of before s) comm ≡ Some two
+    → one ≡ two
 new_members n before event s comm one two is keeps none new old =
     let V : ℕ → View = view_of before in
     let W : ℕ → View = view_of (before ++ event ∷ []) in
@@ -298,7 +320,8 @@ new_members n before event s comm one two is keeps none new old =
     let origin_v : SameOrigin V event.rank p.from.k s q.from.k p.from.enter q.from.enter = record { comm = origin.comm; instance = sym i_p ∙ (origin.instance ∙ i_q); colour = origin.colour } in
     same_made n V event.rank s comm one two p.from q.from is.same origin_v
 
-pub Instances-more : (n : ℕ) (before : List Event) (event : Event) → event.rank < n → Instances n (view_of before) → KeepsInstances n before event → Instances n (view_of (before ++ event ∷ []))
+pub Instances-more : (n : ℕ) (before : List Event) (event : Event) → event.rank < n → Instances n (view_of before)
+    → KeepsInstances n before event → Instances n (view_of (before ++ event ∷ []))
 unfolding provenance_kept
 Instances-more n before event low is keeps =
     let V : ℕ → View = view_of before in

@@ -10,6 +10,7 @@ pub mod TrueReplies
 pub mod Halts
 pub mod Matched
 pub mod Agreement
+pub mod MemberLists
 pub mod Instances
 pub mod Origins
 pub mod TakeShapes

@@ -25,7 +25,8 @@ pub record Agrees (source : Source) (tag : Tag) (sender sent : ℕ) : Type 0 whe
   pub source_is : source_agrees source sender ≡ true
   pub tag_is : tag_agrees tag sent ≡ true
 
-pub accepts-parts : (me comm : ℕ) (source : Source) (tag : Tag) (sender c dest t : ℕ) (ints : List ℤ) → accepts me comm source tag sender (Send c dest t ints) ≡ true → Agrees source tag sender t
+pub accepts-parts : (me comm : ℕ) (source : Source) (tag : Tag) (sender c dest t : ℕ) (ints : List ℤ)
+    → accepts me comm source tag sender (Send c dest t ints) ≡ true → Agrees source tag sender t
 accepts-parts me comm source tag sender c dest t ints h =
     let one = and_parts (c == comm) ((dest == me) && (source_agrees source sender && tag_agrees tag t)) h in
     let two = and_parts (dest == me) (source_agrees source sender && tag_agrees tag t) one.1 in
@@ -33,7 +34,9 @@ accepts-parts me comm source tag sender c dest t ints h =
     record { source_is = three.0; tag_is = three.1 }
 
 -- a partner's Send is accepted
-pub taken_pair : (before : List Event) (post send : Name) (comm : ℕ) (source : Source) (tag : Tag) (room c dest t : ℕ) (ints : List ℤ) → IsMatched before → partner_of (pairs_of before) post ≡ Some send → named before post ≡ Some (Post comm source tag room) → named before send ≡ Some (Send c dest t ints) → accepts post.0 comm source tag send.0 (Send c dest t ints) ≡ true
+pub taken_pair : (before : List Event) (post send : Name) (comm : ℕ) (source : Source) (tag : Tag) (room c dest t : ℕ) (ints : List ℤ)
+    → IsMatched before → partner_of (pairs_of before) post ≡ Some send → named before post ≡ Some (Post comm source tag room)
+    → named before send ≡ Some (Send c dest t ints) → accepts post.0 comm source tag send.0 (Send c dest t ints) ≡ true
 taken_pair before post send comm source tag room c dest t ints matched paired post_is send_is =
     elim (matched.pair post send paired) [
       | inl takes ↦

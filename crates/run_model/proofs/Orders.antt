@@ -18,7 +18,7 @@ use Rattle.run_model.specs.Lists.{are_below, world}
 use Rattle.run_model.specs.Program.{AsksInBounds, EntersInForm, IsInForm, IsRankOf, IsSeen, IsViewOf}
 use Rattle.run_model.specs.Shape.{can_take, got_fits, gots_fit, has_count, has_shape}
 use Rattle.run_model.specs.Views.{Next, View, is_start, start_at, starts_of}
-use Rattle.run_model.proofs.Agreement.{AreMembers-world}
+use Rattle.run_model.proofs.MemberLists.{AreMembers-world}
 use Rattle.run_model.proofs.Along.{Along-keeps, Along-snoc}
 use Rattle.run_model.proofs.Enters.{NewEnter, enter_back, known_after-append, known_in-kept, not_world}
 use Rattle.run_model.proofs.Prefixes.{prefix_append}

@@ -48,7 +48,9 @@ IsIn-back : (a : Name) (xs ys : List Name) → IsIn a ys → IsIn a (xs ++ ys)
 IsIn-back a [] ys inside = inside
 IsIn-back a (x ∷ xs) ys inside = inr (IsIn-back a xs ys inside)
 
-made_given : (m u : Bool) (n : ℕ) (own : View) (me : ℕ) (enter : Call) (inputs : List (List ℤ)) (c : ℕ) (members : List ℕ) → (c == 0) ≡ false → IsFrom m u n own me enter inputs (Made c members) → (m ≡ true) × (u ≡ false) × (members ≡ members_made enter (members_in n own (comm_of enter)) inputs me)
+made_given : (m u : Bool) (n : ℕ) (own : View) (me : ℕ) (enter : Call) (inputs : List (List ℤ)) (c : ℕ) (members : List ℕ)
+    → (c == 0) ≡ false → IsFrom m u n own me enter inputs (Made c members)
+    → (m ≡ true) × (u ≡ false) × (members ≡ members_made enter (members_in n own (comm_of enter)) inputs me)
 made_given true true n own me enter inputs c members real given =
     (let e : c ≡ 0 = cc in let t : (c == 0) ≡ true = eq-eqb c 0 e in let no : true ≡ false = sym t ∙ real in absurd (cc))
 made_given true false n own me enter inputs c members real given =
@@ -57,7 +59,9 @@ made_given true false n own me enter inputs c members real given =
     (refl, refl, same))
 made_given false u n own me enter inputs c members real given = absurd (cc)
 
-from_got : (n : ℕ) (before : List Event) (own : View) (me k : ℕ) (start : Option Call) (c : ℕ) (members : List ℕ) (starts : List ℕ) (items : List Item) → (c == 0) ≡ false → start_at own k ≡ start → IsGot n before own me k start (Made c members) → IsIn (c, k) (numbers_in starts items) → FromItems n before own me c starts items members
+from_got : (n : ℕ) (before : List Event) (own : View) (me k : ℕ) (start : Option Call) (c : ℕ) (members : List ℕ) (starts : List ℕ) (items : List Item)
+    → (c == 0) ≡ false → start_at own k ≡ start → IsGot n before own me k start (Made c members)
+    → IsIn (c, k) (numbers_in starts items) → FromItems n before own me c starts items members
 from_got n before own me k None c members starts items real at is number = absurd is
 from_got n before own me k (Some (Send comm dest tag ints)) c members starts items real at is number = absurd (let e : Made c members ≡ Sent = is in cc)
 from_got n before own me k (Some (Post comm Null tag room)) c members starts items real at is number = absurd (let e : Made c members ≡ Nothing = is in cc)
@@ -73,7 +77,8 @@ from_got n before own me k (Some (Abort code)) c members starts items real at is
 from_got n before own me k (Some (Trap fault)) c members starts items real at is number = absurd is
 from_got n before own me k (Some End) c members starts items real at is number = absurd is
 
-more_items : (n : ℕ) (before : List Event) (own : View) (me comm : ℕ) (starts : List ℕ) (item : Item) (items : List Item) (members : List ℕ) → FromItems n before own me comm starts items members → FromItems n before own me comm starts (item ∷ items) members
+more_items : (n : ℕ) (before : List Event) (own : View) (me comm : ℕ) (starts : List ℕ) (item : Item) (items : List Item) (members : List ℕ)
+    → FromItems n before own me comm starts items members → FromItems n before own me comm starts (item ∷ items) members
 more_items n before own me comm starts item items members from =
     record {
       k = from.k;
@@ -88,7 +93,8 @@ more_items n before own me comm starts item items members from =
       number = IsIn-back (comm, from.k) (number_in (slice_index starts item.index) item.got) (numbers_in starts items) from.number;
     }
 
-made_cases : (comm : ℕ) (got : Got) (rest : Option (List ℕ)) (members : List ℕ) → or_members (made_in_got comm got) rest ≡ Some members → (got ≡ Made comm members) ⊎ (rest ≡ Some members)
+made_cases : (comm : ℕ) (got : Got) (rest : Option (List ℕ)) (members : List ℕ)
+    → or_members (made_in_got comm got) rest ≡ Some members → (got ≡ Made comm members) ⊎ (rest ≡ Some members)
 made_cases comm (Made c others) rest members h =
     elim (test_cases (c == comm)) [
       | inl t ↦ (
@@ -103,7 +109,9 @@ made_cases comm Nothing rest members h = inr h
 made_cases comm (Message source start tag ints) rest members h = inr h
 made_cases comm (Joined ints) rest members h = inr h
 
-from_items : (n : ℕ) (before : List Event) (own : View) (me comm : ℕ) (starts : List ℕ) (items : List Item) (members : List ℕ) → (comm == 0) ≡ false → AreGots n before own me starts items → made_in_items comm items ≡ Some members → FromItems n before own me comm starts items members
+from_items : (n : ℕ) (before : List Event) (own : View) (me comm : ℕ) (starts : List ℕ) (items : List Item) (members : List ℕ)
+    → (comm == 0) ≡ false → AreGots n before own me starts items → made_in_items comm items ≡ Some members
+    → FromItems n before own me comm starts items members
 from_items n before own me comm starts [] members real are h = absurd (cc)
 from_items n before own me comm starts (item ∷ items) members real are h =
     elim (made_cases comm item.got (made_in_items comm items) members h) [
@@ -117,7 +125,9 @@ from_items n before own me comm starts (item ∷ items) members real are h =
       | inr later ↦ more_items n before own me comm starts item items members (from_items n before own me comm starts items members real are.1 later)
     ]
 
-learned_from : (n : ℕ) (before : List Event) (me comm : ℕ) (call : Call) (reply : Reply) (members : List ℕ) → (comm == 0) ≡ false → IsTrueReply n before (view_of before me) me call reply → learned comm None reply ≡ Some members → (p : Provenance n (view_of before) me comm members) × IsIn (comm, p.k) (numbers_in_reply call reply)
+learned_from : (n : ℕ) (before : List Event) (me comm : ℕ) (call : Call) (reply : Reply) (members : List ℕ) → (comm == 0) ≡ false
+    → IsTrueReply n before (view_of before me) me call reply → learned comm None reply ≡ Some members
+    → (p : Provenance n (view_of before) me comm members) × IsIn (comm, p.k) (numbers_in_reply call reply)
 learned_from n before me comm call Done members real is h = absurd (cc)
 learned_from n before me comm call NotYet members real is h = absurd (cc)
 learned_from n before me comm call (Peeked source start tag count) members real is h = absurd (cc)
@@ -137,7 +147,9 @@ world_any f (suc n) low m h above below =
           world_any f n (low + 1) m parts.1 (omega arith) (omega arith))
     ]
 
-accepted_enter : (next : Next) (n : ℕ) (before : List Event) (me : ℕ) (call : Call) (reply : Reply) (comm : ℕ) → IsAllowed next n before me call reply → is_start (call, reply) ≡ true → is_on comm call ≡ true → (is_mismatched n before (view_of before me) call ≡ false) × (comm_of call ≡ comm)
+accepted_enter : (next : Next) (n : ℕ) (before : List Event) (me : ℕ) (call : Call) (reply : Reply) (comm : ℕ)
+    → IsAllowed next n before me call reply → is_start (call, reply) ≡ true → is_on comm call ≡ true
+    → (is_mismatched n before (view_of before me) call ≡ false) × (comm_of call ≡ comm)
 accepted_enter next n before me (Send c dest tag ints) reply comm is start on = absurd (cc)
 accepted_enter next n before me (Post c source tag room) reply comm is start on = absurd (cc)
 accepted_enter next n before me (Take starts mode) reply comm is start on = absurd (cc)
@@ -167,7 +179,10 @@ accepted_enter next n before me (Enter c kind root op count ints) reply comm is 
       eqb-true c comm on,
     )
 
-agree_from : (n : ℕ) (before : List Event) (own : View) (call : Call) (m comm : ℕ) (entered : Entered) → m < n → is_mismatched n before own call ≡ false → comm_of call ≡ comm → enter_at n (view_of before m) comm (instance_of own (length (starts_of own)) comm) ≡ Some entered → agree call entered.call ≡ true
+agree_from : (n : ℕ) (before : List Event) (own : View) (call : Call) (m comm : ℕ) (entered : Entered) → m < n
+    → is_mismatched n before own call ≡ false → comm_of call ≡ comm
+    → enter_at n (view_of before m) comm (instance_of own (length (starts_of own)) comm) ≡ Some entered
+    → agree call entered.call ≡ true
 agree_from n before own call m comm entered below h comm_is found =
     let at : enter_at n (view_of before m) (comm_of call) (instance_of own (length (starts_of own)) (comm_of call)) ≡ Some entered = rw comm_is found in
     let one = world_any (λ m. disagrees call (enter_at n (view_of before m) (comm_of call) (instance_of own (length (starts_of own)) (comm_of call)))) n 0 m h (omega arith) (omega arith) in
@@ -180,7 +195,8 @@ agree_from n before own call m comm entered below h comm_is found =
 pub record AllBelow (n : ℕ) (events : List Event) : Type 0 where
   pub empty : (rank : ℕ) → n ≤ rank → view_of events rank ≡ []
 
-pub AllBelow-more : (n : ℕ) (before : List Event) (event : Event) → AllBelow n before → event.rank < n → AllBelow n (before ++ event ∷ [])
+pub AllBelow-more : (n : ℕ) (before : List Event) (event : Event) → AllBelow n before → event.rank < n
+    → AllBelow n (before ++ event ∷ [])
 AllBelow-more n before event all below =
     record {
       empty = λ rank above. (
@@ -191,7 +207,8 @@ AllBelow-more n before event all below =
           ]);
     }
 
-enters_from : (n : ℕ) (view : View) (me comm : ℕ) (call : Call) → IsInForm n view me call → is_on comm call ≡ true → Enters n view me comm call
+enters_from : (n : ℕ) (view : View) (me comm : ℕ) (call : Call) → IsInForm n view me call → is_on comm call ≡ true
+    → Enters n view me comm call
 enters_from n view me comm (Enter c kind root op count ints) form on =
     let F : ℕ → Type 0 = λ x. known_in n view x ≡ Some form.0 in
     record { members = form.0; known = subst F (eqb-true c comm on) form.1; form = form.2 }
@@ -204,7 +221,8 @@ enters_from n view me comm (Trap fault) form on = absurd (cc)
 enters_from n view me comm End form on = absurd (cc)
 
 -- an event of a run, whose Enter is in form, does to instances what it may
-pub KeepsInstances-event : (next : Next) (n : ℕ) (before : List Event) (event : Event) → AllBelow n before → IsInForm n (view_of before event.rank) event.rank event.call → IsEvent next n before event → KeepsInstances n before event
+pub KeepsInstances-event : (next : Next) (n : ℕ) (before : List Event) (event : Event) → AllBelow n before
+    → IsInForm n (view_of before event.rank) event.rank event.call → IsEvent next n before event → KeepsInstances n before event
 KeepsInstances-event next n before event all form step =
     let own : View = view_of before event.rank in
     record {

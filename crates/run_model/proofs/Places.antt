@@ -18,7 +18,8 @@ pub record Place (events : List Event) (rank : ℕ) (view : View) (call : Call) 
   pub call_is : event.call ≡ call
   pub reply_is : event.reply ≡ reply
 
-pub place : (events : List Event) (rank : ℕ) (view : View) (call : Call) (reply : Reply) (rest : View) → view_of events rank ≡ view ++ (call, reply) ∷ rest → Place events rank view call reply
+pub place : (events : List Event) (rank : ℕ) (view : View) (call : Call) (reply : Reply) (rest : View)
+    → view_of events rank ≡ view ++ (call, reply) ∷ rest → Place events rank view call reply
 place [] rank [] call reply rest e = absurd (cc)
 place [] rank (x ∷ view) call reply rest e = absurd (cc)
 place (event ∷ events) rank [] call reply rest e =
@@ -47,13 +48,16 @@ place (event ∷ events) rank (x ∷ view) call reply rest e =
           record { before = event ∷ found.before; event = found.event; after = found.after; whole = ap (λ l. event ∷ l) found.whole; rank_is = found.rank_is; view_is = rw h found.view_is; call_is = found.call_is; reply_is = found.reply_is }
     ]
 
-pub view_at : (run before after : List Event) (event : Event) → run ≡ before ++ event ∷ after → view_of run event.rank ≡ view_of before event.rank ++ (event.call, event.reply) ∷ view_of after event.rank
+pub view_at : (run before after : List Event) (event : Event) → run ≡ before ++ event ∷ after
+    → view_of run event.rank ≡ view_of before event.rank ++ (event.call, event.reply) ∷ view_of after event.rank
 view_at run before after event e =
     let t : (event.rank == event.rank) ≡ true = eq-eqb event.rank event.rank refl in
     ap (λ l. view_of l event.rank) e ∙ (view_of-append before (event ∷ after) event.rank ∙ rw t)
 
 -- what each position keeps holds at the end
-pub walk : (run : List Event) (P : List Event → Type 0) → ((before after : List Event) (event : Event) → run ≡ before ++ event ∷ after → P before → P (before ++ event ∷ [])) → (before rest : List Event) → run ≡ before ++ rest → P before → P run
+pub walk : (run : List Event) (P : List Event → Type 0)
+    → ((before after : List Event) (event : Event) → run ≡ before ++ event ∷ after → P before → P (before ++ event ∷ []))
+    → (before rest : List Event) → run ≡ before ++ rest → P before → P run
 walk run P keeps before [] e holds = subst P (sym (e ∙ append-nil before)) holds
 walk run P keeps before (event ∷ rest) e holds =
     walk run P keeps (before ++ event ∷ []) rest (rw append_assoc e) (keeps before rest event e holds)

@@ -12,12 +12,12 @@ use Rattle.run_model.specs.Program.{EndsExactly, EntersInForm, IsRankOf, IsSeen,
 use Rattle.run_model.specs.Run.{IsEvent, IsRun}
 use Rattle.run_model.specs.Shape.{has_shape}
 use Rattle.run_model.specs.Views.{Next, View, replies_in, view_of}
-use Rattle.run_model.specs.Forms.{AreMembers}
-use Rattle.run_model.proofs.Agreement.{AreMembers-world}
 use Rattle.run_model.proofs.Along.{Along-back, Along-front, Along-keeps, Along-snoc}
 use Rattle.run_model.proofs.Halts.{NamedStopped, is_stopped, named_more, names, was_stopped}
 use Rattle.run_model.proofs.Instances.{Instances, Instances-more}
 use Rattle.run_model.proofs.Matched.{none_matched}
+use Rattle.run_model.specs.Forms.{AreMembers}
+use Rattle.run_model.proofs.MemberLists.{AreMembers-world}
 use Rattle.run_model.proofs.Origins.{AllBelow, AllBelow-more, KeepsInstances-event}
 use Rattle.run_model.proofs.Shapes.{Unnamed, allowed_shaped}
 use Rattle.run_model.proofs.Views.{test_cases, view_of-other, view_of-own}
@@ -32,7 +32,8 @@ pub IsRun-front : (next : Next) (n : ℕ) (xs ys : List Event) → IsRun next n 
 IsRun-front next n xs ys run = record { some = run.some; few = run.few; along = Along-front (IsEvent next n) [] xs ys run.along }
 
 -- the event at a place of a run, after those before it
-pub IsRun-event : (next : Next) (n : ℕ) (before after : List Event) (event : Event) → IsRun next n (before ++ event ∷ after) → IsEvent next n before event
+pub IsRun-event : (next : Next) (n : ℕ) (before after : List Event) (event : Event) → IsRun next n (before ++ event ∷ after)
+    → IsEvent next n before event
 IsRun-event next n before after event run = (Along-back (IsEvent next n) [] before (event ∷ after) run.along).0
 
 no_instances : (n : ℕ) → Instances n (view_of [])
@@ -76,7 +77,8 @@ was_stopped-ends ((call, reply) ∷ view) h =
     ]
 
 -- a live rank is one that no halt names
-unnamed_live : (next : Next) (n : ℕ) (before : List Event) (me : ℕ) (call : Call) → Lawful next → Kept next n before → IsRankOf n me → next n me (replies_in (view_of before me)) ≡ Some call → Unnamed before me
+unnamed_live : (next : Next) (n : ℕ) (before : List Event) (me : ℕ) (call : Call) → Lawful next → Kept next n before
+    → IsRankOf n me → next n me (replies_in (view_of before me)) ≡ Some call → Unnamed before me
 unnamed_live next n before me call lawful kept rank live =
     record {
       unnamed = λ halt h. false_from_ne_true (names me halt) (λ named.
@@ -88,12 +90,15 @@ unnamed_live next n before me call lawful kept rank live =
     }
 
 -- the reply of the next event has its call's shape
-pub event_shaped : (next : Next) (n : ℕ) (before : List Event) (event : Event) → Lawful next → 0 < n → n ≤ 64 → Kept next n before → IsEvent next n before event → has_shape n event.rank (view_of before event.rank) event.call event.reply ≡ true
+pub event_shaped : (next : Next) (n : ℕ) (before : List Event) (event : Event) → Lawful next → 0 < n → n ≤ 64 → Kept next n before
+    → IsEvent next n before event → has_shape n event.rank (view_of before event.rank) event.call event.reply ≡ true
 event_shaped next n before event lawful some few kept step =
     let unnamed = unnamed_live next n before event.rank event.call lawful kept (some, few, step.rank) step.call in
     allowed_shaped next n before event.rank event.call event.reply kept.matched (record { same = kept.instances.same; below = step.rank }) unnamed step.reply
 
-came_more : (next : Next) (n : ℕ) (before : List Event) (event : Event) (rank : ℕ) → IsViewOf next n rank (view_of before rank) → IsEvent next n before event → has_shape n event.rank (view_of before event.rank) event.call event.reply ≡ true → IsViewOf next n rank (view_of (before ++ event ∷ []) rank)
+came_more : (next : Next) (n : ℕ) (before : List Event) (event : Event) (rank : ℕ) → IsViewOf next n rank (view_of before rank)
+    → IsEvent next n before event → has_shape n event.rank (view_of before event.rank) event.call event.reply ≡ true
+    → IsViewOf next n rank (view_of (before ++ event ∷ []) rank)
 came_more next n before event rank came step shaped =
     elim (test_cases (event.rank == rank)) [
       | inl h ↦ (
@@ -106,7 +111,8 @@ came_more next n before event rank came step shaped =
       | inr h ↦ rw (view_of-other before event rank h) came
     ]
 
-kept_more : (next : Next) (n : ℕ) → Lawful next → 0 < n → n ≤ 64 → (before : List Event) (event : Event) → Kept next n before → IsEvent next n before event → Kept next n (before ++ event ∷ [])
+kept_more : (next : Next) (n : ℕ) → Lawful next → 0 < n → n ≤ 64 → (before : List Event) (event : Event) → Kept next n before
+    → IsEvent next n before event → Kept next n (before ++ event ∷ [])
 kept_more next n lawful some few before event kept step =
     let form = lawful.enters n event.rank (view_of before event.rank) event.call (some, few, step.rank) (kept.came event.rank step.rank) step.call in
     let shaped = event_shaped next n before event lawful some few kept step in

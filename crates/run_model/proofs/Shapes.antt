@@ -34,11 +34,11 @@ use Rattle.run_model.specs.Pairs.{IsMatched}
 use Rattle.run_model.specs.Readiness.{AreGots, IsFrom, IsGot, IsMessage}
 use Rattle.run_model.specs.Shape.{got_fits, gots_fit, halt_fits, has_count, has_shape, is_dup, is_test}
 use Rattle.run_model.specs.Views.{Next, View, start_at, view_of}
-use Rattle.run_model.specs.Forms.{AreMembers}
-use Rattle.run_model.proofs.Agreement.{AreMembers-made, same_ranks-refl}
 use Rattle.run_model.proofs.Halts.{names}
 use Rattle.run_model.proofs.Instances.{SameInstances, input_own, inputs_fit, own_enter}
 use Rattle.run_model.proofs.Matched.{accepts-parts, taken_pair}
+use Rattle.run_model.specs.Forms.{AreMembers}
+use Rattle.run_model.proofs.MemberLists.{AreMembers-made, same_ranks-refl}
 use Rattle.run_model.proofs.TakeShapes.{ChosenFits, bad_listed, chosen_fit, long_listed, none_bad}
 use Rattle.run_model.proofs.Views.{option_cases, test_cases}
 
@@ -58,19 +58,23 @@ pub record Receives (before : List Event) (me k comm : ℕ) (source : Source) (t
   pub tag_is : tag_agrees tag is.tag ≡ true
   pub within : nat_le (length is.ints) room ≡ true
 
-pub receives : (before : List Event) (me k comm : ℕ) (source : Source) (tag : Tag) (room : ℕ) (got : Got) → IsMatched before → start_at (view_of before me) k ≡ Some (Post comm source tag room) → IsMessage before me k got → is_long (Some (Post comm source tag room)) got ≡ false → Receives before me k comm source tag room got
+pub receives : (before : List Event) (me k comm : ℕ) (source : Source) (tag : Tag) (room : ℕ) (got : Got) → IsMatched before
+    → start_at (view_of before me) k ≡ Some (Post comm source tag room) → IsMessage before me k got
+    → is_long (Some (Post comm source tag room)) got ≡ false → Receives before me k comm source tag room got
 receives before me k comm source tag room got matched at is short =
     let accepted = taken_pair before (me, k) is.send comm source tag room is.comm is.dest is.tag is.ints matched is.paired at is.sent in
     let agrees = accepts-parts me comm source tag is.send.0 is.comm is.dest is.tag is.ints accepted in
     let long : nat_lt room (length is.ints) ≡ false = rw is.got_is at short in
     record { is = is; accepted = accepted; source_is = agrees.source_is; tag_is = agrees.tag_is; within = room_fits room is.ints long }
 
-message_shaped : (n : ℕ) (own : View) (before : List Event) (me k comm : ℕ) (source : Source) (tag : Tag) (room : ℕ) (got : Got) → Receives before me k comm source tag room got → got_fits n own me (Some (Post comm source tag room)) got ≡ true
+message_shaped : (n : ℕ) (own : View) (before : List Event) (me k comm : ℕ) (source : Source) (tag : Tag) (room : ℕ) (got : Got)
+    → Receives before me k comm source tag room got → got_fits n own me (Some (Post comm source tag room)) got ≡ true
 message_shaped n own before me k comm Null tag room got of = absurd (let no : false ≡ true = of.source_is in cc)
 message_shaped n own before me k comm Any tag room got of = rw (of.is.got_is, of.tag_is, of.within)
 message_shaped n own before me k comm (From other) tag room got of = rw (of.is.got_is, of.source_is, of.tag_is, of.within)
 
-dup_same : (call : Call) (members : List ℕ) (inputs : List (List ℤ)) (me : ℕ) → (not (is_dup call) || same_ranks members (members_made call members inputs me)) ≡ true
+dup_same : (call : Call) (members : List ℕ) (inputs : List (List ℤ)) (me : ℕ)
+    → (not (is_dup call) || same_ranks members (members_made call members inputs me)) ≡ true
 dup_same (Enter comm Dup root op count ints) members inputs me = same_ranks-refl members
 dup_same (Enter comm Barrier root op count ints) members inputs me = refl
 dup_same (Enter comm Bcast root op count ints) members inputs me = refl
@@ -91,11 +95,20 @@ dup_same (Trap fault) members inputs me = refl
 dup_same End members inputs me = refl
 
 -- a new communicator's members, as the table gives them
-new_shaped : (n me c : ℕ) (own : View) (comm : ℕ) (kind : Kind) (root : Option ℕ) (op : Option Op) (count : ℕ) (ints : List ℤ) (made : List ℕ) → makes (Enter comm kind root op count ints) ≡ true → is_uncoloured (Enter comm kind root op count ints) ≡ false → (c == 0) ≡ false → AreMembers n me made → (not (is_dup (Enter comm kind root op count ints)) || same_ranks (members_in n own comm) made) ≡ true → got_fits n own me (Some (Enter comm kind root op count ints)) (Made c made) ≡ true
+new_shaped : (n me c : ℕ) (own : View) (comm : ℕ) (kind : Kind) (root : Option ℕ) (op : Option Op) (count : ℕ) (ints : List ℤ) (made : List ℕ)
+    → makes (Enter comm kind root op count ints) ≡ true → is_uncoloured (Enter comm kind root op count ints) ≡ false
+    → (c == 0) ≡ false → AreMembers n me made
+    → (not (is_dup (Enter comm kind root op count ints)) || same_ranks (members_in n own comm) made) ≡ true
+    → got_fits n own me (Some (Enter comm kind root op count ints)) (Made c made) ≡ true
 new_shaped n me c own comm kind root op count ints [] makes_is coloured real are dup = absurd (let no : false ≡ true = are.has_me in cc)
 new_shaped n me c own comm kind root op count ints (m ∷ made) makes_is coloured real are dup = rw (makes_is, coloured, real, are.below, are.distinct, are.has_me, dup)
 
-collected_shaped : (n : ℕ) (before : List Event) (me k comm : ℕ) (kind : Kind) (root : Option ℕ) (op : Option Op) (count : ℕ) (ints : List ℤ) (got : Got) (m u : Bool) (inputs : List (List ℤ)) → Collects n before me → start_at (view_of before me) k ≡ Some (Enter comm kind root op count ints) → inputs_of n (view_of before) (view_of before me) me k (Enter comm kind root op count ints) ≡ Ok inputs → makes (Enter comm kind root op count ints) ≡ m → is_uncoloured (Enter comm kind root op count ints) ≡ u → IsFrom m u n (view_of before me) me (Enter comm kind root op count ints) inputs got → got_fits n (view_of before me) me (Some (Enter comm kind root op count ints)) got ≡ true
+collected_shaped : (n : ℕ) (before : List Event) (me k comm : ℕ) (kind : Kind) (root : Option ℕ) (op : Option Op) (count : ℕ) (ints : List ℤ) (got : Got) (m u : Bool) (inputs : List (List ℤ))
+    → Collects n before me → start_at (view_of before me) k ≡ Some (Enter comm kind root op count ints)
+    → inputs_of n (view_of before) (view_of before me) me k (Enter comm kind root op count ints) ≡ Ok inputs
+    → makes (Enter comm kind root op count ints) ≡ m → is_uncoloured (Enter comm kind root op count ints) ≡ u
+    → IsFrom m u n (view_of before me) me (Enter comm kind root op count ints) inputs got
+    → got_fits n (view_of before me) me (Some (Enter comm kind root op count ints)) got ≡ true
 collected_shaped n before me k comm kind root op count ints got true true inputs of at gathered makes_is un given = rw (given, makes_is, un)
 collected_shaped n before me k comm kind root op count ints got true false inputs of at gathered makes_is un given =
     let enter : Call = Enter comm kind root op count ints in
@@ -122,7 +135,9 @@ collected_shaped n before me k comm kind root op count ints got false u inputs o
     let sized : (length (result_of enter M inputs me) == result_length enter M me) ≡ true = eq-eqb (length (result_of enter M inputs me)) (result_length enter M me) long in
     rw (given, makes_is, sized)
 
-got_shaped : (n : ℕ) (before : List Event) (me k : ℕ) (start : Option Call) (got : Got) → IsMatched before → Collects n before me → start_at (view_of before me) k ≡ start → IsGot n before (view_of before me) me k start got → is_long start got ≡ false → got_fits n (view_of before me) me start got ≡ true
+got_shaped : (n : ℕ) (before : List Event) (me k : ℕ) (start : Option Call) (got : Got) → IsMatched before → Collects n before me
+    → start_at (view_of before me) k ≡ start → IsGot n before (view_of before me) me k start got → is_long start got ≡ false
+    → got_fits n (view_of before me) me start got ≡ true
 got_shaped n before me k None got matched of at is short = absurd is
 got_shaped n before me k (Some (Send comm dest tag ints)) got matched of at is short = rw is
 got_shaped n before me k (Some (Post comm Null tag room)) got matched of at is short = rw is
@@ -136,7 +151,9 @@ got_shaped n before me k (Some (Abort code)) got matched of at is short = absurd
 got_shaped n before me k (Some (Trap fault)) got matched of at is short = absurd is
 got_shaped n before me k (Some End) got matched of at is short = absurd is
 
-gots_shaped : (n : ℕ) (before : List Event) (me : ℕ) (starts : List ℕ) (items : List Item) → IsMatched before → Collects n before me → AreGots n before (view_of before me) me starts items → first_long (view_of before me) starts items ≡ None → gots_fit n (view_of before me) me starts items ≡ true
+gots_shaped : (n : ℕ) (before : List Event) (me : ℕ) (starts : List ℕ) (items : List Item) → IsMatched before
+    → Collects n before me → AreGots n before (view_of before me) me starts items
+    → first_long (view_of before me) starts items ≡ None → gots_fit n (view_of before me) me starts items ≡ true
 gots_shaped n before me starts [] matched of are short = refl
 gots_shaped n before me starts (item ∷ items) matched of are short =
     let own : View = view_of before me in
@@ -158,18 +175,25 @@ unnamed_fits me call (BadRequest rank start) h = or_left _ _ (not_from_false _ h
 unnamed_fits me call Limit h = refl
 unnamed_fits me call Stuck h = refl
 
-stopped_shaped : (n me : ℕ) (own : View) (call : Call) (halt : Halt) (reply : Reply) → reply ≡ Stopped halt → halt_fits me call halt ≡ true → has_shape n me own call reply ≡ true
+stopped_shaped : (n me : ℕ) (own : View) (call : Call) (halt : Halt) (reply : Reply) → reply ≡ Stopped halt
+    → halt_fits me call halt ≡ true → has_shape n me own call reply ≡ true
 stopped_shaped n me own call halt reply is h = rw is h
 
-held_take : (n me : ℕ) (own : View) (starts : List ℕ) (mode : TakeMode) (test : Bool) (stuck : Type 0) (reply : Reply) → is_test mode ≡ test → IsHeld test stuck reply → has_shape n me own (Take starts mode) reply ≡ true
+held_take : (n me : ℕ) (own : View) (starts : List ℕ) (mode : TakeMode) (test : Bool) (stuck : Type 0) (reply : Reply)
+    → is_test mode ≡ test → IsHeld test stuck reply → has_shape n me own (Take starts mode) reply ≡ true
 held_take n me own starts mode true stuck reply t is = rw is t
 held_take n me own starts mode false stuck reply t is = rw is.1
 
-held_peek : (n me : ℕ) (own : View) (comm : ℕ) (source : Source) (tag : Tag) (wait test : Bool) (stuck : Type 0) (reply : Reply) → not wait ≡ test → IsHeld test stuck reply → has_shape n me own (Peek comm source tag wait) reply ≡ true
+held_peek : (n me : ℕ) (own : View) (comm : ℕ) (source : Source) (tag : Tag) (wait test : Bool) (stuck : Type 0) (reply : Reply)
+    → not wait ≡ test → IsHeld test stuck reply → has_shape n me own (Peek comm source tag wait) reply ≡ true
 held_peek n me own comm source tag wait true stuck reply t is = rw is t
 held_peek n me own comm source tag wait false stuck reply t is = rw is.1
 
-taken_shaped : (n : ℕ) (before : List Event) (me : ℕ) (starts : List ℕ) (mode : TakeMode) (long : Option ℕ) (items : List Item) (reply : Reply) → IsMatched before → Collects n before me → bad_request (view_of before me) [] starts ≡ None → first_long (view_of before me) starts items ≡ long → reply ≡ taken_reply me long items → ChosenFits mode (length starts) (map (λ (item : Item). item.index) items) → AreGots n before (view_of before me) me starts items → has_shape n me (view_of before me) (Take starts mode) reply ≡ true
+taken_shaped : (n : ℕ) (before : List Event) (me : ℕ) (starts : List ℕ) (mode : TakeMode) (long : Option ℕ) (items : List Item) (reply : Reply)
+    → IsMatched before → Collects n before me → bad_request (view_of before me) [] starts ≡ None
+    → first_long (view_of before me) starts items ≡ long → reply ≡ taken_reply me long items
+    → ChosenFits mode (length starts) (map (λ (item : Item). item.index) items)
+    → AreGots n before (view_of before me) me starts items → has_shape n me (view_of before me) (Take starts mode) reply ≡ true
 taken_shaped n before me starts mode None items reply matched of good short is chosen gots =
     let own : View = view_of before me in
     let count : has_count mode (length starts) (length items) ≡ true = simp length-map at chosen.count in
@@ -177,7 +201,11 @@ taken_shaped n before me starts mode None items reply matched of good short is c
 taken_shaped n before me starts mode (Some k) items reply matched of good long is chosen gots =
     stopped_shaped n me (view_of before me) (Take starts mode) (Truncated me k) reply is (or_right _ _ (long_listed (view_of before me) starts 0 items k chosen.rising long))
 
-take_shaped : (n : ℕ) (before : List Event) (me : ℕ) (starts : List ℕ) (mode : TakeMode) (condition : Bool) (stuck : Type 0) (reply : Reply) → IsMatched before → Collects n before me → bad_request (view_of before me) [] starts ≡ None → holds mode (flags_of n before (view_of before me) me starts) ≡ condition → IsTakeAnswer condition stuck n before (view_of before me) me starts mode reply → has_shape n me (view_of before me) (Take starts mode) reply ≡ true
+take_shaped : (n : ℕ) (before : List Event) (me : ℕ) (starts : List ℕ) (mode : TakeMode) (condition : Bool) (stuck : Type 0) (reply : Reply)
+    → IsMatched before → Collects n before me → bad_request (view_of before me) [] starts ≡ None
+    → holds mode (flags_of n before (view_of before me) me starts) ≡ condition
+    → IsTakeAnswer condition stuck n before (view_of before me) me starts mode reply
+    → has_shape n me (view_of before me) (Take starts mode) reply ≡ true
 take_shaped n before me starts mode true stuck reply matched of good h is =
     let own : View = view_of before me in
     let chosen = chosen_fit mode (flags_of n before own me starts) (map (λ (item : Item). item.index) is.items) is.chosen h in
@@ -186,14 +214,17 @@ take_shaped n before me starts mode true stuck reply matched of good h is =
 take_shaped n before me starts mode false stuck reply matched of good h is =
     held_take n me (view_of before me) starts mode (is_test mode) stuck reply refl is
 
-peek_shaped : (n : ℕ) (before : List Event) (own : View) (me comm : ℕ) (source : Source) (tag : Tag) (wait found : Bool) (stuck : Type 0) (reply : Reply) → IsPeekAnswer found stuck before me comm source tag wait reply → has_shape n me own (Peek comm source tag wait) reply ≡ true
+peek_shaped : (n : ℕ) (before : List Event) (own : View) (me comm : ℕ) (source : Source) (tag : Tag) (wait found : Bool) (stuck : Type 0) (reply : Reply)
+    → IsPeekAnswer found stuck before me comm source tag wait reply → has_shape n me own (Peek comm source tag wait) reply ≡ true
 peek_shaped n before own me comm source tag wait true stuck reply is =
     let agrees = accepts-parts me comm source tag is.send.0 is.c is.dest is.t is.ints is.accepted in
     rw (is.reply_is, agrees.source_is, agrees.tag_is)
 peek_shaped n before own me comm source tag wait false stuck reply is = held_peek n me own comm source tag wait (not wait) stuck reply refl is
 
 -- a call that no earlier halt and no bound stops
-answer_shaped : (n : ℕ) (before : List Event) (me : ℕ) (call : Call) (halt : Option Halt) (stuck : Type 0) (reply : Reply) → IsMatched before → Collects n before me → halt_at n before (view_of before me) me call ≡ halt → IsAllowedBy halt stuck n before (view_of before me) me call reply → has_shape n me (view_of before me) call reply ≡ true
+answer_shaped : (n : ℕ) (before : List Event) (me : ℕ) (call : Call) (halt : Option Halt) (stuck : Type 0) (reply : Reply)
+    → IsMatched before → Collects n before me → halt_at n before (view_of before me) me call ≡ halt
+    → IsAllowedBy halt stuck n before (view_of before me) me call reply → has_shape n me (view_of before me) call reply ≡ true
 answer_shaped n before me (Send comm dest tag ints) halt stuck reply matched of h is =
     let F : Option Halt → Type 0 = λ x. IsAllowedBy x stuck n before (view_of before me) me (Send comm dest tag ints) reply in
     let none : None ≡ halt = h in
@@ -242,7 +273,9 @@ answer_shaped n before me (Take starts mode) halt stuck reply matched of h is =
 pub record Unnamed (before : List Event) (me : ℕ) : Type 0 where
   pub unnamed : (halt : Halt) → halted before ≡ Some halt → names me halt ≡ false
 
-pub allowed_shaped : (next : Next) (n : ℕ) (before : List Event) (me : ℕ) (call : Call) (reply : Reply) → IsMatched before → Collects n before me → Unnamed before me → IsAllowed next n before me call reply → has_shape n me (view_of before me) call reply ≡ true
+pub allowed_shaped : (next : Next) (n : ℕ) (before : List Event) (me : ℕ) (call : Call) (reply : Reply) → IsMatched before
+    → Collects n before me → Unnamed before me → IsAllowed next n before me call reply
+    → has_shape n me (view_of before me) call reply ≡ true
 allowed_shaped next n before me call reply matched of unnamed is =
     let own : View = view_of before me in
     let F : Option Halt → Type 0 = λ x. IsAllowedBy x (IsStuck next n before) n before own me call reply in

@@ -18,7 +18,8 @@ starts_of-append (x ∷ xs) ys =
       | inr h ↦ rw (h, starts_of-append xs ys)
     ]
 
-pub entered_from-append : (comm number : ℕ) (known : Option (List ℕ)) (xs ys : View) → IsPrefixOf (entered_from comm number known xs) (entered_from comm number known (xs ++ ys))
+pub entered_from-append : (comm number : ℕ) (known : Option (List ℕ)) (xs ys : View)
+    → IsPrefixOf (entered_from comm number known xs) (entered_from comm number known (xs ++ ys))
 entered_from-append comm number known [] ys = (entered_from comm number known ys, refl)
 entered_from-append comm number known ((call, reply) ∷ xs) ys =
     elim (test_cases (is_start (call, reply))) [
@@ -39,7 +40,8 @@ pub start_at-kept : (xs ys : View) (number : ℕ) → IsPrefixOf xs ys → Keeps
 start_at-kept xs ys number prefix =
     record { kept = λ x h. rw (← prefix.1, starts_of-append) (slice_get-append (starts_of xs) (starts_of prefix.0) number x h) }
 
-pub enter_at-kept : (n : ℕ) (xs ys : View) (comm instance : ℕ) → IsPrefixOf xs ys → Keeps (enter_at n xs comm instance) (enter_at n ys comm instance)
+pub enter_at-kept : (n : ℕ) (xs ys : View) (comm instance : ℕ) → IsPrefixOf xs ys
+    → Keeps (enter_at n xs comm instance) (enter_at n ys comm instance)
 enter_at-kept n xs ys comm instance prefix =
     record {
       kept = λ x h.
@@ -61,7 +63,8 @@ slice_get-below [] k x h = absurd (cc)
 slice_get-below (y ∷ xs) zero x h = omega arith
 slice_get-below (y ∷ xs) (suc k) x h = let below = slice_get-below xs k x h in omega arith
 
-pub slice_get-push : {A : Type 0} (xs : List A) (x : A) (k : ℕ) (y : A) → slice_get (xs ++ x ∷ []) k ≡ Some y → (k ≡ length xs) ⊎ (slice_get xs k ≡ Some y)
+pub slice_get-push : {A : Type 0} (xs : List A) (x : A) (k : ℕ) (y : A) → slice_get (xs ++ x ∷ []) k ≡ Some y
+    → (k ≡ length xs) ⊎ (slice_get xs k ≡ Some y)
 slice_get-push [] x zero y h = inl refl
 slice_get-push [] x (suc k) y h = absurd (cc)
 slice_get-push (z ∷ xs) x zero y h = inr h

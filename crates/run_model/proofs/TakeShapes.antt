@@ -16,7 +16,8 @@ use Rattle.run_model.proofs.Views.{test_cases}
 
 -- In a run, the entry of a Take fits it.
 -- chosen places
-rises_places : (from low len : ℕ) (flags : List Bool) → from ≤ low → low + length flags ≡ len → rises from len (true_places low flags) ≡ true
+rises_places : (from low len : ℕ) (flags : List Bool) → from ≤ low → low + length flags ≡ len
+    → rises from len (true_places low flags) ≡ true
 rises_places from low len [] h e = refl
 rises_places from low len (true ∷ flags) h e =
     let one : nat_le from low ≡ true = le-leb from low h in
@@ -38,7 +39,8 @@ pub record ChosenFits (mode : TakeMode) (len : ℕ) (indices : List ℕ) : Type 
   pub count : has_count mode len (length indices) ≡ true
   pub rising : rises 0 len indices ≡ true
 
-one_fits : (mode : TakeMode) (flags : List Bool) (indices : List ℕ) → IsOne flags indices → ((n : ℕ) → has_count mode n 1 ≡ true) → ChosenFits mode (length flags) indices
+one_fits : (mode : TakeMode) (flags : List Bool) (indices : List ℕ) → IsOne flags indices → ((n : ℕ) → has_count mode n 1 ≡ true)
+    → ChosenFits mode (length flags) indices
 one_fits mode flags indices one counts =
     let below : one.0 < length flags = slice_get-below flags one.0 true one.2 in
     record {
@@ -46,15 +48,18 @@ one_fits mode flags indices one counts =
       rising = rw (one.1, lt-ltb one.0 (length flags) below, le-leb 0 one.0 (omega arith));
     }
 
-all_fit : (mode : TakeMode) (flags : List Bool) (indices : List ℕ) → indices ≡ true_places 0 flags → list_all (λ x. x) flags ≡ true → ((n : ℕ) → has_count mode n n ≡ true) → ChosenFits mode (length flags) indices
+all_fit : (mode : TakeMode) (flags : List Bool) (indices : List ℕ) → indices ≡ true_places 0 flags
+    → list_all (λ x. x) flags ≡ true → ((n : ℕ) → has_count mode n n ≡ true) → ChosenFits mode (length flags) indices
 all_fit mode flags indices e h counts =
     record { count = rw (e, count_places 0 flags h) (counts (length flags)); rising = rw e (rises_places 0 0 (length flags) flags (omega arith) (omega arith)) }
 
-some_fit : (mode : TakeMode) (flags : List Bool) (indices : List ℕ) → indices ≡ true_places 0 flags → list_any (λ x. x) flags ≡ true → ((n m : ℕ) → 0 < m → has_count mode n m ≡ true) → ChosenFits mode (length flags) indices
+some_fit : (mode : TakeMode) (flags : List Bool) (indices : List ℕ) → indices ≡ true_places 0 flags
+    → list_any (λ x. x) flags ≡ true → ((n m : ℕ) → 0 < m → has_count mode n m ≡ true) → ChosenFits mode (length flags) indices
 some_fit mode flags indices e h counts =
     record { count = rw e (counts (length flags) (length (true_places 0 flags)) (some_places 0 flags h)); rising = rw e (rises_places 0 0 (length flags) flags (omega arith) (omega arith)) }
 
-pub chosen_fit : (mode : TakeMode) (flags : List Bool) (indices : List ℕ) → AreChosen mode flags indices → holds mode flags ≡ true → ChosenFits mode (length flags) indices
+pub chosen_fit : (mode : TakeMode) (flags : List Bool) (indices : List ℕ) → AreChosen mode flags indices → holds mode flags ≡ true
+    → ChosenFits mode (length flags) indices
 chosen_fit All flags indices e h = all_fit All flags indices e h (λ n. eq-eqb n n refl)
 chosen_fit TestAll flags indices e h = all_fit TestAll flags indices e h (λ n. eq-eqb n n refl)
 chosen_fit AnyOne flags indices e h = one_fits AnyOne flags indices e (λ n. refl)
@@ -63,7 +68,8 @@ chosen_fit Several flags indices e h = some_fit Several flags indices e h (λ n 
 chosen_fit TestSeveral flags indices e h = some_fit TestSeveral flags indices e h (λ n m l. lt-ltb 0 m l)
 
 -- listed starts
-pub none_bad : (own : View) (earlier starts : List ℕ) → bad_request own earlier starts ≡ None → list_all (λ k. can_take own k) starts ≡ true
+pub none_bad : (own : View) (earlier starts : List ℕ) → bad_request own earlier starts ≡ None
+    → list_all (λ k. can_take own k) starts ≡ true
 none_bad own earlier [] h = refl
 none_bad own earlier (k ∷ starts) h =
     elim (test_cases (is_some (start_at own k) && (not (is_member (taken_of own) k) && not (is_member earlier k)))) [
@@ -75,7 +81,8 @@ none_bad own earlier (k ∷ starts) h =
       | inr t ↦ (let no : Some k ≡ None = rw t at h in absurd (cc))
     ]
 
-pub bad_listed : (own : View) (earlier starts : List ℕ) (k : ℕ) → bad_request own earlier starts ≡ Some k → is_member starts k ≡ true
+pub bad_listed : (own : View) (earlier starts : List ℕ) (k : ℕ) → bad_request own earlier starts ≡ Some k
+    → is_member starts k ≡ true
 bad_listed own earlier [] k h = absurd (cc)
 bad_listed own earlier (x ∷ starts) k h =
     elim (test_cases (is_some (start_at own x) && (not (is_member (taken_of own) x) && not (is_member earlier x)))) [
@@ -88,7 +95,9 @@ index_listed [] index h = absurd (omega arith)
 index_listed (k ∷ starts) zero h = or_left (k == k) (is_member starts k) (eq-eqb k k refl)
 index_listed (k ∷ starts) (suc index) h = or_right (k == slice_index starts index) (is_member starts (slice_index starts index)) (index_listed starts index (omega arith))
 
-pub long_listed : (own : View) (starts : List ℕ) (low : ℕ) (items : List Item) (k : ℕ) → rises low (length starts) (map (λ (item : Item). item.index) items) ≡ true → first_long own starts items ≡ Some k → is_member starts k ≡ true
+pub long_listed : (own : View) (starts : List ℕ) (low : ℕ) (items : List Item) (k : ℕ)
+    → rises low (length starts) (map (λ (item : Item). item.index) items) ≡ true → first_long own starts items ≡ Some k
+    → is_member starts k ≡ true
 long_listed own starts low [] k rising h = absurd (cc)
 long_listed own starts low (item ∷ items) k rising h =
     let one = and_parts (nat_le low item.index) (nat_lt item.index (length starts) && rises (item.index + 1) (length starts) (map (λ (item : Item). item.index) items)) rising in

@@ -39,25 +39,32 @@ IsTrueReply n before own me call (Took items) = AreGots n before own me (listed_
 IsTrueReply n before own me call (Peeked source start tag count) = IsPeekedSend before me call source start tag count
 
 -- an allowed reply is true
-taken_true : (n : ℕ) (before : List Event) (own : View) (me : ℕ) (starts : List ℕ) (mode : TakeMode) (long : Option ℕ) (items : List Item) (reply : Reply) → AreGots n before own me starts items → reply ≡ taken_reply me long items → IsTrueReply n before own me (Take starts mode) reply
+taken_true : (n : ℕ) (before : List Event) (own : View) (me : ℕ) (starts : List ℕ) (mode : TakeMode) (long : Option ℕ) (items : List Item) (reply : Reply)
+    → AreGots n before own me starts items → reply ≡ taken_reply me long items
+    → IsTrueReply n before own me (Take starts mode) reply
 taken_true n before own me starts mode None items reply are is = rw is are
 taken_true n before own me starts mode (Some k) items reply are is = rw is tt
 
-held_true : (n : ℕ) (before : List Event) (own : View) (me : ℕ) (call : Call) (test : Bool) (stuck : Type 0) (reply : Reply) → IsHeld test stuck reply → IsTrueReply n before own me call reply
+held_true : (n : ℕ) (before : List Event) (own : View) (me : ℕ) (call : Call) (test : Bool) (stuck : Type 0) (reply : Reply)
+    → IsHeld test stuck reply → IsTrueReply n before own me call reply
 held_true n before own me call true stuck reply is = rw is tt
 held_true n before own me call false stuck reply is = rw is.1 tt
 
-take_true : (n : ℕ) (before : List Event) (own : View) (me : ℕ) (starts : List ℕ) (mode : TakeMode) (condition : Bool) (stuck : Type 0) (reply : Reply) → IsTakeAnswer condition stuck n before own me starts mode reply → IsTrueReply n before own me (Take starts mode) reply
+take_true : (n : ℕ) (before : List Event) (own : View) (me : ℕ) (starts : List ℕ) (mode : TakeMode) (condition : Bool) (stuck : Type 0) (reply : Reply)
+    → IsTakeAnswer condition stuck n before own me starts mode reply → IsTrueReply n before own me (Take starts mode) reply
 take_true n before own me starts mode true stuck reply is =
     taken_true n before own me starts mode (first_long own starts is.items) is.items reply is.gots is.reply_is
 take_true n before own me starts mode false stuck reply is = held_true n before own me (Take starts mode) (is_test mode) stuck reply is
 
-peek_true : (n : ℕ) (before : List Event) (own : View) (me comm : ℕ) (source : Source) (tag : Tag) (wait found : Bool) (stuck : Type 0) (reply : Reply) → IsPeekAnswer found stuck before me comm source tag wait reply → IsTrueReply n before own me (Peek comm source tag wait) reply
+peek_true : (n : ℕ) (before : List Event) (own : View) (me comm : ℕ) (source : Source) (tag : Tag) (wait found : Bool) (stuck : Type 0) (reply : Reply)
+    → IsPeekAnswer found stuck before me comm source tag wait reply
+    → IsTrueReply n before own me (Peek comm source tag wait) reply
 peek_true n before own me comm source tag wait true stuck reply is =
     rw is.reply_is (record { comm = is.c; dest = is.dest; ints = is.ints; sent = is.sent; counted = refl; accepted = is.accepted })
 peek_true n before own me comm source tag wait false stuck reply is = held_true n before own me (Peek comm source tag wait) (not wait) stuck reply is
 
-answer_true : (stuck : Type 0) (n : ℕ) (before : List Event) (own : View) (me : ℕ) (call : Call) (reply : Reply) → IsAnswer stuck n before own me call reply → IsTrueReply n before own me call reply
+answer_true : (stuck : Type 0) (n : ℕ) (before : List Event) (own : View) (me : ℕ) (call : Call) (reply : Reply)
+    → IsAnswer stuck n before own me call reply → IsTrueReply n before own me call reply
 answer_true stuck n before own me (Take starts mode) reply is = take_true n before own me starts mode (holds mode (flags_of n before own me starts)) stuck reply is
 answer_true stuck n before own me (Peek comm source tag wait) reply is = peek_true n before own me comm source tag wait (has_open n before me comm source tag) stuck reply is
 answer_true stuck n before own me (Send comm dest tag ints) reply is = rw is tt
@@ -67,6 +74,7 @@ answer_true stuck n before own me (Abort code) reply is = rw is tt
 answer_true stuck n before own me (Trap fault) reply is = rw is tt
 answer_true stuck n before own me End reply is = rw is tt
 
-pub allowed_true : (halt : Option Halt) (stuck : Type 0) (n : ℕ) (before : List Event) (own : View) (me : ℕ) (call : Call) (reply : Reply) → IsAllowedBy halt stuck n before own me call reply → IsTrueReply n before own me call reply
+pub allowed_true : (halt : Option Halt) (stuck : Type 0) (n : ℕ) (before : List Event) (own : View) (me : ℕ) (call : Call) (reply : Reply)
+    → IsAllowedBy halt stuck n before own me call reply → IsTrueReply n before own me call reply
 allowed_true None stuck n before own me call reply is = answer_true stuck n before own me call reply is
 allowed_true (Some halt) stuck n before own me call reply is = rw is tt

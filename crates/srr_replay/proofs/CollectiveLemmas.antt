@@ -10,7 +10,8 @@ use Rattle.run_model.specs.Communicators.{Entered, enter_at, instance_of, member
 use Rattle.run_model.specs.Inputs.{inputs_of}
 use Rattle.run_model.specs.Lists.{same_ranks}
 use Rattle.run_model.specs.Views.{View, view_of}
-use Rattle.run_model.proofs.Agreement.{below_member, input_length-agree}
+use Rattle.run_model.proofs.Agreement.{input_length-agree}
+use Rattle.run_model.proofs.MemberLists.{below_member}
 use Rattle.run_model.proofs.Instances.{gather-at, gather-length}
 use Rattle.run_model.proofs.Views.{test_cases}
 use Rattle.srr_replay.specs.declared.step.Found.{Found}

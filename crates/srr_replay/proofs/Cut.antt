@@ -53,7 +53,8 @@ split_at (x ∷ xs) (suc k) h =
     let later = split_at xs k (omega arith) in
     record { front = x ∷ later.front; here = later.here; rest = later.rest; whole = ap (λ l. x ∷ l) later.whole; long = ap suc later.long }
 
-pub same_front : {A : Type 0} (xs ys : List A) (x y : A) (p q : List A) → length xs ≡ length ys → xs ++ x ∷ p ≡ ys ++ y ∷ q → (xs ≡ ys) × (x ≡ y)
+pub same_front : {A : Type 0} (xs ys : List A) (x y : A) (p q : List A) → length xs ≡ length ys → xs ++ x ∷ p ≡ ys ++ y ∷ q
+    → (xs ≡ ys) × (x ≡ y)
 same_front [] [] x y p q l e = (refl, cc)
 same_front [] (b ∷ ys) x y p q l e = absurd (omega (arith, l))
 same_front (a ∷ xs) [] x y p q l e = absurd (omega (arith, l))
@@ -72,13 +73,16 @@ same_length (a ∷ xs) (b ∷ ys) p q l e =
     let tails : xs ++ p ≡ ys ++ q = cc in
     ap (λ h. h ∷ xs) heads ∙ ap (λ t. b ∷ t) (same_length xs ys p q (omega (arith, l)) tails)
 
-judged-waits : (me : ℕ) (own : View) (call : Call) (entry : Entry) (fill : Result Reply Missing) (found : Option Found) (missing : Missing) → judged me own call entry fill found ≡ Wait missing → fill ≡ Err missing
+judged-waits : (me : ℕ) (own : View) (call : Call) (entry : Entry) (fill : Result Reply Missing) (found : Option Found) (missing : Missing)
+    → judged me own call entry fill found ≡ Wait missing → fill ≡ Err missing
 judged-waits me own call entry (Err m) found missing h = (let e : m ≡ missing = cc in ap (λ x. Err x) e)
 judged-waits me own call entry (Ok other) (Some found) missing h = absurd (cc)
 judged-waits me own call entry (Ok other) None missing h = absurd (cc)
 
 -- what stands at a place of a replay stands there in the run
-at_place : (next : Next) (log : Log) (stop : Stop) (run events : List Event) (rank : ℕ) (view rest : View) (call : Call) (reply : Reply) → IsRunWith next log run → Replays next log stop events → view_of run rank ≡ view ++ (call, reply) ∷ rest → length view < length (view_of events rank) → answer_of log stop (view_of events) view rank call ≡ Replied reply
+at_place : (next : Next) (log : Log) (stop : Stop) (run events : List Event) (rank : ℕ) (view rest : View) (call : Call) (reply : Reply)
+    → IsRunWith next log run → Replays next log stop events → view_of run rank ≡ view ++ (call, reply) ∷ rest
+    → length view < length (view_of events rank) → answer_of log stop (view_of events) view rank call ≡ Replied reply
 at_place next log stop run events rank view rest call reply is all e below =
     let cut = split_at (view_of events rank) (length view) below in
     let prefix = begins_run next log stop run events is all rank in
@@ -90,7 +94,9 @@ at_place next log stop run events rank view rest call reply is all e below =
     (step_in next log stop events rank view call reply cut.rest all here).1
 
 -- no place of a replay is cut off
-pub cut_off_not : (next : Next) (log : Log) (stop : Stop) (run events : List Event) (rank number : ℕ) → IsRunWith next log run → Replays next log stop events → IsCutOff log.ranks log.group (view_of run) stop rank number → number < length (view_of events rank) → ⊥
+pub cut_off_not : (next : Next) (log : Log) (stop : Stop) (run events : List Event) (rank number : ℕ) → IsRunWith next log run
+    → Replays next log stop events → IsCutOff log.ranks log.group (view_of run) stop rank number
+    → number < length (view_of events rank) → ⊥
 cut_off_not next log stop run events _ _ is all (stops rank number t) below =
     let cut = split_at (view_of events rank) number below in
     let here = step_in next log stop events rank cut.front cut.here.0 cut.here.1 cut.rest all cut.whole in
@@ -115,7 +121,9 @@ cut_off_not next log stop run events _ _ is all (rests_on rank view rest call re
     cut_off_not next log stop run events (rank_of missing) number is all off (subst F same place.2)
 
 -- an answer to wait names what is missing
-waits_for : (log : Log) (stop : Stop) (V : ℕ → View) (own : View) (me : ℕ) (call : Call) (entry : Entry) (missing : Missing) → slice_get (entries_for log.group log.lists me) (length own) ≡ Some entry → answer_of log stop V own me call ≡ Wait missing → filled log.ranks V own me call entry ≡ Err missing
+waits_for : (log : Log) (stop : Stop) (V : ℕ → View) (own : View) (me : ℕ) (call : Call) (entry : Entry) (missing : Missing)
+    → slice_get (entries_for log.group log.lists me) (length own) ≡ Some entry → answer_of log stop V own me call ≡ Wait missing
+    → filled log.ranks V own me call entry ≡ Err missing
 waits_for log stop V own me call entry missing e h =
     elim (test_cases (is_break stop me (length own))) [
       | inl t ↦ (let no : AtBreak ≡ Wait missing = rw t at h in absurd (cc))
@@ -125,7 +133,8 @@ waits_for log stop V own me call entry missing e h =
       ]
     ]
 
-not_break : (n : ℕ) (group : List ℕ) (V : ℕ → View) (stop : Stop) (rank number : ℕ) → (IsCutOff n group V stop rank number → ⊥) → is_break stop rank number ≡ false
+not_break : (n : ℕ) (group : List ℕ) (V : ℕ → View) (stop : Stop) (rank number : ℕ) → (IsCutOff n group V stop rank number → ⊥)
+    → is_break stop rank number ≡ false
 not_break n group V stop rank number free =
     elim (test_cases (is_break stop rank number)) [
       | inr t ↦ t
@@ -137,7 +146,12 @@ abbrev HasFree : ℕ → List ℕ → (ℕ → View) → Stop → List Event →
 HasFree n group V stop events before =
     (rank number : ℕ) → is_member group rank ≡ true → number < length (view_of before rank) → (IsCutOff n group V stop rank number → ⊥) → number < length (view_of events rank)
 
-missing_there : (n : ℕ) (group : List ℕ) (stop : Stop) (run events before : List Event) (rank : ℕ) (view rest : View) (call : Call) (reply : Reply) (missing : Missing) → HasFree n group (view_of run) stop events before → Begins (view_of events) (view_of run) → Begins (view_of before) (view_of run) → is_member group rank ≡ true → view_of run rank ≡ view ++ (call, reply) ∷ rest → (IsCutOff n group (view_of run) stop rank (length view) → ⊥) → Among missing (rests n view rank call (entry_of n group rank view call reply)) → is_there n (within group (view_of before)) missing ≡ true → is_there n (view_of events) missing ≡ true
+missing_there : (n : ℕ) (group : List ℕ) (stop : Stop) (run events before : List Event) (rank : ℕ) (view rest : View) (call : Call) (reply : Reply) (missing : Missing)
+    → HasFree n group (view_of run) stop events before → Begins (view_of events) (view_of run)
+    → Begins (view_of before) (view_of run) → is_member group rank ≡ true → view_of run rank ≡ view ++ (call, reply) ∷ rest
+    → (IsCutOff n group (view_of run) stop rank (length view) → ⊥)
+    → Among missing (rests n view rank call (entry_of n group rank view call reply))
+    → is_there n (within group (view_of before)) missing ≡ true → is_there n (view_of events) missing ≡ true
 missing_there n group stop run events before rank view rest call reply missing has begins begins_before member e free among there =
     let up : Begins (within group (view_of before)) (view_of run) = λ r. prefix_trans (within group (view_of before) r) (view_of before r) (view_of run r) (within_begins group (view_of before) r) (begins_before r) in
     let place = below_there n (within group (view_of before)) (view_of run) missing up there in
@@ -152,7 +166,11 @@ missing_there n group stop run events before rank view rest call reply missing h
     ]
 
 -- the next place, where it is not cut off, is a step
-next_free : (next : Next) (log : Log) (stop : Stop) (run events before after : List Event) (event : Event) → Lawful next → IsRunWith next log run → IsWholeReplay next log stop events → run ≡ before ++ event ∷ after → HasFree log.ranks log.group (view_of run) stop events before → is_member log.group event.rank ≡ true → (IsCutOff log.ranks log.group (view_of run) stop event.rank (length (view_of before event.rank)) → ⊥) → view_of before event.rank ≡ view_of events event.rank → ⊥
+next_free : (next : Next) (log : Log) (stop : Stop) (run events before after : List Event) (event : Event) → Lawful next
+    → IsRunWith next log run → IsWholeReplay next log stop events → run ≡ before ++ event ∷ after
+    → HasFree log.ranks log.group (view_of run) stop events before → is_member log.group event.rank ≡ true
+    → (IsCutOff log.ranks log.group (view_of run) stop event.rank (length (view_of before event.rank)) → ⊥)
+    → view_of before event.rank ≡ view_of events event.rank → ⊥
 next_free next log stop run events before after event lawful is all e has member free same =
     let n : ℕ = log.ranks in
     let group : List ℕ = log.group in
@@ -185,13 +203,19 @@ next_free next log stop run events before after event lawful is all e has member
           cc)
     ]
 
-free_below : (n : ℕ) (group : List ℕ) (stop : Stop) (run events before : List Event) (rank number : ℕ) → HasFree n group (view_of run) stop events before → is_member group rank ≡ true → (IsCutOff n group (view_of run) stop rank number → ⊥) → number ≤ length (view_of before rank) → number ≤ length (view_of events rank)
+free_below : (n : ℕ) (group : List ℕ) (stop : Stop) (run events before : List Event) (rank number : ℕ)
+    → HasFree n group (view_of run) stop events before → is_member group rank ≡ true
+    → (IsCutOff n group (view_of run) stop rank number → ⊥) → number ≤ length (view_of before rank)
+    → number ≤ length (view_of events rank)
 free_below n group stop run events before rank zero has member free h = omega arith
 free_below n group stop run events before rank (suc number) has member free h =
     let below = has rank number member (omega arith) (λ b. free (follows rank number b)) in
     omega arith
 
-free_step : (next : Next) (log : Log) (stop : Stop) (run events : List Event) → Lawful next → IsRunWith next log run → IsWholeReplay next log stop events → (before after : List Event) (event : Event) → run ≡ before ++ event ∷ after → HasFree log.ranks log.group (view_of run) stop events before → HasFree log.ranks log.group (view_of run) stop events (before ++ event ∷ [])
+free_step : (next : Next) (log : Log) (stop : Stop) (run events : List Event) → Lawful next → IsRunWith next log run
+    → IsWholeReplay next log stop events → (before after : List Event) (event : Event) → run ≡ before ++ event ∷ after
+    → HasFree log.ranks log.group (view_of run) stop events before
+    → HasFree log.ranks log.group (view_of run) stop events (before ++ event ∷ [])
 free_step next log stop run events lawful is all before after event e has rank number member below free =
     let n : ℕ = log.ranks in
     let group : List ℕ = log.group in
@@ -231,7 +255,8 @@ free_step next log stop run events lawful is all before after event e has rank n
     ]
 
 -- a replay that can go no further has each place of the group that is not cut off
-has_free : (next : Next) (log : Log) (stop : Stop) (run events : List Event) → Lawful next → IsRunWith next log run → IsWholeReplay next log stop events → HasFree log.ranks log.group (view_of run) stop events run
+has_free : (next : Next) (log : Log) (stop : Stop) (run events : List Event) → Lawful next → IsRunWith next log run
+    → IsWholeReplay next log stop events → HasFree log.ranks log.group (view_of run) stop events run
 has_free next log stop run events lawful is all =
     walk run (HasFree log.ranks log.group (view_of run) stop events) (free_step next log stop run events lawful is all) [] run refl (λ rank number member below free. absurd (omega arith))
 
@@ -241,7 +266,8 @@ longer_of xs ys number prefix below =
     omega arith
 
 -- the exact cut
-pub cut_law : (next : Next) (log : Log) (stop : Stop) (run events : List Event) → Lawful next → IsRunWith next log run → IsWholeReplay next log stop events → HasTheCut log stop events run
+pub cut_law : (next : Next) (log : Log) (stop : Stop) (run events : List Event) → Lawful next → IsRunWith next log run
+    → IsWholeReplay next log stop events → HasTheCut log stop events run
 cut_law next log stop run events lawful is all rank number = (
   λ below. (
       let begins = Begins-run next log stop run events is all.replays in
@@ -260,7 +286,8 @@ cut_law next log stop run events lawful is all rank number = (
 )
 
 -- without a breakpoint nothing is cut off
-none_cut_off : (n : ℕ) (group : List ℕ) (V : ℕ → View) (stop : Stop) (rank number : ℕ) → stop ≡ None → IsCutOff n group V stop rank number → ⊥
+none_cut_off : (n : ℕ) (group : List ℕ) (V : ℕ → View) (stop : Stop) (rank number : ℕ) → stop ≡ None
+    → IsCutOff n group V stop rank number → ⊥
 none_cut_off n group V stop _ _ stopless (stops rank number t) = (let e : is_break None rank number ≡ true = rw stopless at t in let bad : false ≡ true = e in cc)
 none_cut_off n group V stop _ _ stopless (follows rank number off) = none_cut_off n group V stop rank number stopless off
 none_cut_off n group V stop _ _ stopless (rests_on rank view rest call reply missing number member e among number_is off) = none_cut_off n group V stop (rank_of missing) number stopless off
@@ -281,20 +308,24 @@ nothing_more xs ys prefix short =
     sym (append-nil xs) ∙ subst F (nothing_in prefix.0 none) prefix.1
 
 -- no starvation: each rank of the group has its whole view
-pub whole_views : (next : Next) (log : Log) (stop : Stop) (run events : List Event) (rank : ℕ) → stop ≡ None → Lawful next → IsRunWith next log run → IsWholeReplay next log stop events → is_member log.group rank ≡ true → view_of events rank ≡ view_of run rank
+pub whole_views : (next : Next) (log : Log) (stop : Stop) (run events : List Event) (rank : ℕ) → stop ≡ None → Lawful next
+    → IsRunWith next log run → IsWholeReplay next log stop events → is_member log.group rank ≡ true
+    → view_of events rank ≡ view_of run rank
 whole_views next log stop run events rank stopless lawful is all member =
     let all_there : (number : ℕ) → number < length (view_of run rank) → number < length (view_of events rank) = λ number below.
     has_free next log stop run events lawful is all rank number member below (none_cut_off log.ranks log.group (view_of run) stop rank number stopless) in
     nothing_more (view_of events rank) (view_of run rank) (begins_run next log stop run events is all.replays rank) (at_most (length (view_of run rank)) (length (view_of events rank)) all_there)
 
-pub HasAllOf-whole : (next : Next) (output : ℕ → ℕ → List Reply → List ℕ) (log : Log) (stop : Stop) (run events : List Event) → stop ≡ None → Lawful next → IsRunWith next log run → IsWholeReplay next log stop events → HasAllOf output log events run
+pub HasAllOf-whole : (next : Next) (output : ℕ → ℕ → List Reply → List ℕ) (log : Log) (stop : Stop) (run events : List Event)
+    → stop ≡ None → Lawful next → IsRunWith next log run → IsWholeReplay next log stop events → HasAllOf output log events run
 HasAllOf-whole next output log stop run events stopless lawful is all =
     record {
       views = λ rank member. whole_views next log stop run events rank stopless lawful is all member;
       outputs = λ rank member. ap (λ v. output log.ranks rank (replies_in v)) (whole_views next log stop run events rank stopless lawful is all member);
     }
 
-stand_done : (next : Option Call) (variables : List Variable) (answer : Call → Step) (stand : Stand) → ((call : Call) → answer call ≡ LogEnded) → stand_where next variables answer ≡ Some stand → IsDone stand
+stand_done : (next : Option Call) (variables : List Variable) (answer : Call → Step) (stand : Stand)
+    → ((call : Call) → answer call ≡ LogEnded) → stand_where next variables answer ≡ Some stand → IsDone stand
 stand_done None variables answer stand ended h = (let same : StandEnded ≡ stand = cc in inl (sym same))
 stand_done (Some call) variables answer stand ended h =
     let at : Some StandLogEnded ≡ Some stand = rw (ended call) at h in
@@ -302,7 +333,9 @@ stand_done (Some call) variables answer stand ended h =
     inr (sym same)
 
 -- and each stand is Ended or LogEnded
-pub stands_done : (next : Next) (variables : ℕ → ℕ → List Reply → List Variable) (log : Log) (stop : Stop) (run events : List Event) → stop ≡ None → Lawful next → IsRunWith next log run → IsWholeReplay next log stop events → EachStand IsDone next variables log stop events
+pub stands_done : (next : Next) (variables : ℕ → ℕ → List Reply → List Variable) (log : Log) (stop : Stop) (run events : List Event)
+    → stop ≡ None → Lawful next → IsRunWith next log run → IsWholeReplay next log stop events
+    → EachStand IsDone next variables log stop events
 stands_done next variables log stop run events stopless lawful is all rank stand member h =
     let own : View = view_of events rank in
     let past = entry_past log run rank own is.same_log member (sym (whole_views next log stop run events rank stopless lawful is all member)) in

@@ -31,7 +31,9 @@ peeked-same source start None p reply keeps h = absurd (cc)
 peeked-same source start (Some call) p reply keeps h = keeps.kept call refl
 
 -- as long as none is missing, the same Enters are found, and the same of them disagree
-pub break_members-same : (needed : ℕ → Bool) (find later : ℕ → Option Entered) (members : List ℕ) (inputs : List (List ℤ)) (enter : Call) (all : List ℕ) → ((m : ℕ) → Keeps (find m) (later m)) → gather needed find members ≡ Ok inputs → break_members enter all needed later members ≡ break_members enter all needed find members
+pub break_members-same : (needed : ℕ → Bool) (find later : ℕ → Option Entered) (members : List ℕ) (inputs : List (List ℤ)) (enter : Call) (all : List ℕ)
+    → ((m : ℕ) → Keeps (find m) (later m)) → gather needed find members ≡ Ok inputs
+    → break_members enter all needed later members ≡ break_members enter all needed find members
 break_members-same needed find later [] inputs enter all keeps h = refl
 break_members-same needed find later (m ∷ members) inputs enter all keeps h =
     elim (test_cases (needed m)) [
@@ -46,11 +48,13 @@ break_members-same needed find later (m ∷ members) inputs enter all keeps h =
           rw (t, break_members-same needed find later members rest.0 enter all keeps rest.1)
     ]
 
-joined-ok : (n : ℕ) (own : View) (me k : ℕ) (enter : Call) (inputs : Result (List (List ℤ)) ℕ) (got : Got) → joined n own me k enter inputs ≡ Ok got → (all : List (List ℤ)) × (inputs ≡ Ok all)
+joined-ok : (n : ℕ) (own : View) (me k : ℕ) (enter : Call) (inputs : Result (List (List ℤ)) ℕ) (got : Got)
+    → joined n own me k enter inputs ≡ Ok got → (all : List (List ℤ)) × (inputs ≡ Ok all)
 joined-ok n own me k enter (Ok all) got h = (all, refl)
 joined-ok n own me k enter (Err m) got h = absurd (cc)
 
-made_new-ok : (comm n : ℕ) (own : View) (me k : ℕ) (enter : Call) (inputs : Result (List (List ℤ)) ℕ) (got : Got) → made_new comm n own me k enter inputs ≡ Ok got → (all : List (List ℤ)) × (inputs ≡ Ok all)
+made_new-ok : (comm n : ℕ) (own : View) (me k : ℕ) (enter : Call) (inputs : Result (List (List ℤ)) ℕ) (got : Got)
+    → made_new comm n own me k enter inputs ≡ Ok got → (all : List (List ℤ)) × (inputs ≡ Ok all)
 made_new-ok comm n own me k enter (Ok all) got h = (all, refl)
 made_new-ok comm n own me k enter (Err m) got h = absurd (cc)
 
@@ -59,28 +63,35 @@ record SameMark (n : ℕ) (V W : ℕ → View) (own : View) (me k : ℕ) (mark :
   filled : fill_mark n W own me k mark ≡ fill_mark n V own me k mark
   breaks : break_mark n W own me k mark ≡ break_mark n V own me k mark
 
-enters-kept : (n : ℕ) (V W : ℕ → View) (own : View) (k : ℕ) (enter : Call) → Begins V W → (m : ℕ) → Keeps (enter_at n (V m) (comm_of enter) (instance_of own k (comm_of enter))) (enter_at n (W m) (comm_of enter) (instance_of own k (comm_of enter)))
+enters-kept : (n : ℕ) (V W : ℕ → View) (own : View) (k : ℕ) (enter : Call) → Begins V W → (m : ℕ)
+    → Keeps (enter_at n (V m) (comm_of enter) (instance_of own k (comm_of enter))) (enter_at n (W m) (comm_of enter) (instance_of own k (comm_of enter)))
 enters-kept n V W own k enter begins m = enter_at-kept n (V m) (W m) (comm_of enter) (instance_of own k (comm_of enter)) (begins m)
 
-break_inner-same : (n : ℕ) (V W : ℕ → View) (own : View) (me k : ℕ) (enter : Call) (inputs : List (List ℤ)) → Begins V W → inputs_of n V own me k enter ≡ Ok inputs → break_inner n W own me k (Some enter) ≡ break_inner n V own me k (Some enter)
+break_inner-same : (n : ℕ) (V W : ℕ → View) (own : View) (me k : ℕ) (enter : Call) (inputs : List (List ℤ)) → Begins V W
+    → inputs_of n V own me k enter ≡ Ok inputs → break_inner n W own me k (Some enter) ≡ break_inner n V own me k (Some enter)
 break_inner-same n V W own me k enter inputs begins h =
     break_members-same (needs enter (members_in n own (comm_of enter)) me) (λ m. enter_at n (V m) (comm_of enter) (instance_of own k (comm_of enter))) (λ m. enter_at n (W m) (comm_of enter) (instance_of own k (comm_of enter))) (members_in n own (comm_of enter)) inputs enter (members_in n own (comm_of enter)) (enters-kept n V W own k enter begins) h
 
-fill_inner-same : (n : ℕ) (V W : ℕ → View) (own : View) (me k : ℕ) (enter : Option Call) (got : Got) → Begins V W → fill_inner n V own me k enter ≡ Ok got → (fill_inner n W own me k enter ≡ fill_inner n V own me k enter) × (break_inner n W own me k enter ≡ break_inner n V own me k enter)
+fill_inner-same : (n : ℕ) (V W : ℕ → View) (own : View) (me k : ℕ) (enter : Option Call) (got : Got) → Begins V W
+    → fill_inner n V own me k enter ≡ Ok got
+    → (fill_inner n W own me k enter ≡ fill_inner n V own me k enter) × (break_inner n W own me k enter ≡ break_inner n V own me k enter)
 fill_inner-same n V W own me k None got begins h = (refl, refl)
 fill_inner-same n V W own me k (Some enter) got begins h =
     let all = joined-ok n own me k enter (inputs_of n V own me k enter) got h in
     let there = inputs-kept n V W own me k enter all.0 begins all.1 in
     (ap (joined n own me k enter) (there ∙ sym all.1), break_inner-same n V W own me k enter all.0 begins all.1)
 
-fill_made-same : (comm n : ℕ) (V W : ℕ → View) (own : View) (me k : ℕ) (enter : Option Call) (got : Got) → Begins V W → fill_made comm n V own me k enter ≡ Ok got → (fill_made comm n W own me k enter ≡ fill_made comm n V own me k enter) × (break_inner n W own me k enter ≡ break_inner n V own me k enter)
+fill_made-same : (comm n : ℕ) (V W : ℕ → View) (own : View) (me k : ℕ) (enter : Option Call) (got : Got) → Begins V W
+    → fill_made comm n V own me k enter ≡ Ok got
+    → (fill_made comm n W own me k enter ≡ fill_made comm n V own me k enter) × (break_inner n W own me k enter ≡ break_inner n V own me k enter)
 fill_made-same comm n V W own me k None got begins h = (refl, refl)
 fill_made-same comm n V W own me k (Some enter) got begins h =
     let all = made_new-ok comm n own me k enter (inputs_of n V own me k enter) got h in
     let there = inputs-kept n V W own me k enter all.0 begins all.1 in
     (ap (made_new comm n own me k enter) (there ∙ sym all.1), break_inner-same n V W own me k enter all.0 begins all.1)
 
-fill_mark-same : (n : ℕ) (V W : ℕ → View) (own : View) (me k : ℕ) (mark : Mark) (got : Got) → Begins V W → fill_mark n V own me k mark ≡ Ok got → SameMark n V W own me k mark
+fill_mark-same : (n : ℕ) (V W : ℕ → View) (own : View) (me k : ℕ) (mark : Mark) (got : Got) → Begins V W
+    → fill_mark n V own me k mark ≡ Ok got → SameMark n V W own me k mark
 fill_mark-same n V W own me k MarkSent got begins h = record { filled = refl; breaks = refl }
 fill_mark-same n V W own me k MarkNothing got begins h = record { filled = refl; breaks = refl }
 fill_mark-same n V W own me k (Outside source start tag ints) got begins h = record { filled = refl; breaks = refl }
@@ -100,12 +111,15 @@ fill_mark-same n V W own me k (MarkMade comm) got begins h =
           record { filled = rw t same.0; breaks = rw t same.1 }
     ]
 
-push_item-ok : (index : ℕ) (first : Result Got Missing) (rest : Result (List Item) Missing) (items : List Item) → push_item index first rest ≡ Ok items → (got : Got) × (others : List Item) × (first ≡ Ok got) × (rest ≡ Ok others)
+push_item-ok : (index : ℕ) (first : Result Got Missing) (rest : Result (List Item) Missing) (items : List Item)
+    → push_item index first rest ≡ Ok items → (got : Got) × (others : List Item) × (first ≡ Ok got) × (rest ≡ Ok others)
 push_item-ok index (Err m) rest items h = absurd (cc)
 push_item-ok index (Ok got) (Err m) items h = absurd (cc)
 push_item-ok index (Ok got) (Ok others) items h = (got, others, refl, refl)
 
-fill_marks-same : (n : ℕ) (V W : ℕ → View) (own : View) (me : ℕ) (starts : List ℕ) (marks : List Marked) (items : List Item) → Begins V W → fill_marks n V own me starts marks ≡ Ok items → (fill_marks n W own me starts marks ≡ fill_marks n V own me starts marks) × (break_marks n W own me starts marks ≡ break_marks n V own me starts marks)
+fill_marks-same : (n : ℕ) (V W : ℕ → View) (own : View) (me : ℕ) (starts : List ℕ) (marks : List Marked) (items : List Item)
+    → Begins V W → fill_marks n V own me starts marks ≡ Ok items
+    → (fill_marks n W own me starts marks ≡ fill_marks n V own me starts marks) × (break_marks n W own me starts marks ≡ break_marks n V own me starts marks)
 fill_marks-same n V W own me starts [] items begins h = (refl, refl)
 fill_marks-same n V W own me starts (marked ∷ marks) items begins h =
     let parts = push_item-ok marked.index (fill_mark n V own me (slice_index starts marked.index) marked.mark) (fill_marks n V own me starts marks) items h in
@@ -113,7 +127,8 @@ fill_marks-same n V W own me starts (marked ∷ marks) items begins h =
     let rest = fill_marks-same n V W own me starts marks parts.1 begins parts.3 in
     (rw (first.filled, rest.0), rw (first.breaks, rest.1))
 
-as_took-ok : (items : Result (List Item) Missing) (reply : Reply) → as_took items ≡ Ok reply → (all : List Item) × (items ≡ Ok all)
+as_took-ok : (items : Result (List Item) Missing) (reply : Reply) → as_took items ≡ Ok reply
+    → (all : List Item) × (items ≡ Ok all)
 as_took-ok (Ok all) reply h = (all, refl)
 as_took-ok (Err m) reply h = absurd (cc)
 
@@ -122,7 +137,8 @@ pub record SameEntry (n : ℕ) (V W : ℕ → View) (own : View) (me : ℕ) (cal
   pub fill : filled n W own me call entry ≡ filled n V own me call entry
   pub breaks : broken n W own me call entry ≡ broken n V own me call entry
 
-pub filled-same : (n : ℕ) (V W : ℕ → View) (own : View) (me : ℕ) (call : Call) (entry : Entry) (reply : Reply) → Begins V W → filled n V own me call entry ≡ Ok reply → SameEntry n V W own me call entry
+pub filled-same : (n : ℕ) (V W : ℕ → View) (own : View) (me : ℕ) (call : Call) (entry : Entry) (reply : Reply) → Begins V W
+    → filled n V own me call entry ≡ Ok reply → SameEntry n V W own me call entry
 filled-same n V W own me call EntrySent reply begins h = record { fill = refl; breaks = refl }
 filled-same n V W own me call Posted reply begins h = record { fill = refl; breaks = refl }
 filled-same n V W own me call EntryEntered reply begins h = record { fill = refl; breaks = refl }

@@ -18,7 +18,8 @@ one_more-some None p h = absurd (cc)
 one_more-some (Some q) p h = (q, refl, cc)
 
 -- a place of a beginning is the place in the whole
-nth-longer : (test : Call × Reply → Bool) (xs ys : View) (i p : ℕ) → number_of_nth test xs i ≡ Some p → (p < length xs) × (number_of_nth test (xs ++ ys) i ≡ Some p)
+nth-longer : (test : Call × Reply → Bool) (xs ys : View) (i p : ℕ) → number_of_nth test xs i ≡ Some p
+    → (p < length xs) × (number_of_nth test (xs ++ ys) i ≡ Some p)
 nth-longer test [] ys i p h = absurd (cc)
 nth-longer test (x ∷ xs) ys zero p h =
     elim (test_cases (test x)) [
@@ -47,7 +48,8 @@ nth-longer test (x ∷ xs) ys (suc i) p h =
     ]
 
 -- a place below the length of a beginning is in it
-nth-shorter : (test : Call × Reply → Bool) (xs ys : View) (i p : ℕ) → number_of_nth test (xs ++ ys) i ≡ Some p → p < length xs → number_of_nth test xs i ≡ Some p
+nth-shorter : (test : Call × Reply → Bool) (xs ys : View) (i p : ℕ) → number_of_nth test (xs ++ ys) i ≡ Some p → p < length xs
+    → number_of_nth test xs i ≡ Some p
 nth-shorter test [] ys i p h below = absurd (omega arith)
 nth-shorter test (x ∷ xs) ys zero p h below =
     elim (test_cases (test x)) [
@@ -89,7 +91,8 @@ starts_there (x ∷ view) (suc i) =
       | inr t ↦ rw (t, some_one (number_of_nth is_start view (suc i))) (starts_there view (suc i))
     ]
 
-enters_there : (comm number : ℕ) (known : Option (List ℕ)) (view : View) (i : ℕ) → is_some (slice_get (entered_from comm number known view) i) ≡ is_some (number_of_nth (is_enter_on comm) view i)
+enters_there : (comm number : ℕ) (known : Option (List ℕ)) (view : View) (i : ℕ)
+    → is_some (slice_get (entered_from comm number known view) i) ≡ is_some (number_of_nth (is_enter_on comm) view i)
 enters_there comm number known [] i = refl
 enters_there comm number known ((call, reply) ∷ view) zero =
     elim (test_cases (is_start (call, reply))) [
@@ -113,7 +116,8 @@ pub there_number : (n : ℕ) (V : ℕ → View) (x : Missing) → is_there n V x
 there_number n V (Start source start) = starts_there (V source) start
 there_number n V (Member m comm instance) = enters_there comm 0 (known_first n comm) (V m) instance
 
-pub there_below : (n : ℕ) (V W : ℕ → View) (x : Missing) (p : ℕ) → Begins V W → number_of W x ≡ Some p → p < length (V (rank_of x)) → is_there n V x ≡ true
+pub there_below : (n : ℕ) (V W : ℕ → View) (x : Missing) (p : ℕ) → Begins V W → number_of W x ≡ Some p
+    → p < length (V (rank_of x)) → is_there n V x ≡ true
 there_below n V W (Start source start) p begins h below =
     let prefix = begins source in
     let at = nth-shorter is_start (V source) prefix.0 start p (rw prefix.1 h) below in
@@ -123,7 +127,8 @@ there_below n V W (Member m comm instance) p begins h below =
     let at = nth-shorter (is_enter_on comm) (V m) prefix.0 instance p (rw prefix.1 h) below in
     enters_there comm 0 (known_first n comm) (V m) instance ∙ rw at
 
-pub below_there : (n : ℕ) (V W : ℕ → View) (x : Missing) → Begins V W → is_there n V x ≡ true → (p : ℕ) × (number_of W x ≡ Some p) × (p < length (V (rank_of x)))
+pub below_there : (n : ℕ) (V W : ℕ → View) (x : Missing) → Begins V W → is_there n V x ≡ true
+    → (p : ℕ) × (number_of W x ≡ Some p) × (p < length (V (rank_of x)))
 below_there n V W (Start source start) begins h =
     elim (option_cases (number_of_nth is_start (V source) start)) [
       | inl some ↦ (
@@ -141,7 +146,8 @@ below_there n V W (Member m comm instance) begins h =
       | inr none ↦ (let no : false ≡ true = rw (enters_there comm 0 (known_first n comm) (V m) instance, none) at h in absurd (cc))
     ]
 
-pub missing_among : (n : ℕ) (V : ℕ → View) (xs : List Missing) (x : Missing) → first_missing n V xs ≡ Some x → Among x xs × (is_there n V x ≡ false)
+pub missing_among : (n : ℕ) (V : ℕ → View) (xs : List Missing) (x : Missing) → first_missing n V xs ≡ Some x
+    → Among x xs × (is_there n V x ≡ false)
 missing_among n V [] x h = absurd (cc)
 missing_among n V (y ∷ xs) x h =
     elim (test_cases (is_there n V y)) [
@@ -152,7 +158,8 @@ missing_among n V (y ∷ xs) x h =
           (inl same, ap (is_there n V) (sym same) ∙ t))
     ]
 
-pub none_missing : (n : ℕ) (V : ℕ → View) (xs : List Missing) (x : Missing) → first_missing n V xs ≡ None → Among x xs → is_there n V x ≡ true
+pub none_missing : (n : ℕ) (V : ℕ → View) (xs : List Missing) (x : Missing) → first_missing n V xs ≡ None → Among x xs
+    → is_there n V x ≡ true
 none_missing n V [] x h among = absurd among
 none_missing n V (y ∷ xs) x h among =
     elim (test_cases (is_there n V y)) [

@@ -38,11 +38,14 @@ pub record InRun (next : Next) (n : ℕ) (run : List Event) (rank : ℕ) (view :
   pub asked : next n rank (replies_in view) ≡ Some call
   pub allowed : IsAllowed next n before rank call reply
 
-in_run-event : (next : Next) (n : ℕ) (before : List Event) (event : Event) (rank : ℕ) (view : View) (call : Call) (reply : Reply) → IsEvent next n before event → event.rank ≡ rank → view_of before rank ≡ view → event.call ≡ call → event.reply ≡ reply → (next n rank (replies_in view) ≡ Some call) × IsAllowed next n before rank call reply
+in_run-event : (next : Next) (n : ℕ) (before : List Event) (event : Event) (rank : ℕ) (view : View) (call : Call) (reply : Reply)
+    → IsEvent next n before event → event.rank ≡ rank → view_of before rank ≡ view → event.call ≡ call → event.reply ≡ reply
+    → (next n rank (replies_in view) ≡ Some call) × IsAllowed next n before rank call reply
 in_run-event next n before event rank view call reply step rank_is view_is call_is reply_is =
     (rw (← view_is, ← call_is, ← rank_is) step.call, rw (← call_is, ← reply_is, ← rank_is) step.reply)
 
-pub in_run : (next : Next) (n : ℕ) (run : List Event) (rank : ℕ) (view : View) (call : Call) (reply : Reply) (rest : View) → IsRun next n run → view_of run rank ≡ view ++ (call, reply) ∷ rest → InRun next n run rank view call reply
+pub in_run : (next : Next) (n : ℕ) (run : List Event) (rank : ℕ) (view : View) (call : Call) (reply : Reply) (rest : View)
+    → IsRun next n run → view_of run rank ≡ view ++ (call, reply) ∷ rest → InRun next n run rank view call reply
 in_run next n run rank view call reply rest all e =
     let at = place run rank view call reply rest e in
     let whole : IsRun next n (at.before ++ at.event ∷ at.after) = let P : List Event → Type 0 = λ l. IsRun next n l in subst P at.whole all in
@@ -52,29 +55,36 @@ in_run next n run rank view call reply rest all e =
     record { before = at.before; view_is = at.view_is; begins = views; asked = found.0; allowed = found.1 }
 
 -- the call at a place of a run is its program's next
-pub asked_in_run : (next : Next) (n : ℕ) (run : List Event) (rank : ℕ) (view : View) (call : Call) (reply : Reply) (rest : View) → IsRun next n run → view_of run rank ≡ view ++ (call, reply) ∷ rest → next n rank (replies_in view) ≡ Some call
+pub asked_in_run : (next : Next) (n : ℕ) (run : List Event) (rank : ℕ) (view : View) (call : Call) (reply : Reply) (rest : View)
+    → IsRun next n run → view_of run rank ≡ view ++ (call, reply) ∷ rest → next n rank (replies_in view) ≡ Some call
 asked_in_run next n run rank view call reply rest all e = (in_run next n run rank view call reply rest all e).asked
 
 -- over the whole run, the entry of a place stands for the recorded reply
-filled_in_run : (next : Next) (n : ℕ) (group : List ℕ) (run : List Event) (rank : ℕ) (view : View) (call : Call) (reply : Reply) → InRun next n run rank view call reply → filled n (within group (view_of run)) view rank call (entry_of n group rank view call reply) ≡ Ok reply
+filled_in_run : (next : Next) (n : ℕ) (group : List ℕ) (run : List Event) (rank : ℕ) (view : View) (call : Call) (reply : Reply)
+    → InRun next n run rank view call reply
+    → filled n (within group (view_of run)) view rank call (entry_of n group rank view call reply) ≡ Ok reply
 filled_in_run next n group run rank view call reply at =
     let entry : Entry = entry_of n group rank view call reply in
     let there : filled n (within group (view_of at.before)) view rank call entry ≡ Ok reply = rw at.view_is at (filled_allowed next n group at.before rank call reply at.allowed) in
     (filled-same n (within group (view_of at.before)) (within group (view_of run)) view rank call entry reply (Begins-within group (view_of at.before) (view_of run) at.begins) there).fill ∙ there
 
-judged-replied : (me : ℕ) (own : View) (call : Call) (entry : Entry) (fill : Result Reply Missing) (found : Option Found) (reply : Reply) → judged me own call entry fill found ≡ Replied reply → fill ≡ Ok reply
+judged-replied : (me : ℕ) (own : View) (call : Call) (entry : Entry) (fill : Result Reply Missing) (found : Option Found) (reply : Reply)
+    → judged me own call entry fill found ≡ Replied reply → fill ≡ Ok reply
 judged-replied me own call entry (Err m) found reply h = absurd (cc)
 judged-replied me own call entry (Ok other) (Some found) reply h = absurd (cc)
 judged-replied me own call entry (Ok other) None reply h = let e : other ≡ reply = cc in ap (λ x. Ok x) e
 
-pub entry-replied : (n : ℕ) (group : List ℕ) (V : ℕ → View) (own : View) (me : ℕ) (call : Call) (entry : Entry) (reply : Reply) → entry_answer n group V own me call (Some entry) ≡ Replied reply → filled n V own me call entry ≡ Ok reply
+pub entry-replied : (n : ℕ) (group : List ℕ) (V : ℕ → View) (own : View) (me : ℕ) (call : Call) (entry : Entry) (reply : Reply)
+    → entry_answer n group V own me call (Some entry) ≡ Replied reply → filled n V own me call entry ≡ Ok reply
 entry-replied n group V own me call entry reply h =
     elim (test_cases (fits n group me own call entry)) [
       | inl t ↦ judged-replied me own call entry (filled n V own me call entry) (broken n V own me call entry) reply (rw t at h)
       | inr t ↦ absurd (let no : Diverged (record { rank = me; call_number = length own; entry = entry; call = call; found = None }) ≡ Replied reply = rw t at h in cc)
     ]
 
-pub answer-replied : (log : Log) (stop : Stop) (V : ℕ → View) (own : View) (me : ℕ) (call : Call) (reply : Reply) → answer_of log stop V own me call ≡ Replied reply → entry_answer log.ranks log.group V own me call (slice_get (entries_for log.group log.lists me) (length own)) ≡ Replied reply
+pub answer-replied : (log : Log) (stop : Stop) (V : ℕ → View) (own : View) (me : ℕ) (call : Call) (reply : Reply)
+    → answer_of log stop V own me call ≡ Replied reply
+    → entry_answer log.ranks log.group V own me call (slice_get (entries_for log.group log.lists me) (length own)) ≡ Replied reply
 answer-replied log stop V own me call reply h =
     elim (test_cases (is_break stop me (length own))) [
       | inl t ↦ absurd (let no : AtBreak ≡ Replied reply = rw t at h in cc)
@@ -82,7 +92,10 @@ answer-replied log stop V own me call reply h =
     ]
 
 -- one more event keeps what was replayed a beginning of the run
-next_event : (next : Next) (log : Log) (stop : Stop) (run before : List Event) (event : Event) (rest : View) → IsRunWith next log run → Begins (view_of before) (within log.group (view_of run)) → IsStep next log stop before event → view_of before event.rank ++ rest ≡ view_of run event.rank → IsPrefixOf (view_of before event.rank ++ (event.call, event.reply) ∷ []) (view_of run event.rank)
+next_event : (next : Next) (log : Log) (stop : Stop) (run before : List Event) (event : Event) (rest : View)
+    → IsRunWith next log run → Begins (view_of before) (within log.group (view_of run)) → IsStep next log stop before event
+    → view_of before event.rank ++ rest ≡ view_of run event.rank
+    → IsPrefixOf (view_of before event.rank ++ (event.call, event.reply) ∷ []) (view_of run event.rank)
 next_event next log stop run before event [] is begins step e =
     let own : View = view_of before event.rank in
     let none = entry_past log run event.rank own is.same_log step.member (rw append-nil at (sym e)) in
@@ -105,7 +118,9 @@ next_event next log stop run before event ((call, reply) ∷ rest) is begins ste
     let same_reply : event.reply ≡ reply = cc in
     (rest, rw (append_assoc, ← same_call, same_reply) e)
 
-keeps : (next : Next) (log : Log) (stop : Stop) (run : List Event) → IsRunWith next log run → (before : List Event) (event : Event) → Begins (view_of before) (within log.group (view_of run)) → IsStep next log stop before event → Begins (view_of (before ++ event ∷ [])) (within log.group (view_of run))
+keeps : (next : Next) (log : Log) (stop : Stop) (run : List Event) → IsRunWith next log run
+    → (before : List Event) (event : Event) → Begins (view_of before) (within log.group (view_of run))
+    → IsStep next log stop before event → Begins (view_of (before ++ event ∷ [])) (within log.group (view_of run))
 keeps next log stop run is before event begins step rank =
     elim (test_cases (event.rank == rank)) [
       | inl h ↦
@@ -118,11 +133,13 @@ keeps next log stop run is before event begins step rank =
     ]
 
 -- each rank of the group has a beginning of its view in the run, and no other rank has any
-pub Begins-run : (next : Next) (log : Log) (stop : Stop) (run events : List Event) → IsRunWith next log run → Replays next log stop events → Begins (view_of events) (within log.group (view_of run))
+pub Begins-run : (next : Next) (log : Log) (stop : Stop) (run events : List Event) → IsRunWith next log run
+    → Replays next log stop events → Begins (view_of events) (within log.group (view_of run))
 Begins-run next log stop run events is all =
     Along-keeps (IsStep next log stop) (λ before. Begins (view_of before) (within log.group (view_of run))) (keeps next log stop run is) [] events (λ rank. (within log.group (view_of run) rank, refl)) all
 
-pub begins_run : (next : Next) (log : Log) (stop : Stop) (run events : List Event) → IsRunWith next log run → Replays next log stop events → Begins (view_of events) (view_of run)
+pub begins_run : (next : Next) (log : Log) (stop : Stop) (run events : List Event) → IsRunWith next log run
+    → Replays next log stop events → Begins (view_of events) (view_of run)
 begins_run next log stop run events is all rank =
     prefix_trans (view_of events rank) (within log.group (view_of run) rank) (view_of run rank) (Begins-run next log stop run events is all rank) (within_begins log.group (view_of run) rank)
 
@@ -131,7 +148,8 @@ nothing_begun [] prefix = refl
 nothing_begun (x ∷ xs) prefix = absurd (let no : x ∷ (xs ++ prefix.0) ≡ [] = prefix.1 in cc)
 
 -- the law of beginnings, with the printed output
-pub BeginsRun-Replays : (next : Next) (output : ℕ → ℕ → List Reply → List ℕ) (log : Log) (stop : Stop) (run events : List Event) → Lawful next → PrintsOn next output → IsRunWith next log run → Replays next log stop events → BeginsRun output log events run
+pub BeginsRun-Replays : (next : Next) (output : ℕ → ℕ → List Reply → List ℕ) (log : Log) (stop : Stop) (run events : List Event)
+    → Lawful next → PrintsOn next output → IsRunWith next log run → Replays next log stop events → BeginsRun output log events run
 BeginsRun-Replays next output log stop run events lawful prints is all =
     let n : ℕ = log.ranks in
     record {

@@ -36,11 +36,17 @@ use Rattle.srr_replay.proofs.Prefix.{Begins-run, asked_in_run, begins_run}
 use Rattle.srr_replay.proofs.ShapedFits.{fits_shaped}
 use Rattle.srr_replay.proofs.Unbroken.{unbroken}
 
-answer_from : (log : Log) (stop : Stop) (V : ℕ → View) (own : View) (me : ℕ) (call : Call) (entry : Entry) (reply : Reply) → is_break stop me (length own) ≡ false → slice_get (entries_for log.group log.lists me) (length own) ≡ Some entry → fits log.ranks log.group me own call entry ≡ true → filled log.ranks V own me call entry ≡ Ok reply → broken log.ranks V own me call entry ≡ None → answer_of log stop V own me call ≡ Replied reply
+answer_from : (log : Log) (stop : Stop) (V : ℕ → View) (own : View) (me : ℕ) (call : Call) (entry : Entry) (reply : Reply)
+    → is_break stop me (length own) ≡ false → slice_get (entries_for log.group log.lists me) (length own) ≡ Some entry
+    → fits log.ranks log.group me own call entry ≡ true → filled log.ranks V own me call entry ≡ Ok reply
+    → broken log.ranks V own me call entry ≡ None → answer_of log stop V own me call ≡ Replied reply
 answer_from log stop V own me call entry reply b e f fill broke = rw (b, e, f, fill, broke)
 
 -- over the events before it
-answer_here : (next : Next) (log : Log) (stop : Stop) (run before after : List Event) (event : Event) → Lawful next → IsRunWith next log run → run ≡ before ++ event ∷ after → is_member log.group event.rank ≡ true → is_break stop event.rank (length (view_of before event.rank)) ≡ false → answer_of log stop (within log.group (view_of before)) (view_of before event.rank) event.rank event.call ≡ Replied event.reply
+answer_here : (next : Next) (log : Log) (stop : Stop) (run before after : List Event) (event : Event) → Lawful next
+    → IsRunWith next log run → run ≡ before ++ event ∷ after → is_member log.group event.rank ≡ true
+    → is_break stop event.rank (length (view_of before event.rank)) ≡ false
+    → answer_of log stop (within log.group (view_of before)) (view_of before event.rank) event.rank event.call ≡ Replied event.reply
 answer_here next log stop run before after event lawful is e member free =
     let n : ℕ = log.ranks in
     let group : List ℕ = log.group in
@@ -56,11 +62,17 @@ answer_here next log stop run before after event lawful is e member free =
     let entry = entry_in_log log run event.rank own event.call event.reply (view_of after event.rank) is.same_log member (view_at run before after event e) in
     answer_from log stop (within group (view_of before)) own event.rank event.call (entry_of n group event.rank own event.call event.reply) event.reply free entry fit fill broke
 
-answer_at : (log : Log) (stop : Stop) (V : ℕ → View) (before : List Event) (event : Event) (rank : ℕ) (view : View) (call : Call) (reply : Reply) → event.rank ≡ rank → view_of before rank ≡ view → event.call ≡ call → event.reply ≡ reply → answer_of log stop V (view_of before event.rank) event.rank event.call ≡ Replied event.reply → answer_of log stop V view rank call ≡ Replied reply
+answer_at : (log : Log) (stop : Stop) (V : ℕ → View) (before : List Event) (event : Event) (rank : ℕ) (view : View) (call : Call) (reply : Reply)
+    → event.rank ≡ rank → view_of before rank ≡ view → event.call ≡ call → event.reply ≡ reply
+    → answer_of log stop V (view_of before event.rank) event.rank event.call ≡ Replied event.reply
+    → answer_of log stop V view rank call ≡ Replied reply
 answer_at log stop V before event rank view call reply rank_is view_is call_is reply_is h = rw (← view_is, ← call_is, ← reply_is, ← rank_is) h
 
 -- and so over the whole run
-pub answer_whole : (next : Next) (log : Log) (stop : Stop) (run : List Event) (rank : ℕ) (view : View) (call : Call) (reply : Reply) (rest : View) → Lawful next → IsRunWith next log run → is_member log.group rank ≡ true → view_of run rank ≡ view ++ (call, reply) ∷ rest → is_break stop rank (length view) ≡ false → answer_of log stop (within log.group (view_of run)) view rank call ≡ Replied reply
+pub answer_whole : (next : Next) (log : Log) (stop : Stop) (run : List Event) (rank : ℕ) (view : View) (call : Call) (reply : Reply) (rest : View)
+    → Lawful next → IsRunWith next log run → is_member log.group rank ≡ true → view_of run rank ≡ view ++ (call, reply) ∷ rest
+    → is_break stop rank (length view) ≡ false
+    → answer_of log stop (within log.group (view_of run)) view rank call ≡ Replied reply
 answer_whole next log stop run rank view call reply rest lawful is member e free =
     let group : List ℕ = log.group in
     let at = place run rank view call reply rest e in
@@ -73,7 +85,11 @@ answer_whole next log stop run rank view call reply rest lawful is member e free
     answer_at log stop (within group (view_of run)) at.before at.event rank view call reply at.rank_is at.view_is at.call_is at.reply_is there
 
 -- no live rank of the group diverges
-diverges_not : (next : Next) (log : Log) (stop : Stop) (run events : List Event) (rank : ℕ) (call : Call) (divergence : Divergence) (rest : View) → Lawful next → IsRunWith next log run → Begins (view_of events) (within log.group (view_of run)) → is_member log.group rank ≡ true → view_of events rank ++ rest ≡ view_of run rank → next log.ranks rank (replies_in (view_of events rank)) ≡ Some call → answer_of log stop (view_of events) (view_of events rank) rank call ≡ Diverged divergence → ⊥
+diverges_not : (next : Next) (log : Log) (stop : Stop) (run events : List Event) (rank : ℕ) (call : Call) (divergence : Divergence) (rest : View)
+    → Lawful next → IsRunWith next log run → Begins (view_of events) (within log.group (view_of run))
+    → is_member log.group rank ≡ true → view_of events rank ++ rest ≡ view_of run rank
+    → next log.ranks rank (replies_in (view_of events rank)) ≡ Some call
+    → answer_of log stop (view_of events) (view_of events rank) rank call ≡ Diverged divergence → ⊥
 diverges_not next log stop run events rank call divergence [] lawful is begins member e live h =
     let own : View = view_of events rank in
     let none = entry_past log run rank own is.same_log member (rw append-nil at (sym e)) in
@@ -94,26 +110,34 @@ diverges_not next log stop run events rank call divergence ((c, reply) ∷ rest)
           let no : Replied reply ≡ Diverged divergence = sym good ∙ bad in cc)
     ]
 
-pub no_divergence : (next : Next) (log : Log) (stop : Stop) (run events : List Event) (rank : ℕ) (call : Call) (divergence : Divergence) → Lawful next → IsRunWith next log run → Replays next log stop events → is_member log.group rank ≡ true → next log.ranks rank (replies_in (view_of events rank)) ≡ Some call → answer_of log stop (view_of events) (view_of events rank) rank call ≡ Diverged divergence → ⊥
+pub no_divergence : (next : Next) (log : Log) (stop : Stop) (run events : List Event) (rank : ℕ) (call : Call) (divergence : Divergence)
+    → Lawful next → IsRunWith next log run → Replays next log stop events → is_member log.group rank ≡ true
+    → next log.ranks rank (replies_in (view_of events rank)) ≡ Some call
+    → answer_of log stop (view_of events) (view_of events rank) rank call ≡ Diverged divergence → ⊥
 no_divergence next log stop run events rank call divergence lawful is all member live h =
     let begins = Begins-run next log stop run events is all in
     let found : IsPrefixOf (view_of events rank) (view_of run rank) = begins_run next log stop run events is all rank in
     diverges_not next log stop run events rank call divergence found.0 lawful is begins member found.1 live h
 
-by_answer : (variables : List Variable) (step : Step) (stand : Stand) (divergence : Divergence) → stand_by variables step ≡ Some (StandDiverged divergence) → ((d : Divergence) → step ≡ Diverged d → ⊥) → ⊥
+by_answer : (variables : List Variable) (step : Step) (stand : Stand) (divergence : Divergence)
+    → stand_by variables step ≡ Some (StandDiverged divergence) → ((d : Divergence) → step ≡ Diverged d → ⊥) → ⊥
 by_answer variables AtBreak stand divergence h never = absurd (cc)
 by_answer variables LogEnded stand divergence h never = absurd (cc)
 by_answer variables (Diverged d) stand divergence h never = never d refl
 by_answer variables (Wait missing) stand divergence h never = absurd (cc)
 by_answer variables (Replied reply) stand divergence h never = absurd (cc)
 
-stand_not : (next : Option Call) (variables : List Variable) (answer : Call → Step) (stand : Stand) → ((call : Call) (divergence : Divergence) → next ≡ Some call → answer call ≡ Diverged divergence → ⊥) → stand_where next variables answer ≡ Some stand → HasNotDiverged stand
+stand_not : (next : Option Call) (variables : List Variable) (answer : Call → Step) (stand : Stand)
+    → ((call : Call) (divergence : Divergence) → next ≡ Some call → answer call ≡ Diverged divergence → ⊥)
+    → stand_where next variables answer ≡ Some stand → HasNotDiverged stand
 stand_not None variables answer stand never h divergence e = (let s : Some StandEnded ≡ Some stand = h in let same : StandEnded ≡ stand = cc in let bad : StandEnded ≡ StandDiverged divergence = same ∙ e in cc)
 stand_not (Some call) variables answer stand never h divergence e =
     by_answer variables (answer call) stand divergence (h ∙ ap (λ x. Some x) e) (λ d is. never call d refl is)
 
 -- no stand is Diverged
-pub stands_agree : (next : Next) (variables : ℕ → ℕ → List Reply → List Variable) (log : Log) (stop : Stop) (run events : List Event) → Lawful next → IsRunWith next log run → Replays next log stop events → EachStand HasNotDiverged next variables log stop events
+pub stands_agree : (next : Next) (variables : ℕ → ℕ → List Reply → List Variable) (log : Log) (stop : Stop) (run events : List Event)
+    → Lawful next → IsRunWith next log run → Replays next log stop events
+    → EachStand HasNotDiverged next variables log stop events
 stands_agree next variables log stop run events lawful is all rank stand member h =
     stand_not (next log.ranks rank (replies_in (view_of events rank))) (variables log.ranks rank (replies_in (view_of events rank))) (answer_of log stop (view_of events) (view_of events rank) rank) stand
     (λ call divergence live answer. no_divergence next log stop run events rank call divergence lawful is all member live answer) h

@@ -29,7 +29,7 @@ use Rattle.run_model.specs.Inputs.{inputs_of}
 use Rattle.run_model.specs.Lists.{are_below, same_ranks}
 use Rattle.run_model.specs.Shape.{are_members, can_take, got_fits, gots_fit, has_count, has_shape, is_dup, is_sized, rises}
 use Rattle.run_model.specs.Views.{View, start_at, view_of}
-use Rattle.run_model.proofs.Agreement.{AreMembers-made, same_ranks-refl}
+use Rattle.run_model.proofs.MemberLists.{AreMembers-made, same_ranks-refl}
 use Rattle.run_model.proofs.Enters.{own_at}
 use Rattle.run_model.proofs.Instances.{gather-at, on_own}
 use Rattle.run_model.proofs.Views.{test_cases}

@@ -27,7 +27,8 @@ use Rattle.srr_entry.specs.declared.entry.Marked.{Marked}
 use Rattle.srr_entry.specs.Entries.{all_within, entry_of, is_inner, mark_of, marks_of}
 use Rattle.srr_replay.specs.Fits.{fits, mark_fits, marks_fit}
 
-pub all_within-me : (group : List ℕ) (needed : ℕ → Bool) (me : ℕ) (members : List ℕ) → ((who : ℕ) → needed who ≡ (who == me)) → is_member group me ≡ true → all_within group needed members ≡ true
+pub all_within-me : (group : List ℕ) (needed : ℕ → Bool) (me : ℕ) (members : List ℕ) → ((who : ℕ) → needed who ≡ (who == me))
+    → is_member group me ≡ true → all_within group needed members ≡ true
 all_within-me group needed me [] alone member = refl
 all_within-me group needed me (m ∷ members) alone member =
     let rest = all_within-me group needed me members alone member in
@@ -42,7 +43,8 @@ all_within-me group needed me (m ∷ members) alone member =
     ]
 
 -- an uncoloured Split needs the rank alone
-pub uncoloured_inner : (n : ℕ) (group : List ℕ) (me : ℕ) (own : View) (enter : Call) → is_member group me ≡ true → is_uncoloured enter ≡ true → is_inner n group me own (Some enter) ≡ true
+pub uncoloured_inner : (n : ℕ) (group : List ℕ) (me : ℕ) (own : View) (enter : Call) → is_member group me ≡ true
+    → is_uncoloured enter ≡ true → is_inner n group me own (Some enter) ≡ true
 uncoloured_inner n group me own enter member un =
     all_within-me group (needs enter (members_in n own (comm_of enter)) me) me (members_in n own (comm_of enter)) (λ who. needs-uncoloured enter (members_in n own (comm_of enter)) me who un) member
 
@@ -50,7 +52,10 @@ pub not_true : (b : Bool) → not b ≡ true → b ≡ false
 not_true true h = absurd (cc)
 not_true false h = refl
 
-joined_fits : (n : ℕ) (group : List ℕ) (me : ℕ) (own : View) (k comm : ℕ) (kind : Kind) (root : Option ℕ) (op : Option Op) (count : ℕ) (ints : List ℤ) (given : List ℤ) → start_at own k ≡ Some (Enter comm kind root op count ints) → got_fits n own me (Some (Enter comm kind root op count ints)) (Joined given) ≡ true → mark_fits n group me own (Some (Enter comm kind root op count ints)) (mark_of n group me own k (Joined given)) ≡ true
+joined_fits : (n : ℕ) (group : List ℕ) (me : ℕ) (own : View) (k comm : ℕ) (kind : Kind) (root : Option ℕ) (op : Option Op) (count : ℕ) (ints : List ℤ) (given : List ℤ)
+    → start_at own k ≡ Some (Enter comm kind root op count ints)
+    → got_fits n own me (Some (Enter comm kind root op count ints)) (Joined given) ≡ true
+    → mark_fits n group me own (Some (Enter comm kind root op count ints)) (mark_of n group me own k (Joined given)) ≡ true
 joined_fits n group me own k comm kind root op count ints given at h =
     let enter : Call = Enter comm kind root op count ints in
     let parts = and_parts (not (makes enter)) (is_sized n own me enter given) h in
@@ -59,7 +64,10 @@ joined_fits n group me own k comm kind root op count ints given at h =
       | inr o ↦ rw (at, o, parts.0, o, parts.1)
     ]
 
-none_fits : (n : ℕ) (group : List ℕ) (me : ℕ) (own : View) (k c comm : ℕ) (kind : Kind) (root : Option ℕ) (op : Option Op) (count : ℕ) (ints : List ℤ) → is_member group me ≡ true → start_at own k ≡ Some (Enter comm kind root op count ints) → got_fits n own me (Some (Enter comm kind root op count ints)) (Made c []) ≡ true → mark_fits n group me own (Some (Enter comm kind root op count ints)) (mark_of n group me own k (Made c [])) ≡ true
+none_fits : (n : ℕ) (group : List ℕ) (me : ℕ) (own : View) (k c comm : ℕ) (kind : Kind) (root : Option ℕ) (op : Option Op) (count : ℕ) (ints : List ℤ)
+    → is_member group me ≡ true → start_at own k ≡ Some (Enter comm kind root op count ints)
+    → got_fits n own me (Some (Enter comm kind root op count ints)) (Made c []) ≡ true
+    → mark_fits n group me own (Some (Enter comm kind root op count ints)) (mark_of n group me own k (Made c [])) ≡ true
 none_fits n group me own k c comm kind root op count ints member at h =
     let enter : Call = Enter comm kind root op count ints in
     let one = and_parts (makes enter) (is_uncoloured enter && (c == 0)) h in
@@ -67,7 +75,10 @@ none_fits n group me own k c comm kind root op count ints member at h =
     let inner = uncoloured_inner n group me own enter member two.0 in
     rw (at, inner, one.0, inner, two.1, two.0)
 
-made_fits : (n : ℕ) (group : List ℕ) (me : ℕ) (own : View) (k c comm : ℕ) (kind : Kind) (root : Option ℕ) (op : Option Op) (count : ℕ) (ints : List ℤ) (m : ℕ) (members : List ℕ) → start_at own k ≡ Some (Enter comm kind root op count ints) → got_fits n own me (Some (Enter comm kind root op count ints)) (Made c (m ∷ members)) ≡ true → mark_fits n group me own (Some (Enter comm kind root op count ints)) (mark_of n group me own k (Made c (m ∷ members))) ≡ true
+made_fits : (n : ℕ) (group : List ℕ) (me : ℕ) (own : View) (k c comm : ℕ) (kind : Kind) (root : Option ℕ) (op : Option Op) (count : ℕ) (ints : List ℤ) (m : ℕ) (members : List ℕ)
+    → start_at own k ≡ Some (Enter comm kind root op count ints)
+    → got_fits n own me (Some (Enter comm kind root op count ints)) (Made c (m ∷ members)) ≡ true
+    → mark_fits n group me own (Some (Enter comm kind root op count ints)) (mark_of n group me own k (Made c (m ∷ members))) ≡ true
 made_fits n group me own k c comm kind root op count ints m members at h =
     let enter : Call = Enter comm kind root op count ints in
     let one = and_parts (makes enter) (not (is_uncoloured enter) && (not (c == 0) && are_members n me enter (members_in n own (comm_of enter)) (m ∷ members))) h in
@@ -80,7 +91,9 @@ made_fits n group me own k c comm kind root op count ints m members at h =
     ]
 
 -- what a start gave, in its shape, has a mark that fits
-mark_shaped : (n : ℕ) (group : List ℕ) (me : ℕ) (own : View) (k : ℕ) (start : Option Call) (got : Got) → is_member group me ≡ true → start_at own k ≡ start → got_fits n own me start got ≡ true → mark_fits n group me own start (mark_of n group me own k got) ≡ true
+mark_shaped : (n : ℕ) (group : List ℕ) (me : ℕ) (own : View) (k : ℕ) (start : Option Call) (got : Got) → is_member group me ≡ true
+    → start_at own k ≡ start → got_fits n own me start got ≡ true
+    → mark_fits n group me own start (mark_of n group me own k got) ≡ true
 mark_shaped n group me own k None got member at h = absurd (cc)
 mark_shaped n group me own k (Some (Send comm dest tag ints)) Sent member at h = refl
 mark_shaped n group me own k (Some (Post comm Null tag room)) Nothing member at h = refl
@@ -97,7 +110,8 @@ mark_shaped n group me own k (Some call) (Made c []) member at h = absurd (cc)
 mark_shaped n group me own k (Some call) (Made c (m ∷ members)) member at h = absurd (cc)
 mark_shaped n group me own k (Some call) got member at h = absurd (cc)
 
-marks_shaped : (n : ℕ) (group : List ℕ) (me : ℕ) (own : View) (starts : List ℕ) (items : List Item) → is_member group me ≡ true → gots_fit n own me starts items ≡ true → marks_fit n group me own starts (marks_of n group me own starts items) ≡ true
+marks_shaped : (n : ℕ) (group : List ℕ) (me : ℕ) (own : View) (starts : List ℕ) (items : List Item) → is_member group me ≡ true
+    → gots_fit n own me starts items ≡ true → marks_fit n group me own starts (marks_of n group me own starts items) ≡ true
 marks_shaped n group me own starts [] member h = refl
 marks_shaped n group me own starts (item ∷ items) member h =
     let k : ℕ = slice_index starts item.index in
@@ -105,11 +119,13 @@ marks_shaped n group me own starts (item ∷ items) member h =
     rw (mark_shaped n group me own k (start_at own k) item.got member refl parts.0, marks_shaped n group me own starts items member parts.1)
 
 -- marks
-pub marks_index : (n : ℕ) (group : List ℕ) (me : ℕ) (own : View) (starts : List ℕ) (items : List Item) → map (λ (marked : Marked). marked.index) (marks_of n group me own starts items) ≡ map (λ (item : Item). item.index) items
+pub marks_index : (n : ℕ) (group : List ℕ) (me : ℕ) (own : View) (starts : List ℕ) (items : List Item)
+    → map (λ (marked : Marked). marked.index) (marks_of n group me own starts items) ≡ map (λ (item : Item). item.index) items
 marks_index n group me own starts [] = refl
 marks_index n group me own starts (item ∷ items) = ap (λ l. item.index ∷ l) (marks_index n group me own starts items)
 
-pub marks_length : (n : ℕ) (group : List ℕ) (me : ℕ) (own : View) (starts : List ℕ) (items : List Item) → length (marks_of n group me own starts items) ≡ length (map (λ (item : Item). item.index) items)
+pub marks_length : (n : ℕ) (group : List ℕ) (me : ℕ) (own : View) (starts : List ℕ) (items : List Item)
+    → length (marks_of n group me own starts items) ≡ length (map (λ (item : Item). item.index) items)
 marks_length n group me own starts [] = refl
 marks_length n group me own starts (item ∷ items) = (let rest = marks_length n group me own starts items in omega (arith, rest))
 
@@ -120,21 +136,25 @@ pub record TakeShape (n me : ℕ) (own : View) (starts : List ℕ) (mode : TakeM
   pub listed : list_all (λ k. can_take own k) starts ≡ true
   pub gots : gots_fit n own me starts items ≡ true
 
-pub take_shape : (n me : ℕ) (own : View) (starts : List ℕ) (mode : TakeMode) (items : List Item) → has_shape n me own (Take starts mode) (Took items) ≡ true → TakeShape n me own starts mode items
+pub take_shape : (n me : ℕ) (own : View) (starts : List ℕ) (mode : TakeMode) (items : List Item)
+    → has_shape n me own (Take starts mode) (Took items) ≡ true → TakeShape n me own starts mode items
 take_shape n me own starts mode items h =
     let one = and_parts (has_count mode (length starts) (length items)) (rises 0 (length starts) (map (λ (item : Item). item.index) items) && (list_all (λ k. can_take own k) starts && gots_fit n own me starts items)) h in
     let two = and_parts (rises 0 (length starts) (map (λ (item : Item). item.index) items)) (list_all (λ k. can_take own k) starts && gots_fit n own me starts items) one.1 in
     let three = and_parts (list_all (λ k. can_take own k) starts) (gots_fit n own me starts items) two.1 in
     record { count = one.0; rising = two.0; listed = three.0; gots = three.1 }
 
-took_fits : (n : ℕ) (group : List ℕ) (me : ℕ) (own : View) (starts : List ℕ) (mode : TakeMode) (items : List Item) → is_member group me ≡ true → TakeShape n me own starts mode items → fits n group me own (Take starts mode) (EntryTook (marks_of n group me own starts items)) ≡ true
+took_fits : (n : ℕ) (group : List ℕ) (me : ℕ) (own : View) (starts : List ℕ) (mode : TakeMode) (items : List Item)
+    → is_member group me ≡ true → TakeShape n me own starts mode items
+    → fits n group me own (Take starts mode) (EntryTook (marks_of n group me own starts items)) ≡ true
 unfolding fits
 took_fits n group me own starts mode items member shape =
     let many : length (map (λ (item : Item). item.index) items) ≡ length items = length-map items (λ (item : Item). item.index) in
     rw (marks_length n group me own starts items, many, shape.count, marks_index n group me own starts items, shape.rising, shape.listed, marks_shaped n group me own starts items member shape.gots)
 
 -- the entry of a reply in shape fits
-pub fits_shaped : (n : ℕ) (group : List ℕ) (me : ℕ) (own : View) (call : Call) (reply : Reply) → is_member group me ≡ true → has_shape n me own call reply ≡ true → fits n group me own call (entry_of n group me own call reply) ≡ true
+pub fits_shaped : (n : ℕ) (group : List ℕ) (me : ℕ) (own : View) (call : Call) (reply : Reply) → is_member group me ≡ true
+    → has_shape n me own call reply ≡ true → fits n group me own call (entry_of n group me own call reply) ≡ true
 unfolding fits
 fits_shaped n group me own call (Stopped halt) member h = h
 fits_shaped n group me own (Send comm dest tag ints) Done member h = refl

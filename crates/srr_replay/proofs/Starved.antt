@@ -55,14 +55,20 @@ pub record IsPlace (group : List ℕ) (V : ℕ → View) (stop : Stop) : Type 0 
   pub member : is_member group rank ≡ true
   pub below : number < length (V rank)
 
-there_member : (n : ℕ) (group : List ℕ) (V : ℕ → View) (missing : Missing) → is_there n (within group V) missing ≡ true → is_member group (rank_of missing) ≡ true
+there_member : (n : ℕ) (group : List ℕ) (V : ℕ → View) (missing : Missing) → is_there n (within group V) missing ≡ true
+    → is_member group (rank_of missing) ≡ true
 there_member n group V (Start source start) there =
     elim (test_cases (is_member group source)) [ inl i ↦ i | inr o ↦ (let no : false ≡ true = rw o at there in absurd (cc)) ]
 there_member n group V (Member m comm instance) there =
     elim (test_cases (is_member group m)) [ inl i ↦ i | inr o ↦ (let no : false ≡ true = rw o at there in absurd (cc)) ]
 
 -- what an entry of a run rests on is of the group and stands before it
-rests_before : (next : Next) (log : Log) (run before after : List Event) (rank : ℕ) (view rest : View) (call : Call) (reply : Reply) (missing : Missing) (number : ℕ) → IsRunWith next log run → run ≡ before ++ after → view_of run rank ≡ view ++ (call, reply) ∷ rest → length view < length (view_of before rank) → Among missing (rests log.ranks view rank call (entry_of log.ranks log.group rank view call reply)) → number_of (view_of run) missing ≡ Some number → (is_member log.group (rank_of missing) ≡ true) × (number < length (view_of before (rank_of missing)))
+rests_before : (next : Next) (log : Log) (run before after : List Event) (rank : ℕ) (view rest : View) (call : Call) (reply : Reply) (missing : Missing) (number : ℕ)
+    → IsRunWith next log run → run ≡ before ++ after → view_of run rank ≡ view ++ (call, reply) ∷ rest
+    → length view < length (view_of before rank)
+    → Among missing (rests log.ranks view rank call (entry_of log.ranks log.group rank view call reply))
+    → number_of (view_of run) missing ≡ Some number
+    → (is_member log.group (rank_of missing) ≡ true) × (number < length (view_of before (rank_of missing)))
 rests_before next log run before after rank view rest call reply missing number is split e below among number_is =
     let n : ℕ = log.ranks in
     let group : List ℕ = log.group in
@@ -90,7 +96,9 @@ rests_before next log run before after rank view rest call reply missing number 
     (there_member n group (view_of at.before) missing there, subst H equal (longer_of (within group (view_of at.before) (rank_of missing)) (view_of before (rank_of missing)) place.0 (to_before (rank_of missing)) place.2))
 
 -- a place is cut off only where the breakpoint stands no later in the run
-cut_off_before : (next : Next) (log : Log) (stop : Stop) (run before after : List Event) (rank number : ℕ) → IsRunWith next log run → run ≡ before ++ after → is_member log.group rank ≡ true → number < length (view_of before rank) → IsCutOff log.ranks log.group (view_of run) stop rank number → IsPlace log.group (view_of before) stop
+cut_off_before : (next : Next) (log : Log) (stop : Stop) (run before after : List Event) (rank number : ℕ)
+    → IsRunWith next log run → run ≡ before ++ after → is_member log.group rank ≡ true → number < length (view_of before rank)
+    → IsCutOff log.ranks log.group (view_of run) stop rank number → IsPlace log.group (view_of before) stop
 cut_off_before next log stop run before after _ _ is split member below (stops rank number t) =
     record { rank = rank; number = number; stop_is = is_break-at stop rank number t; member = member; below = below }
 cut_off_before next log stop run before after _ _ is split member below (follows rank number off) =
@@ -100,7 +108,9 @@ cut_off_before next log stop run before after _ _ is split member below (rests_o
     cut_off_before next log stop run before after (rank_of missing) number is split earlier.0 earlier.1 off
 
 -- so the breakpoint's rank has all its calls before it
-free_before : (next : Next) (log : Log) (stop : Stop) (run : List Event) (rank k j : ℕ) → IsRunWith next log run → stop ≡ Some (rank, k) → is_member log.group rank ≡ true → k < length (view_of run rank) → j < k → IsCutOff log.ranks log.group (view_of run) stop rank j → ⊥
+free_before : (next : Next) (log : Log) (stop : Stop) (run : List Event) (rank k j : ℕ) → IsRunWith next log run
+    → stop ≡ Some (rank, k) → is_member log.group rank ≡ true → k < length (view_of run rank) → j < k
+    → IsCutOff log.ranks log.group (view_of run) stop rank j → ⊥
 free_before next log stop run rank k j is stop_is member below low off =
     let cut = split_at (view_of run rank) k below in
     let at = place run rank cut.front cut.here.0 cut.here.1 cut.rest cut.whole in
@@ -112,11 +122,14 @@ free_before next log stop run rank k j is stop_is member below low off =
     let there : found.number < length (view_of at.before rank) = subst F same.0 found.below in
     omega (arith, long, numbers, there)
 
-stand_at_break : (next : Option Call) (variables : List Variable) (answer : Call → Step) (call : Call) → next ≡ Some call → answer call ≡ AtBreak → stand_where next variables answer ≡ Some (StandAtBreak variables)
+stand_at_break : (next : Option Call) (variables : List Variable) (answer : Call → Step) (call : Call) → next ≡ Some call
+    → answer call ≡ AtBreak → stand_where next variables answer ≡ Some (StandAtBreak variables)
 stand_at_break next variables answer call live stopped = rw (live, stopped)
 
 -- and stands at it
-at_break : (next : Next) (variables : ℕ → ℕ → List Reply → List Variable) (log : Log) (stop : Stop) (run events : List Event) → Lawful next → IsRunWith next log run → IsWholeReplay next log stop events → (at : IsPlace log.group (view_of run) stop) → stand_of next variables log stop events at.rank ≡ Some (StandAtBreak (variables log.ranks at.rank (replies_in (view_of events at.rank))))
+at_break : (next : Next) (variables : ℕ → ℕ → List Reply → List Variable) (log : Log) (stop : Stop) (run events : List Event)
+    → Lawful next → IsRunWith next log run → IsWholeReplay next log stop events → (at : IsPlace log.group (view_of run) stop)
+    → stand_of next variables log stop events at.rank ≡ Some (StandAtBreak (variables log.ranks at.rank (replies_in (view_of events at.rank))))
 at_break next variables log stop run events lawful is all at =
     let n : ℕ = log.ranks in
     let own : View = view_of events at.rank in
@@ -140,19 +153,23 @@ at_break next variables log stop run events lawful is all at =
           stand_at_break (next n at.rank (replies_in own)) (variables n at.rank (replies_in own)) (answer_of log stop (view_of events) own at.rank) cut.here.0 live (rw stopped))
     ]
 
-waits_by : (variables : List Variable) (step : Step) (missing : Missing) → stand_by variables step ≡ Some (Starved missing) → step ≡ Wait missing
+waits_by : (variables : List Variable) (step : Step) (missing : Missing) → stand_by variables step ≡ Some (Starved missing)
+    → step ≡ Wait missing
 waits_by variables AtBreak missing h = absurd (cc)
 waits_by variables LogEnded missing h = absurd (cc)
 waits_by variables (Diverged divergence) missing h = absurd (cc)
 waits_by variables (Wait other) missing h = (let e : Some (Starved other) ≡ Some (Starved missing) = h in let same : other ≡ missing = cc in ap (λ m. Wait m) same)
 waits_by variables (Replied reply) missing h = absurd (cc)
 
-waits_where : (next : Option Call) (variables : List Variable) (answer : Call → Step) (missing : Missing) → stand_where next variables answer ≡ Some (Starved missing) → (call : Call) × (answer call ≡ Wait missing)
+waits_where : (next : Option Call) (variables : List Variable) (answer : Call → Step) (missing : Missing)
+    → stand_where next variables answer ≡ Some (Starved missing) → (call : Call) × (answer call ≡ Wait missing)
 waits_where None variables answer missing h = absurd (let no : Some StandEnded ≡ Some (Starved missing) = h in cc)
 waits_where (Some call) variables answer missing h = (call, waits_by variables (answer call) missing h)
 
 -- a rank that has its whole view does not wait
-not_starved : (log : Log) (stop : Stop) (run events : List Event) (rank : ℕ) (call : Call) (missing : Missing) → log ≡ log_of log.program log.ranks run log.group → is_member log.group rank ≡ true → view_of events rank ≡ view_of run rank → answer_of log stop (view_of events) (view_of events rank) rank call ≡ Wait missing → ⊥
+not_starved : (log : Log) (stop : Stop) (run events : List Event) (rank : ℕ) (call : Call) (missing : Missing)
+    → log ≡ log_of log.program log.ranks run log.group → is_member log.group rank ≡ true → view_of events rank ≡ view_of run rank
+    → answer_of log stop (view_of events) (view_of events rank) rank call ≡ Wait missing → ⊥
 not_starved log stop run events rank call missing same_log member same h =
     let own : View = view_of events rank in
     let past = entry_past log run rank own same_log member (sym same) in
@@ -182,7 +199,9 @@ place_cases group V (Some (r, k)) =
     ]
 
 -- where a rank is starved, another stands at the breakpoint
-pub starved_law : (next : Next) (variables : ℕ → ℕ → List Reply → List Variable) (log : Log) (stop : Stop) (run events : List Event) → Lawful next → IsRunWith next log run → IsWholeReplay next log stop events → StarvesBehindABreak next variables log stop events
+pub starved_law : (next : Next) (variables : ℕ → ℕ → List Reply → List Variable) (log : Log) (stop : Stop) (run events : List Event)
+    → Lawful next → IsRunWith next log run → IsWholeReplay next log stop events
+    → StarvesBehindABreak next variables log stop events
 starved_law next variables log stop run events lawful is all rank missing member starved =
     elim (place_cases log.group (view_of run) stop) [
       | inl at ↦ (at.rank, variables log.ranks at.rank (replies_in (view_of events at.rank)), at.member, at_break next variables log stop run events lawful is all at)

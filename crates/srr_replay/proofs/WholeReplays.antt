@@ -19,7 +19,9 @@ use Rattle.srr_replay.specs.Replays.{IsWholeReplay, Stop}
 use Rattle.srr_replay.specs.Stands.{IsReplayed, printed_of, stand_of}
 
 -- what holds of each stand of the group holds of the list of them
-all_stands : (P : Stand → Type 0) (f : ℕ → Option Stand) (group : List ℕ) (ends : List Stand) → map Some ends ≡ map f group → ((rank : ℕ) (stand : Stand) → is_member group rank ≡ true → f rank ≡ Some stand → P stand) → (k : ℕ) (d : Stand) → k < length ends → P (get_or ends k d)
+all_stands : (P : Stand → Type 0) (f : ℕ → Option Stand) (group : List ℕ) (ends : List Stand) → map Some ends ≡ map f group
+    → ((rank : ℕ) (stand : Stand) → is_member group rank ≡ true → f rank ≡ Some stand → P stand) → (k : ℕ) (d : Stand)
+    → k < length ends → P (get_or ends k d)
 all_stands P f group [] same each k d below = absurd (omega arith)
 all_stands P f [] (stand ∷ ends) same each k d below = absurd (cc)
 all_stands P f (rank ∷ group) (stand ∷ ends) same each zero d below =
@@ -30,7 +32,8 @@ all_stands P f (rank ∷ group) (stand ∷ ends) same each (suc k) d below =
     all_stands P f group ends rest (λ r s member at. each r s (or_right (rank == r) (is_member group r) member) at) k d (omega arith)
 
 -- a stand in the list is that of some rank of the group, and the stand of each rank is in the list
-rank_of_stand : (f : ℕ → Option Stand) (group : List ℕ) (ends : List Stand) (stand : Stand) (k : ℕ) → map Some ends ≡ map f group → k < length ends → slice_index_or ends k stand ≡ stand → (rank : ℕ) × (is_member group rank ≡ true) × (f rank ≡ Some stand)
+rank_of_stand : (f : ℕ → Option Stand) (group : List ℕ) (ends : List Stand) (stand : Stand) (k : ℕ) → map Some ends ≡ map f group
+    → k < length ends → slice_index_or ends k stand ≡ stand → (rank : ℕ) × (is_member group rank ≡ true) × (f rank ≡ Some stand)
 rank_of_stand f group [] stand k same below at = absurd (omega arith)
 rank_of_stand f [] (other ∷ ends) stand k same below at = absurd (cc)
 rank_of_stand f (rank ∷ group) (other ∷ ends) stand zero same below at =
@@ -41,7 +44,8 @@ rank_of_stand f (rank ∷ group) (other ∷ ends) stand (suc k) same below at =
     let found = rank_of_stand f group ends stand k rest (omega arith) at in
     (found.0, or_right (rank == found.0) (is_member group found.0) found.1, found.2)
 
-stand_of_rank : (f : ℕ → Option Stand) (group : List ℕ) (ends : List Stand) (stand : Stand) (rank : ℕ) → map Some ends ≡ map f group → is_member group rank ≡ true → f rank ≡ Some stand → Contains ends stand
+stand_of_rank : (f : ℕ → Option Stand) (group : List ℕ) (ends : List Stand) (stand : Stand) (rank : ℕ)
+    → map Some ends ≡ map f group → is_member group rank ≡ true → f rank ≡ Some stand → Contains ends stand
 stand_of_rank f [] ends stand rank same member at = absurd (cc)
 stand_of_rank f (r ∷ group) [] stand rank same member at = absurd (cc)
 stand_of_rank f (r ∷ group) (other ∷ ends) stand rank same member at =
@@ -57,14 +61,16 @@ stand_of_rank f (r ∷ group) (other ∷ ends) stand rank same member at =
           (suc found.0, omega (arith, found.1), found.2))
     ]
 
-same_outputs : (f g : ℕ → List ℕ) (group : List ℕ) → ((rank : ℕ) → is_member group rank ≡ true → f rank ≡ g rank) → map f group ≡ map g group
+same_outputs : (f g : ℕ → List ℕ) (group : List ℕ) → ((rank : ℕ) → is_member group rank ≡ true → f rank ≡ g rank)
+    → map f group ≡ map g group
 same_outputs f g [] each = refl
 same_outputs f g (rank ∷ group) each =
     let first = each rank (or_left (rank == rank) (is_member group rank) (eq-eqb rank rank refl)) in
     let rest = same_outputs f g group (λ r member. each r (or_right (rank == r) (is_member group r) member)) in
     ap₂ (λ x xs. x ∷ xs) first rest
 
-pub IsWholeReplay-replayed : (next : Next) (output : ℕ → ℕ → List Reply → List ℕ) (variables : ℕ → ℕ → List Reply → List Variable) (log : Log) (stop : Stop) (replayed : Replayed) → IsReplayed next output variables log stop replayed → IsWholeReplay next log stop replayed.events.events
+pub IsWholeReplay-replayed : (next : Next) (output : ℕ → ℕ → List Reply → List ℕ) (variables : ℕ → ℕ → List Reply → List Variable) (log : Log) (stop : Stop) (replayed : Replayed)
+    → IsReplayed next output variables log stop replayed → IsWholeReplay next log stop replayed.events.events
 IsWholeReplay-replayed next output variables log stop replayed is = record { replays = is.replays; exhausted = is.exhausted }
 
 pub IsReplayOfRun-laws : (next : Next) (output : ℕ → ℕ → List Reply → List ℕ) (variables : ℕ → ℕ → List Reply → List Variable) (log : Log) (stop : Stop) (run : List Event) (replayed : Replayed)

@@ -11,11 +11,13 @@ use Rattle.wiz_cli.specs.declared.outcome.Refusal.TheVariants.{Words, Missing, R
 use Rattle.wiz_cli.specs.declared.outcome.Outcome.{Outcome}
 use Rattle.wiz_cli.specs.declared.outcome.Outcome.TheVariants.{Refused, Replayed as WasReplayed}
 use Rattle.wiz_cli.specs.Courses.{next_of, output_of}
-use Rattle.wiz_cli.specs.Reports.{IsBytesOutcome, IsFileOutcome, IsOutcome, IsReplayOfLog, IsReport, IsShown, IsTold, IsTrace, ShowEveryRun, ShowsEveryRun, is_diverged, is_starved}
+use Rattle.wiz_cli.specs.Reports.{IsBytesOutcome, IsFileOutcome, IsOutcome, IsReplayOfLog, IsReport, IsShown, IsTold, IsTrace, ReplaysShowEveryRun, ShowsEveryRun, is_diverged, is_starved}
 use Rattle.wiz_cli.specs.Words.{IsReplayOf}
 use Rattle.wiz_io.specs.Files.{Files, IsRead}
 
-pub IsFileOutcome-bytes : (files : Option Files) (name : List ℕ) (before after : ℕ) (bytes : List ℕ) (outcome : Outcome) → IfSome files (λ told. told name ≡ Some bytes) → length bytes ≤ 134217728 → IsBytesOutcome bytes outcome → IsFileOutcome files name before after outcome
+pub IsFileOutcome-bytes : (files : Option Files) (name : List ℕ) (before after : ℕ) (bytes : List ℕ) (outcome : Outcome)
+    → IfSome files (λ told. told name ≡ Some bytes) → length bytes ≤ 134217728 → IsBytesOutcome bytes outcome
+    → IsFileOutcome files name before after outcome
 IsFileOutcome-bytes files name before after bytes (Refused Words) is short h = absurd h.2
 IsFileOutcome-bytes files name before after bytes (Refused Missing) is short h = absurd h.2
 IsFileOutcome-bytes files name before after bytes (Refused ReadFault) is short h = absurd h.2
@@ -24,7 +26,8 @@ IsFileOutcome-bytes files name before after bytes (Refused (LogRefused fault)) i
 IsFileOutcome-bytes files name before after bytes (Refused TooLong) is short h = absurd h.2
 IsFileOutcome-bytes files name before after bytes (WasReplayed replayed) is short h = (bytes, is, short, h)
 
-pub IsOutcome-file : (words : List (List ℕ)) (files : Option Files) (before after : ℕ) (name : List ℕ) (outcome : Outcome) → IsReplayOf words name → IsFileOutcome files name before after outcome → IsOutcome words files before after name outcome
+pub IsOutcome-file : (words : List (List ℕ)) (files : Option Files) (before after : ℕ) (name : List ℕ) (outcome : Outcome)
+    → IsReplayOf words name → IsFileOutcome files name before after outcome → IsOutcome words files before after name outcome
 IsOutcome-file words files before after name (Refused Words) is h = absurd h
 IsOutcome-file words files before after name (Refused Missing) is h = (is, h)
 IsOutcome-file words files before after name (Refused ReadFault) is h = (is, h)
@@ -34,11 +37,14 @@ IsOutcome-file words files before after name (Refused TooLong) is h = (is, h)
 IsOutcome-file words files before after name (WasReplayed replayed) is h = (is, h)
 
 -- an outcome of the words, told
-pub IsReport-told : (words : List (List ℕ)) (files : Option Files) (reads reads' : ℕ) (before after : Option (List ℕ)) (faults faults' status : ℕ) (run : Option Kept) (replays : List Replayed) (name : List ℕ) (outcome : Outcome) → IsOutcome words files reads reads' name outcome → IsTold outcome name before after faults faults' status run replays → IsReport words files reads reads' before after faults faults' status run replays
+pub IsReport-told : (words : List (List ℕ)) (files : Option Files) (reads reads' : ℕ) (before after : Option (List ℕ)) (faults faults' status : ℕ) (run : Option Kept) (replays : List Replayed) (name : List ℕ) (outcome : Outcome)
+    → IsOutcome words files reads reads' name outcome → IsTold outcome name before after faults faults' status run replays
+    → IsReport words files reads reads' before after faults faults' status run replays
 IsReport-told words files reads reads' before after faults faults' status run replays name outcome comes told = inr (name, outcome, comes, told)
 
 -- where files are told, what was read of one are its bytes
-pub IsRead-bytes : (files : Option Files) (name bytes : List ℕ) (limit : ℕ) → IfSome files (λ told. IsRead (told name) limit (Ok bytes)) → IfSome files (λ told. told name ≡ Some bytes)
+pub IsRead-bytes : (files : Option Files) (name bytes : List ℕ) (limit : ℕ)
+    → IfSome files (λ told. IsRead (told name) limit (Ok bytes)) → IfSome files (λ told. told name ≡ Some bytes)
 IsRead-bytes None name bytes limit h = h
 IsRead-bytes (Some told) name bytes limit h = h.0
 
@@ -57,7 +63,8 @@ not_nine : (status : ℕ) → (status ≡ 0) ⊎ (status ≡ 4) → (status ≢ 
 not_nine status (inl zero_is) = (λ nine. absurd (omega (arith, zero_is, nine)), λ ten. absurd (omega (arith, zero_is, ten)))
 not_nine status (inr four) = (λ nine. absurd (omega (arith, four, nine)), λ ten. absurd (omega (arith, four, ten)))
 
-traced_status : (before after : Option (List ℕ)) (faults faults' : ℕ) (replayed : Replayed) (status : ℕ) → All IsDone replayed.ends → IsTrace before after faults faults' replayed status → (status ≡ 0) ⊎ (status ≡ 4)
+traced_status : (before after : Option (List ℕ)) (faults faults' : ℕ) (replayed : Replayed) (status : ℕ)
+    → All IsDone replayed.ends → IsTrace before after faults faults' replayed status → (status ≡ 0) ⊎ (status ≡ 4)
 traced_status before after faults faults' replayed status done trace =
     let none = done_status replayed.ends done in
     elim trace [
@@ -65,16 +72,20 @@ traced_status before after faults faults' replayed status done trace =
       | inr part ↦ inr part.0
     ]
 
-shown_by : (log : Log) (replayed : Replayed) (before after : Option (List ℕ)) (faults faults' status : ℕ) (is : IsReplayOfLog log replayed) → IsTrace before after faults faults' replayed status → (run : List Event) → IsRunWith (next_of is.program) log run → IsShown (output_of is.program) log run replayed status
+shown_by : (log : Log) (replayed : Replayed) (before after : Option (List ℕ)) (faults faults' status : ℕ) (is : IsReplayOfLog log replayed)
+    → IsTrace before after faults faults' replayed status → (run : List Event) → IsRunWith (next_of is.program) log run
+    → IsShown (output_of is.program) log run replayed status
 shown_by log replayed before after faults faults' status is trace run with =
     let of = is.runs run with in
     let fine = not_nine status (traced_status before after faults faults' replayed status (of.ends refl) trace) in
     record { views = of.views refl; outputs = of.outputs refl; not_diverged = fine.0; not_starved = fine.1 }
 
 -- an outcome of the words, told, shows every run
-pub ShowEveryRun-told : (words : List (List ℕ)) (files : Option Files) (reads reads' : ℕ) (before after : Option (List ℕ)) (faults faults' status : ℕ) (run : Option Kept) (replays : List Replayed) (name : List ℕ) (outcome : Outcome) → IsOutcome words files reads reads' name outcome → IsTold outcome name before after faults faults' status run replays → ShowEveryRun words files replays status
-ShowEveryRun-told words files reads reads' before after faults faults' status run replays name (Refused refusal) comes told = rw told.2 tt
-ShowEveryRun-told words files reads reads' before after faults faults' status run replays name (WasReplayed replayed) comes told =
+pub ReplaysShowEveryRun-told : (words : List (List ℕ)) (files : Option Files) (reads reads' : ℕ) (before after : Option (List ℕ)) (faults faults' status : ℕ) (run : Option Kept) (replays : List Replayed) (name : List ℕ) (outcome : Outcome)
+    → IsOutcome words files reads reads' name outcome → IsTold outcome name before after faults faults' status run replays
+    → ReplaysShowEveryRun words files replays status
+ReplaysShowEveryRun-told words files reads reads' before after faults faults' status run replays name (Refused refusal) comes told = rw told.2 tt
+ReplaysShowEveryRun-told words files reads reads' before after faults faults' status run replays name (WasReplayed replayed) comes told =
     let file = comes.1 in
     let bytes = file.3 in
     let is : IsReplayOfLog bytes.0 replayed = bytes.2 in

@@ -166,6 +166,6 @@ pub record ShowsEveryRun (words : List (List ℕ)) (files : Option Files) (repla
   pub shown : (run : List Event) → IsRunWith (next_of program) log run → IsShown (output_of program) log run replayed status
 
 -- the replays of a report, at most one, show every run
-abbrev pub ShowEveryRun : List (List ℕ) → Option Files → List Replayed → ℕ → Type 0
-ShowEveryRun words files [] status = Unit {0}
-ShowEveryRun words files (replayed ∷ more) status = (more ≡ []) × ShowsEveryRun words files replayed status
+abbrev pub ReplaysShowEveryRun : List (List ℕ) → Option Files → List Replayed → ℕ → Type 0
+ReplaysShowEveryRun words files [] status = Unit {0}
+ReplaysShowEveryRun words files (replayed ∷ more) status = (more ≡ []) × ShowsEveryRun words files replayed status

@@ -1,6 +1,6 @@
 //! The top call.
 ghost use Rattle.std.specs.Prelude.{◌≡◌, IfOk, map};
-ghost use Rattle.wiz_cli.specs.Reports.{IsReport, ShowEveryRun};
+ghost use Rattle.wiz_cli.specs.Reports.{IsReport, ReplaysShowEveryRun};
 
 use crate::gate::Gate;
 use crate::outcome::{Outcome, Refusal};
@@ -23,7 +23,7 @@ pub fn wiz_serial<S: Store, K: Sink>(
     out: &mut K,
 ) -> Report
     ensures report { IsReport (map (λ word. word.now) words.now) (S.files store.old) (S.read_faults store.old) (S.read_faults store.new) (K.written out.old) (K.written out.new) (K.faults out.old) (K.faults out.new) result.status result.run result.replayed }
-    ensures runs { ShowEveryRun (map (λ word. word.now) words.now) (S.files store.old) result.replayed result.status }
+    ensures runs { ReplaysShowEveryRun (map (λ word. word.now) words.now) (S.files store.old) result.replayed result.status }
     ensures files { S.files store.new ≡ S.files store.old }
     ensures writes { S.write_faults store.new ≡ S.write_faults store.old }
 {
@@ -47,7 +47,7 @@ pub fn wiz<R: Threads + Wait + Sync, S: Store, K: Sink, G: Gate + Sync>(
     _gate: &G,
 ) -> Report
     ensures report { IsReport (map (λ word. word.now) words.now) (S.files store.old) (S.read_faults store.old) (S.read_faults store.new) (K.written out.old) (K.written out.new) (K.faults out.old) (K.faults out.new) result.status result.run result.replayed }
-    ensures runs { ShowEveryRun (map (λ word. word.now) words.now) (S.files store.old) result.replayed result.status }
+    ensures runs { ReplaysShowEveryRun (map (λ word. word.now) words.now) (S.files store.old) result.replayed result.status }
     ensures files { S.files store.new ≡ S.files store.old }
     ensures writes { S.write_faults store.new ≡ S.write_faults store.old }
 {
@@ -62,7 +62,7 @@ fn answer<S: Store, K: Sink>(
     out: &mut K,
 ) -> Result<Report, AllocError>
     ensures report { IfOk result (λ report. IsReport (map (λ word. word.now) words.now) (S.files store.old) (S.read_faults store.old) (S.read_faults store.new) (K.written out.old) (K.written out.new) (K.faults out.old) (K.faults out.new) report.status report.run report.replayed) }
-    ensures runs { IfOk result (λ report. ShowEveryRun (map (λ word. word.now) words.now) (S.files store.old) report.replayed report.status) }
+    ensures runs { IfOk result (λ report. ReplaysShowEveryRun (map (λ word. word.now) words.now) (S.files store.old) report.replayed report.status) }
     ensures files { S.files store.new ≡ S.files store.old }
     ensures writes { S.write_faults store.new ≡ S.write_faults store.old }
 {

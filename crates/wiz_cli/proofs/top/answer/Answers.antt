@@ -1,7 +1,7 @@
 use Rattle.std.proofs.Common.{[]}
 use Rattle.wiz_cli.specs.declared.outcome.Refusal.TheVariants.{Words}
 use Rattle.wiz_cli.specs.declared.outcome.Outcome.TheVariants.{Refused}
-use Rattle.wiz_cli.proofs.ReportLemmas.{IsOutcome-file, IsReport-told, ShowEveryRun-told}
+use Rattle.wiz_cli.proofs.ReportLemmas.{IsOutcome-file, IsReport-told, ReplaysShowEveryRun-told}
 use Rattle.wiz_cli.proofs.top.answer.Goals as goal
 
 pub returns-in_ok-report-in-None-clause-report : goal.returns-in_ok-report-in-None-clause-report
@@ -10,6 +10,6 @@ returns-in_ok-report-in-None-clause-report g c =
 
 pub returns-in_ok-report-in-Some-clause-runs : goal.returns-in_ok-report-in-Some-clause-runs
 returns-in_ok-report-in-Some-clause-runs g c =
-    ShowEveryRun-told _ _ _ _ _ _ _ _ _ _ _ c.in-Some.name.now c.in_ok-outcome-in-Some.outcome
+    ReplaysShowEveryRun-told _ _ _ _ _ _ _ _ _ _ _ c.in-Some.name.now c.in_ok-outcome-in-Some.outcome
     (IsOutcome-file _ _ _ _ c.in-Some.name.now c.in_ok-outcome-in-Some.outcome c.in-Some.ensures c.in_ok-outcome-in-Some.ensures.outcome)
     c.in_ok-report-in-Some.ensures
