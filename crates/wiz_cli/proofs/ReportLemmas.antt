@@ -1,5 +1,6 @@
 -- What comes of a file, from what comes of its bytes; and reports.
-use Rattle.std.proofs.Common.{◌≡◌, ◌≢◌, ◌≤◌, ◌⊎◌, ℕ, suc, List, [], ◌∷◌, Option, Some, None, IfSome, Ok, length, false, inl, inr, refl, arith}
+use Rattle.std.proofs.Common.{◌≡◌, ◌≢◌, ◌≤◌, ◌⊎◌, Result, Err, OnErr, ℕ, suc, List, [], ◌∷◌, Option, Some, None, IfSome, Ok, length, false, inl, inr, refl, sym, ap, ◌∙◌, ◌++◌, arith}
+use Rattle.std.proofs.Math.Seq.{take-length}
 use Rattle.std.specs.List.{All, list_any}
 use Rattle.run_model.specs.declared.event.Event.{Event}
 use Rattle.run_model.specs.Views.{Kept}
@@ -11,7 +12,8 @@ use Rattle.wiz_cli.specs.declared.outcome.Refusal.TheVariants.{Words, Missing, R
 use Rattle.wiz_cli.specs.declared.outcome.Outcome.{Outcome}
 use Rattle.wiz_cli.specs.declared.outcome.Outcome.TheVariants.{Refused, Replayed as WasReplayed}
 use Rattle.wiz_cli.specs.Courses.{next_of, output_of}
-use Rattle.wiz_cli.specs.Reports.{IsBytesOutcome, IsFileOutcome, IsOutcome, IsReplayOfLog, IsReport, IsShown, IsTold, IsTrace, ReplaysShowEveryRun, ShowsEveryRun, is_diverged, is_starved}
+use Rattle.wiz_cli.specs.Reports.{GrewBy, GrewByPart, IsBytesOutcome, IsFileOutcome, IsOutcome, IsReplayOfLog, IsReport, IsShown, IsTold, IsTrace, ReplaysShowEveryRun, ShowsEveryRun, is_diverged, is_starved}
+use Rattle.wiz_cli.specs.TraceTexts.{trace_text}
 use Rattle.wiz_cli.specs.Words.{IsReplayOf}
 use Rattle.wiz_io.specs.Files.{Files, IsRead}
 
@@ -101,3 +103,18 @@ ReplaysShowEveryRun-told words files reads reads' before after faults faults' st
       shown = shown_by bytes.0 replayed before after faults faults' status is told.2;
     } in
     rw told.1 (refl, shows)
+
+-- a text that is out is a part of itself
+GrewByPart-whole : (before after : Option (List ℕ)) (text : List ℕ) → GrewBy before after text → GrewByPart before after text
+GrewByPart-whole None after text h = h
+GrewByPart-whole (Some before) None text h = absurd h
+GrewByPart-whole (Some before) (Some after) text h = (length text, h ∙ ap (λ part. before ++ part) (sym (take-length text)))
+
+pub GrewByPart-trace : (before after : Option (List ℕ)) (faults faults' : ℕ) (replayed : Replayed) (status : ℕ) → IsTrace before after faults faults' replayed status → GrewByPart before after (trace_text replayed)
+GrewByPart-trace before after faults faults' replayed status (inl whole) = GrewByPart-whole before after (trace_text replayed) whole.1
+GrewByPart-trace before after faults faults' replayed status (inr part) = part.2
+
+-- what holds anyway holds at an error
+pub OnErr-any : {A E : Type 0} (result : Result A E) (P : Type 0) → P → OnErr result P
+OnErr-any (Ok value) P h = tt
+OnErr-any (Err error) P h = h

@@ -139,10 +139,22 @@ IsTold (Refused refusal) name before after faults faults' status run replays =
 IsTold (WasReplayed replayed) name before after faults faults' status run replays =
     (run ≡ None) × (replays ≡ replayed ∷ []) × IsTrace before after faults faults' replayed status
 
+-- the text that tells an outcome
+abbrev pub told_text : Outcome → List ℕ → List ℕ
+told_text (Refused refusal) name = message_text refusal name
+told_text (WasReplayed replayed) name = trace_text replayed
+
+-- where memory was wanting nothing is put out, or a part of what tells an outcome of the words
+abbrev pub IsCutShort : List (List ℕ) → Option Files → ℕ → ℕ → Option (List ℕ) → Option (List ℕ) → Type 0
+IsCutShort words files reads reads' before after =
+    (after ≡ before)
+    ⊎ ((name : List ℕ) × (outcome : Outcome) × IsOutcome words files reads reads' name outcome
+    × GrewByPart before after (told_text outcome name))
+
 -- a report: memory was wanting, or some outcome of the words was told
 abbrev pub IsReport : List (List ℕ) → Option Files → ℕ → ℕ → Option (List ℕ) → Option (List ℕ) → ℕ → ℕ → ℕ → Option Kept → List Replayed → Type 0
 IsReport words files reads reads' before after faults faults' status run replays =
-    (status ≡ 11)
+    ((status ≡ 11) × (run ≡ None) × (replays ≡ []) × IsCutShort words files reads reads' before after)
     ⊎ ((name : List ℕ) × (outcome : Outcome) × IsOutcome words files reads reads' name outcome
     × IsTold outcome name before after faults faults' status run replays)
 

@@ -1,7 +1,8 @@
 //! Telling an outcome: its status, and its message or trace.
-ghost use Rattle.std.specs.Prelude.{◌≡◌, ◌++◌, ◌∷◌, IfOk, OnOk, codes};
+ghost use Rattle.std.specs.Prelude.{◌≡◌, ◌++◌, ◌∷◌, IfOk, OnErr, OnOk, codes};
 ghost use Rattle.std.specs.List.{list_any};
-ghost use Rattle.wiz_cli.specs.Reports.{HasSaid, IsTold, IsTrace, is_at_break, is_diverged, is_starved, message_text, refusal_status, status_by, why_text};
+ghost use Rattle.wiz_cli.specs.Reports.{GrewByPart, HasSaid, IsTold, IsTrace, is_at_break, is_diverged, is_starved, message_text, refusal_status, status_by, told_text, why_text};
+ghost use Rattle.wiz_cli.specs.TraceTexts.{trace_text};
 ghost use Rattle.wiz_base.specs.Decimals.{decimal_text};
 
 use crate::outcome::{Outcome, Refusal};
@@ -20,7 +21,8 @@ pub fn tell<K: Sink>(
     name: &str,
     out: &mut K,
 ) -> Result<Report, AllocError>
-    ensures { IfOk result (λ report. IsTold outcome name.now (K.written out.old) (K.written out.new) (K.faults out.old) (K.faults out.new) report.status report.run report.replayed) }
+    ensures told { IfOk result (λ report. IsTold outcome name.now (K.written out.old) (K.written out.new) (K.faults out.old) (K.faults out.new) report.status report.run report.replayed) }
+    ensures short { OnErr result (GrewByPart (K.written out.old) (K.written out.new) (told_text outcome name.now)) }
 {
     match outcome {
         Outcome::Refused(refusal) => {
@@ -62,7 +64,8 @@ fn exit_status(refusal: Refusal) -> u8
 
 /// Puts a refusal's message out. A fault of the sink changes no status.
 fn say<K: Sink>(alloc: Global, refusal: Refusal, name: &str, out: &mut K) -> Result<(), AllocError>
-    ensures { OnOk result (HasSaid (K.written out.old) (K.written out.new) (K.faults out.old) (K.faults out.new) (message_text refusal name.now)) }
+    ensures said { OnOk result (HasSaid (K.written out.old) (K.written out.new) (K.faults out.old) (K.faults out.new) (message_text refusal name.now)) }
+    ensures short { OnErr result (GrewByPart (K.written out.old) (K.written out.new) (message_text refusal name.now)) }
 {
     let text = message(alloc, refusal, name)?;
     match out.put(text.as_slice()) {
@@ -126,7 +129,8 @@ fn why_words(why: LogWhy) -> &'static [u8]
 
 /// Puts the trace out. The status is that of the stands, or 4 where the sink failed.
 fn put_trace<K: Sink>(alloc: Global, replayed: &Replayed, out: &mut K) -> Result<u8, AllocError>
-    ensures { IfOk result (λ status. IsTrace (K.written out.old) (K.written out.new) (K.faults out.old) (K.faults out.new) replayed.now status) }
+    ensures trace { IfOk result (λ status. IsTrace (K.written out.old) (K.written out.new) (K.faults out.old) (K.faults out.new) replayed.now status) }
+    ensures short { OnErr result (GrewByPart (K.written out.old) (K.written out.new) (trace_text replayed.now)) }
 {
     let text = trace_text(alloc, replayed)?;
     match out.put(text.as_slice()) {
