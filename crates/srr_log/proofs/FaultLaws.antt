@@ -15,8 +15,8 @@ use Rattle.srr_log.specs.Faults.{IsWhole, HasNoEnd, IsReason, IsShort, IsBad, Is
 use Rattle.srr_log.specs.Reading.{State, at_head, at_ranks, at_group, at_size, at_program, at_list, at_entry, at_end, Allows, next, after, Runs, expected, IsOpen, FaultAt, FaultFrom, Reads, IsWithin, IsPlaced}
 use Rattle.srr_log.proofs.PieceLaws.{some, cut_at}
 use Rattle.std.proofs.Math.Seq.{drop-length}
-use Rattle.srr_log.specs.declared.fault.Stop.{Stop}
-use Rattle.srr_log.specs.declared.fault.Stop.TheVariants.{NoMemory, Fault}
+use Rattle.srr_log.specs.declared.stop.Stop.{Stop}
+use Rattle.srr_log.specs.declared.stop.Stop.TheVariants.{NoMemory, Fault}
 use Rattle.srr_log.specs.Pieces.{cut}
 use Rattle.srr_log.proofs.ReadLaws.{lists_before}
 use Rattle.std.proofs.lemmas.Option.{some_pair_parts}

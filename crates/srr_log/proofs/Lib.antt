@@ -9,3 +9,4 @@ pub mod LogLaws
 pub mod ReadLaws
 pub mod FaultLaws
 pub mod WriteLaws
+pub mod WorkedExamples

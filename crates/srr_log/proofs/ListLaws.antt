@@ -1,8 +1,8 @@
 -- Reading a list piece by piece.
 use Rattle.std.proofs.Common.{◌≡◌, ℕ, ◌+◌, ◌<◌, List, [], ◌∷◌, ◌++◌, length, refl, sym, ◌∙◌, ap, arith, append_assoc, length-append}
 use Rattle.std.specs.Prelude.{Option, Some, None, Ok, Err}
-use Rattle.srr_log.specs.declared.fault.Unread.{Unread}
-use Rattle.srr_log.specs.declared.fault.Unread.TheVariants.{NotAllowed, NoMemory}
+use Rattle.srr_log.specs.declared.stop.Unread.{Unread}
+use Rattle.srr_log.specs.declared.stop.Unread.TheVariants.{NotAllowed, NoMemory}
 use Rattle.srr_log.specs.Pieces.{◌>>=◌, Gives, Adds, cut, pieces, all_of}
 use Rattle.srr_log.proofs.PieceLaws.{some, cut_some, pieces_cut, pieces_last}
 

@@ -7,8 +7,8 @@ use Rattle.std.proofs.lemmas.List.{nil_from_length}
 use Rattle.srr_entry.specs.declared.entry.Entry.{Entry}
 use Rattle.srr_entry.specs.declared.log.Log.{Log}
 use Rattle.srr_log.specs.declared.fault.LogWhy.TheVariants.{Extra}
-use Rattle.srr_log.specs.declared.fault.Stop.{Stop}
-use Rattle.srr_log.specs.declared.fault.Stop.TheVariants.{Fault}
+use Rattle.srr_log.specs.declared.stop.Stop.{Stop}
+use Rattle.srr_log.specs.declared.stop.Stop.TheVariants.{Fault}
 use Rattle.srr_log.specs.Parts.{Part, head_line, ranks_line, group_line, size_line, program_bytes, rank_line, entry_part, end_line, lists_parts, log_parts}
 use Rattle.srr_log.specs.Reading.{State, Reads, after, at_end, at_group, at_head, at_list, at_ranks, at_size}
 use Rattle.srr_log.proofs.StateLaws.{AreRead, read_then, reads_behind, after_lists, after_append}

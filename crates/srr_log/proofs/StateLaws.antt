@@ -10,10 +10,10 @@ use Rattle.wiz_base.specs.Decimals.{decimal_text}
 use Rattle.wiz_base.specs.Lines.{HasNoNewline}
 use Rattle.srr_log.specs.declared.fault.LogWhy.{LogWhy}
 use Rattle.srr_log.specs.declared.fault.LogWhy.TheVariants.{Short, BadNumber}
-use Rattle.srr_log.specs.declared.fault.Stop.{Stop}
-use Rattle.srr_log.specs.declared.fault.Stop.TheVariants.{NoMemory, Fault}
-use Rattle.srr_log.specs.declared.fault.Unread.{Unread}
-use Rattle.srr_log.specs.declared.fault.Unread.TheVariants.{NotAllowed, NoMemory as UnreadMemory}
+use Rattle.srr_log.specs.declared.stop.Stop.{Stop}
+use Rattle.srr_log.specs.declared.stop.Stop.TheVariants.{NoMemory, Fault}
+use Rattle.srr_log.specs.declared.stop.Unread.{Unread}
+use Rattle.srr_log.specs.declared.stop.Unread.TheVariants.{NotAllowed, NoMemory as UnreadMemory}
 use Rattle.srr_log.specs.EntryText.{each_behind}
 use Rattle.srr_log.specs.LogText.{line}
 use Rattle.srr_log.specs.Parts.{Part, head_line, ranks_line, group_line, size_line, program_bytes, rank_line, entry_part, end_line, part_line, part_text, parts_text, lists_parts}

@@ -5,8 +5,8 @@ use Rattle.std.specs.List.{slice_split}
 use Rattle.std.specs.Str.{bytes_eq}
 use Rattle.std.specs.Str.Parse.{digits_value}
 use Rattle.wiz_base.specs.Decimals.{decimal_text, number_text}
-use Rattle.srr_log.specs.declared.fault.Unread.{Unread}
-use Rattle.srr_log.specs.declared.fault.Unread.TheVariants.{NotAllowed, NoMemory}
+use Rattle.srr_log.specs.declared.stop.Unread.{Unread}
+use Rattle.srr_log.specs.declared.stop.Unread.TheVariants.{NotAllowed, NoMemory}
 
 infixl 10 ◌>>=◌
 abbrev pub ◌>>=◌ : {A B : Type 0} → Option A → (A → Option B) → Option B

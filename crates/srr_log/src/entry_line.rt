@@ -3,10 +3,10 @@ ghost use Rattle.std.specs.Prelude.{◌≡◌, ◌++◌, ◌∷◌, []};
 ghost use Rattle.srr_log.specs.EntryReading.{all_items_in, detail_in, detailed_in, entry_in, fault_of, halt_in, item_in, items_in, long_entry_in, named_in, peek_in};
 ghost use Rattle.srr_log.specs.Pieces.{Adds, Gives};
 
-use crate::fault::Unread;
 use crate::lists::indices_rise;
 use crate::mark::{inside, mark, outside};
 use crate::pieces::{behind, cut, int, number, rank};
+use crate::stop::Unread;
 use mpi_call::call::{Fault, Halt};
 use srr_entry::entry::{Entry, Marked, MarkedItems};
 use std::alloc::Global;

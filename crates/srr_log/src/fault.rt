@@ -1,8 +1,4 @@
 //! Why a text is no log.
-ghost use Rattle.std.specs.Prelude.{◌≡◌};
-ghost use Rattle.srr_log.specs.Refused.{refused};
-
-use std::alloc::AllocError;
 use thiserror::Error;
 
 /// What is wrong with the first part of a text that no log has there.
@@ -33,51 +29,4 @@ pub enum LogWhy {
 pub struct LogFault {
     pub at: u32,
     pub why: LogWhy,
-}
-
-/// Why a line or a piece of it was not read.
-#[derive(Clone, Copy)]
-pub enum Unread {
-    /// It says nothing that is allowed there.
-    NotAllowed,
-    NoMemory,
-}
-
-impl From<AllocError> for Unread {
-    ghost use Rattle.std.specs.Prelude.{◌≡◌};
-    ghost use Rattle.srr_log.specs.declared.fault.Unread.TheVariants.{NoMemory};
-
-    ghost from_gives = { λ _ unread. unread ≡ NoMemory };
-
-    fn from(_error: AllocError) -> Self {
-        Unread::NoMemory
-    }
-}
-
-/// Why reading stopped: a fault with so many bytes from its place to the text's end.
-#[derive(Clone, Copy)]
-pub enum Stop {
-    NoMemory,
-    Fault { why: LogWhy, left: usize },
-}
-
-impl From<AllocError> for Stop {
-    ghost use Rattle.std.specs.Prelude.{◌≡◌};
-    ghost use Rattle.srr_log.specs.declared.fault.Stop.TheVariants.{NoMemory};
-
-    ghost from_gives = { λ _ stop. stop ≡ NoMemory };
-
-    fn from(_error: AllocError) -> Self {
-        Stop::NoMemory
-    }
-}
-
-/// A line that was not read is a fault with this reason.
-pub fn refused(unread: Unread, why: LogWhy, left: usize) -> Stop
-    ensures { result ≡ refused unread why left }
-{
-    match unread {
-        Unread::NotAllowed => Stop::Fault { why, left },
-        Unread::NoMemory => Stop::NoMemory,
-    }
 }

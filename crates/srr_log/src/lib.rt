@@ -9,6 +9,7 @@ mod lists;
 mod mark;
 mod pieces;
 pub mod read_log;
+mod stop;
 #[cfg(test)]
 mod tests;
 pub mod write_log;

@@ -7,9 +7,10 @@ ghost use Rattle.srr_log.specs.Parts.{head_line};
 ghost use Rattle.srr_log.specs.Pieces.{Gives};
 
 use crate::entry_line::entry;
-use crate::fault::{LogWhy, Unread};
+use crate::fault::LogWhy;
 use crate::lists::rise;
 use crate::pieces::{behind, cut, number};
+use crate::stop::Unread;
 use mpi_call::lists::Ranks;
 use srr_entry::entry::Entry;
 use std::alloc::Global;

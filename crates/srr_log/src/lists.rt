@@ -3,8 +3,8 @@ ghost use Rattle.std.specs.Prelude.{◌≡◌, ◌++◌, ◌∷◌, [], IsTrue, 
 ghost use Rattle.srr_log.specs.EntryReading.{few_ints_in, indices, ints_in, ranks_in, rises};
 ghost use Rattle.srr_log.specs.Pieces.{Adds, Gives, int_in, rank_in};
 
-use crate::fault::Unread;
 use crate::pieces::{cut, int, rank};
+use crate::stop::Unread;
 use mpi_call::lists::{Ints, Ranks};
 use srr_entry::entry::Marked;
 use std::alloc::{AllocError, Global};

@@ -3,9 +3,9 @@ ghost use Rattle.std.specs.Prelude.{◌≡◌};
 ghost use Rattle.srr_log.specs.EntryReading.{inside_in, long_mark_in, made_in, mark_in, message_in, outside_in};
 ghost use Rattle.srr_log.specs.Pieces.{Gives};
 
-use crate::fault::Unread;
 use crate::lists::few_ints;
 use crate::pieces::{behind, cut, number, rank};
+use crate::stop::Unread;
 use srr_entry::entry::Mark;
 use std::alloc::Global;
 

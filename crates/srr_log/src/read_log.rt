@@ -8,8 +8,9 @@ ghost use Rattle.srr_log.specs.LogText.{IsLogText, log_text};
 ghost use Rattle.srr_log.specs.Parts.{Part, head_line, ranks_line, group_line, size_line, program_bytes, rank_line, entry_part, end_line, lists_parts, log_parts, parts_text};
 ghost use Rattle.srr_log.specs.Reading.{IsNextLine, IsPlaced, IsWithin, Reads, at_end, at_entry, at_group, at_head, at_list, at_program, at_ranks, at_size, entries_left};
 
-use crate::fault::{LogFault, LogWhy, Stop, refused};
+use crate::fault::{LogFault, LogWhy};
 use crate::line;
+use crate::stop::{Stop, refused};
 use mpi_call::lists::Ranks;
 use srr_entry::entry::Entry;
 use srr_entry::log::{Entries, Lists, Log};
