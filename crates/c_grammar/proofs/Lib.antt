@@ -1,1 +1,7 @@
+pub mod Local
+pub mod Laws
+pub mod Sequence
+pub mod Lists
+pub mod TooDeep
+pub mod ExprLaws
 pub mod WorkedExamples
