@@ -55,7 +55,7 @@ over_level : (k : ℕ) (rest : List Sign) → Over (suc k) rest → heads (λ x.
 over_level k rest o = heads_not (λ x. level_of x == suc k) rest (λ x e h. absurd (let q = eqb-true _ _ h in let s = level_strength x (omega arith) in omega arith))
 
 -- an operator of each level
-op_of : ℕ → Word
+pub op_of : ℕ → Word
 op_of (suc zero) = w.Times
 op_of (suc (suc zero)) = w.Plus
 op_of (suc (suc (suc zero))) = w.ShiftLeft
@@ -67,7 +67,7 @@ op_of (suc (suc (suc (suc (suc (suc (suc (suc zero)))))))) = w.Or
 op_of (suc (suc (suc (suc (suc (suc (suc (suc (suc zero))))))))) = w.LogicalAnd
 op_of _ = w.LogicalOr
 
-op_level : (n : ℕ) → 0 < n → n < 11 → level_of (op_of n) ≡ n
+pub op_level : (n : ℕ) → 0 < n → n < 11 → level_of (op_of n) ≡ n
 unfolding op_of
 op_level zero l m = absurd (omega arith)
 op_level (suc zero) l m = refl
@@ -95,8 +95,11 @@ abbrev pub PlaceOver : Place → List Sign → Type 0
 PlaceOver place rest = heads (is w.OpenBracket) rest ≡ false
 
 module _ (n : ℕ) (index : List Sign → Answer Expr) (li : ExprLaws n index) where
+  abbrev pub place_behind : Spot → Seq Place
+  place_behind name = peek (is w.OpenBracket) (token w.OpenBracket (λ o. part li (λ e. token w.CloseBracket (λ c. done (cell name o e c))))) (done (whole name))
+
   abbrev place_seq : Seq Place
-  place_seq = token w.Name (λ name. peek (is w.OpenBracket) (token w.OpenBracket (λ o. part li (λ e. token w.CloseBracket (λ c. done (cell name o e c))))) (done (whole name)))
+  place_seq = token w.Name place_behind
 
   place_spelling : (c : Choice place_seq) (rest : List Sign) → spell_place (tree place_seq c) rest ≡ spells place_seq c rest
   place_spelling (p, inl c) rest = refl
@@ -118,8 +121,11 @@ module _ (n : ℕ) (under : Bool → List Sign → Answer Expr) (lt : ExprLaws n
   abbrev number_seq : Seq Expr
   number_seq = token w.Number (λ p. done (number p))
 
+  abbrev pub named_behind : Place → Seq Expr
+  named_behind place = peek (is w.Dot) (token w.Dot (λ d. token w.Name (λ m. done (field place d m)))) (done (read place))
+
   abbrev named_seq : Seq Expr
-  named_seq = part (place_laws n (under true) lt) (λ place. peek (is w.Dot) (token w.Dot (λ d. token w.Name (λ m. done (field place d m)))) (done (read place)))
+  named_seq = part (place_laws n (under true) lt) named_behind
 
   abbrev paren_seq : Seq Expr
   paren_seq = token w.OpenParen (λ o. part lt (λ e. token w.CloseParen (λ c. done (paren o e c))))
@@ -196,13 +202,13 @@ module _ (n : ℕ) (under : Bool → List Sign → Answer Expr) (lt : ExprLaws n
   unfolding unary_of
   unary_laws = laws_of (switch unary_seq) (λ ts. unary_runs (first_of ts) ts) (λ c rest. unary_spelling c.0 c.1 rest) (λ c g. unary_good c.0 c.1 g) unary_chosen
 
-abbrev spell_piece : Piece → List Sign → List Sign
+abbrev pub spell_piece : Piece → List Sign → List Sign
 spell_piece p rest = at p.operator p.at ∷ spell p.operand rest
 
-abbrev IsPiece : ℕ → Piece → Type 0
+abbrev pub IsPiece : ℕ → Piece → Type 0
 IsPiece k p = ((level_of p.operator == suc k) ≡ true) × UpTo k p.operand
 
-abbrev deep_piece : ℕ → Piece → List Sign → Option (List Sign)
+abbrev pub deep_piece : ℕ → Piece → List Sign → Option (List Sign)
 deep_piece n p rest = deep (suc n) p.operand rest
 
 links_spell : (ps : List Piece) (rest : List Sign) → spell_links (links_from ps) rest ≡ spell_list spell_piece ps rest
@@ -237,18 +243,21 @@ pieces_chained k e no_link h = absurd h
 pieces_chained k e (link x p a ls) h = ap (λ z. chain k e (link x p a z)) (pieces_back ls)
 
 module _ (n k : ℕ) (low : k < 10) (below : List Sign → Answer Expr) (l : RankLaws (suc n) k below) where
-  abbrev link_seq : Seq Piece
+  abbrev pub link_seq : Seq Piece
   link_seq = pick (λ x. level_of x == suc k) (op_of (suc k)) (eq-eqb _ _ (op_level (suc k) (omega arith) (omega arith))) (λ s. part l (λ e. done (record { operator = s.word; at = s.spot; operand = e })))
 
-  link_laws : Laws (link_of below (suc k)) spell_piece (IsPiece k) (deep_piece n) (λ p rest. Over k rest)
+  pub link_laws : Laws (link_of below (suc k)) spell_piece (IsPiece k) (deep_piece n) (λ p rest. Over k rest)
   link_laws = laws_of link_seq (λ ts. refl) (λ c rest. refl) (λ c g. (g.0, g.1.0))
       (λ p g. record { choice = (at p.operator p.at, (p.operand, tt)); of = refl; fits = (g.0, (g.1, tt)); depth = λ rest. last (deep (suc n) p.operand rest); follows = λ rest o. (o, tt) })
 
-  links_laws : Laws (many (λ x. level_of x == suc k) (link_of below (suc k))) (spell_list spell_piece) (AreAll (IsPiece k)) (deep_list spell_piece (deep_piece n)) (λ list rest. OverMany (λ x. level_of x == suc k) (IsPiece k) (λ p rest. Over k rest) rest)
+  pub links_laws : Laws (many (λ x. level_of x == suc k) (link_of below (suc k))) (spell_list spell_piece) (AreAll (IsPiece k)) (deep_list spell_piece (deep_piece n)) (λ list rest. OverMany (λ x. level_of x == suc k) (IsPiece k) (λ p rest. Over k rest) rest)
   links_laws = many_laws link_laws (λ x. level_of x == suc k) (λ p g rest. g.0) (λ p q g h rest. let e = eqb-true _ _ h.0 in let s = level_strength q.operator (omega arith) in omega arith)
 
+  abbrev pub bin_behind : Expr → Seq Expr
+  bin_behind e = part links_laws (λ ps. done (chained (suc k) e ps))
+
   abbrev bin_seq : Seq Expr
-  bin_seq = part l (λ e. part links_laws (λ ps. done (chained (suc k) e ps)))
+  bin_seq = part l bin_behind
 
   bin_spelling : (e : Expr) (ps : List Piece) (rest : List Sign) → spell (chained (suc k) e ps) rest ≡ spell e (spell_list spell_piece ps rest)
   bin_spelling e [] rest = refl
@@ -290,8 +299,11 @@ bin_laws n operand l zero h = l
 bin_laws n operand l (suc k) h = bin_more n k (omega arith) (bin_of operand k) (bin_laws n operand l k (omega arith))
 
 module _ (n : ℕ) (under : Bool → List Sign → Answer Expr) (lt : ExprLaws n (under true)) (lb : RankLaws (suc n) 10 (bin_of (unary_of under) 10)) where
+  abbrev pub choice_behind : Expr → Seq Expr
+  choice_behind c = peek (is w.Question) (token w.Question (λ p. part lt (λ a. token w.Colon (λ q. part lt (λ b. done (choice c p a q b)))))) (done c)
+
   abbrev choice_seq : Seq Expr
-  choice_seq = part lb (λ c. peek (is w.Question) (token w.Question (λ p. part lt (λ a. token w.Colon (λ q. part lt (λ b. done (choice c p a q b)))))) (done c))
+  choice_seq = part lb choice_behind
 
   choice_spelling : (c : Choice choice_seq) (rest : List Sign) → spell (tree choice_seq c) rest ≡ spells choice_seq c rest
   choice_spelling (e, inl c) rest = refl
@@ -323,7 +335,7 @@ module _ (n : ℕ) (under : Bool → List Sign → Answer Expr) (lt : ExprLaws n
   unfolding choice_of
   choice_laws = laws_of choice_seq (λ ts. refl) choice_spelling choice_good choice_chosen
 
-place_starts : (p : Place) (rest : List Sign) → heads starts_expr (spell_place p rest) ≡ true
+pub place_starts : (p : Place) (rest : List Sign) → heads starts_expr (spell_place p rest) ≡ true
 place_starts (whole m) rest = refl
 place_starts (cell m p e q) rest = refl
 

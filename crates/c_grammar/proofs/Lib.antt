@@ -4,4 +4,6 @@ pub mod Sequence
 pub mod Lists
 pub mod TooDeep
 pub mod ExprLaws
+pub mod Fork
+pub mod Calls
 pub mod WorkedExamples
