@@ -6,4 +6,6 @@ pub mod TooDeep
 pub mod ExprLaws
 pub mod Fork
 pub mod Calls
+pub mod Starts
+pub mod StmtLaws
 pub mod WorkedExamples
