@@ -8,4 +8,5 @@ pub mod Fork
 pub mod Calls
 pub mod Starts
 pub mod StmtLaws
+pub mod TopLaws
 pub mod WorkedExamples

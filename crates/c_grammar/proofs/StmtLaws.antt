@@ -55,7 +55,7 @@ pub parts_all : (ps : t.Parts) → AreParts ps → AreAll IsPart (parts_list ps)
 parts_all t.no_part g = tt
 parts_all (t.part p ps) g = (g.0, parts_all ps g.1)
 
-list_spell : (ps : t.Parts) (rest : List Sign) → spell_list spell_part (parts_list ps) rest ≡ spell_parts ps rest
+pub list_spell : (ps : t.Parts) (rest : List Sign) → spell_list spell_part (parts_list ps) rest ≡ spell_parts ps rest
 list_spell ps rest = sym (parts_spell (parts_list ps) rest) ∙ ap (λ z. spell_parts z rest) (parts_back ps)
 
 pub parts_deep : (n : ℕ) (ps : t.Parts) (rest : List Sign) → deep_list spell_part (deep_part n) (parts_list ps) rest ≡ deep_parts n ps rest
