@@ -9,4 +9,6 @@ pub mod Calls
 pub mod Starts
 pub mod StmtLaws
 pub mod TopLaws
+pub mod Exact
+pub mod Programs
 pub mod WorkedExamples

@@ -1,5 +1,5 @@
 -- What may be missing, and things in a row.
-use Rattle.std.proofs.Common.{◌≡◌, ◌⊎◌, inl, inr, Bool, true, false, ℕ, zero, suc, ◌<◌, ◌≤◌, List, [], ◌∷◌, ◌++◌, length, Option, Some, None, Result, Ok, Err, refl, sym, ap, ◌∙◌, subst, append_assoc, arith, length-append, if◌then◌else◌}
+use Rattle.std.proofs.Common.{◌≡◌, inl, inr, Bool, true, false, ℕ, zero, suc, ◌<◌, ◌≤◌, List, [], ◌∷◌, ◌++◌, length, Option, Some, None, Ok, Err, refl, sym, ap, ◌∙◌, subst, arith, length-append}
 use Rattle.c_grammar.specs.declared.word.Word.{Word}
 use Rattle.c_grammar.specs.declared.word.Word.TheVariants as w
 use Rattle.c_grammar.specs.declared.word.Spot.{Spot}
@@ -9,10 +9,10 @@ use Rattle.c_grammar.specs.Words.{is}
 use Rattle.c_grammar.specs.Grammar.{at, earlier}
 use Rattle.c_grammar.specs.StmtGrammar.{spell_maybe, IsMaybe, spell_list, AreAll, spell_word, spell_behind, spell_row, IsRow}
 use Rattle.c_grammar.specs.Depth.{deep_maybe, deep_list, deep_row}
-use Rattle.c_grammar.specs.Reading.{Fault, Answer, refuse, ◌>>=◌, expect, heads, maybe, turns, many, times}
+use Rattle.c_grammar.specs.Reading.{Fault, Answer, ◌>>=◌, expect, heads, maybe, turns, many, times}
 use Rattle.c_grammar.specs.StmtReading.{behind_of, row_of}
-use Rattle.c_grammar.proofs.Local.{IsLocal, Ends, Alike, here, ends_shorter, bind_ends, bind_alike, stays, gone, rest_of, test_cases}
-use Rattle.c_grammar.proofs.Laws.{Laws, Apart, GoesOn, within, outcome, pass_on, last, bind_ok, bind_err}
+use Rattle.c_grammar.proofs.Local.{Ends, Alike, here, bind_ends, bind_alike, stays, rest_of, test_cases}
+use Rattle.c_grammar.proofs.Laws.{Laws, Apart, GoesOn, within, outcome, last, bind_ok, bind_err}
 use Rattle.c_grammar.proofs.Sequence.{Seq, done, token, part, peek, Choice, tree, spells, Fits, laws_of, Chosen}
 
 pub pass : {A B : Type 0} (o : Option (List Sign)) (a : A) (ts : List Sign) (f : A × List Sign → Answer B) (b : B) (us : List Sign)
