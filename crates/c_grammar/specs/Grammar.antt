@@ -7,10 +7,13 @@ use Rattle.c_grammar.specs.declared.word.Sign.{Sign}
 use Rattle.c_grammar.specs.Words.{level_of, is_sign}
 use Rattle.c_grammar.specs.Tree.{Expr, number, read, field, paren, unary, chain, choice, Place, whole, cell, Links, no_link, link}
 
+-- the sign of this word at this place
 abbrev pub at : Word → Spot → Sign
 at x p = record { word = x; spot = p }
 
 abbrev mutual
+  -- expression = binary [ "?" expression ":" expression ]; binary = operand { operator operand }; operand = { "-" | "+" | "!" | "~" } primary
+  -- primary = NUMBER | place [ "." NAME ] | "(" expression ")"; place = NAME [ "[" expression "]" ]
   -- the signs of an expression, before the others
   pub spell : Expr → List Sign → List Sign
   spell (number p) rest = at w.Number p ∷ rest

@@ -17,6 +17,7 @@ abbrev pub IsMaybe : {A : Type 0} → (A → Type 0) → Option A → Type 0
 IsMaybe Good None = Unit {0}
 IsMaybe Good (Some a) = Good a
 
+-- things one behind the other
 abbrev pub spell_list : {A : Type 0} → (A → List Sign → List Sign) → List A → List Sign → List Sign
 spell_list one [] rest = rest
 spell_list one (a ∷ more) rest = one a (spell_list one more rest)
@@ -33,12 +34,14 @@ spell_word x p rest = at x p ∷ rest
 abbrev pub spell_behind : {A : Type 0} → (A → List Sign → List Sign) → Spot × A → List Sign → List Sign
 spell_behind one b rest = at w.Comma b.0 ∷ one b.1 rest
 
+-- row = thing { "," thing }
 abbrev pub spell_row : {A : Type 0} → (A → List Sign → List Sign) → t.Row A → List Sign → List Sign
 spell_row one (t.row a more) rest = one a (spell_list (spell_behind one) more rest)
 
 abbrev pub IsRow : {A : Type 0} → (A → Type 0) → t.Row A → Type 0
 IsRow Good (t.row a more) = Good a × AreAll (λ b. Good b.1) more
 
+-- argument = TEXT | "&" place | expression
 abbrev pub spell_argument : t.Argument → List Sign → List Sign
 spell_argument (t.text p) rest = at w.Text p ∷ rest
 spell_argument (t.address p place) rest = at w.And p ∷ spell_place place rest
@@ -49,6 +52,7 @@ IsArgument (t.text p) = Unit {0}
 IsArgument (t.address p place) = IsPlace place
 IsArgument (t.value e) = Is e
 
+-- call = NAME "(" [ argument { "," argument } ] ")"
 abbrev pub spell_call : t.Call → List Sign → List Sign
 spell_call c rest =
     at w.Name c.name ∷ at w.OpenParen c.opening ∷ spell_maybe (spell_row spell_argument) c.arguments (at w.CloseParen c.closing ∷ rest)
@@ -56,6 +60,7 @@ spell_call c rest =
 abbrev pub IsCall : t.Call → Type 0
 IsCall c = IsMaybe (IsRow IsArgument) c.arguments
 
+-- right side = call | expression
 abbrev pub spell_right : t.Right → List Sign → List Sign
 spell_right (t.called c) rest = spell_call c rest
 spell_right (t.valued e) rest = spell e rest
@@ -64,6 +69,7 @@ abbrev pub IsRight : t.Right → Type 0
 IsRight (t.called c) = IsCall c
 IsRight (t.valued e) = Is e
 
+-- simple statement = place assignment right-side | place ("++" | "--") | ("++" | "--") place | call
 abbrev pub spell_simple : t.Simple → List Sign → List Sign
 spell_simple (t.assign place x p r) rest = spell_place place (at x p ∷ spell_right r rest)
 spell_simple (t.after place x p) rest = spell_place place (at x p ∷ rest)
@@ -76,6 +82,7 @@ IsSimple (t.after place x p) = IsPlace place × (is_step x ≡ true)
 IsSimple (t.before x p place) = (is_step x ≡ true) × IsPlace place
 IsSimple (t.invoke c) = IsCall c
 
+-- initial value = "=" ( right-side | "{" expression { "," expression } "}" )
 abbrev pub spell_initial : t.Initial → List Sign → List Sign
 spell_initial (t.begun p r) rest = at w.Assign p ∷ spell_right r rest
 spell_initial (t.braced p o values c) rest = at w.Assign p ∷ at w.OpenBrace o ∷ spell_row spell values (at w.CloseBrace c ∷ rest)
@@ -84,18 +91,21 @@ abbrev pub IsInitial : t.Initial → Type 0
 IsInitial (t.begun p r) = IsRight r
 IsInitial (t.braced p o values c) = IsRow Is values
 
+-- declared name = place [ initial value ]; a place with an index is an array with its length
 abbrev pub spell_item : t.Item → List Sign → List Sign
 spell_item i rest = spell_place i.place (spell_maybe spell_initial i.initial rest)
 
 abbrev pub IsItem : t.Item → Type 0
 IsItem i = IsPlace i.place × IsMaybe IsInitial i.initial
 
+-- declaration = ("int" | "MPI_Status" | "MPI_Request" | "MPI_Comm") item { "," item }
 abbrev pub spell_declaration : t.Declaration → List Sign → List Sign
 spell_declaration d rest = at d.kind d.at ∷ spell_row spell_item d.items rest
 
 abbrev pub IsDeclaration : t.Declaration → Type 0
 IsDeclaration d = (is_kind d.kind ≡ true) × IsRow IsItem d.items
 
+-- how a for begins = [ declaration | simple statement ]
 abbrev pub spell_start : t.ForStart → List Sign → List Sign
 spell_start t.no_start rest = rest
 spell_start (t.declared_start d) rest = spell_declaration d rest
@@ -106,6 +116,9 @@ IsStart t.no_start = Unit {0}
 IsStart (t.declared_start d) = IsDeclaration d
 IsStart (t.simple_start s) = IsSimple s
 
+-- statement = block | ";" | simple ";" | "break" ";" | "continue" ";" | "return" [ right-side ] ";" | "if" "(" expression ")" statement [ "else" statement ]
+-- | "while" "(" expression ")" statement | "do" statement "while" "(" expression ")" ";" | "for" "(" start ";" [ expression ] ";" [ simple ] ")" statement
+-- block = "{" { declaration ";" | statement } "}"
 abbrev mutual
   pub spell_stmt : t.Stmt → List Sign → List Sign
   spell_stmt (t.block o ps c) rest = at w.OpenBrace o ∷ spell_parts ps (at w.CloseBrace c ∷ rest)
@@ -166,6 +179,7 @@ abbrev mutual
 abbrev pub spell_name : Option Spot → List Sign → List Sign
 spell_name = spell_maybe (spell_word w.Name)
 
+-- parameter = "int" [NAME] | "int" [NAME] "[" [expression] "]" | "int" "*" [NAME] | "MPI_Comm" [NAME] | "char" "*" "*" [NAME] | "char" "*" [NAME] "[" "]"
 abbrev pub spell_parameter : t.Parameter → List Sign → List Sign
 spell_parameter (t.int x n) rest = at w.Int x ∷ spell_name n rest
 spell_parameter (t.array x n o e c) rest = at w.Int x ∷ spell_name n (at w.OpenBracket o ∷ spell_maybe spell e (at w.CloseBracket c ∷ rest))
@@ -178,6 +192,7 @@ abbrev pub IsParameter : t.Parameter → Type 0
 IsParameter (t.array x n o e c) = IsMaybe Is e
 IsParameter _ = Unit {0}
 
+-- a parameter's name
 abbrev pub name_of : t.Parameter → Option Spot
 name_of (t.int x n) = n
 name_of (t.array x n o e c) = n
@@ -186,6 +201,7 @@ name_of (t.communicator x n) = n
 name_of (t.text_pointers x p q n) = n
 name_of (t.text_array x p n o c) = n
 
+-- parameters = [ "void" | parameter { "," parameter } ]
 abbrev pub spell_parameters : t.Parameters → List Sign → List Sign
 spell_parameters t.no_parameter rest = rest
 spell_parameters (t.void p) rest = at w.Void p ∷ rest
@@ -195,6 +211,7 @@ abbrev pub AreParameters : t.Parameters → Type 0
 AreParameters (t.parameters list) = IsRow IsParameter list
 AreParameters _ = Unit {0}
 
+-- head = ("int" | "void") NAME "(" parameters ")"
 abbrev pub spell_head : t.Head → List Sign → List Sign
 spell_head h rest = at h.result h.at ∷ at w.Name h.name ∷ at w.OpenParen h.opening ∷ spell_parameters h.listed (at w.CloseParen h.closing ∷ rest)
 
@@ -214,6 +231,7 @@ abbrev pub is_named : t.Parameters → Bool
 is_named (t.parameters (t.row p more)) = if has (name_of p) then are_named more else false
 is_named _ = true
 
+-- value = NUMBER | "-" NUMBER | "(" value ")"
 abbrev pub spell_value : t.Value → List Sign → List Sign
 spell_value v rest =
     spell_list (spell_word w.OpenParen) v.opens (spell_maybe (spell_word w.Minus) v.minus
@@ -223,6 +241,7 @@ spell_value v rest =
 abbrev pub IsValue : t.Value → Type 0
 IsValue v = length v.closes ≡ length v.opens
 
+-- program = { DEFINE NAME value ENDLINE | head block | head ";" }
 abbrev pub spell_top : t.Top → List Sign → List Sign
 spell_top (t.define x n v e) rest = at w.Define x ∷ at w.Name n ∷ spell_value v (at w.EndLine e ∷ rest)
 spell_top (t.function h o ps c) rest = spell_head h (at w.OpenBrace o ∷ spell_parts ps (at w.CloseBrace c ∷ rest))
