@@ -1,0 +1,14 @@
+pub mod Local
+pub mod Laws
+pub mod Sequence
+pub mod Lists
+pub mod TooDeep
+pub mod ExprLaws
+pub mod Fork
+pub mod Calls
+pub mod Starts
+pub mod StmtLaws
+pub mod TopLaws
+pub mod Exact
+pub mod Programs
+pub mod WorkedExamples
