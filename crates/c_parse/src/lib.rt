@@ -1,4 +1,6 @@
 //! From the tokens of a C source text to its tree.
 #![tactic(auto)]
 
+mod read;
 mod signs;
+mod words;
