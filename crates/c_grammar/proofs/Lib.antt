@@ -1,2 +1,3 @@
 pub mod Viewed
 pub mod StmtViewed
+pub mod WorkedExamples
