@@ -1,3 +1,11 @@
 pub mod Viewed
 pub mod StmtViewed
+pub mod Local
+pub mod Laws
+pub mod Sequence
+pub mod Lists
+pub mod TooDeep
+pub mod ExprLaws
+pub mod Fork
+pub mod Calls
 pub mod WorkedExamples
