@@ -9,3 +9,4 @@ pub mod ExprLaws
 pub mod Fork
 pub mod Calls
 pub mod WorkedExamples
+pub mod Shorter

@@ -1,3 +1,1 @@
 pub mod Signs
-pub mod Classes
-pub mod Gives

@@ -7,12 +7,12 @@ ghost use Rattle.c_grammar.specs.Words.{isnt, starts_part, starts_stmt};
 ghost use Rattle.c_grammar.specs.declared.word.Word.TheVariants as w;
 ghost use Rattle.c_grammar.specs.Reading.{expr_at, many, maybe, too_deep};
 ghost use Rattle.c_grammar.specs.StmtReading.{block_of, break_of, continue_of, do_of, empty_of, for_of, if_of, part_at, part_of, plain_of, return_of, right_of, simple_of, start_of, stmt_at, stmt_of, while_of};
-ghost use Rattle.c_parse.specs.Gives.{Fails, Gives};
+ghost use Rattle.c_expr.specs.Gives.{Fails, Gives};
 
-use crate::expression::expr;
-use crate::read::{ReadError, expected, first_of, heads};
-use crate::simple::{declaration, right, simple};
-use crate::words::{Class, starts_part, starts_stmt};
+use c_expr::expression::expr;
+use c_expr::read::{ReadError, expected, first_of, heads};
+use c_expr::simple::{declaration, right, simple};
+use c_expr::words::{Class, starts_part, starts_stmt};
 use c_grammar::statement::{ForStart, Part, Right, Simple, Stmt};
 use c_grammar::tree::Expr;
 use c_grammar::word::{Sign, Word};

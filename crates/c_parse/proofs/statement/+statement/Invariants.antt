@@ -3,7 +3,7 @@ use Rattle.c_grammar.specs.declared.word.Word.TheVariants.{CloseBrace}
 use Rattle.c_grammar.specs.Words.{isnt}
 use Rattle.c_grammar.specs.StmtView.{part_view}
 use Rattle.c_grammar.specs.StmtReading.{part_at}
-use Rattle.c_parse.proofs.Loops.{SoFar}
+use Rattle.c_expr.proofs.Loops.{SoFar}
 use Rattle.c_parse.proofs.statement.+statement.Given as goal
 
 abbrev pub decreases-parts : goal.decreases-parts

@@ -2,8 +2,8 @@
 use Rattle.std.specs.Prelude.{◌==◌, Bool}
 use Rattle.c_grammar.specs.declared.word.Word.{Word}
 use Rattle.c_grammar.specs.Words as words
-use Rattle.c_parse.specs.declared.words.Class.{Class}
-use Rattle.c_parse.specs.declared.words.Class.TheVariants.{Is, Isnt, Sign, Assign, Step, Kind, Outcome, Level}
+use Rattle.c_expr.specs.declared.words.Class.{Class}
+use Rattle.c_expr.specs.declared.words.Class.TheVariants.{Is, Isnt, Sign, Assign, Step, Kind, Outcome, Level}
 
 abbrev pub is_in : Class → Word → Bool
 is_in (Is x) = words.is x

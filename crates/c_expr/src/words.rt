@@ -1,7 +1,7 @@
 //! What the words of the grammar are.
 ghost use Rattle.std.specs.Prelude.{◌≡◌};
 ghost use Rattle.c_grammar.specs.Words.{code_of, is, is_assign, is_kind, is_result, is_sign, is_step, level_of, starts_expr, starts_part, starts_stmt};
-ghost use Rattle.c_parse.specs.Classes.{is_in};
+ghost use Rattle.c_expr.specs.Classes.{is_in};
 
 use c_grammar::word::Word;
 

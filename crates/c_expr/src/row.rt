@@ -6,7 +6,7 @@ ghost use Rattle.c_grammar.specs.StmtView.{row_view};
 ghost use Rattle.c_grammar.specs.Words.{is};
 ghost use Rattle.c_grammar.specs.Reading.{Answer, many};
 ghost use Rattle.c_grammar.specs.StmtReading.{behind_of, row_of};
-ghost use Rattle.c_parse.specs.Gives.{Gives};
+ghost use Rattle.c_expr.specs.Gives.{Gives};
 
 use crate::read::{ReadError, expected, heads};
 use crate::words::Class;
@@ -33,7 +33,9 @@ pub trait InRow: Sized + Drop {
         requires { 0 < left }
         ensures { Gives (λ x. (view x.0, x.1.now)) result (reading left signs.now) };
 
-    ghost shorter: { (left : ℕ) (signs : List Sign) (read : Tree × List Sign) → reading left signs ≡ Ok read → length read.1 ≤ length signs };
+    // Reading stops at or behind where it began.
+    ghost shorter: { (left : ℕ) (signs : List Sign) (read : Tree × List Sign)
+        → 0 < left → reading left signs ≡ Ok read → length read.1 ≤ length signs };
 }
 
 /// One or more.

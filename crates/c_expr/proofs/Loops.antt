@@ -4,9 +4,9 @@ use Rattle.std.specs.Prelude.{if◌then◌else◌}
 use Rattle.c_grammar.specs.declared.word.Sign.{Sign}
 use Rattle.c_grammar.specs.declared.word.Word.{Word}
 use Rattle.c_grammar.specs.Reading.{◌>>=◌, Answer, Fault, heads, many, turns}
-use Rattle.c_parse.specs.declared.read.ReadError.{ReadError}
-use Rattle.c_parse.specs.declared.read.ReadError.TheVariants as errors
-use Rattle.c_parse.specs.Gives.{Fails}
+use Rattle.c_expr.specs.declared.read.ReadError.{ReadError}
+use Rattle.c_expr.specs.declared.read.ReadError.TheVariants as errors
+use Rattle.c_expr.specs.Gives.{Fails}
 
 -- these before all that is read
 abbrev pub after : {A : Type 0} → List A → Answer (List A) → Answer (List A)

@@ -1,8 +1,8 @@
 //! What all readers share.
 ghost use Rattle.std.specs.Prelude.{◌≡◌, Ok};
 ghost use Rattle.c_grammar.specs.Reading.{expect, first_of, heads, maybe, one_of};
-ghost use Rattle.c_parse.specs.Classes.{is_in};
-ghost use Rattle.c_parse.specs.Gives.{Gives, IsHead};
+ghost use Rattle.c_expr.specs.Classes.{is_in};
+ghost use Rattle.c_expr.specs.Gives.{Gives, IsHead};
 ghost use Rattle.c_grammar.specs.Words.{is};
 
 use crate::words::{Class, is_in};
@@ -18,7 +18,7 @@ pub enum ReadError<'a> {
 }
 
 impl<'a> From<AllocError> for ReadError<'a> {
-    ghost use Rattle.c_parse.specs.declared.read.ReadError.TheVariants.{Memory};
+    ghost use Rattle.c_expr.specs.declared.read.ReadError.TheVariants.{Memory};
 
     ghost from_gives = { λ _ error. error ≡ Memory };
 

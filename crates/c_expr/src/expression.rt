@@ -4,7 +4,7 @@ ghost use Rattle.c_grammar.specs.Tree as t;
 ghost use Rattle.c_grammar.specs.View.{piece, place_view, view};
 ghost use Rattle.c_grammar.specs.Words.{level_of, starts_expr};
 ghost use Rattle.c_grammar.specs.Reading.{bin_of, chained, choice_of, expr_at, field_tail, link_of, many, number_of, paren_of, place_of, signed_of, too_deep, unary_of};
-ghost use Rattle.c_parse.specs.Gives.{Fails, Gives};
+ghost use Rattle.c_expr.specs.Gives.{Fails, Gives};
 
 use crate::read::{ReadError, expected, first_of, heads, one_of};
 use crate::words::{Class, starts_expr};

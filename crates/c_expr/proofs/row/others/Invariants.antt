@@ -2,8 +2,8 @@ use Rattle.std.proofs.Common.{length, map}
 use Rattle.c_grammar.specs.declared.word.Word.TheVariants.{Comma}
 use Rattle.c_grammar.specs.Words.{is}
 use Rattle.c_grammar.specs.StmtReading.{behind_of}
-use Rattle.c_parse.proofs.Loops.{SoFar}
-use Rattle.c_parse.proofs.row.others.Given as goal
+use Rattle.c_expr.proofs.Loops.{SoFar}
+use Rattle.c_expr.proofs.row.others.Given as goal
 
 abbrev pub invariant-loop-alloc : goal.invariant-loop-alloc
 invariant-loop-alloc g l =

@@ -3,8 +3,8 @@ use Rattle.std.specs.Prelude.{◌≡◌, List, ◌∷◌, [], Option, Some, None
 use Rattle.std.specs.Borrow.{Bor}
 use Rattle.c_grammar.specs.declared.word.Sign.{Sign}
 use Rattle.c_grammar.specs.Reading.{Answer, refuse}
-use Rattle.c_parse.specs.declared.read.ReadError.{ReadError}
-use Rattle.c_parse.specs.declared.read.ReadError.TheVariants as errors
+use Rattle.c_expr.specs.declared.read.ReadError.{ReadError}
+use Rattle.c_expr.specs.declared.read.ReadError.TheVariants as errors
 
 abbrev pub Fails : {Y : Type 0} → ReadError → Answer Y → Type 0
 Fails errors.Memory read = Unit {0}

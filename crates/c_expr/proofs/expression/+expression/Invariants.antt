@@ -2,8 +2,8 @@ use Rattle.std.proofs.Common.{◌==◌, ◌+◌, ◌-◌, ◌*◌, ℕ, length, 
 use Rattle.c_grammar.specs.View.{piece}
 use Rattle.c_grammar.specs.Words.{level_of}
 use Rattle.c_grammar.specs.Reading.{bin_of, expr_at, link_of, unary_of}
-use Rattle.c_parse.proofs.Loops.{SoFar}
-use Rattle.c_parse.proofs.expression.+expression.Given as goal
+use Rattle.c_expr.proofs.Loops.{SoFar}
+use Rattle.c_expr.proofs.expression.+expression.Given as goal
 
 abbrev pub decreases-expr : goal.decreases-expr
 decreases-expr l = 40 * l.left + 39

@@ -4,7 +4,7 @@ use Rattle.c_grammar.specs.Tree as t
 use Rattle.c_grammar.specs.View.{view, piece, links_from}
 use Rattle.c_grammar.specs.Reading.{chained}
 use Rattle.c_grammar.proofs.Viewed.{view-chain}
-use Rattle.c_parse.proofs.expression.chain.Goals as goal
+use Rattle.c_expr.proofs.expression.chain.Goals as goal
 
 some : (test : Bool) (n m : ℕ) → test ≡ false → test ≡ (n == 0) → n ≡ m → 0 < m
 some test n zero p q r = absurd (let k : (n == 0) ≡ true = eq-eqb n 0 r in cc)

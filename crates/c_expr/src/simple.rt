@@ -7,7 +7,7 @@ ghost use Rattle.c_grammar.specs.Words.{is, isnt};
 ghost use Rattle.c_grammar.specs.declared.word.Word.TheVariants as w;
 ghost use Rattle.c_grammar.specs.Reading.{expr_at, maybe};
 ghost use Rattle.c_grammar.specs.StmtReading.{argument_of, before_of, call_of, calls, change_of, declaration_of, initial_of, initial_tail, item_of, right_of, row_of, simple_of, simple_tail};
-ghost use Rattle.c_parse.specs.Gives.{Gives};
+ghost use Rattle.c_expr.specs.Gives.{Gives};
 
 use crate::expression::{expr, place};
 use crate::read::{ReadError, expected, first_of, heads, one_of};
@@ -19,13 +19,15 @@ use c_grammar::word::{Sign, Spot, Word};
 use std::alloc::Global;
 
 impl InRow for Argument {
+    ghost use Rattle.c_grammar.proofs.Shorter.{argument_shorter};
+
     ghost Tree = { t.Argument };
 
     ghost view = { argument_view };
 
     ghost reading = { λ left. argument_of (expr_at left true) (expr_at (left - 1) true) };
 
-    ghost shorter = { ? };
+    ghost shorter = { argument_shorter };
 
     #[tactic(auto, unfolding(c_grammar::specs::StmtReading::argument_of))]
     fn read<'a>(
@@ -52,13 +54,15 @@ impl InRow for Argument {
 }
 
 impl InRow for Expr {
+    ghost use Rattle.c_grammar.proofs.Shorter.{expr_shorter};
+
     ghost Tree = { t.Expr };
 
     ghost view = { view };
 
     ghost reading = { λ left. expr_at left true };
 
-    ghost shorter = { ? };
+    ghost shorter = { expr_shorter };
 
     fn read<'a>(
         alloc: Global,
@@ -70,13 +74,15 @@ impl InRow for Expr {
 }
 
 impl InRow for Item {
+    ghost use Rattle.c_grammar.proofs.Shorter.{item_shorter};
+
     ghost Tree = { t.Item };
 
     ghost view = { item_view };
 
     ghost reading = { λ left. item_of (expr_at left true) (expr_at (left - 1) true) };
 
-    ghost shorter = { ? };
+    ghost shorter = { item_shorter };
 
     #[tactic(auto, unfolding(c_grammar::specs::StmtReading::item_of))]
     fn read<'a>(
