@@ -8,5 +8,8 @@ pub mod TooDeep
 pub mod ExprLaws
 pub mod Fork
 pub mod Calls
+pub mod Starts
+pub mod StmtLaws
+pub mod TopLaws
 pub mod WorkedExamples
 pub mod Shorter

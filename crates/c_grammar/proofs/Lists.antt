@@ -66,15 +66,18 @@ some_length : (goes : Word → Bool) (ts : List Sign) → heads goes ts ≡ true
 some_length goes [] h = absurd (cc)
 some_length goes (t ∷ ts) h = omega arith
 
+-- each thing takes a sign
+shortens : {A : Type 0} {one : List Sign → Answer A} {spelled : A → List Sign → List Sign} {Good : A → Type 0} {deeps : A → List Sign → Option (List Sign)} {Over : A → List Sign → Type 0}
+    → Laws one spelled Good deeps Over → (goes : Word → Bool) → ((a : A) → Good a → (rest : List Sign) → heads goes (spelled a rest) ≡ true)
+    → (ts : List Sign) (y : A × List Sign) → one ts ≡ Ok y → length y.1 < length ts
+shortens {spelled = spelled} l goes starts ts y h =
+    let s = l.sound ts y h in
+    rw (s.0, s.2 [] y.1, length-append (spelled y.0 []) y.1) (omega (arith, some_length goes (spelled y.0 []) (starts y.0 s.1 [])))
+
 module _ {A : Type 0} {one : List Sign → Answer A} {spelled : A → List Sign → List Sign} {Good : A → Type 0} {deeps : A → List Sign → Option (List Sign)} {Over : A → List Sign → Type 0}
     (l : Laws one spelled Good deeps Over) (goes : Word → Bool)
     (starts : (a : A) → Good a → (rest : List Sign) → heads goes (spelled a rest) ≡ true)
     (next : (a b : A) → Good a → Good b → (rest : List Sign) → Over a (spelled b rest)) where
-  shortens : (ts : List Sign) (y : A × List Sign) → one ts ≡ Ok y → length y.1 < length ts
-  shortens ts y h =
-      let s = l.sound ts y h in
-      rw (s.0, s.2 [] y.1, length-append (spelled y.0 []) y.1) (omega (arith, some_length goes (spelled y.0 []) (starts y.0 s.1 [])))
-
   turns_ends : (n : ℕ) (ts : List Sign) → Ends ts (rest_of (turns goes one n ts))
   turns_ends zero ts = here ts
   turns_ends (suc n) ts =
@@ -96,8 +99,8 @@ module _ {A : Type 0} {one : List Sign → Answer A} {spelled : A → List Sign 
         | inl e ↦ rw (e, sym (same_head v x r r') ∙ e) (bind_alike (one (v ++ x ∷ r)) (one (v ++ x ∷ r')) _ _ x r r' (l.local.alike v x r r')
             (λ a us. bind_ends us (turns goes one n us) _ (turns_ends n us) (λ z vs. here vs))
             (λ a v' ea eb.
-            let qa : length (v' ++ x ∷ r) ≤ n = omega (arith, shortens (v ++ x ∷ r) _ ea) in
-            let qb : length (v' ++ x ∷ r') ≤ m = omega (arith, shortens (v ++ x ∷ r') _ eb) in
+            let qa : length (v' ++ x ∷ r) ≤ n = omega (arith, shortens l goes starts (v ++ x ∷ r) _ ea) in
+            let qb : length (v' ++ x ∷ r') ≤ m = omega (arith, shortens l goes starts (v ++ x ∷ r') _ eb) in
             bind_alike (turns goes one n (v' ++ x ∷ r)) (turns goes one m (v' ++ x ∷ r')) _ _ x r r'
             (turns_alike n m v' x r r' qa qb)
             (λ z vs. here vs) (λ z v2 _ _. stays (Ok (a ∷ z, [])) v2 x r r')))
@@ -123,7 +126,7 @@ module _ {A : Type 0} {one : List Sign → Answer A} {spelled : A → List Sign 
           → (one (spelled a us) >>= λ a. turns goes one m a.1 >>= λ more. Ok (a.0 ∷ more.0, more.1)) ≡ outcome (earlier d (deep_list spelled deeps more rest)) (a ∷ more) rest
       go (Some d) k ih = rw k refl
       go None k ih =
-          rw (k, ih (omega (arith, shortens (spelled a us) (a, us) k, s)))
+          rw (k, ih (omega (arith, shortens l goes starts (spelled a us) (a, us) k, s)))
           (pass (deep_list spelled deeps more rest) more rest _ _ rest refl)
 
   turns_sound : (n : ℕ) (ts : List Sign) (y : List A × List Sign) → turns goes one n ts ≡ Ok y → (ts ≡ spell_list spelled y.0 y.1) × AreAll Good y.0 × Apart (spell_list spelled) y.0
@@ -175,6 +178,35 @@ module _ {A : Type 0} {one : List Sign → Answer A} {spelled : A → List Sign 
     some = [];
     fine = tt;
   }
+
+-- what is always gone on with is read to its end
+module _ {A : Type 0} {one : List Sign → Answer A} {spelled : A → List Sign → List Sign} {Good : A → Type 0} {deeps : A → List Sign → Option (List Sign)} {Over : A → List Sign → Type 0}
+    (l : Laws one spelled Good deeps Over)
+    (starts : (a : A) → Good a → (rest : List Sign) → heads (λ x. true) (spelled a rest) ≡ true) where
+  gone_out : (ts : List Sign) → heads (λ x. true) ts ≡ false → ts ≡ []
+  gone_out [] h = refl
+  gone_out (t ∷ ts) h = absurd (cc)
+
+  no_length : (ts : List Sign) → length ts ≤ 0 → ts ≡ []
+  no_length [] h = refl
+  no_length (t ∷ ts) h = absurd (omega arith)
+
+  pub turns_end : (n : ℕ) (ts : List Sign) (y : List A × List Sign) → length ts ≤ n → turns (λ x. true) one n ts ≡ Ok y → y.1 ≡ []
+  turns_end zero ts y s h =
+      let p : List A × List Sign = ([], ts) in let k : ◌≡◌ {A = Answer (List A)} (Ok p) (Ok y) = h in let q : p ≡ y = cc in
+      sym (ap (λ (y : List A × List Sign). y.1) q) ∙ no_length ts s
+  turns_end (suc n) ts y s h =
+      elim (test_cases (heads (λ x. true) ts)) [
+        | inl e ↦
+            let g : (one ts >>= λ a. turns (λ x. true) one n a.1 >>= λ more. Ok (a.0 ∷ more.0, more.1)) ≡ Ok y = rw e at h in
+            let a = bind_ok (one ts) (λ a. turns (λ x. true) one n a.1 >>= λ more. Ok (a.0 ∷ more.0, more.1)) y g in
+            let b = bind_ok (turns (λ x. true) one n a.0.1) (λ more. Ok (a.0.0 ∷ more.0, more.1)) y a.2 in
+            let p : List A × List Sign = (a.0.0 ∷ b.0.0, b.0.1) in let k : ◌≡◌ {A = Answer (List A)} (Ok p) (Ok y) = b.2 in let q : p ≡ y = cc in
+            sym (ap (λ (y : List A × List Sign). y.1) q) ∙ turns_end n a.0.1 b.0 (omega (arith, s, shortens l (λ x. true) starts ts a.0 a.1)) b.1
+        | inr e ↦
+            let p : List A × List Sign = ([], ts) in let k : ◌≡◌ {A = Answer (List A)} (Ok p) (Ok y) = rw e at h in let q : p ≡ y = cc in
+            sym (ap (λ (y : List A × List Sign). y.1) q) ∙ gone_out ts e
+      ]
 
 -- behind a row
 abbrev pub OverRow : {A : Type 0} → (A → Type 0) → (A → List Sign → Type 0) → Row A → List Sign → Type 0

@@ -152,27 +152,44 @@ closed : (b : Bool) {c : Bool} → (b ≡ true → c ≡ false) → c ≡ true �
 closed false h q = refl
 closed true {c} h q = not_both c q (h refl)
 
+-- each part is what its reader read there
+abbrev pub Reads : {T : Type 0} (s : Seq T) → Choice s → List Sign → Type 0
+Reads (done t) c rest = Unit {0}
+Reads (token x k) c rest = Reads (k c.0) c.1 rest
+Reads (pick test x h k) c rest = Reads (k c.0) c.1 rest
+Reads (part {read = read} {spelled = spelled} l k) c rest = (read (spelled c.0 (spells (k c.0) c.1 rest)) ≡ Ok (c.0, spells (k c.0) c.1 rest)) × Reads (k c.0) c.1 rest
+Reads (split {read = read} {spelled = spelled} l b x h k m) (a, inl c) rest = (read (spelled a (spells (k a) c rest)) ≡ Ok (a, spells (k a) c rest)) × (heads (is x) (spells (k a) c rest) ≡ true) × Reads (k a) c rest
+Reads (split {read = read} {spelled = spelled} l b x h k m) (a, inr c) rest = (read (spelled a (spells (m a) c rest)) ≡ Ok (a, spells (m a) c rest)) × (heads (is x) (spells (m a) c rest) ≡ false) × Reads (m a) c rest
+Reads (peek test s r) (inl c) rest = Reads s c rest
+Reads (peek test s r) (inr c) rest = Reads r c rest
+Reads (switch f) c rest = Reads (f c.0) c.1 rest
+Reads (refused s) c rest = ⊥
+
+moved : {A : Type 0} (reader : List Sign → Answer A) (spelled : A → List Sign → List Sign) (ts us : List Sign) (x : A × List Sign) → ts ≡ spelled x.0 x.1 → x.1 ≡ us → reader ts ≡ Ok x → reader (spelled x.0 us) ≡ Ok (x.0, us)
+moved reader spelled ts us x e q h = ap reader (sym (e ∙ ap (λ z. spelled x.0 z) q)) ∙ h ∙ ap (λ z. Ok (x.0, z)) q
+
 pub record Sound {T : Type 0} (s : Seq T) (ts : List Sign) (y : T × List Sign) : Type 0 where
   pub choice : Choice s
   pub is : ts ≡ spells s choice y.1
   pub fits : Fits s choice
   pub of : tree s choice ≡ y.0
+  pub reads : Reads s choice y.1
   pub apart : Apart (spells s) choice
 
 pub seq_sound : {T : Type 0} (s : Seq T) (ts : List Sign) (y : T × List Sign) → run s ts ≡ Ok y → Sound s ts y
 seq_sound {T} (done t) ts y h =
     let p : T × List Sign = (t, ts) in let k : ◌≡◌ {A = Answer T} (Ok p) (Ok y) = h in let q : p ≡ y = cc in
-    subst (λ y. Sound (done t) ts y) q (record { choice = tt; is = refl; fits = tt; of = refl; apart = λ xs ys. refl })
+    subst (λ y. Sound (done t) ts y) q (record { choice = tt; is = refl; fits = tt; of = refl; reads = tt; apart = λ xs ys. refl })
 seq_sound (token x k) ts y h =
     let a = bind_ok _ _ y h in let r = seq_sound (k a.0.0) a.0.1 y a.2 in
-    record { choice = (a.0.0, r.choice); is = expect-ok x ts a.0 a.1 ∙ ap (λ z. at x a.0.0 ∷ z) r.is; fits = r.fits; of = r.of; apart = λ xs ys. ap (λ z. at x a.0.0 ∷ z) (r.apart xs ys) }
+    record { choice = (a.0.0, r.choice); is = expect-ok x ts a.0 a.1 ∙ ap (λ z. at x a.0.0 ∷ z) r.is; fits = r.fits; of = r.of; reads = r.reads; apart = λ xs ys. ap (λ z. at x a.0.0 ∷ z) (r.apart xs ys) }
 seq_sound (pick test x m k) ts y h =
     let a = bind_ok _ _ y h in let r = seq_sound (k a.0.0) a.0.1 y a.2 in let e = one_of-ok test ts a.0 a.1 in
-    record { choice = (a.0.0, r.choice); is = e.0 ∙ ap (λ z. a.0.0 ∷ z) r.is; fits = (e.1, r.fits); of = r.of; apart = λ xs ys. ap (λ z. a.0.0 ∷ z) (r.apart xs ys) }
-seq_sound (part {spelled = spelled} l k) ts y h =
+    record { choice = (a.0.0, r.choice); is = e.0 ∙ ap (λ z. a.0.0 ∷ z) r.is; fits = (e.1, r.fits); of = r.of; reads = r.reads; apart = λ xs ys. ap (λ z. a.0.0 ∷ z) (r.apart xs ys) }
+seq_sound (part {read = read} {spelled = spelled} l k) ts y h =
     let a = bind_ok _ _ y h in let r = seq_sound (k a.0.0) a.0.1 y a.2 in let e = l.sound ts a.0 a.1 in
-    record { choice = (a.0.0, r.choice); is = e.0 ∙ ap (λ z. spelled a.0.0 z) r.is; fits = (e.1, r.fits); of = r.of; apart = λ xs ys. ap (λ z. spelled a.0.0 z) (r.apart xs ys) ∙ e.2 (spells (k a.0.0) r.choice xs) ys }
-seq_sound (split {spelled = spelled} l b x u k m) ts y h =
+    record { choice = (a.0.0, r.choice); is = e.0 ∙ ap (λ z. spelled a.0.0 z) r.is; fits = (e.1, r.fits); of = r.of; reads = (moved read spelled ts (spells (k a.0.0) r.choice y.1) a.0 e.0 r.is a.1, r.reads); apart = λ xs ys. ap (λ z. spelled a.0.0 z) (r.apart xs ys) ∙ e.2 (spells (k a.0.0) r.choice xs) ys }
+seq_sound (split {read = read} {spelled = spelled} l b x u k m) ts y h =
     let a = bind_ok _ _ y h in let e = l.sound ts a.0 a.1 in
     elim (test_cases (heads (is x) a.0.1)) [
       | inl q ↦
@@ -182,6 +199,7 @@ seq_sound (split {spelled = spelled} l b x u k m) ts y h =
             is = e.0 ∙ ap (λ z. spelled a.0.0 z) r.is;
             fits = (e.1, closed (b a.0.0) (λ z. u ts a.0 a.1 z) q, r.fits);
             of = r.of;
+            reads = (moved read spelled ts (spells (k a.0.0) r.choice y.1) a.0 e.0 r.is a.1, sym (ap (λ z. heads (is x) z) r.is) ∙ q, r.reads);
             apart = λ xs ys. ap (λ z. spelled a.0.0 z) (r.apart xs ys) ∙ e.2 (spells (k a.0.0) r.choice xs) ys;
           }
       | inr q ↦
@@ -191,15 +209,16 @@ seq_sound (split {spelled = spelled} l b x u k m) ts y h =
             is = e.0 ∙ ap (λ z. spelled a.0.0 z) r.is;
             fits = (e.1, r.fits);
             of = r.of;
+            reads = (moved read spelled ts (spells (m a.0.0) r.choice y.1) a.0 e.0 r.is a.1, sym (ap (λ z. heads (is x) z) r.is) ∙ q, r.reads);
             apart = λ xs ys. ap (λ z. spelled a.0.0 z) (r.apart xs ys) ∙ e.2 (spells (m a.0.0) r.choice xs) ys;
           }
     ]
 seq_sound (peek test s r) ts y h =
     elim (test_cases (heads test ts)) [
-      | inl e ↦ let g : run s ts ≡ Ok y = rw e at h in let q = seq_sound s ts y g in record { choice = inl q.choice; is = q.is; fits = q.fits; of = q.of; apart = q.apart }
-      | inr e ↦ let g : run r ts ≡ Ok y = rw e at h in let q = seq_sound r ts y g in record { choice = inr q.choice; is = q.is; fits = q.fits; of = q.of; apart = q.apart }
+      | inl e ↦ let g : run s ts ≡ Ok y = rw e at h in let q = seq_sound s ts y g in record { choice = inl q.choice; is = q.is; fits = q.fits; of = q.of; reads = q.reads; apart = q.apart }
+      | inr e ↦ let g : run r ts ≡ Ok y = rw e at h in let q = seq_sound r ts y g in record { choice = inr q.choice; is = q.is; fits = q.fits; of = q.of; reads = q.reads; apart = q.apart }
     ]
-seq_sound (switch f) ts y h = let q = seq_sound (f (first_of ts)) ts y h in record { choice = (first_of ts, q.choice); is = q.is; fits = q.fits; of = q.of; apart = q.apart }
+seq_sound (switch f) ts y h = let q = seq_sound (f (first_of ts)) ts y h in record { choice = (first_of ts, q.choice); is = q.is; fits = q.fits; of = q.of; reads = q.reads; apart = q.apart }
 seq_sound (refused s) ts y h = absurd (cc)
 
 pub seq_goes : {T : Type 0} (s : Seq T) (ts : List Sign) (f : Fault) → run s ts ≡ Err f → GoesOn (spells s) (Fits s) ts f

@@ -15,6 +15,11 @@ pub record Begun {A : Type 0} (spelled : A → List Sign → List Sign) (Good : 
   pub good : Good tree
   pub more : (rest : List Sign) → (z : List Sign) × (spelled tree rest ≡ at x p ∷ z)
 
+pub too_deep_no_ok : {A : Type 0} (starts : Word → Bool) (ts : List Sign) (y : A × List Sign) → too_deep starts ts ≡ Ok y → ⊥
+unfolding too_deep
+too_deep_no_ok starts [] y h = cc
+too_deep_no_ok starts (t ∷ ts) y h = elim (test_cases (starts t.word)) [ inl e ↦ absurd (let k = rw e at h in cc) | inr e ↦ absurd (let k = rw e at h in cc) ]
+
 module _ {A : Type 0} (starts : Word → Bool) (spelled : A → List Sign → List Sign) (Good : A → Type 0) (Over : A → List Sign → Type 0)
     (begins : (a : A) → Good a → (rest : List Sign) → heads starts (spelled a rest) ≡ true)
     (begun : (x : Word) (p : Spot) → starts x ≡ true → Begun spelled Good x p)
@@ -23,11 +28,6 @@ module _ {A : Type 0} (starts : Word → Bool) (spelled : A → List Sign → Li
   unfolding too_deep
   refuses [] h = absurd (cc)
   refuses (t ∷ ts) h = rw h refl
-
-  no_ok : (ts : List Sign) (y : A × List Sign) → too_deep starts ts ≡ Ok y → ⊥
-  unfolding too_deep
-  no_ok [] y h = cc
-  no_ok (t ∷ ts) y h = elim (test_cases (starts t.word)) [ inl e ↦ absurd (let k = rw e at h in cc) | inr e ↦ absurd (let k = rw e at h in cc) ]
 
   goes_on : (ts : List Sign) (f : Fault) → too_deep {A = A} starts ts ≡ Err f → GoesOn spelled Good ts f
   unfolding too_deep
@@ -49,7 +49,7 @@ module _ {A : Type 0} (starts : Word → Bool) (spelled : A → List Sign → Li
   too_deep_laws = record {
     local = too_deep-local starts;
     complete = λ a rest g o. refuses (spelled a rest) (begins a g rest);
-    sound = λ ts y h. absurd (no_ok ts y h);
+    sound = λ ts y h. absurd (too_deep_no_ok starts ts y h);
     goes = goes_on;
     some = some;
     fine = fine;
