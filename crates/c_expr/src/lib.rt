@@ -2,6 +2,7 @@
 #![tactic(auto)]
 
 pub mod expression;
+pub mod head;
 pub mod read;
 pub mod row;
 pub mod simple;

@@ -6,12 +6,17 @@ use Rattle.c_grammar.specs.declared.word.Word.{Word}
 use Rattle.c_grammar.specs.Tree as t
 use Rattle.c_grammar.specs.View.{Piece}
 use Rattle.c_grammar.specs.Reading.{Answer, bin_of, expect, expr_at, link_of, one_of, unary_of}
-use Rattle.c_grammar.specs.StmtReading.{argument_of, behind_of, item_of}
+use Rattle.c_grammar.specs.Words.{starts_part}
+use Rattle.c_grammar.specs.StmtReading.{argument_of, behind_of, item_of, parameter_of, part_at, top_of}
 use Rattle.c_grammar.proofs.Local.{ends_shorter}
 use Rattle.c_grammar.proofs.Laws.{Laws, bind_ok, expect-ok, one_of-ok}
 use Rattle.c_grammar.proofs.ExprLaws.{bin_laws, expr_laws, unary_laws}
 use Rattle.c_grammar.proofs.Fork.{expr_takes}
 use Rattle.c_grammar.proofs.Calls.{argument_laws, item_laws}
+use Rattle.c_grammar.proofs.Lists.{shortens}
+use Rattle.c_grammar.proofs.Starts.{part_starts}
+use Rattle.c_grammar.proofs.StmtLaws.{stmts_laws}
+use Rattle.c_grammar.proofs.TopLaws.{parameter_laws, top_of_laws, top_starts}
 
 shorter : {A : Type 0} {read : List Sign → Answer A} {spelled : A → List Sign → List Sign} {Good : A → Type 0} {deeps : A → List Sign → Option (List Sign)} {Over : A → List Sign → Type 0}
     → Laws read spelled Good deeps Over → (ts : List Sign) (y : A × List Sign) → read ts ≡ Ok y → length y.1 ≤ length ts
@@ -56,3 +61,12 @@ item_shorter (suc n) ts y above h =
     let e : suc n - 1 ≡ n = omega arith in
     shorter (item_laws n (expr_at (suc n) true) (expr_at n true) (expr_laws (suc n)).full (expr_laws n).full (expr_takes n)) ts y
     (subst (λ k. item_of (expr_at (suc n) true) (expr_at k true) ts ≡ Ok y) e h)
+
+pub parameter_shorter : (left : ℕ) (ts : List Sign) (y : t.Parameter × List Sign) → 0 < left → parameter_of (expr_at (left - 1) true) ts ≡ Ok y → length y.1 ≤ length ts
+parameter_shorter left ts y above h = shorter (parameter_laws (left - 1) (expr_at (left - 1) true) (expr_laws (left - 1)).full) ts y h
+
+pub part_shorter : (left : ℕ) (ts : List Sign) (y : t.Part × List Sign) → part_at left ts ≡ Ok y → length y.1 < length ts
+part_shorter left ts y h = shortens (stmts_laws left).part starts_part part_starts ts y h
+
+pub top_shorter : (ts : List Sign) (y : t.Top × List Sign) → top_of ts ≡ Ok y → length y.1 < length ts
+top_shorter ts y h = shortens top_of_laws (λ x. true) top_starts ts y h

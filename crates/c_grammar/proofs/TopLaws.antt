@@ -145,7 +145,7 @@ module _ (n : ℕ) (index : List Sign → Answer t.Expr) (li : ExprLaws n index)
     follows = λ rest h. (refl, (not_star name _ refl, (name_over name _ refl, tt)));
   }
 
-  parameter_laws : Laws (parameter_of index) spell_parameter IsParameter (deep_parameter n) ParameterOver
+  pub parameter_laws : Laws (parameter_of index) spell_parameter IsParameter (deep_parameter n) ParameterOver
   unfolding parameter_of
   parameter_laws = laws_of (switch parameter_seq) (λ ts. parameter_runs (first_of ts) ts) (λ c rest. parameter_spelling c.0 c.1 rest) (λ c g. parameter_good c.0 c.1 g) parameter_chosen
 
@@ -344,10 +344,10 @@ module _ (index : List Sign → Answer t.Expr) (li : ExprLaws 63 index) (parts :
   pub top_laws : Laws (top_with index parts) spell_top IsTop deep_top (λ p rest. Unit {0})
   top_laws = laws_of top_seq top_runs top_spelling top_good top_chosen
 
-top_of_laws : Laws top_of spell_top IsTop deep_top (λ p rest. Unit {0})
+pub top_of_laws : Laws top_of spell_top IsTop deep_top (λ p rest. Unit {0})
 top_of_laws = top_laws (expr_at 63 true) (expr_laws 63).full (part_at 64) (stmts_laws 64).part
 
-top_starts : (p : t.Top) → IsTop p → (rest : List Sign) → heads (λ x. true) (spell_top p rest) ≡ true
+pub top_starts : (p : t.Top) → IsTop p → (rest : List Sign) → heads (λ x. true) (spell_top p rest) ≡ true
 top_starts (t.define x name v e) g rest = refl
 top_starts (t.function h o ps c) g rest = refl
 top_starts (t.prototype h p) g rest = refl

@@ -3,3 +3,4 @@
 
 mod signs;
 mod statement;
+mod top;

@@ -1,7 +1,7 @@
 use Rattle.std.proofs.Common.{sym, ◌∙◌}
 use Rattle.c_grammar.specs.StmtView.{part_view}
 use Rattle.c_expr.proofs.Loops.{so_far-push, so_far-ends, so_far-fault}
-use Rattle.c_parse.proofs.Shorter.{part_shorter}
+use Rattle.c_grammar.proofs.Shorter.{part_shorter}
 use Rattle.c_parse.proofs.statement.+statement.Goals as goal
 
 pub parts-loop-alloc-preserved : goal.parts-loop-alloc-preserved
