@@ -1,21 +1,21 @@
 -- What the readers of calls, right sides, simple statements and declarations keep.
-use Rattle.std.proofs.Common.{◌≡◌, ◌==◌, ◌&&◌, ◌⊎◌, inl, inr, Bool, true, false, ℕ, zero, suc, ◌<◌, ◌≤◌, List, [], ◌∷◌, Option, Some, None, refl, sym, ap, ◌∙◌, subst, arith, if◌then◌else◌}
+use Rattle.std.proofs.Common.{◌≡◌, inl, inr, Bool, true, false, ℕ, suc, ◌<◌, List, [], ◌∷◌, Option, Some, None, refl, sym, ap, ◌∙◌, arith, if◌then◌else◌}
 use Rattle.c_grammar.specs.declared.word.Word.{Word}
 use Rattle.c_grammar.specs.declared.word.Word.TheVariants as w
 use Rattle.c_grammar.specs.declared.word.Spot.{Spot}
 use Rattle.c_grammar.specs.declared.word.Sign.{Sign}
 use Rattle.c_grammar.specs.Tree as t
-use Rattle.c_grammar.specs.Words.{level_of, is, isnt, is_sign, is_assign, is_step, is_kind, starts_expr, starts_stmt}
-use Rattle.c_grammar.specs.Grammar.{at, spell, spell_place, spell_links, Is, IsPlace, IsSome, AreLinks, earlier, deep, deep_place}
-use Rattle.c_grammar.specs.StmtGrammar.{spell_maybe, IsMaybe, spell_list, spell_behind, spell_row, IsRow, spell_argument, IsArgument, spell_call, IsCall, spell_right, IsRight, spell_simple, IsSimple, spell_initial, IsInitial, spell_item, IsItem, spell_declaration, IsDeclaration, spell_start, IsStart}
+use Rattle.c_grammar.specs.Words.{level_of, is, isnt, is_sign, is_assign, is_step, is_kind, starts_expr}
+use Rattle.c_grammar.specs.Grammar.{at, spell, spell_place, spell_links, Is, AreLinks, earlier, deep, deep_place}
+use Rattle.c_grammar.specs.StmtGrammar.{spell_maybe, IsMaybe, spell_row, IsRow, spell_argument, IsArgument, spell_call, IsCall, spell_right, IsRight, spell_simple, IsSimple, spell_initial, IsInitial, spell_item, IsItem, spell_declaration, IsDeclaration, spell_start, IsStart}
 use Rattle.c_grammar.specs.Depth.{deep_maybe, deep_row, deep_argument, deep_call, deep_right, deep_simple, deep_initial, deep_item, deep_declaration, deep_start}
-use Rattle.c_grammar.specs.Reading.{Answer, first_of, heads, expect, maybe, place_of}
+use Rattle.c_grammar.specs.Reading.{Answer, first_of, heads, maybe}
 use Rattle.c_grammar.specs.StmtReading.{row_of, argument_by, argument_of, call_of, calls, right_of, change_of, simple_of, initial_of, item_of, declaration_of, start_of}
-use Rattle.c_grammar.proofs.Local.{rest_of, Ends, test_cases}
+use Rattle.c_grammar.proofs.Local.{test_cases}
 use Rattle.c_grammar.proofs.Laws.{Laws, last, is_word, not_both}
-use Rattle.c_grammar.proofs.Sequence.{Seq, done, token, pick, part, peek, run, Choice, tree, spells, Fits, Follows, Chosen, laws_of}
+use Rattle.c_grammar.proofs.Sequence.{Seq, done, token, pick, part, peek, run, Choice, tree, spells, Fits, Chosen, laws_of}
 use Rattle.c_grammar.proofs.Lists.{maybe_laws, row_laws, OverMaybe, OverRow}
-use Rattle.c_grammar.proofs.ExprLaws.{ExprLaws, Over, strength, strength_of, over_isnt, PlaceOver, place_laws, place_starts, expr_starts}
+use Rattle.c_grammar.proofs.ExprLaws.{ExprLaws, Over, strength, over_isnt, place_laws, expr_starts}
 use Rattle.c_grammar.proofs.Fork.{Takes, token_takes, part_takes, place_takes, Forked, call, other, fork_laws}
 
 pub word_isnt : (test : Word → Bool) (y x : Word) → test x ≡ true → test y ≡ false → is y x ≡ false

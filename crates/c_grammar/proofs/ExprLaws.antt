@@ -1,5 +1,5 @@
 -- What the readers of expressions keep.
-use Rattle.std.proofs.Common.{◌≡◌, ◌==◌, ◌⊎◌, inl, inr, Bool, true, false, ℕ, zero, suc, ◌<◌, ◌≤◌, List, [], ◌∷◌, Option, Some, None, Ok, refl, sym, ap, ◌∙◌, subst, arith, eqb-true, eq-eqb}
+use Rattle.std.proofs.Common.{◌≡◌, ◌==◌, inl, inr, Bool, true, false, ℕ, zero, suc, ◌<◌, ◌≤◌, List, [], ◌∷◌, Option, Some, Ok, refl, sym, ap, ◌∙◌, subst, arith, eqb-true, eq-eqb}
 use Rattle.c_grammar.specs.declared.word.Word.{Word}
 use Rattle.c_grammar.specs.declared.word.Word.TheVariants as w
 use Rattle.c_grammar.specs.declared.word.Spot.{Spot}
@@ -10,10 +10,10 @@ use Rattle.c_grammar.specs.Grammar.{at, spell, spell_place, spell_links, rank, I
 use Rattle.c_grammar.specs.StmtGrammar.{spell_list, AreAll}
 use Rattle.c_grammar.specs.Depth.{deep_list}
 use Rattle.c_grammar.specs.View.{Piece, links_from}
-use Rattle.c_grammar.specs.Reading.{Answer, ◌>>=◌, first_of, heads, expect, too_deep, many, place_of, unary_by, unary_of, link_of, chained, bin_of, choice_of, expr_at}
+use Rattle.c_grammar.specs.Reading.{Answer, ◌>>=◌, first_of, heads, too_deep, many, place_of, unary_by, unary_of, link_of, chained, bin_of, choice_of, expr_at}
 use Rattle.c_grammar.proofs.Local.{test_cases}
-use Rattle.c_grammar.proofs.Laws.{Laws, last, is_word, eqb-false, not_both, zero_spot}
-use Rattle.c_grammar.proofs.Sequence.{Seq, done, token, pick, part, peek, switch, run, Choice, tree, spells, Fits, Follows, depths, Chosen, laws_of}
+use Rattle.c_grammar.proofs.Laws.{Laws, last, is_word, not_both, zero_spot}
+use Rattle.c_grammar.proofs.Sequence.{Seq, done, token, pick, part, peek, switch, run, Choice, tree, spells, Fits, Chosen, laws_of}
 use Rattle.c_grammar.proofs.Lists.{many_laws, OverMany}
 use Rattle.c_grammar.proofs.TooDeep.{Begun, too_deep_laws}
 

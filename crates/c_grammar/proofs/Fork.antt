@@ -1,18 +1,17 @@
 -- Readers that look at two signs: a name behind which `(` stands begins a call.
-use Rattle.std.proofs.Common.{◌≡◌, ◌&&◌, ◌⊎◌, inl, inr, Bool, true, false, ℕ, zero, suc, ◌<◌, List, [], ◌∷◌, ◌++◌, Option, Some, None, Result, Ok, Err, refl, sym, ap, ◌∙◌, subst, arith, if◌then◌else◌}
+use Rattle.std.proofs.Common.{◌≡◌, ◌&&◌, inl, inr, Bool, true, false, ℕ, zero, suc, ◌<◌, List, [], ◌∷◌, ◌++◌, Option, Some, Ok, Err, refl, sym, ap, ◌∙◌, subst, arith, if◌then◌else◌}
 use Rattle.std.proofs.Math.Path.{fun_ext}
-use Rattle.c_grammar.specs.declared.word.Word.{Word}
 use Rattle.c_grammar.specs.declared.word.Word.TheVariants as w
 use Rattle.c_grammar.specs.declared.word.Spot.{Spot}
 use Rattle.c_grammar.specs.declared.word.Sign.{Sign}
-use Rattle.c_grammar.specs.Tree.{Expr, Place}
+use Rattle.c_grammar.specs.Tree.{Expr}
 use Rattle.c_grammar.specs.Words.{is}
-use Rattle.c_grammar.specs.Reading.{Fault, Answer, ◌>>=◌, heads, expect, place_of, unary_by, unary_of, bin_of, choice_of, expr_at}
+use Rattle.c_grammar.specs.Reading.{Answer, heads, place_of, unary_by, unary_of, bin_of, choice_of, expr_at}
 use Rattle.c_grammar.specs.StmtReading.{calls}
 use Rattle.c_grammar.proofs.Local.{IsLocal, Ends, Alike, rest_of, bind_ends, gone, test_cases}
-use Rattle.c_grammar.proofs.Laws.{Laws, Apart, GoesOn, within, outcome, is_word, expect-is}
-use Rattle.c_grammar.proofs.Sequence.{Seq, token, part, run, Choice, tree, spells, Fits, Chosen, laws_of, seq_local, seq_some, seq_complete, seq_sound, seq_goes}
-use Rattle.c_grammar.proofs.ExprLaws.{ExprLaws, RankLaws, AtDepth, expr_laws, place_laws, unary_laws, bin_laws, place_behind, named_behind, bin_behind, choice_behind}
+use Rattle.c_grammar.proofs.Laws.{Laws, Apart, within, outcome, is_word, expect-is}
+use Rattle.c_grammar.proofs.Sequence.{Seq, token, part, run, Choice, tree, spells, Fits, Chosen, seq_local, seq_some, seq_complete, seq_sound, seq_goes}
+use Rattle.c_grammar.proofs.ExprLaws.{ExprLaws, RankLaws, expr_laws, place_laws, unary_laws, bin_laws, place_behind, named_behind, bin_behind, choice_behind}
 
 -- a name that stands first is taken
 abbrev pub Takes : {A : Type 0} → (List Sign → Answer A) → Type 0

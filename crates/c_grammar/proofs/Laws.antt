@@ -1,5 +1,5 @@
 -- What a reader keeps: it reads each good tree from its spelling, what it reads is a good tree, and where it stops some tree goes on.
-use Rattle.std.proofs.Common.{◌≡◌, ◌==◌, ◌⊎◌, inl, inr, Bool, true, false, ℕ, zero, suc, ◌+◌, ◌<◌, ◌≤◌, List, [], ◌∷◌, ◌++◌, length, Option, Some, None, Result, Ok, Err, refl, sym, ap, ◌∙◌, subst, append_assoc, arith, length-append, if◌then◌else◌, eqb-true, eq-eqb}
+use Rattle.std.proofs.Common.{◌≡◌, ◌==◌, ◌⊎◌, inl, inr, Bool, true, false, ℕ, List, [], ◌∷◌, ◌++◌, Option, Some, None, Ok, Err, refl, sym, ap, ◌∙◌, subst, append_assoc, if◌then◌else◌, eqb-true, eq-eqb}
 use Rattle.c_lex.specs.declared.fault.Why.{Why}
 use Rattle.c_lex.specs.declared.fault.Why.TheVariants.{Unexpected, TooDeep}
 use Rattle.c_grammar.specs.declared.word.Word.{Word}
@@ -8,8 +8,8 @@ use Rattle.c_grammar.specs.declared.word.Spot.{Spot}
 use Rattle.c_grammar.specs.declared.word.Sign.{Sign}
 use Rattle.c_grammar.specs.Words.{is, code_of}
 use Rattle.c_grammar.specs.Grammar.{at, earlier}
-use Rattle.c_grammar.specs.Reading.{Fault, Answer, refuse, ◌>>=◌, expect, one_of, too_deep}
-use Rattle.c_grammar.proofs.Local.{IsLocal, Ends, test_cases}
+use Rattle.c_grammar.specs.Reading.{Fault, Answer, refuse, ◌>>=◌, expect, one_of}
+use Rattle.c_grammar.proofs.Local.{IsLocal, test_cases}
 
 abbrev pub outcome : {A : Type 0} → Option (List Sign) → A → List Sign → Answer A
 outcome None a rest = Ok (a, rest)

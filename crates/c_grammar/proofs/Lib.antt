@@ -11,5 +11,7 @@ pub mod Calls
 pub mod Starts
 pub mod StmtLaws
 pub mod TopLaws
+pub mod Exact
+pub mod Programs
 pub mod WorkedExamples
 pub mod Shorter

@@ -1,5 +1,5 @@
 -- What may be missing, and things in a row.
-use Rattle.std.proofs.Common.{◌≡◌, ◌⊎◌, inl, inr, Bool, true, false, ℕ, zero, suc, ◌<◌, ◌≤◌, List, [], ◌∷◌, ◌++◌, length, Option, Some, None, Result, Ok, Err, refl, sym, ap, ◌∙◌, subst, append_assoc, arith, length-append, if◌then◌else◌}
+use Rattle.std.proofs.Common.{◌≡◌, inl, inr, Bool, true, false, ℕ, zero, suc, ◌<◌, ◌≤◌, List, [], ◌∷◌, ◌++◌, length, Option, Some, None, Ok, Err, refl, sym, ap, ◌∙◌, subst, arith, length-append}
 use Rattle.c_grammar.specs.declared.word.Word.{Word}
 use Rattle.c_grammar.specs.declared.word.Word.TheVariants as w
 use Rattle.c_grammar.specs.declared.word.Spot.{Spot}
@@ -9,10 +9,10 @@ use Rattle.c_grammar.specs.Words.{is}
 use Rattle.c_grammar.specs.Grammar.{at, earlier}
 use Rattle.c_grammar.specs.StmtGrammar.{spell_maybe, IsMaybe, spell_list, AreAll, spell_word, spell_behind, spell_row, IsRow}
 use Rattle.c_grammar.specs.Depth.{deep_maybe, deep_list, deep_row}
-use Rattle.c_grammar.specs.Reading.{Fault, Answer, refuse, ◌>>=◌, expect, heads, maybe, turns, many, times}
+use Rattle.c_grammar.specs.Reading.{Fault, Answer, ◌>>=◌, expect, heads, maybe, turns, many, times}
 use Rattle.c_grammar.specs.StmtReading.{behind_of, row_of}
-use Rattle.c_grammar.proofs.Local.{IsLocal, Ends, Alike, here, ends_shorter, bind_ends, bind_alike, stays, gone, rest_of, test_cases}
-use Rattle.c_grammar.proofs.Laws.{Laws, Apart, GoesOn, within, outcome, pass_on, last, bind_ok, bind_err}
+use Rattle.c_grammar.proofs.Local.{Ends, Alike, here, bind_ends, bind_alike, stays, rest_of, test_cases}
+use Rattle.c_grammar.proofs.Laws.{Laws, Apart, GoesOn, within, outcome, last, bind_ok, bind_err}
 use Rattle.c_grammar.proofs.Sequence.{Seq, done, token, part, peek, Choice, tree, spells, Fits, laws_of, Chosen}
 
 pub pass : {A B : Type 0} (o : Option (List Sign)) (a : A) (ts : List Sign) (f : A × List Sign → Answer B) (b : B) (us : List Sign)
@@ -129,21 +129,26 @@ module _ {A : Type 0} {one : List Sign → Answer A} {spelled : A → List Sign 
           rw (k, ih (omega (arith, shortens l goes starts (spelled a us) (a, us) k, s)))
           (pass (deep_list spelled deeps more rest) more rest _ _ rest refl)
 
-  turns_sound : (n : ℕ) (ts : List Sign) (y : List A × List Sign) → turns goes one n ts ≡ Ok y → (ts ≡ spell_list spelled y.0 y.1) × AreAll Good y.0 × Apart (spell_list spelled) y.0
-  turns_sound zero ts y h =
-      let p : List A × List Sign = ([], ts) in let k : ◌≡◌ {A = Answer (List A)} (Ok p) (Ok y) = h in let q : p ≡ y = cc in
-      subst (λ (y : List A × List Sign). (ts ≡ spell_list spelled y.0 y.1) × AreAll Good y.0 × Apart (spell_list spelled) y.0) q (refl, tt, λ xs ys. refl)
+  abbrev ReadList : List Sign → List A × List Sign → Type 0
+  ReadList ts y = (ts ≡ spell_list spelled y.0 y.1) × AreAll Good y.0 × Apart (spell_list spelled) y.0
+
+  same_list : (ts : List Sign) (x y : List A × List Sign) → ◌≡◌ {A = Answer (List A)} (Ok x) (Ok y) → ReadList ts x → ReadList ts y
+  same_list ts x y h r = let q : x ≡ y = cc in subst (λ y. ReadList ts y) q r
+
+  one_more : (ts : List Sign) (a : A × List Sign) (b : List A × List Sign) → one ts ≡ Ok a → ReadList a.1 b → ReadList ts (a.0 ∷ b.0, b.1)
+  one_more ts a b h r =
+      let s = l.sound ts a h in
+      (s.0 ∙ ap (λ z. spelled a.0 z) r.0, (s.1, r.1), λ xs ys. ap (λ z. spelled a.0 z) (r.2 xs ys) ∙ s.2 (spell_list spelled b.0 xs) ys)
+
+  turns_sound : (n : ℕ) (ts : List Sign) (y : List A × List Sign) → turns goes one n ts ≡ Ok y → ReadList ts y
+  turns_sound zero ts y h = same_list ts ([], ts) y h (refl, tt, λ xs ys. refl)
   turns_sound (suc n) ts y h =
       elim (test_cases (heads goes ts)) [
         | inl e ↦
             let g : (one ts >>= λ a. turns goes one n a.1 >>= λ more. Ok (a.0 ∷ more.0, more.1)) ≡ Ok y = rw e at h in
-            let a = bind_ok _ _ y g in let s = l.sound ts a.0 a.1 in
-            let b = bind_ok _ _ y a.2 in let r = turns_sound n a.0.1 b.0 b.1 in
-            let p : List A × List Sign = (a.0.0 ∷ b.0.0, b.0.1) in let q : p ≡ y = let k = b.2 in cc in
-            subst (λ (y : List A × List Sign). (ts ≡ spell_list spelled y.0 y.1) × AreAll Good y.0 × Apart (spell_list spelled) y.0) q (s.0 ∙ ap (λ z. spelled a.0.0 z) r.0, (s.1, r.1), λ xs ys. ap (λ z. spelled a.0.0 z) (r.2 xs ys) ∙ s.2 (spell_list spelled b.0.0 xs) ys)
-        | inr e ↦
-            let p : List A × List Sign = ([], ts) in let k : ◌≡◌ {A = Answer (List A)} (Ok p) (Ok y) = rw e at h in let q : p ≡ y = cc in
-            subst (λ (y : List A × List Sign). (ts ≡ spell_list spelled y.0 y.1) × AreAll Good y.0 × Apart (spell_list spelled) y.0) q (refl, tt, λ xs ys. refl)
+            let a = bind_ok _ _ y g in let b = bind_ok _ _ y a.2 in
+            same_list ts (a.0.0 ∷ b.0.0, b.0.1) y b.2 (one_more ts a.0 b.0 a.1 (turns_sound n a.0.1 b.0 b.1))
+        | inr e ↦ let k : ◌≡◌ {A = Answer (List A)} (Ok ([], ts)) (Ok y) = rw e at h in same_list ts ([], ts) y k (refl, tt, λ xs ys. refl)
       ]
 
   turns_goes : (n : ℕ) (ts : List Sign) (f : Fault) → turns goes one n ts ≡ Err f → GoesOn (spell_list spelled) (AreAll Good) ts f
@@ -191,21 +196,19 @@ module _ {A : Type 0} {one : List Sign → Answer A} {spelled : A → List Sign 
   no_length [] h = refl
   no_length (t ∷ ts) h = absurd (omega arith)
 
+  same_end : (x y : List A × List Sign) → ◌≡◌ {A = Answer (List A)} (Ok x) (Ok y) → x.1 ≡ [] → y.1 ≡ []
+  same_end x y h e = let q : x ≡ y = cc in subst (λ (y : List A × List Sign). y.1 ≡ []) q e
+
   pub turns_end : (n : ℕ) (ts : List Sign) (y : List A × List Sign) → length ts ≤ n → turns (λ x. true) one n ts ≡ Ok y → y.1 ≡ []
-  turns_end zero ts y s h =
-      let p : List A × List Sign = ([], ts) in let k : ◌≡◌ {A = Answer (List A)} (Ok p) (Ok y) = h in let q : p ≡ y = cc in
-      sym (ap (λ (y : List A × List Sign). y.1) q) ∙ no_length ts s
+  turns_end zero ts y s h = same_end ([], ts) y h (no_length ts s)
   turns_end (suc n) ts y s h =
       elim (test_cases (heads (λ x. true) ts)) [
         | inl e ↦
             let g : (one ts >>= λ a. turns (λ x. true) one n a.1 >>= λ more. Ok (a.0 ∷ more.0, more.1)) ≡ Ok y = rw e at h in
             let a = bind_ok (one ts) (λ a. turns (λ x. true) one n a.1 >>= λ more. Ok (a.0 ∷ more.0, more.1)) y g in
             let b = bind_ok (turns (λ x. true) one n a.0.1) (λ more. Ok (a.0.0 ∷ more.0, more.1)) y a.2 in
-            let p : List A × List Sign = (a.0.0 ∷ b.0.0, b.0.1) in let k : ◌≡◌ {A = Answer (List A)} (Ok p) (Ok y) = b.2 in let q : p ≡ y = cc in
-            sym (ap (λ (y : List A × List Sign). y.1) q) ∙ turns_end n a.0.1 b.0 (omega (arith, s, shortens l (λ x. true) starts ts a.0 a.1)) b.1
-        | inr e ↦
-            let p : List A × List Sign = ([], ts) in let k : ◌≡◌ {A = Answer (List A)} (Ok p) (Ok y) = rw e at h in let q : p ≡ y = cc in
-            sym (ap (λ (y : List A × List Sign). y.1) q) ∙ gone_out ts e
+            same_end (a.0.0 ∷ b.0.0, b.0.1) y b.2 (turns_end n a.0.1 b.0 (omega (arith, s, shortens l (λ x. true) starts ts a.0 a.1)) b.1)
+        | inr e ↦ let k : ◌≡◌ {A = Answer (List A)} (Ok ([], ts)) (Ok y) = rw e at h in same_end ([], ts) y k (gone_out ts e)
       ]
 
 -- behind a row

@@ -1,11 +1,9 @@
 -- What is read rests on the signs up to the one where reading stops, and on none behind it.
-use Rattle.std.proofs.Common.{◌≡◌, ◌==◌, ◌⊎◌, inl, inr, Bool, true, false, ℕ, zero, suc, ◌+◌, ◌<◌, ◌≤◌, List, [], ◌∷◌, ◌++◌, length, Option, Some, None, Result, Ok, Err, refl, sym, ap, ◌∙◌, subst, append_assoc, arith, length-append, if◌then◌else◌}
+use Rattle.std.proofs.Common.{◌≡◌, ◌⊎◌, inl, inr, Bool, true, false, ◌≤◌, List, [], ◌∷◌, ◌++◌, length, Option, Some, Ok, Err, refl, sym, ap, ◌∙◌, subst, append_assoc, arith, length-append, if◌then◌else◌}
 use Rattle.c_grammar.specs.declared.word.Sign.{Sign}
 use Rattle.c_grammar.specs.declared.word.Word.{Word}
-use Rattle.c_grammar.specs.declared.word.Word.TheVariants as w
-use Rattle.c_lex.specs.declared.fault.Why.{Why}
 use Rattle.c_lex.specs.declared.fault.Why.TheVariants.{Unexpected, TooDeep}
-use Rattle.c_grammar.specs.Reading.{Fault, Answer, refuse, ◌>>=◌, expect, one_of, too_deep, first_of, heads}
+use Rattle.c_grammar.specs.Reading.{Answer, refuse, ◌>>=◌, expect, one_of, too_deep, first_of, heads}
 use Rattle.c_grammar.specs.Words.{is}
 
 abbrev pub rest_of : {A : Type 0} → Answer A → List Sign

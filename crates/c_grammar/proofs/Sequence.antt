@@ -1,9 +1,8 @@
 -- Productions as data, and what each reader that runs one keeps.
-use Rattle.std.proofs.Common.{◌≡◌, ◌⊎◌, inl, inr, Bool, true, false, ℕ, List, [], ◌∷◌, ◌++◌, Option, Some, None, Result, Ok, Err, refl, sym, ap, ◌∙◌, subst, append_assoc, if◌then◌else◌}
+use Rattle.std.proofs.Common.{◌≡◌, ◌⊎◌, inl, inr, Bool, true, false, List, [], ◌∷◌, ◌++◌, Option, None, Ok, Err, refl, sym, ap, ◌∙◌, subst, if◌then◌else◌}
 use Rattle.std.proofs.Math.Path.{fun_ext}
 use Rattle.c_lex.specs.declared.fault.Why.TheVariants.{Unexpected}
 use Rattle.c_grammar.specs.declared.word.Word.{Word}
-use Rattle.c_grammar.specs.declared.word.Word.TheVariants as w
 use Rattle.c_grammar.specs.declared.word.Spot.{Spot}
 use Rattle.c_grammar.specs.declared.word.Sign.{Sign}
 use Rattle.c_grammar.specs.Words.{is}
@@ -165,9 +164,6 @@ Reads (peek test s r) (inr c) rest = Reads r c rest
 Reads (switch f) c rest = Reads (f c.0) c.1 rest
 Reads (refused s) c rest = ⊥
 
-moved : {A : Type 0} (reader : List Sign → Answer A) (spelled : A → List Sign → List Sign) (ts us : List Sign) (x : A × List Sign) → ts ≡ spelled x.0 x.1 → x.1 ≡ us → reader ts ≡ Ok x → reader (spelled x.0 us) ≡ Ok (x.0, us)
-moved reader spelled ts us x e q h = ap reader (sym (e ∙ ap (λ z. spelled x.0 z) q)) ∙ h ∙ ap (λ z. Ok (x.0, z)) q
-
 pub record Sound {T : Type 0} (s : Seq T) (ts : List Sign) (y : T × List Sign) : Type 0 where
   pub choice : Choice s
   pub is : ts ≡ spells s choice y.1
@@ -176,49 +172,94 @@ pub record Sound {T : Type 0} (s : Seq T) (ts : List Sign) (y : T × List Sign) 
   pub reads : Reads s choice y.1
   pub apart : Apart (spells s) choice
 
+-- a part, and what was read behind it
+module _ {A T : Type 0} {read : List Sign → Answer A} {spelled : A → List Sign → List Sign} {Good : A → Type 0} {deeps : A → List Sign → Option (List Sign)} {Over : A → List Sign → Type 0}
+    (l : Laws read spelled Good deeps Over) (s : Seq T) (ts : List Sign) (x : A × List Sign) (y : T × List Sign) (h : read ts ≡ Ok x) (r : Sound s x.1 y) where
+  part_is : ts ≡ spelled x.0 (spells s r.choice y.1)
+  part_is = (l.sound ts x h).0 ∙ ap (λ z. spelled x.0 z) r.is
+
+  part_reads : read (spelled x.0 (spells s r.choice y.1)) ≡ Ok (x.0, spells s r.choice y.1)
+  part_reads = ap read (sym part_is) ∙ h ∙ ap (λ z. Ok (x.0, z)) r.is
+
+  part_apart : (xs ys : List Sign) → spelled x.0 (spells s r.choice (xs ++ ys)) ≡ spelled x.0 (spells s r.choice xs) ++ ys
+  part_apart xs ys = ap (λ z. spelled x.0 z) (r.apart xs ys) ∙ (l.sound ts x h).2 (spells s r.choice xs) ys
+
 pub seq_sound : {T : Type 0} (s : Seq T) (ts : List Sign) (y : T × List Sign) → run s ts ≡ Ok y → Sound s ts y
 seq_sound {T} (done t) ts y h =
     let p : T × List Sign = (t, ts) in let k : ◌≡◌ {A = Answer T} (Ok p) (Ok y) = h in let q : p ≡ y = cc in
     subst (λ y. Sound (done t) ts y) q (record { choice = tt; is = refl; fits = tt; of = refl; reads = tt; apart = λ xs ys. refl })
 seq_sound (token x k) ts y h =
-    let a = bind_ok _ _ y h in let r = seq_sound (k a.0.0) a.0.1 y a.2 in
-    record { choice = (a.0.0, r.choice); is = expect-ok x ts a.0 a.1 ∙ ap (λ z. at x a.0.0 ∷ z) r.is; fits = r.fits; of = r.of; reads = r.reads; apart = λ xs ys. ap (λ z. at x a.0.0 ∷ z) (r.apart xs ys) }
+    let a = bind_ok _ _ y h in
+    let r = seq_sound (k a.0.0) a.0.1 y a.2 in
+    record {
+      choice = (a.0.0, r.choice);
+      is = expect-ok x ts a.0 a.1 ∙ ap (λ z. at x a.0.0 ∷ z) r.is;
+      fits = r.fits;
+      of = r.of;
+      reads = r.reads;
+      apart = λ xs ys. ap (λ z. at x a.0.0 ∷ z) (r.apart xs ys);
+    }
 seq_sound (pick test x m k) ts y h =
-    let a = bind_ok _ _ y h in let r = seq_sound (k a.0.0) a.0.1 y a.2 in let e = one_of-ok test ts a.0 a.1 in
-    record { choice = (a.0.0, r.choice); is = e.0 ∙ ap (λ z. a.0.0 ∷ z) r.is; fits = (e.1, r.fits); of = r.of; reads = r.reads; apart = λ xs ys. ap (λ z. a.0.0 ∷ z) (r.apart xs ys) }
-seq_sound (part {read = read} {spelled = spelled} l k) ts y h =
-    let a = bind_ok _ _ y h in let r = seq_sound (k a.0.0) a.0.1 y a.2 in let e = l.sound ts a.0 a.1 in
-    record { choice = (a.0.0, r.choice); is = e.0 ∙ ap (λ z. spelled a.0.0 z) r.is; fits = (e.1, r.fits); of = r.of; reads = (moved read spelled ts (spells (k a.0.0) r.choice y.1) a.0 e.0 r.is a.1, r.reads); apart = λ xs ys. ap (λ z. spelled a.0.0 z) (r.apart xs ys) ∙ e.2 (spells (k a.0.0) r.choice xs) ys }
-seq_sound (split {read = read} {spelled = spelled} l b x u k m) ts y h =
-    let a = bind_ok _ _ y h in let e = l.sound ts a.0 a.1 in
+    let a = bind_ok _ _ y h in
+    let e = one_of-ok test ts a.0 a.1 in
+    let r = seq_sound (k a.0.0) a.0.1 y a.2 in
+    record {
+      choice = (a.0.0, r.choice);
+      is = e.0 ∙ ap (λ z. a.0.0 ∷ z) r.is;
+      fits = (e.1, r.fits);
+      of = r.of;
+      reads = r.reads;
+      apart = λ xs ys. ap (λ z. a.0.0 ∷ z) (r.apart xs ys);
+    }
+seq_sound (part l k) ts y h =
+    let a = bind_ok _ _ y h in
+    let r = seq_sound (k a.0.0) a.0.1 y a.2 in
+    record {
+      choice = (a.0.0, r.choice);
+      is = part_is l (k a.0.0) ts a.0 y a.1 r;
+      fits = ((l.sound ts a.0 a.1).1, r.fits);
+      of = r.of;
+      reads = (part_reads l (k a.0.0) ts a.0 y a.1 r, r.reads);
+      apart = part_apart l (k a.0.0) ts a.0 y a.1 r;
+    }
+seq_sound (split l b x u k m) ts y h =
+    let a = bind_ok _ _ y h in
     elim (test_cases (heads (is x) a.0.1)) [
       | inl q ↦
-          let g : run (k a.0.0) a.0.1 ≡ Ok y = (let z = a.2 in rw q at z) in let r = seq_sound (k a.0.0) a.0.1 y g in
+          let g : run (k a.0.0) a.0.1 ≡ Ok y = (let z = a.2 in rw q at z) in
+          let r = seq_sound (k a.0.0) a.0.1 y g in
           record {
             choice = (a.0.0, inl r.choice);
-            is = e.0 ∙ ap (λ z. spelled a.0.0 z) r.is;
-            fits = (e.1, closed (b a.0.0) (λ z. u ts a.0 a.1 z) q, r.fits);
+            is = part_is l (k a.0.0) ts a.0 y a.1 r;
+            fits = ((l.sound ts a.0 a.1).1, closed (b a.0.0) (λ z. u ts a.0 a.1 z) q, r.fits);
             of = r.of;
-            reads = (moved read spelled ts (spells (k a.0.0) r.choice y.1) a.0 e.0 r.is a.1, sym (ap (λ z. heads (is x) z) r.is) ∙ q, r.reads);
-            apart = λ xs ys. ap (λ z. spelled a.0.0 z) (r.apart xs ys) ∙ e.2 (spells (k a.0.0) r.choice xs) ys;
+            reads = (part_reads l (k a.0.0) ts a.0 y a.1 r, sym (ap (λ z. heads (is x) z) r.is) ∙ q, r.reads);
+            apart = part_apart l (k a.0.0) ts a.0 y a.1 r;
           }
       | inr q ↦
-          let g : run (m a.0.0) a.0.1 ≡ Ok y = (let z = a.2 in rw q at z) in let r = seq_sound (m a.0.0) a.0.1 y g in
+          let g : run (m a.0.0) a.0.1 ≡ Ok y = (let z = a.2 in rw q at z) in
+          let r = seq_sound (m a.0.0) a.0.1 y g in
           record {
             choice = (a.0.0, inr r.choice);
-            is = e.0 ∙ ap (λ z. spelled a.0.0 z) r.is;
-            fits = (e.1, r.fits);
+            is = part_is l (m a.0.0) ts a.0 y a.1 r;
+            fits = ((l.sound ts a.0 a.1).1, r.fits);
             of = r.of;
-            reads = (moved read spelled ts (spells (m a.0.0) r.choice y.1) a.0 e.0 r.is a.1, sym (ap (λ z. heads (is x) z) r.is) ∙ q, r.reads);
-            apart = λ xs ys. ap (λ z. spelled a.0.0 z) (r.apart xs ys) ∙ e.2 (spells (m a.0.0) r.choice xs) ys;
+            reads = (part_reads l (m a.0.0) ts a.0 y a.1 r, sym (ap (λ z. heads (is x) z) r.is) ∙ q, r.reads);
+            apart = part_apart l (m a.0.0) ts a.0 y a.1 r;
           }
     ]
 seq_sound (peek test s r) ts y h =
     elim (test_cases (heads test ts)) [
-      | inl e ↦ let g : run s ts ≡ Ok y = rw e at h in let q = seq_sound s ts y g in record { choice = inl q.choice; is = q.is; fits = q.fits; of = q.of; reads = q.reads; apart = q.apart }
-      | inr e ↦ let g : run r ts ≡ Ok y = rw e at h in let q = seq_sound r ts y g in record { choice = inr q.choice; is = q.is; fits = q.fits; of = q.of; reads = q.reads; apart = q.apart }
+      | inl e ↦
+          let g : run s ts ≡ Ok y = rw e at h in let q = seq_sound s ts y g in
+          record { choice = inl q.choice; is = q.is; fits = q.fits; of = q.of; reads = q.reads; apart = q.apart }
+      | inr e ↦
+          let g : run r ts ≡ Ok y = rw e at h in let q = seq_sound r ts y g in
+          record { choice = inr q.choice; is = q.is; fits = q.fits; of = q.of; reads = q.reads; apart = q.apart }
     ]
-seq_sound (switch f) ts y h = let q = seq_sound (f (first_of ts)) ts y h in record { choice = (first_of ts, q.choice); is = q.is; fits = q.fits; of = q.of; reads = q.reads; apart = q.apart }
+seq_sound (switch f) ts y h =
+    let q = seq_sound (f (first_of ts)) ts y h in
+    record { choice = (first_of ts, q.choice); is = q.is; fits = q.fits; of = q.of; reads = q.reads; apart = q.apart }
 seq_sound (refused s) ts y h = absurd (cc)
 
 pub seq_goes : {T : Type 0} (s : Seq T) (ts : List Sign) (f : Fault) → run s ts ≡ Err f → GoesOn (spells s) (Fits s) ts f

@@ -1,16 +1,13 @@
 -- What statements begin with, and that no else follows one that ends open.
-use Rattle.std.proofs.Common.{◌≡◌, ◌==◌, ◌⊎◌, inl, inr, Bool, true, false, ℕ, zero, suc, List, [], ◌∷◌, Option, Some, None, Result, Ok, Err, refl, sym, ap, ◌∙◌, subst, if◌then◌else◌}
+use Rattle.std.proofs.Common.{◌≡◌, true, false, List, [], None, Ok, refl}
 use Rattle.c_grammar.specs.declared.word.Word.{Word}
 use Rattle.c_grammar.specs.declared.word.Word.TheVariants as w
 use Rattle.c_grammar.specs.declared.word.Spot.{Spot}
 use Rattle.c_grammar.specs.declared.word.Sign.{Sign}
 use Rattle.c_grammar.specs.Tree as t
 use Rattle.c_grammar.specs.Words.{is, is_kind, starts_stmt, starts_part}
-use Rattle.c_grammar.specs.Grammar.{at}
 use Rattle.c_grammar.specs.StmtGrammar.{spell_stmt, spell_part, IsStmt, IsPart, ends_open}
-use Rattle.c_grammar.specs.Reading.{Fault, Answer, ◌>>=◌, heads, expect, too_deep, first_of, expr_at}
-use Rattle.c_grammar.specs.StmtReading.{simple_of, else_of, plain_of, stmt_by, stmt_of, part_with, stmt_at}
-use Rattle.c_grammar.proofs.Local.{test_cases}
+use Rattle.c_grammar.specs.Reading.{Answer, heads}
 use Rattle.c_grammar.proofs.Laws.{zero_spot}
 use Rattle.c_grammar.proofs.TooDeep.{Begun}
 use Rattle.c_grammar.proofs.Calls.{starts_simple, simple_starts, heads_implies}

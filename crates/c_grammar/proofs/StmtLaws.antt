@@ -1,22 +1,22 @@
 -- What the readers of statements keep.
-use Rattle.std.proofs.Common.{◌≡◌, ◌⊎◌, inl, inr, Bool, true, false, ℕ, zero, suc, ◌<◌, ◌≤◌, List, [], ◌∷◌, Option, Some, None, Ok, refl, sym, ap, ◌∙◌, subst, arith}
+use Rattle.std.proofs.Common.{◌≡◌, inl, inr, true, false, ℕ, zero, suc, List, [], ◌∷◌, Option, Some, None, Ok, refl, sym, ap, ◌∙◌, arith}
 use Rattle.c_grammar.specs.declared.word.Word.{Word}
 use Rattle.c_grammar.specs.declared.word.Word.TheVariants as w
 use Rattle.c_grammar.specs.declared.word.Spot.{Spot}
 use Rattle.c_grammar.specs.declared.word.Sign.{Sign}
 use Rattle.c_grammar.specs.Tree as t
-use Rattle.c_grammar.specs.Words.{is, isnt, is_step, is_kind, starts_expr, starts_stmt, starts_part}
+use Rattle.c_grammar.specs.Words.{is, isnt, is_kind, starts_expr, starts_stmt, starts_part}
 use Rattle.c_grammar.specs.Grammar.{at, spell, Is, earlier, deep}
-use Rattle.c_grammar.specs.StmtGrammar.{spell_maybe, IsMaybe, spell_list, AreAll, spell_right, IsRight, spell_simple, IsSimple, spell_declaration, spell_start, spell_stmt, spell_part, spell_parts, ends_open, IsStmt, IsPart, AreParts}
+use Rattle.c_grammar.specs.StmtGrammar.{spell_maybe, IsMaybe, spell_list, AreAll, spell_right, IsRight, spell_simple, IsSimple, spell_stmt, spell_part, spell_parts, ends_open, IsStmt, IsPart, AreParts}
 use Rattle.c_grammar.specs.Depth.{deep_maybe, deep_list, deep_right, deep_simple, deep_declaration, deep_start, deep_stmt, deep_part, deep_parts}
 use Rattle.c_grammar.specs.StmtView.{parts_from}
-use Rattle.c_grammar.specs.Reading.{Answer, first_of, heads, expect, too_deep, maybe, many, expr_at}
+use Rattle.c_grammar.specs.Reading.{Answer, first_of, heads, maybe, many, expr_at}
 use Rattle.c_grammar.specs.StmtReading.{right_of, simple_of, stmt_by, stmt_of, part_of, part_with, stmt_at, part_at}
 use Rattle.c_grammar.proofs.Laws.{Laws, last, not_both, zero_spot}
-use Rattle.c_grammar.proofs.Sequence.{Seq, done, token, pick, part, split, peek, switch, run, Choice, tree, spells, Fits, Follows, depths, Reads, Chosen, laws_of, seq_sound}
+use Rattle.c_grammar.proofs.Sequence.{Seq, done, token, part, split, peek, switch, run, Choice, tree, spells, Fits, Reads, Chosen, laws_of, seq_sound}
 use Rattle.c_grammar.proofs.Lists.{maybe_laws, many_laws, OverMaybe, OverMany}
 use Rattle.c_grammar.proofs.TooDeep.{too_deep_laws, too_deep_no_ok}
-use Rattle.c_grammar.proofs.ExprLaws.{ExprLaws, Over, expr_starts, AtDepth, expr_laws}
+use Rattle.c_grammar.proofs.ExprLaws.{ExprLaws, Over, expr_starts, expr_laws}
 use Rattle.c_grammar.proofs.Fork.{Takes, expr_takes}
 use Rattle.c_grammar.proofs.Calls.{heads_isnt, heads_other, heads_implies, starts_simple, simple_starts, right_starts, place_first, right_laws, simple_laws, declaration_laws, start_laws}
 use Rattle.c_grammar.proofs.Starts.{stmt_starts, stmt_kind, part_starts, stmt_begun, part_begun, OpenOk, Opens}

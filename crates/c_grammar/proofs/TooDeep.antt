@@ -1,13 +1,13 @@
 -- Reading what stands too deep.
-use Rattle.std.proofs.Common.{◌≡◌, ◌⊎◌, inl, inr, Bool, true, false, List, [], ◌∷◌, Some, Ok, Err, Option, refl, subst}
-use Rattle.c_lex.specs.declared.fault.Why.TheVariants.{Unexpected, TooDeep}
+use Rattle.std.proofs.Common.{◌≡◌, inl, inr, Bool, true, List, [], ◌∷◌, Some, Ok, Err, refl, subst}
+use Rattle.c_lex.specs.declared.fault.Why.TheVariants.{TooDeep}
 use Rattle.c_grammar.specs.declared.word.Word.{Word}
 use Rattle.c_grammar.specs.declared.word.Spot.{Spot}
 use Rattle.c_grammar.specs.declared.word.Sign.{Sign}
 use Rattle.c_grammar.specs.Grammar.{at}
 use Rattle.c_grammar.specs.Reading.{Fault, Answer, refuse, too_deep, heads}
 use Rattle.c_grammar.proofs.Local.{test_cases, too_deep-local}
-use Rattle.c_grammar.proofs.Laws.{Laws, GoesOn, Apart, missing, unexpected}
+use Rattle.c_grammar.proofs.Laws.{Laws, GoesOn, missing, unexpected}
 
 -- a tree that begins with this sign
 pub record Begun {A : Type 0} (spelled : A → List Sign → List Sign) (Good : A → Type 0) (x : Word) (p : Spot) : Type 0 where

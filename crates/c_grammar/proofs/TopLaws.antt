@@ -1,5 +1,5 @@
 -- What the readers of parameters, heads, defines and functions keep.
-use Rattle.std.proofs.Common.{◌≡◌, ◌⊎◌, inl, inr, Bool, true, false, ℕ, zero, suc, ◌<◌, ◌≤◌, List, [], ◌∷◌, length, Option, Some, None, Ok, refl, sym, ap, ◌∙◌, subst, arith, if◌then◌else◌}
+use Rattle.std.proofs.Common.{◌≡◌, inl, inr, Bool, true, false, ℕ, List, [], ◌∷◌, length, Option, Some, None, Ok, refl, ap, ◌∙◌, arith, if◌then◌else◌}
 use Rattle.std.proofs.Math.Path.{fun_ext}
 use Rattle.c_grammar.specs.declared.word.Word.{Word}
 use Rattle.c_grammar.specs.declared.word.Word.TheVariants as w
@@ -8,17 +8,17 @@ use Rattle.c_grammar.specs.declared.word.Sign.{Sign}
 use Rattle.c_grammar.specs.Tree as t
 use Rattle.c_grammar.specs.Words.{is, isnt, is_result, starts_expr}
 use Rattle.c_grammar.specs.Grammar.{at, spell, Is, earlier, deep}
-use Rattle.c_grammar.specs.StmtGrammar.{spell_maybe, IsMaybe, spell_list, AreAll, spell_word, spell_name, spell_row, IsRow, spell_part, spell_parts, IsPart, AreParts, spell_parameter, IsParameter, spell_parameters, AreParameters, spell_head, IsHead, is_named, spell_value, IsValue, spell_top, IsTop, spell_tree, AreTops}
+use Rattle.c_grammar.specs.StmtGrammar.{spell_maybe, IsMaybe, spell_list, AreAll, spell_word, spell_name, spell_row, IsRow, spell_part, spell_parts, AreParts, spell_parameter, IsParameter, spell_parameters, AreParameters, spell_head, IsHead, is_named, spell_value, IsValue, spell_top, IsTop, spell_tree, AreTops}
 use Rattle.c_grammar.specs.Depth.{deep_maybe, deep_list, deep_row, deep_part, deep_parts, deep_parameter, deep_parameters, deep_head, deep_top, deep_tree}
 use Rattle.c_grammar.specs.StmtView.{parts_from}
-use Rattle.c_grammar.specs.Reading.{Answer, ◌>>=◌, first_of, heads, expect, maybe, many, times, expr_at}
+use Rattle.c_grammar.specs.Reading.{Answer, ◌>>=◌, first_of, heads, expect, maybe, many, expr_at}
 use Rattle.c_grammar.specs.StmtReading.{row_of, part_at, name_maybe, parameter_by, parameter_of, parameters_by, head_of, value_of, body_of, head_tail, top_with, top_of, program_of}
 use Rattle.c_grammar.proofs.Laws.{Laws, last}
 use Rattle.c_grammar.proofs.Sequence.{Seq, done, token, pick, part, peek, switch, refused, run, Choice, tree, spells, Fits, Follows, depths, Chosen, laws_of}
 use Rattle.c_grammar.proofs.Lists.{expect_laws, maybe_laws, many_laws, row_laws, times_laws, OverMaybe, OverMany, OverRow, turns_end}
 use Rattle.c_grammar.proofs.ExprLaws.{ExprLaws, Over, expr_starts, expr_laws}
 use Rattle.c_grammar.proofs.Calls.{word_isnt, heads_other, at_heads}
-use Rattle.c_grammar.proofs.StmtLaws.{PartLaws, PartOver, parts_list, parts_back, parts_spell, parts_good, parts_all, parts_deep, list_spell, parts_laws, stmts_laws}
+use Rattle.c_grammar.proofs.StmtLaws.{PartLaws, parts_list, parts_back, parts_spell, parts_good, parts_all, parts_deep, list_spell, parts_laws, stmts_laws}
 
 nothing_deep : (o : Option Spot) (rest : List Sign) → deep_maybe (λ p rest. None) o rest ≡ None
 nothing_deep None rest = refl

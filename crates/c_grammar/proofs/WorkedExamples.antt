@@ -1,6 +1,6 @@
 -- What small texts are read as.
 use Rattle.std.proofs.Common.{◌≡◌, refl, true, ℕ, [], ◌∷◌, Some, Ok}
-use Rattle.c_lex.specs.declared.fault.Why.TheVariants.{Unexpected}
+use Rattle.c_lex.specs.declared.fault.Why.TheVariants.{Unexpected, TooDeep}
 use Rattle.c_grammar.specs.declared.word.Word.TheVariants as w
 use Rattle.c_grammar.specs.declared.word.Spot.{Spot}
 use Rattle.c_grammar.specs.Tree as t
@@ -69,3 +69,16 @@ defined : program_of (at w.Define (spot 0) ∷ at w.Name (spot 1) ∷ at w.OpenP
     )
 unfolding expect one_of value_of top_with program_of
 defined = refl
+
+-- `((1))` where two depths are left: the number is too deep
+deep : expr_at 2 true (at w.OpenParen (spot 0) ∷ at w.OpenParen (spot 1) ∷ at w.Number (spot 2) ∷ at w.CloseParen (spot 3) ∷ at w.CloseParen (spot 4) ∷ [])
+    ≡ refuse TooDeep (at w.Number (spot 2) ∷ at w.CloseParen (spot 3) ∷ at w.CloseParen (spot 4) ∷ [])
+unfolding expect one_of too_deep unary_of bin_of choice_of expr_at
+deep = refl
+
+-- `x = f(1) + 2;`: a call is the whole right side, so the `+` is unexpected
+summed : stmt_at 64 (at w.Name (spot 0) ∷ at w.Assign (spot 1) ∷ at w.Name (spot 2) ∷ at w.OpenParen (spot 3) ∷ at w.Number (spot 4) ∷ at w.CloseParen (spot 5) ∷ at w.Plus (spot 6)
+    ∷ at w.Number (spot 7) ∷ at w.Semicolon (spot 8) ∷ [])
+    ≡ refuse Unexpected (at w.Plus (spot 6) ∷ at w.Number (spot 7) ∷ at w.Semicolon (spot 8) ∷ [])
+unfolding expect one_of too_deep place_of unary_of bin_of choice_of expr_at argument_of call_of right_of change_of simple_of stmt_of stmt_at
+summed = refl

@@ -22,73 +22,78 @@ deep_row spells one (t.row a more) rest =
 -- in brackets is one deeper, and the parentheses of calls do not count
 
 abbrev pub deep_argument : ℕ → t.Argument → List Sign → Option (List Sign)
-deep_argument n (t.text p) rest = None
-deep_argument n (t.address p place) rest = deep_place n place rest
-deep_argument n (t.value e) rest = deep (suc n) e rest
+deep_argument n (t.text spot) rest = None
+deep_argument n (t.address mark place) rest = deep_place n place rest
+deep_argument n (t.value expr) rest = deep (suc n) expr rest
 
 abbrev pub deep_call : ℕ → t.Call → List Sign → Option (List Sign)
-deep_call n c rest = deep_maybe (deep_row spell_argument (deep_argument n)) c.arguments (at w.CloseParen c.closing ∷ rest)
+deep_call n call rest = deep_maybe (deep_row spell_argument (deep_argument n)) call.arguments (at w.CloseParen call.closing ∷ rest)
 
 abbrev pub deep_right : ℕ → t.Right → List Sign → Option (List Sign)
-deep_right n (t.called c) rest = deep_call n c rest
-deep_right n (t.valued e) rest = deep (suc n) e rest
+deep_right n (t.called call) rest = deep_call n call rest
+deep_right n (t.valued expr) rest = deep (suc n) expr rest
 
 abbrev pub deep_simple : ℕ → t.Simple → List Sign → Option (List Sign)
-deep_simple n (t.assign place x p r) rest = earlier (deep_place n place (at x p ∷ spell_right r rest)) (deep_right n r rest)
-deep_simple n (t.after place x p) rest = deep_place n place (at x p ∷ rest)
-deep_simple n (t.before x p place) rest = deep_place n place rest
-deep_simple n (t.invoke c) rest = deep_call n c rest
+deep_simple n (t.assign place operator spot right) rest =
+    earlier (deep_place n place (at operator spot ∷ spell_right right rest)) (deep_right n right rest)
+deep_simple n (t.after place operator spot) rest = deep_place n place (at operator spot ∷ rest)
+deep_simple n (t.before operator spot place) rest = deep_place n place rest
+deep_simple n (t.invoke call) rest = deep_call n call rest
 
 abbrev pub deep_initial : ℕ → t.Initial → List Sign → Option (List Sign)
-deep_initial n (t.begun p r) rest = deep_right n r rest
-deep_initial n (t.braced p o values c) rest = deep_row spell (deep (suc n)) values (at w.CloseBrace c ∷ rest)
+deep_initial n (t.begun mark right) rest = deep_right n right rest
+deep_initial n (t.braced mark opening values closing) rest = deep_row spell (deep (suc n)) values (at w.CloseBrace closing ∷ rest)
 
 abbrev pub deep_item : ℕ → t.Item → List Sign → Option (List Sign)
-deep_item n i rest = earlier (deep_place n i.place (spell_maybe spell_initial i.initial rest)) (deep_maybe (deep_initial n) i.initial rest)
+deep_item n item rest =
+    earlier (deep_place n item.place (spell_maybe spell_initial item.initial rest)) (deep_maybe (deep_initial n) item.initial rest)
 
 abbrev pub deep_declaration : ℕ → t.Declaration → List Sign → Option (List Sign)
-deep_declaration n d rest = deep_row spell_item (deep_item n) d.items rest
+deep_declaration n declaration rest = deep_row spell_item (deep_item n) declaration.items rest
 
 abbrev pub deep_start : ℕ → t.ForStart → List Sign → Option (List Sign)
 deep_start n t.no_start rest = None
-deep_start n (t.declared_start d) rest = deep_declaration n d rest
-deep_start n (t.simple_start s) rest = deep_simple n s rest
+deep_start n (t.declared_start declaration) rest = deep_declaration n declaration rest
+deep_start n (t.simple_start simple) rest = deep_simple n simple rest
 
 abbrev mutual
   -- deeper than n depths, the statement itself at the first of them; a statement inside it and the parts of a block are one deeper
   pub deep_stmt : ℕ → t.Stmt → List Sign → Option (List Sign)
-  deep_stmt zero s rest = Some (spell_stmt s rest)
-  deep_stmt (suc n) (t.block o ps c) rest = deep_parts n ps (at w.CloseBrace c ∷ rest)
-  deep_stmt (suc n) (t.empty p) rest = None
-  deep_stmt (suc n) (t.simple s p) rest = deep_simple n s (at w.Semicolon p ∷ rest)
-  deep_stmt (suc n) (t.break x p) rest = None
-  deep_stmt (suc n) (t.continue x p) rest = None
-  deep_stmt (suc n) (t.return x r p) rest = deep_maybe (deep_right n) r (at w.Semicolon p ∷ rest)
-  deep_stmt (suc n) (t.if_only x o e c s) rest = earlier (deep (suc n) e (at w.CloseParen c ∷ spell_stmt s rest)) (deep_stmt n s rest)
-  deep_stmt (suc n) (t.if_else x o e c s q r) rest =
-      earlier (deep (suc n) e (at w.CloseParen c ∷ spell_stmt s (at w.Else q ∷ spell_stmt r rest)))
-      (earlier (deep_stmt n s (at w.Else q ∷ spell_stmt r rest)) (deep_stmt n r rest))
-  deep_stmt (suc n) (t.while x o e c s) rest = earlier (deep (suc n) e (at w.CloseParen c ∷ spell_stmt s rest)) (deep_stmt n s rest)
-  deep_stmt (suc n) (t.do_while x s y o e c p) rest =
-      earlier (deep_stmt n s (at w.While y ∷ at w.OpenParen o ∷ spell e (at w.CloseParen c ∷ at w.Semicolon p ∷ rest)))
-      (deep (suc n) e (at w.CloseParen c ∷ at w.Semicolon p ∷ rest))
-  deep_stmt (suc n) (t.for x o start p test q step c s) rest =
-      earlier (deep_start n start (at w.Semicolon p ∷ spell_maybe spell test (at w.Semicolon q ∷ spell_maybe spell_simple step (at w.CloseParen c ∷ spell_stmt s rest))))
-      (earlier (deep_maybe (deep (suc n)) test (at w.Semicolon q ∷ spell_maybe spell_simple step (at w.CloseParen c ∷ spell_stmt s rest)))
-      (earlier (deep_maybe (deep_simple n) step (at w.CloseParen c ∷ spell_stmt s rest)) (deep_stmt n s rest)))
+  deep_stmt zero stmt rest = Some (spell_stmt stmt rest)
+  deep_stmt (suc n) (t.block opening parts closing) rest = deep_parts n parts (at w.CloseBrace closing ∷ rest)
+  deep_stmt (suc n) (t.empty end) rest = None
+  deep_stmt (suc n) (t.simple simple end) rest = deep_simple n simple (at w.Semicolon end ∷ rest)
+  deep_stmt (suc n) (t.break word end) rest = None
+  deep_stmt (suc n) (t.continue word end) rest = None
+  deep_stmt (suc n) (t.return word value end) rest = deep_maybe (deep_right n) value (at w.Semicolon end ∷ rest)
+  deep_stmt (suc n) (t.if_only word opening test closing branch) rest =
+      earlier (deep (suc n) test (at w.CloseParen closing ∷ spell_stmt branch rest)) (deep_stmt n branch rest)
+  deep_stmt (suc n) (t.if_else word opening test closing branch other_word other) rest =
+      earlier (deep (suc n) test (at w.CloseParen closing ∷ spell_stmt branch (at w.Else other_word ∷ spell_stmt other rest)))
+      (earlier (deep_stmt n branch (at w.Else other_word ∷ spell_stmt other rest)) (deep_stmt n other rest))
+  deep_stmt (suc n) (t.while word opening test closing body) rest =
+      earlier (deep (suc n) test (at w.CloseParen closing ∷ spell_stmt body rest)) (deep_stmt n body rest)
+  deep_stmt (suc n) (t.do_while word body while_word opening test closing end) rest =
+      earlier (deep_stmt n body (at w.While while_word ∷ at w.OpenParen opening ∷ spell test (at w.CloseParen closing ∷ at w.Semicolon end ∷ rest)))
+      (deep (suc n) test (at w.CloseParen closing ∷ at w.Semicolon end ∷ rest))
+  deep_stmt (suc n) (t.for word opening start start_end test test_end step closing body) rest =
+      earlier (deep_start n start (at w.Semicolon start_end ∷ spell_maybe spell test
+      (at w.Semicolon test_end ∷ spell_maybe spell_simple step (at w.CloseParen closing ∷ spell_stmt body rest))))
+      (earlier (deep_maybe (deep (suc n)) test (at w.Semicolon test_end ∷ spell_maybe spell_simple step (at w.CloseParen closing ∷ spell_stmt body rest)))
+      (earlier (deep_maybe (deep_simple n) step (at w.CloseParen closing ∷ spell_stmt body rest)) (deep_stmt n body rest)))
 
   pub deep_part : ℕ → t.Part → List Sign → Option (List Sign)
-  deep_part zero p rest = Some (spell_part p rest)
-  deep_part (suc n) (t.declare d p) rest = deep_declaration n d (at w.Semicolon p ∷ rest)
-  deep_part (suc n) (t.stmt s) rest = deep_stmt (suc n) s rest
+  deep_part zero part rest = Some (spell_part part rest)
+  deep_part (suc n) (t.declare declaration end) rest = deep_declaration n declaration (at w.Semicolon end ∷ rest)
+  deep_part (suc n) (t.stmt inner) rest = deep_stmt (suc n) inner rest
 
   pub deep_parts : ℕ → t.Parts → List Sign → Option (List Sign)
   deep_parts n t.no_part rest = None
-  deep_parts n (t.part p ps) rest = earlier (deep_part n p (spell_parts ps rest)) (deep_parts n ps rest)
+  deep_parts n (t.part first more) rest = earlier (deep_part n first (spell_parts more rest)) (deep_parts n more rest)
 
 -- n depths below the head's own
 abbrev pub deep_parameter : ℕ → t.Parameter → List Sign → Option (List Sign)
-deep_parameter n (t.array x name o e c) rest = deep_maybe (deep n) e (at w.CloseBracket c ∷ rest)
+deep_parameter n (t.array word name opening length closing) rest = deep_maybe (deep n) length (at w.CloseBracket closing ∷ rest)
 deep_parameter n _ rest = None
 
 abbrev pub deep_parameters : ℕ → t.Parameters → List Sign → Option (List Sign)
@@ -96,14 +101,15 @@ deep_parameters n (t.parameters list) rest = deep_row spell_parameter (deep_para
 deep_parameters n _ rest = None
 
 abbrev pub deep_head : ℕ → t.Head → List Sign → Option (List Sign)
-deep_head n h rest = deep_parameters n h.listed (at w.CloseParen h.closing ∷ rest)
+deep_head n head rest = deep_parameters n head.listed (at w.CloseParen head.closing ∷ rest)
 
 -- 64 depths: a function's head and its outermost parts stand at the first
 abbrev pub deep_top : t.Top → List Sign → Option (List Sign)
-deep_top (t.define x n v e) rest = None
-deep_top (t.function h o ps c) rest =
-    earlier (deep_head 63 h (at w.OpenBrace o ∷ spell_parts ps (at w.CloseBrace c ∷ rest))) (deep_parts 64 ps (at w.CloseBrace c ∷ rest))
-deep_top (t.prototype h p) rest = deep_head 63 h (at w.Semicolon p ∷ rest)
+deep_top (t.define word name value end) rest = None
+deep_top (t.function head opening parts closing) rest =
+    earlier (deep_head 63 head (at w.OpenBrace opening ∷ spell_parts parts (at w.CloseBrace closing ∷ rest)))
+    (deep_parts 64 parts (at w.CloseBrace closing ∷ rest))
+deep_top (t.prototype head end) rest = deep_head 63 head (at w.Semicolon end ∷ rest)
 
 abbrev pub deep_tree : t.Tree → List Sign → Option (List Sign)
 deep_tree = deep_list spell_top deep_top

@@ -7,56 +7,59 @@ use Rattle.c_grammar.specs.declared.word.Sign.{Sign}
 use Rattle.c_grammar.specs.Words.{level_of, is_sign}
 use Rattle.c_grammar.specs.Tree.{Expr, number, read, field, paren, unary, chain, choice, Place, whole, cell, Links, no_link, link}
 
+-- the sign of this word at this place
 abbrev pub at : Word → Spot → Sign
-at x p = record { word = x; spot = p }
+at word spot = record { word = word; spot = spot }
 
 abbrev mutual
-  -- the signs of an expression, before the others
+  -- expression = binary [ "?" expression ":" expression ]; binary = operand { operator operand }
+  -- operand = { "-" | "+" | "!" | "~" } primary; primary = NUMBER | place [ "." NAME ] | "(" expression ")"
   pub spell : Expr → List Sign → List Sign
-  spell (number p) rest = at w.Number p ∷ rest
+  spell (number spot) rest = at w.Number spot ∷ rest
   spell (read place) rest = spell_place place rest
-  spell (field place p n) rest = spell_place place (at w.Dot p ∷ at w.Name n ∷ rest)
-  spell (paren p e q) rest = at w.OpenParen p ∷ spell e (at w.CloseParen q ∷ rest)
-  spell (unary x p e) rest = at x p ∷ spell e rest
-  spell (chain k e ls) rest = spell e (spell_links ls rest)
-  spell (choice c p a q b) rest = spell c (at w.Question p ∷ spell a (at w.Colon q ∷ spell b rest))
+  spell (field place dot name) rest = spell_place place (at w.Dot dot ∷ at w.Name name ∷ rest)
+  spell (paren opening inner closing) rest = at w.OpenParen opening ∷ spell inner (at w.CloseParen closing ∷ rest)
+  spell (unary sign spot operand) rest = at sign spot ∷ spell operand rest
+  spell (chain level first links) rest = spell first (spell_links links rest)
+  spell (choice test question branch colon other) rest = spell test (at w.Question question ∷ spell branch (at w.Colon colon ∷ spell other rest))
 
+  -- place = NAME [ "[" expression "]" ]
   pub spell_place : Place → List Sign → List Sign
-  spell_place (whole n) rest = at w.Name n ∷ rest
-  spell_place (cell n p e q) rest = at w.Name n ∷ at w.OpenBracket p ∷ spell e (at w.CloseBracket q ∷ rest)
+  spell_place (whole name) rest = at w.Name name ∷ rest
+  spell_place (cell name opening index closing) rest = at w.Name name ∷ at w.OpenBracket opening ∷ spell index (at w.CloseBracket closing ∷ rest)
 
   pub spell_links : Links → List Sign → List Sign
   spell_links no_link rest = rest
-  spell_links (link x p e ls) rest = at x p ∷ spell e (spell_links ls rest)
+  spell_links (link operator spot operand links) rest = at operator spot ∷ spell operand (spell_links links rest)
 
 -- 0 for an operand, the operators' level for a chain, 11 with ?:
 abbrev pub rank : Expr → ℕ
-rank (chain k e ls) = k
-rank (choice c p a q b) = 11
+rank (chain level first links) = level
+rank (choice test question branch colon other) = 11
 rank _ = 0
 
 abbrev pub IsSome : Links → Type 0
 IsSome no_link = ⊥
-IsSome (link x p e ls) = Unit {0}
+IsSome (link operator spot operand links) = Unit {0}
 
 abbrev mutual
   -- operators bind by level, all to the left
   pub Is : Expr → Type 0
-  Is (number p) = Unit {0}
+  Is (number spot) = Unit {0}
   Is (read place) = IsPlace place
-  Is (field place p n) = IsPlace place
-  Is (paren p e q) = Is e
-  Is (unary x p e) = (is_sign x ≡ true) × (rank e ≡ 0) × Is e
-  Is (chain k e ls) = (0 < k) × (k < 11) × (rank e < k) × Is e × IsSome ls × AreLinks k ls
-  Is (choice c p a q b) = (rank c < 11) × Is c × Is a × Is b
+  Is (field place dot name) = IsPlace place
+  Is (paren opening inner closing) = Is inner
+  Is (unary sign spot operand) = (is_sign sign ≡ true) × (rank operand ≡ 0) × Is operand
+  Is (chain level first links) = (0 < level) × (level < 11) × (rank first < level) × Is first × IsSome links × AreLinks level links
+  Is (choice test question branch colon other) = (rank test < 11) × Is test × Is branch × Is other
 
   pub IsPlace : Place → Type 0
-  IsPlace (whole n) = Unit {0}
-  IsPlace (cell n p e q) = Is e
+  IsPlace (whole name) = Unit {0}
+  IsPlace (cell name opening index closing) = Is index
 
   pub AreLinks : ℕ → Links → Type 0
-  AreLinks k no_link = Unit {0}
-  AreLinks k (link x p e ls) = (level_of x ≡ k) × (rank e < k) × Is e × AreLinks k ls
+  AreLinks level no_link = Unit {0}
+  AreLinks level (link operator spot operand links) = (level_of operator ≡ level) × (rank operand < level) × Is operand × AreLinks level links
 
 -- the first of two places, where there is one
 abbrev pub earlier : Option (List Sign) → Option (List Sign) → Option (List Sign)
@@ -67,23 +70,23 @@ abbrev mutual
   -- the signs from the first thing on that stands deeper than n depths, the expression itself at the first of them;
   -- one deeper stands what is in parentheses, in brackets, behind a sign, and in the two branches of ?:
   pub deep : ℕ → Expr → List Sign → Option (List Sign)
-  deep zero e rest = Some (spell e rest)
-  deep (suc n) (number p) rest = None
+  deep zero expr rest = Some (spell expr rest)
+  deep (suc n) (number spot) rest = None
   deep (suc n) (read place) rest = deep_place n place rest
-  deep (suc n) (field place p m) rest = deep_place n place (at w.Dot p ∷ at w.Name m ∷ rest)
-  deep (suc n) (paren p e q) rest = deep n e (at w.CloseParen q ∷ rest)
-  deep (suc n) (unary x p e) rest = deep n e rest
-  deep (suc n) (chain k e ls) rest = earlier (deep (suc n) e (spell_links ls rest)) (deep_links n ls rest)
-  deep (suc n) (choice c p a q b) rest =
-      earlier (deep (suc n) c (at w.Question p ∷ spell a (at w.Colon q ∷ spell b rest)))
-      (earlier (deep n a (at w.Colon q ∷ spell b rest)) (deep n b rest))
+  deep (suc n) (field place dot name) rest = deep_place n place (at w.Dot dot ∷ at w.Name name ∷ rest)
+  deep (suc n) (paren opening inner closing) rest = deep n inner (at w.CloseParen closing ∷ rest)
+  deep (suc n) (unary sign spot operand) rest = deep n operand rest
+  deep (suc n) (chain level first links) rest = earlier (deep (suc n) first (spell_links links rest)) (deep_links n links rest)
+  deep (suc n) (choice test question branch colon other) rest =
+      earlier (deep (suc n) test (at w.Question question ∷ spell branch (at w.Colon colon ∷ spell other rest)))
+      (earlier (deep n branch (at w.Colon colon ∷ spell other rest)) (deep n other rest))
 
   -- with n depths below the place's own
   pub deep_place : ℕ → Place → List Sign → Option (List Sign)
-  deep_place n (whole m) rest = None
-  deep_place n (cell m p e q) rest = deep n e (at w.CloseBracket q ∷ rest)
+  deep_place n (whole name) rest = None
+  deep_place n (cell name opening index closing) rest = deep n index (at w.CloseBracket closing ∷ rest)
 
   -- with n depths below the operands' own
   pub deep_links : ℕ → Links → List Sign → Option (List Sign)
   deep_links n no_link rest = None
-  deep_links n (link x p e ls) rest = earlier (deep (suc n) e (spell_links ls rest)) (deep_links n ls rest)
+  deep_links n (link operator spot operand links) rest = earlier (deep (suc n) operand (spell_links links rest)) (deep_links n links rest)

@@ -75,23 +75,30 @@ times one (suc n) ts = do
   more ← times one n a.1
   Ok (a.0 ∷ more.0, more.1)
 
--- behind a name; `index` reads what stands in brackets
+-- a name and an index in brackets, which `index` reads
+abbrev pub cell_of : (List Sign → Answer Expr) → Spot → List Sign → Answer Place
+cell_of index name ts = do
+  opening ← expect w.OpenBracket ts
+  inner ← index opening.1
+  closing ← expect w.CloseBracket inner.1
+  Ok (cell name opening.0 inner.0 closing.0, closing.1)
+
 abbrev pub place_tail : (List Sign → Answer Expr) → Spot → List Sign → Answer Place
-place_tail index name ts =
-    if heads (is w.OpenBracket) ts
-    then (expect w.OpenBracket ts >>= λ o. index o.1 >>= λ e. expect w.CloseBracket e.1 >>= λ c. Ok (cell name o.0 e.0 c.0, c.1))
-    else Ok (whole name, ts)
+place_tail index name ts = if heads (is w.OpenBracket) ts then cell_of index name ts else Ok (whole name, ts)
 
 unfoldable pub place_of : (List Sign → Answer Expr) → List Sign → Answer Place
 place_of index ts = do
   name ← expect w.Name ts
   place_tail index name.0 name.1
 
+abbrev pub field_of : Place → List Sign → Answer Expr
+field_of place ts = do
+  dot ← expect w.Dot ts
+  name ← expect w.Name dot.1
+  Ok (field place dot.0 name.0, name.1)
+
 abbrev pub field_tail : Place → List Sign → Answer Expr
-field_tail place ts =
-    if heads (is w.Dot) ts
-    then (expect w.Dot ts >>= λ d. expect w.Name d.1 >>= λ n. Ok (field place d.0 n.0, n.1))
-    else Ok (read place, ts)
+field_tail place ts = if heads (is w.Dot) ts then field_of place ts else Ok (read place, ts)
 
 abbrev pub named_of : (List Sign → Answer Expr) → List Sign → Answer Expr
 named_of index ts = do
@@ -100,22 +107,22 @@ named_of index ts = do
 
 abbrev pub number_of : List Sign → Answer Expr
 number_of ts = do
-  p ← expect w.Number ts
-  Ok (number p.0, p.1)
+  spot ← expect w.Number ts
+  Ok (number spot.0, spot.1)
 
 -- under true reads an expression one deeper, under false an operand with its signs
 abbrev pub paren_of : (Bool → List Sign → Answer Expr) → List Sign → Answer Expr
 paren_of under ts = do
-  o ← expect w.OpenParen ts
-  e ← under true o.1
-  c ← expect w.CloseParen e.1
-  Ok (paren o.0 e.0 c.0, c.1)
+  opening ← expect w.OpenParen ts
+  inner ← under true opening.1
+  closing ← expect w.CloseParen inner.1
+  Ok (paren opening.0 inner.0 closing.0, closing.1)
 
 abbrev pub signed_of : (Bool → List Sign → Answer Expr) → List Sign → Answer Expr
 signed_of under ts = do
-  s ← one_of is_sign ts
-  e ← under false s.1
-  Ok (unary s.0.word s.0.spot e.0, e.1)
+  sign ← one_of is_sign ts
+  operand ← under false sign.1
+  Ok (unary sign.0.word sign.0.spot operand.0, operand.1)
 
 abbrev pub unary_by : (Bool → List Sign → Answer Expr) → List Sign → Option Word → Answer Expr
 unary_by under ts (Some w.Number) = number_of ts
@@ -129,32 +136,38 @@ unary_of under ts = unary_by under ts (first_of ts)
 -- an operator of level k and its operand
 abbrev pub link_of : (List Sign → Answer Expr) → ℕ → List Sign → Answer Piece
 link_of below k ts = do
-  o ← one_of (λ x. level_of x == k) ts
-  e ← below o.1
-  Ok (record { operator = o.0.word; at = o.0.spot; operand = e.0 }, e.1)
+  operator ← one_of (λ x. level_of x == k) ts
+  operand ← below operator.1
+  Ok (record { operator = operator.0.word; at = operator.0.spot; operand = operand.0 }, operand.1)
 
 abbrev pub chained : ℕ → Expr → List Piece → Expr
-chained k e [] = e
-chained k e (p ∷ ps) = chain k e (links_from (p ∷ ps))
+chained k first [] = first
+chained k first (p ∷ ps) = chain k first (links_from (p ∷ ps))
 
 -- an expression of operators up to level k
 unfoldable pub bin_of : (List Sign → Answer Expr) → ℕ → List Sign → Answer Expr
 bin_of operand zero ts = operand ts
 bin_of operand (suc k) ts = do
-  e ← bin_of operand k ts
-  ps ← many (λ x. level_of x == suc k) (link_of (bin_of operand k) (suc k)) e.1
-  Ok (chained (suc k) e.0 ps.0, ps.1)
+  first ← bin_of operand k ts
+  links ← many (λ x. level_of x == suc k) (link_of (bin_of operand k) (suc k)) first.1
+  Ok (chained (suc k) first.0 links.0, links.1)
+
+-- the two branches behind a test
+abbrev pub branches_of : (Bool → List Sign → Answer Expr) → Expr → List Sign → Answer Expr
+branches_of under test ts = do
+  question ← expect w.Question ts
+  branch ← under true question.1
+  colon ← expect w.Colon branch.1
+  other ← under true colon.1
+  Ok (choice test question.0 branch.0 colon.0 other.0, other.1)
 
 abbrev pub choice_tail : (Bool → List Sign → Answer Expr) → Expr → List Sign → Answer Expr
-choice_tail under c ts =
-    if heads (is w.Question) ts
-    then (expect w.Question ts >>= λ p. under true p.1 >>= λ a. expect w.Colon a.1 >>= λ q. under true q.1 >>= λ b. Ok (choice c p.0 a.0 q.0 b.0, b.1))
-    else Ok (c, ts)
+choice_tail under test ts = if heads (is w.Question) ts then branches_of under test ts else Ok (test, ts)
 
 unfoldable pub choice_of : (Bool → List Sign → Answer Expr) → List Sign → Answer Expr
 choice_of under ts = do
-  c ← bin_of (unary_of under) 10 ts
-  choice_tail under c.0 c.1
+  test ← bin_of (unary_of under) 10 ts
+  choice_tail under test.0 test.1
 
 -- an expression (true) or an operand with its signs (false), with n depths left
 unfoldable pub expr_at : ℕ → Bool → List Sign → Answer Expr

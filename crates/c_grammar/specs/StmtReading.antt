@@ -15,26 +15,26 @@ use Rattle.c_grammar.specs.Reading.{Answer, refuse, ◌>>=◌, first_of, heads, 
 abbrev pub behind_of : {A : Type 0} → (List Sign → Answer A) → List Sign → Answer (Spot × A)
 behind_of one ts = do
   comma ← expect w.Comma ts
-  a ← one comma.1
-  Ok ((comma.0, a.0), a.1)
+  item ← one comma.1
+  Ok ((comma.0, item.0), item.1)
 
 abbrev pub row_of : {A : Type 0} → (List Sign → Answer A) → List Sign → Answer (t.Row A)
 row_of one ts = do
-  a ← one ts
-  more ← many (is w.Comma) (behind_of one) a.1
-  Ok (t.row a.0 more.0, more.1)
+  first ← one ts
+  more ← many (is w.Comma) (behind_of one) first.1
+  Ok (t.row first.0 more.0, more.1)
 
 abbrev pub argument_by : (List Sign → Answer t.Expr) → (List Sign → Answer t.Expr) → List Sign → Option Word → Answer t.Argument
 argument_by expr index ts (Some w.Text) = do
-  p ← expect w.Text ts
-  Ok (t.text p.0, p.1)
+  spot ← expect w.Text ts
+  Ok (t.text spot.0, spot.1)
 argument_by expr index ts (Some w.And) = do
-  p ← expect w.And ts
-  place ← place_of index p.1
-  Ok (t.address p.0 place.0, place.1)
+  mark ← expect w.And ts
+  place ← place_of index mark.1
+  Ok (t.address mark.0 place.0, place.1)
 argument_by expr index ts _ = do
-  e ← expr ts
-  Ok (t.value e.0, e.1)
+  value ← expr ts
+  Ok (t.value value.0, value.1)
 
 unfoldable pub argument_of : (List Sign → Answer t.Expr) → (List Sign → Answer t.Expr) → List Sign → Answer t.Argument
 argument_of expr index ts = argument_by expr index ts (first_of ts)
@@ -42,10 +42,10 @@ argument_of expr index ts = argument_by expr index ts (first_of ts)
 unfoldable pub call_of : (List Sign → Answer t.Expr) → (List Sign → Answer t.Expr) → List Sign → Answer t.Call
 call_of expr index ts = do
   name ← expect w.Name ts
-  o ← expect w.OpenParen name.1
-  given ← maybe (isnt w.CloseParen) (row_of (argument_of expr index)) o.1
-  c ← expect w.CloseParen given.1
-  Ok (record { name = name.0; opening = o.0; arguments = given.0; closing = c.0 }, c.1)
+  opening ← expect w.OpenParen name.1
+  given ← maybe (isnt w.CloseParen) (row_of (argument_of expr index)) opening.1
+  closing ← expect w.CloseParen given.1
+  Ok (record { name = name.0; opening = opening.0; arguments = given.0; closing = closing.0 }, closing.1)
 
 -- a name and an opening parenthesis behind it
 abbrev pub calls : List Sign → Bool
@@ -55,21 +55,27 @@ calls (t ∷ ts) = is w.Name t.word && heads (is w.OpenParen) ts
 unfoldable pub right_of : (List Sign → Answer t.Expr) → (List Sign → Answer t.Expr) → List Sign → Answer t.Right
 right_of expr index ts =
     if calls ts
-    then (call_of expr index ts >>= λ c. Ok (t.called c.0, c.1))
-    else (expr ts >>= λ e. Ok (t.valued e.0, e.1))
+    then (call_of expr index ts >>= λ call. Ok (t.called call.0, call.1))
+    else (expr ts >>= λ value. Ok (t.valued value.0, value.1))
+
+abbrev pub assign_of : (List Sign → Answer t.Expr) → (List Sign → Answer t.Expr) → t.Place → List Sign → Answer t.Simple
+assign_of expr index place ts = do
+  sign ← one_of is_assign ts
+  right ← right_of expr index sign.1
+  Ok (t.assign place sign.0.word sign.0.spot right.0, right.1)
 
 -- behind a place
 abbrev pub simple_tail : (List Sign → Answer t.Expr) → (List Sign → Answer t.Expr) → t.Place → List Sign → Answer t.Simple
 simple_tail expr index place ts =
     if heads is_step ts
-    then (one_of is_step ts >>= λ s. Ok (t.after place s.0.word s.0.spot, s.1))
-    else (one_of is_assign ts >>= λ s. right_of expr index s.1 >>= λ r. Ok (t.assign place s.0.word s.0.spot r.0, r.1))
+    then (one_of is_step ts >>= λ sign. Ok (t.after place sign.0.word sign.0.spot, sign.1))
+    else assign_of expr index place ts
 
 abbrev pub before_of : (List Sign → Answer t.Expr) → List Sign → Answer t.Simple
 before_of index ts = do
-  s ← one_of is_step ts
-  place ← place_of index s.1
-  Ok (t.before s.0.word s.0.spot place.0, place.1)
+  sign ← one_of is_step ts
+  place ← place_of index sign.1
+  Ok (t.before sign.0.word sign.0.spot place.0, place.1)
 
 -- a simple statement that is no call
 unfoldable pub change_of : (List Sign → Answer t.Expr) → (List Sign → Answer t.Expr) → List Sign → Answer t.Simple
@@ -81,14 +87,21 @@ change_of expr index ts =
 unfoldable pub simple_of : (List Sign → Answer t.Expr) → (List Sign → Answer t.Expr) → List Sign → Answer t.Simple
 simple_of expr index ts =
     if calls ts
-    then (call_of expr index ts >>= λ c. Ok (t.invoke c.0, c.1))
+    then (call_of expr index ts >>= λ call. Ok (t.invoke call.0, call.1))
     else change_of expr index ts
+
+abbrev pub braced_of : (List Sign → Answer t.Expr) → Spot → List Sign → Answer t.Initial
+braced_of expr mark ts = do
+  opening ← expect w.OpenBrace ts
+  values ← row_of expr opening.1
+  closing ← expect w.CloseBrace values.1
+  Ok (t.braced mark opening.0 values.0 closing.0, closing.1)
 
 abbrev pub initial_tail : (List Sign → Answer t.Expr) → (List Sign → Answer t.Expr) → Spot → List Sign → Answer t.Initial
 initial_tail expr index mark ts =
     if heads (is w.OpenBrace) ts
-    then (expect w.OpenBrace ts >>= λ o. row_of expr o.1 >>= λ values. expect w.CloseBrace values.1 >>= λ c. Ok (t.braced mark o.0 values.0 c.0, c.1))
-    else (right_of expr index ts >>= λ r. Ok (t.begun mark r.0, r.1))
+    then braced_of expr mark ts
+    else (right_of expr index ts >>= λ right. Ok (t.begun mark right.0, right.1))
 
 unfoldable pub initial_of : (List Sign → Answer t.Expr) → (List Sign → Answer t.Expr) → List Sign → Answer t.Initial
 initial_of expr index ts = do
@@ -103,106 +116,110 @@ item_of expr index ts = do
 
 unfoldable pub declaration_of : (List Sign → Answer t.Expr) → (List Sign → Answer t.Expr) → List Sign → Answer t.Declaration
 declaration_of expr index ts = do
-  s ← one_of is_kind ts
-  items ← row_of (item_of expr index) s.1
-  Ok (record { kind = s.0.word; at = s.0.spot; items = items.0 }, items.1)
+  kind ← one_of is_kind ts
+  items ← row_of (item_of expr index) kind.1
+  Ok (record { kind = kind.0.word; at = kind.0.spot; items = items.0 }, items.1)
+
+abbrev pub given_start : (List Sign → Answer t.Expr) → (List Sign → Answer t.Expr) → List Sign → Answer t.ForStart
+given_start expr index ts =
+    if heads is_kind ts
+    then (declaration_of expr index ts >>= λ one. Ok (t.declared_start one.0, one.1))
+    else (simple_of expr index ts >>= λ simple. Ok (t.simple_start simple.0, simple.1))
 
 unfoldable pub start_of : (List Sign → Answer t.Expr) → (List Sign → Answer t.Expr) → List Sign → Answer t.ForStart
-start_of expr index ts =
-    if heads (is w.Semicolon) ts
-    then Ok (t.no_start, ts)
-    else (
-    if heads is_kind ts
-    then (declaration_of expr index ts >>= λ d. Ok (t.declared_start d.0, d.1))
-    else (simple_of expr index ts >>= λ s. Ok (t.simple_start s.0, s.1))
-    )
+start_of expr index ts = if heads (is w.Semicolon) ts then Ok (t.no_start, ts) else given_start expr index ts
 
 -- part reads what stands in the block
 abbrev pub block_of : (List Sign → Answer t.Part) → List Sign → Answer t.Stmt
 block_of part ts = do
-  o ← expect w.OpenBrace ts
-  ps ← many (isnt w.CloseBrace) part o.1
-  c ← expect w.CloseBrace ps.1
-  Ok (t.block o.0 (parts_from ps.0) c.0, c.1)
+  opening ← expect w.OpenBrace ts
+  parts ← many (isnt w.CloseBrace) part opening.1
+  closing ← expect w.CloseBrace parts.1
+  Ok (t.block opening.0 (parts_from parts.0) closing.0, closing.1)
 
 abbrev pub empty_of : List Sign → Answer t.Stmt
 empty_of ts = do
-  p ← expect w.Semicolon ts
-  Ok (t.empty p.0, p.1)
+  end ← expect w.Semicolon ts
+  Ok (t.empty end.0, end.1)
 
 abbrev pub break_of : List Sign → Answer t.Stmt
 break_of ts = do
-  x ← expect w.Break ts
-  p ← expect w.Semicolon x.1
-  Ok (t.break x.0 p.0, p.1)
+  word ← expect w.Break ts
+  end ← expect w.Semicolon word.1
+  Ok (t.break word.0 end.0, end.1)
 
 abbrev pub continue_of : List Sign → Answer t.Stmt
 continue_of ts = do
-  x ← expect w.Continue ts
-  p ← expect w.Semicolon x.1
-  Ok (t.continue x.0 p.0, p.1)
+  word ← expect w.Continue ts
+  end ← expect w.Semicolon word.1
+  Ok (t.continue word.0 end.0, end.1)
 
 abbrev pub return_of : (List Sign → Answer t.Expr) → (List Sign → Answer t.Expr) → List Sign → Answer t.Stmt
 return_of expr index ts = do
-  x ← expect w.Return ts
-  r ← maybe (isnt w.Semicolon) (right_of expr index) x.1
-  p ← expect w.Semicolon r.1
-  Ok (t.return x.0 r.0 p.0, p.1)
+  word ← expect w.Return ts
+  value ← maybe (isnt w.Semicolon) (right_of expr index) word.1
+  end ← expect w.Semicolon value.1
+  Ok (t.return word.0 value.0 end.0, end.1)
 
--- behind the statement of an if; one reads a statement one deeper
+-- one reads a statement one deeper
+abbrev pub other_of : (List Sign → Answer t.Stmt) → Spot → Spot → t.Expr → Spot → t.Stmt → List Sign → Answer t.Stmt
+other_of one word opening test closing branch ts = do
+  mark ← expect w.Else ts
+  other ← one mark.1
+  Ok (t.if_else word opening test closing branch mark.0 other.0, other.1)
+
+-- behind the statement of an if
 abbrev pub else_of : (List Sign → Answer t.Stmt) → Spot → Spot → t.Expr → Spot → t.Stmt → List Sign → Answer t.Stmt
-else_of one x o e c s ts =
-    if heads (is w.Else) ts
-    then (expect w.Else ts >>= λ q. one q.1 >>= λ r. Ok (t.if_else x o e c s q.0 r.0, r.1))
-    else Ok (t.if_only x o e c s, ts)
+else_of one word opening test closing branch ts =
+    if heads (is w.Else) ts then other_of one word opening test closing branch ts else Ok (t.if_only word opening test closing branch, ts)
 
 abbrev pub if_of : (List Sign → Answer t.Expr) → (List Sign → Answer t.Stmt) → List Sign → Answer t.Stmt
 if_of expr one ts = do
-  x ← expect w.If ts
-  o ← expect w.OpenParen x.1
-  e ← expr o.1
-  c ← expect w.CloseParen e.1
-  s ← one c.1
-  else_of one x.0 o.0 e.0 c.0 s.0 s.1
+  word ← expect w.If ts
+  opening ← expect w.OpenParen word.1
+  test ← expr opening.1
+  closing ← expect w.CloseParen test.1
+  branch ← one closing.1
+  else_of one word.0 opening.0 test.0 closing.0 branch.0 branch.1
 
 abbrev pub while_of : (List Sign → Answer t.Expr) → (List Sign → Answer t.Stmt) → List Sign → Answer t.Stmt
 while_of expr one ts = do
-  x ← expect w.While ts
-  o ← expect w.OpenParen x.1
-  e ← expr o.1
-  c ← expect w.CloseParen e.1
-  s ← one c.1
-  Ok (t.while x.0 o.0 e.0 c.0 s.0, s.1)
+  word ← expect w.While ts
+  opening ← expect w.OpenParen word.1
+  test ← expr opening.1
+  closing ← expect w.CloseParen test.1
+  body ← one closing.1
+  Ok (t.while word.0 opening.0 test.0 closing.0 body.0, body.1)
 
 abbrev pub do_of : (List Sign → Answer t.Expr) → (List Sign → Answer t.Stmt) → List Sign → Answer t.Stmt
 do_of expr one ts = do
-  x ← expect w.Do ts
-  s ← one x.1
-  y ← expect w.While s.1
-  o ← expect w.OpenParen y.1
-  e ← expr o.1
-  c ← expect w.CloseParen e.1
-  p ← expect w.Semicolon c.1
-  Ok (t.do_while x.0 s.0 y.0 o.0 e.0 c.0 p.0, p.1)
+  word ← expect w.Do ts
+  body ← one word.1
+  mark ← expect w.While body.1
+  opening ← expect w.OpenParen mark.1
+  test ← expr opening.1
+  closing ← expect w.CloseParen test.1
+  end ← expect w.Semicolon closing.1
+  Ok (t.do_while word.0 body.0 mark.0 opening.0 test.0 closing.0 end.0, end.1)
 
 abbrev pub for_of : (List Sign → Answer t.Expr) → (List Sign → Answer t.Expr) → (List Sign → Answer t.Stmt) → List Sign → Answer t.Stmt
 for_of expr index one ts = do
-  x ← expect w.For ts
-  o ← expect w.OpenParen x.1
-  start ← start_of expr index o.1
-  p ← expect w.Semicolon start.1
-  test ← maybe (isnt w.Semicolon) expr p.1
-  q ← expect w.Semicolon test.1
-  step ← maybe (isnt w.CloseParen) (simple_of expr index) q.1
-  c ← expect w.CloseParen step.1
-  s ← one c.1
-  Ok (t.for x.0 o.0 start.0 p.0 test.0 q.0 step.0 c.0 s.0, s.1)
+  word ← expect w.For ts
+  opening ← expect w.OpenParen word.1
+  start ← start_of expr index opening.1
+  start_end ← expect w.Semicolon start.1
+  test ← maybe (isnt w.Semicolon) expr start_end.1
+  test_end ← expect w.Semicolon test.1
+  step ← maybe (isnt w.CloseParen) (simple_of expr index) test_end.1
+  closing ← expect w.CloseParen step.1
+  body ← one closing.1
+  Ok (t.for word.0 opening.0 start.0 start_end.0 test.0 test_end.0 step.0 closing.0 body.0, body.1)
 
 abbrev pub plain_of : (List Sign → Answer t.Expr) → (List Sign → Answer t.Expr) → List Sign → Answer t.Stmt
 plain_of expr index ts = do
-  s ← simple_of expr index ts
-  p ← expect w.Semicolon s.1
-  Ok (t.simple s.0 p.0, p.1)
+  simple ← simple_of expr index ts
+  end ← expect w.Semicolon simple.1
+  Ok (t.simple simple.0 end.0, end.1)
 
 abbrev pub stmt_by : (List Sign → Answer t.Expr) → (List Sign → Answer t.Expr) → (List Sign → Answer t.Stmt) → (List Sign → Answer t.Part) → List Sign → Option Word → Answer t.Stmt
 stmt_by expr index one part ts (Some w.OpenBrace) = block_of part ts
@@ -223,8 +240,8 @@ stmt_of expr index one part ts = stmt_by expr index one part ts (first_of ts)
 unfoldable pub part_of : (List Sign → Answer t.Expr) → (List Sign → Answer t.Expr) → (List Sign → Answer t.Stmt) → List Sign → Answer t.Part
 part_of expr index stmt ts =
     if heads is_kind ts
-    then (declaration_of expr index ts >>= λ d. expect w.Semicolon d.1 >>= λ p. Ok (t.declare d.0 p.0, p.1))
-    else (stmt ts >>= λ s. Ok (t.stmt s.0, s.1))
+    then (declaration_of expr index ts >>= λ one. expect w.Semicolon one.1 >>= λ end. Ok (t.declare one.0 end.0, end.1))
+    else (stmt ts >>= λ inner. Ok (t.stmt inner.0, inner.1))
 
 -- stmt reads a statement with n depths left
 unfoldable pub part_with : ℕ → (List Sign → Answer t.Stmt) → List Sign → Answer t.Part
@@ -243,36 +260,47 @@ abbrev pub name_maybe : List Sign → Answer (Option Spot)
 name_maybe = maybe (is w.Name) (expect w.Name)
 
 -- index reads an array's length
+abbrev pub array_of : (List Sign → Answer t.Expr) → Spot → Option Spot → List Sign → Answer t.Parameter
+array_of index word name ts = do
+  opening ← expect w.OpenBracket ts
+  size ← maybe (isnt w.CloseBracket) index opening.1
+  closing ← expect w.CloseBracket size.1
+  Ok (t.array word name opening.0 size.0 closing.0, closing.1)
+
 abbrev pub array_tail : (List Sign → Answer t.Expr) → Spot → Option Spot → List Sign → Answer t.Parameter
-array_tail index x name ts =
-    if heads (is w.OpenBracket) ts
-    then (expect w.OpenBracket ts >>= λ o. maybe (isnt w.CloseBracket) index o.1 >>= λ e. expect w.CloseBracket e.1 >>= λ c. Ok (t.array x name o.0 e.0 c.0, c.1))
-    else Ok (t.int x name, ts)
+array_tail index word name ts = if heads (is w.OpenBracket) ts then array_of index word name ts else Ok (t.int word name, ts)
 
 abbrev pub int_tail : (List Sign → Answer t.Expr) → Spot → List Sign → Answer t.Parameter
-int_tail index x ts =
+int_tail index word ts =
     if heads (is w.Times) ts
-    then (expect w.Times ts >>= λ p. name_maybe p.1 >>= λ name. Ok (t.pointer x p.0 name.0, name.1))
-    else (name_maybe ts >>= λ name. array_tail index x name.0 name.1)
+    then (expect w.Times ts >>= λ star. name_maybe star.1 >>= λ name. Ok (t.pointer word star.0 name.0, name.1))
+    else (name_maybe ts >>= λ name. array_tail index word name.0 name.1)
+
+abbrev pub text_array_of : Spot → Spot → List Sign → Answer t.Parameter
+text_array_of word star ts = do
+  name ← name_maybe ts
+  opening ← expect w.OpenBracket name.1
+  closing ← expect w.CloseBracket opening.1
+  Ok (t.text_array word star name.0 opening.0 closing.0, closing.1)
 
 abbrev pub char_tail : Spot → Spot → List Sign → Answer t.Parameter
-char_tail x p ts =
+char_tail word star ts =
     if heads (is w.Times) ts
-    then (expect w.Times ts >>= λ q. name_maybe q.1 >>= λ name. Ok (t.text_pointers x p q.0 name.0, name.1))
-    else (name_maybe ts >>= λ name. expect w.OpenBracket name.1 >>= λ o. expect w.CloseBracket o.1 >>= λ c. Ok (t.text_array x p name.0 o.0 c.0, c.1))
+    then (expect w.Times ts >>= λ second. name_maybe second.1 >>= λ name. Ok (t.text_pointers word star second.0 name.0, name.1))
+    else text_array_of word star ts
 
 abbrev pub parameter_by : (List Sign → Answer t.Expr) → List Sign → Option Word → Answer t.Parameter
 parameter_by index ts (Some w.Int) = do
-  x ← expect w.Int ts
-  int_tail index x.0 x.1
+  word ← expect w.Int ts
+  int_tail index word.0 word.1
 parameter_by index ts (Some w.Communicator) = do
-  x ← expect w.Communicator ts
-  name ← name_maybe x.1
-  Ok (t.communicator x.0 name.0, name.1)
+  word ← expect w.Communicator ts
+  name ← name_maybe word.1
+  Ok (t.communicator word.0 name.0, name.1)
 parameter_by index ts _ = do
-  x ← expect w.Char ts
-  p ← expect w.Times x.1
-  char_tail x.0 p.0 p.1
+  word ← expect w.Char ts
+  star ← expect w.Times word.1
+  char_tail word.0 star.0 star.1
 
 unfoldable pub parameter_of : (List Sign → Answer t.Expr) → List Sign → Answer t.Parameter
 parameter_of index ts = parameter_by index ts (first_of ts)
@@ -280,20 +308,20 @@ parameter_of index ts = parameter_by index ts (first_of ts)
 abbrev pub parameters_by : (List Sign → Answer t.Expr) → List Sign → Option Word → Answer t.Parameters
 parameters_by index ts (Some w.CloseParen) = Ok (t.no_parameter, ts)
 parameters_by index ts (Some w.Void) = do
-  p ← expect w.Void ts
-  Ok (t.void p.0, p.1)
+  word ← expect w.Void ts
+  Ok (t.void word.0, word.1)
 parameters_by index ts _ = do
   list ← row_of (parameter_of index) ts
   Ok (t.parameters list.0, list.1)
 
 unfoldable pub head_of : (List Sign → Answer t.Expr) → List Sign → Answer t.Head
 head_of index ts = do
-  s ← one_of is_result ts
-  name ← expect w.Name s.1
-  o ← expect w.OpenParen name.1
-  listed ← parameters_by index o.1 (first_of o.1)
-  c ← expect w.CloseParen listed.1
-  Ok (record { result = s.0.word; at = s.0.spot; name = name.0; opening = o.0; listed = listed.0; closing = c.0 }, c.1)
+  result ← one_of is_result ts
+  name ← expect w.Name result.1
+  opening ← expect w.OpenParen name.1
+  listed ← parameters_by index opening.1 (first_of opening.1)
+  closing ← expect w.CloseParen listed.1
+  Ok (record { result = result.0.word; at = result.0.spot; name = name.0; opening = opening.0; listed = listed.0; closing = closing.0 }, closing.1)
 
 unfoldable pub value_of : List Sign → Answer t.Value
 value_of ts = do
@@ -305,32 +333,32 @@ value_of ts = do
 
 abbrev pub define_of : List Sign → Answer t.Top
 define_of ts = do
-  x ← expect w.Define ts
-  name ← expect w.Name x.1
-  v ← value_of name.1
-  e ← expect w.EndLine v.1
-  Ok (t.define x.0 name.0 v.0 e.0, e.1)
+  word ← expect w.Define ts
+  name ← expect w.Name word.1
+  value ← value_of name.1
+  end ← expect w.EndLine value.1
+  Ok (t.define word.0 name.0 value.0 end.0, end.1)
 
 -- a function's block, where its head names each parameter
 abbrev pub body_of : (List Sign → Answer t.Part) → t.Head → Bool → List Sign → Answer t.Top
-body_of part h true ts = do
-  o ← expect w.OpenBrace ts
-  ps ← many (isnt w.CloseBrace) part o.1
-  c ← expect w.CloseBrace ps.1
-  Ok (t.function h o.0 (parts_from ps.0) c.0, c.1)
-body_of part h false ts = refuse Unexpected ts
+body_of part head true ts = do
+  opening ← expect w.OpenBrace ts
+  parts ← many (isnt w.CloseBrace) part opening.1
+  closing ← expect w.CloseBrace parts.1
+  Ok (t.function head opening.0 (parts_from parts.0) closing.0, closing.1)
+body_of part head false ts = refuse Unexpected ts
 
 abbrev pub head_tail : (List Sign → Answer t.Part) → t.Head → List Sign → Answer t.Top
-head_tail part h ts =
+head_tail part head ts =
     if heads (is w.OpenBrace) ts
-    then body_of part h (is_named h.listed) ts
-    else (expect w.Semicolon ts >>= λ p. Ok (t.prototype h p.0, p.1))
+    then body_of part head (is_named head.listed) ts
+    else (expect w.Semicolon ts >>= λ end. Ok (t.prototype head end.0, end.1))
 
 unfoldable pub top_with : (List Sign → Answer t.Expr) → (List Sign → Answer t.Part) → List Sign → Answer t.Top
 top_with index part ts =
     if heads (is w.Define) ts
     then define_of ts
-    else (head_of index ts >>= λ h. head_tail part h.0 h.1)
+    else (head_of index ts >>= λ head. head_tail part head.0 head.1)
 
 -- 64 depths: a function's head and its outermost parts stand at the first
 abbrev pub top_of : List Sign → Answer t.Top
