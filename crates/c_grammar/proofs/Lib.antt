@@ -15,3 +15,4 @@ pub mod Exact
 pub mod Programs
 pub mod WorkedExamples
 pub mod Shorter
+pub mod Firsts
