@@ -155,11 +155,7 @@ fn length(alloc: Global, left: u8, signs: &[Sign]) -> Result<(Option<Expr>, &[Si
 }
 
 /// A parameter behind `char *`.
-fn char_parameter(
-    word: Spot,
-    star: Spot,
-    signs: &[Sign],
-) -> Result<(Parameter, &[Sign]), ReadError>
+fn char_parameter(word: Spot, star: Spot, signs: &[Sign]) -> Result<(Parameter, &[Sign]), ReadError>
     ensures { Gives (λ x. (parameter_view x.0, x.1.now)) result (char_tail word star signs.now) }
 {
     if heads(signs, Class::Is(Word::Times)) {

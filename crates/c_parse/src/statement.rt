@@ -250,11 +250,7 @@ fn for_test(alloc: Global, left: u8, signs: &[Sign]) -> Result<(Option<Expr>, &[
     }
 }
 
-fn for_step(
-    alloc: Global,
-    left: u8,
-    signs: &[Sign],
-) -> Result<(Option<Simple>, &[Sign]), ReadError>
+fn for_step(alloc: Global, left: u8, signs: &[Sign]) -> Result<(Option<Simple>, &[Sign]), ReadError>
     requires { 0 < left }
     ensures { Gives (λ x. (option_map simple_view x.0, x.1.now)) result
         (maybe (isnt w.CloseParen) (simple_of (expr_at left true) (expr_at (left - 1) true)) signs.now) }

@@ -8,8 +8,8 @@ ghost use Rattle.c_grammar.specs.Reading.{expect, many, times};
 ghost use Rattle.c_grammar.specs.StmtReading.{body_of, define_of, head_tail, part_at, program_of, top_of, value_of};
 ghost use Rattle.c_expr.specs.Gives.{Gives};
 
-use c_expr::head::head;
 use crate::statement::parts;
+use c_expr::head::head;
 use c_expr::read::{ReadError, expected, heads, optional};
 use c_expr::words::Class;
 use c_grammar::statement::{Behind, Head, Parameter, Parameters, Top, Tree, Value};
