@@ -1,5 +1,5 @@
 -- What begins a part of a block.
-use Rattle.std.proofs.Common.{◌≡◌, Bool, true, false, refl}
+use Rattle.std.proofs.Common.{◌≡◌, true, refl}
 use Rattle.std.specs.Prelude.{if◌then◌else◌}
 use Rattle.c_grammar.specs.declared.word.Word.{Word}
 use Rattle.c_grammar.specs.declared.word.Word.TheVariants as w

@@ -1,5 +1,5 @@
 -- The first fault of the grammar is where reading stops, so a text has one at most, and none where it has a tree.
-use Rattle.std.proofs.Common.{◌≡◌, ◌⊎◌, inl, inr, ◌<◌, ◌≤◌, ℕ, List, [], ◌∷◌, ◌++◌, length, Option, Some, None, Result, Ok, Err, refl, sym, ap, ◌∙◌, subst, append_assoc, arith, length-append, IfSome}
+use Rattle.std.proofs.Common.{◌≡◌, inl, inr, ◌≤◌, List, [], ◌∷◌, ◌++◌, length, Option, Some, None, Ok, Err, refl, sym, ap, ◌∙◌, append_assoc, arith, length-append, IfSome}
 use Rattle.c_grammar.specs.declared.word.Sign.{Sign}
 use Rattle.c_lex.specs.declared.fault.Why.{Why}
 use Rattle.c_lex.specs.declared.fault.Why.TheVariants.{Unexpected, TooDeep}
@@ -9,7 +9,7 @@ use Rattle.c_grammar.specs.StmtGrammar.{AreTops}
 use Rattle.c_grammar.specs.StmtReading.{program_of}
 use Rattle.c_grammar.specs.Programs.{spelling, deepest, IsFault}
 use Rattle.c_grammar.specs.Tree.{Tree}
-use Rattle.c_grammar.proofs.Local.{IsLocal, front_is}
+use Rattle.c_grammar.proofs.Local.{IsLocal}
 use Rattle.c_grammar.proofs.Laws.{outcome, GoesOn, HasHead, seen}
 use Rattle.c_grammar.proofs.Exact.{longer, same_fault, test_le}
 use Rattle.c_grammar.proofs.TopLaws.{program_laws}
@@ -93,16 +93,16 @@ module _ {A : Type 0} (spelled : A → List Sign) (Good : A → Type 0) (deepest
       stopped : (f : Fault) → whole ts ≡ Err f → GoesOn (λ a rest. spelled a) Good ts f → whole ts ≡ refuse Unexpected rest
       stopped f k g = elim (test_le (length rest) (length f.rest)) [
         | inl l ↦ elim (test_le (length f.rest) (length rest)) [
-            | inl m ↦
-                let e = same_length g.front h.front f.rest rest (sym g.is ∙ h.is) (omega arith) in
-                let n : NoneGoesOn spelled Good deepest g.front f.rest = rw (e.0, e.1) h.none in
-                let b = g.goes [] in
-                k ∙ no_other g.front f.rest f.why n g.head g.tree b.0 g.good b.1 ∙ ap (λ v. refuse Unexpected v) e.1
-            | inr m ↦
-                let w = longer h.front rest g.front f.rest (sym h.is ∙ g.is) m in
-                absurd (not_earlier g.front w.x w.u rest h.before.1 f h.before.0 (ap whole (sym (g.is ∙ ap (λ v. g.front ++ v) w.d_is)) ∙ k) w.d_is h.before.2
-                (h.before.3 ∙ ap (λ v. v ++ h.before.1) w.front_is ∙ append_assoc g.front (w.x ∷ w.u) h.before.1) h.before.4)
-          ]
+          | inl m ↦
+              let e = same_length g.front h.front f.rest rest (sym g.is ∙ h.is) (omega arith) in
+              let n : NoneGoesOn spelled Good deepest g.front f.rest = rw (e.0, e.1) h.none in
+              let b = g.goes [] in
+              k ∙ no_other g.front f.rest f.why n g.head g.tree b.0 g.good b.1 ∙ ap (λ v. refuse Unexpected v) e.1
+          | inr m ↦
+              let w = longer h.front rest g.front f.rest (sym h.is ∙ g.is) m in
+              absurd (not_earlier g.front w.x w.u rest h.before.1 f h.before.0 (ap whole (sym (g.is ∙ ap (λ v. g.front ++ v) w.d_is)) ∙ k) w.d_is h.before.2
+              (h.before.3 ∙ ap (λ v. v ++ h.before.1) w.front_is ∙ append_assoc g.front (w.x ∷ w.u) h.before.1) h.before.4)
+        ]
         | inr l ↦
             let w = longer g.front f.rest h.front rest (sym g.is ∙ h.is) l in let b = g.goes [] in
             absurd (not_later h.front rest w.x w.u (seen f.why f.rest ++ b.0) g.tree g.good (b.1 ∙ ap (λ v. v ++ (seen f.why f.rest ++ b.0)) w.front_is) (w.u ++ f.rest) w.d_is h.none)

@@ -1,11 +1,11 @@
 -- Reading stops at or behind where it began.
-use Rattle.std.proofs.Common.{◌≡◌, ◌==◌, ◌-◌, ◌<◌, ◌≤◌, ℕ, zero, suc, true, List, ◌∷◌, Option, Ok, length, ap, subst, sym, arith}
+use Rattle.std.proofs.Common.{◌≡◌, ◌-◌, ◌<◌, ◌≤◌, ℕ, zero, suc, true, List, Option, Ok, length, ap, subst, sym, arith}
 use Rattle.c_grammar.specs.declared.word.Spot.{Spot}
 use Rattle.c_grammar.specs.declared.word.Sign.{Sign}
 use Rattle.c_grammar.specs.declared.word.Word.{Word}
 use Rattle.c_grammar.specs.Tree as t
 use Rattle.c_grammar.specs.View.{Piece}
-use Rattle.c_grammar.specs.Reading.{Answer, bin_of, expect, expr_at, link_of, one_of, unary_of}
+use Rattle.c_grammar.specs.Reading.{Answer, bin_of, expect, expr_at, link_of, unary_of}
 use Rattle.c_grammar.specs.Words.{starts_part}
 use Rattle.c_grammar.specs.StmtReading.{argument_of, behind_of, item_of, parameter_of, part_at, top_of}
 use Rattle.c_grammar.proofs.Local.{ends_shorter}

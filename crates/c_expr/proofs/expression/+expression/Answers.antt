@@ -1,4 +1,4 @@
-use Rattle.std.proofs.Common.{sym, ◌∙◌, arith}
+use Rattle.std.proofs.Common.{sym, ◌∙◌}
 use Rattle.c_grammar.specs.View.{piece}
 use Rattle.c_expr.proofs.Loops.{so_far-push, so_far-ends}
 use Rattle.c_grammar.proofs.Shorter.{link_shorter}

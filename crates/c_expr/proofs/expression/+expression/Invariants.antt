@@ -1,4 +1,4 @@
-use Rattle.std.proofs.Common.{◌==◌, ◌+◌, ◌-◌, ◌*◌, ℕ, length, map}
+use Rattle.std.proofs.Common.{◌==◌, ◌+◌, ◌-◌, ◌*◌, length, map}
 use Rattle.c_grammar.specs.View.{piece}
 use Rattle.c_grammar.specs.Words.{level_of}
 use Rattle.c_grammar.specs.Reading.{bin_of, expr_at, link_of, unary_of}

@@ -1,4 +1,4 @@
-use Rattle.std.proofs.Common.{sym, ◌∙◌, length, ◌<◌}
+use Rattle.std.proofs.Common.{sym, ◌∙◌}
 use Rattle.c_expr.proofs.Loops.{so_far-push, so_far-ends, so_far-fault}
 use Rattle.c_grammar.proofs.Shorter.{behind_shorter}
 use Rattle.c_expr.proofs.row.others.Goals as goal

@@ -1,6 +1,5 @@
 use Rattle.std.proofs.Common.{◌∙◌}
 use Rattle.c_lex.proofs.SliceLaws.{tokens_are_slices}
-use Rattle.c_grammar.specs.StmtView.{tree_view}
 use Rattle.c_parse.proofs.Parsed.{fault_is, no_fault, no_tree, only_fault, only_tree, stands_within, tree_is}
 use Rattle.c_parse.proofs.parser.parse.Goals as goal
 

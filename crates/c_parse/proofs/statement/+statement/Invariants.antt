@@ -1,4 +1,4 @@
-use Rattle.std.proofs.Common.{◌+◌, ◌*◌, ℕ, length, map}
+use Rattle.std.proofs.Common.{◌+◌, ◌*◌, length, map}
 use Rattle.c_grammar.specs.declared.word.Word.TheVariants.{CloseBrace}
 use Rattle.c_grammar.specs.Words.{isnt}
 use Rattle.c_grammar.specs.StmtView.{part_view}

@@ -1,4 +1,4 @@
-use Rattle.std.proofs.Common.{◌≡◌, ◌==◌, Bool, true, false, List, [], ◌∷◌, length, refl, sym, ◌∙◌}
+use Rattle.std.proofs.Common.{◌≡◌, ◌==◌, true, false, List, [], ◌∷◌, length, refl, sym, ◌∙◌}
 use Rattle.c_grammar.specs.declared.word.Sign.{Sign}
 use Rattle.c_grammar.specs.StmtView.{top_view}
 use Rattle.c_grammar.specs.Reading.{heads}
