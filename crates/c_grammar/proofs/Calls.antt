@@ -113,7 +113,8 @@ module _ (n : ℕ) (expr index : List Sign → Answer t.Expr) (le : ExprLaws (su
   argument_runs [] = refl
   argument_runs (t ∷ ts) = go t.word
     where
-      go : (x : Word) → argument_by expr index (t ∷ ts) (Some x) ≡ (if is w.Text x then run text_seq (t ∷ ts) else (if is w.And x then run address_seq (t ∷ ts) else run value_seq (t ∷ ts)))
+      go : (x : Word)
+          → argument_by expr index (t ∷ ts) (Some x) ≡ (if is w.Text x then run text_seq (t ∷ ts) else (if is w.And x then run address_seq (t ∷ ts) else run value_seq (t ∷ ts)))
       go w.Text = refl
       go w.And = refl
       go _ = refl
@@ -152,13 +153,15 @@ module _ (n : ℕ) (expr index : List Sign → Answer t.Expr) (le : ExprLaws (su
   arguments_laws : Laws (row_of (argument_of expr index)) (spell_row spell_argument) (IsRow IsArgument) (deep_row spell_argument (deep_argument n)) (OverRow IsArgument (λ a rest. Over 11 rest))
   arguments_laws = row_laws argument_laws (λ a p rest g. omega arith)
 
-  given_laws : Laws (maybe (isnt w.CloseParen) (row_of (argument_of expr index))) (spell_maybe (spell_row spell_argument)) (IsMaybe (IsRow IsArgument)) (deep_maybe (deep_row spell_argument (deep_argument n))) (OverMaybe (isnt w.CloseParen) (OverRow IsArgument (λ a rest. Over 11 rest)))
+  given_laws : Laws (maybe (isnt w.CloseParen) (row_of (argument_of expr index))) (spell_maybe (spell_row spell_argument))
+      (IsMaybe (IsRow IsArgument)) (deep_maybe (deep_row spell_argument (deep_argument n))) (OverMaybe (isnt w.CloseParen) (OverRow IsArgument (λ a rest. Over 11 rest)))
   given_laws = maybe_laws arguments_laws (isnt w.CloseParen) arguments_start
 
   abbrev call_behind : Spot → Seq t.Call
   call_behind name = token w.OpenParen (λ o. part given_laws (λ given. token w.CloseParen (λ c. done (record { name = name; opening = o; arguments = given; closing = c }))))
 
-  given_over : (o : Option (t.Row t.Argument)) (c : Spot) (rest : List Sign) → OverMaybe (isnt w.CloseParen) (OverRow IsArgument (λ a rest. Over 11 rest)) o (at w.CloseParen c ∷ rest)
+  given_over : (o : Option (t.Row t.Argument)) (c : Spot) (rest : List Sign)
+      → OverMaybe (isnt w.CloseParen) (OverRow IsArgument (λ a rest. Over 11 rest)) o (at w.CloseParen c ∷ rest)
   given_over None c rest = refl
   given_over (Some r) c rest = (refl, λ a h. omega arith)
 
@@ -184,7 +187,13 @@ module _ (n : ℕ) (expr index : List Sign → Answer t.Expr) (le : ExprLaws (su
   valued_behind e = done (t.valued e)
 
   right_chosen : (r : t.Right) → IsRight r → Forked (part call_laws called_behind) (part le valued_behind) spell_right (deep_right n) (λ r rest. Over 11 rest) r
-  right_chosen (t.called c) g = call (record { choice = (c, tt); of = refl; fits = (g, tt); depth = λ rest. last (deep_call n c rest); follows = λ rest o. (tt, tt) }) (λ rest o. refl)
+  right_chosen (t.called c) g = call (record {
+    choice = (c, tt);
+    of = refl;
+    fits = (g, tt);
+    depth = λ rest. last (deep_call n c rest);
+    follows = λ rest o. (tt, tt);
+  }) (λ rest o. refl)
   right_chosen (t.valued e) g = other (record { choice = (e, tt); of = refl; fits = (g, tt); depth = λ rest. last (deep (suc n) e rest); follows = λ rest o. (o, tt) })
       (λ rest o. no_call e rest g (over_isnt w.OpenParen 11 rest (omega arith) o))
 
@@ -251,7 +260,13 @@ module _ (n : ℕ) (expr index : List Sign → Answer t.Expr) (le : ExprLaws (su
         follows = λ rest o. (g.0, (over_isnt w.OpenBracket 11 rest (omega arith) o, tt));
       })
       (λ rest o. rw (step_no_call x g.0) refl)
-  simple_chosen (t.invoke c) g = call (record { choice = (c, tt); of = refl; fits = (g, tt); depth = λ rest. last (deep_call n c rest); follows = λ rest o. (tt, tt) }) (λ rest o. refl)
+  simple_chosen (t.invoke c) g = call (record {
+    choice = (c, tt);
+    of = refl;
+    fits = (g, tt);
+    depth = λ rest. last (deep_call n c rest);
+    follows = λ rest o. (tt, tt);
+  }) (λ rest o. refl)
 
   pub simple_laws : Laws (simple_of expr index) spell_simple IsSimple (deep_simple n) (λ s rest. Over 11 rest)
   unfolding simple_of change_of
@@ -264,7 +279,8 @@ module _ (n : ℕ) (expr index : List Sign → Answer t.Expr) (le : ExprLaws (su
   abbrev initial_behind : Spot → Seq t.Initial
   initial_behind mark = peek (is w.OpenBrace) (token w.OpenBrace (λ o. part values_laws (λ values. token w.CloseBrace (λ c. done (t.braced mark o values c))))) (part right_laws (λ r. done (t.begun mark r)))
 
-  initial_spelling : (c : Choice (token w.Assign initial_behind)) (rest : List Sign) → spell_initial (tree (token w.Assign initial_behind) c) rest ≡ spells (token w.Assign initial_behind) c rest
+  initial_spelling : (c : Choice (token w.Assign initial_behind)) (rest : List Sign)
+      → spell_initial (tree (token w.Assign initial_behind) c) rest ≡ spells (token w.Assign initial_behind) c rest
   initial_spelling (p, inl c) rest = refl
   initial_spelling (p, inr c) rest = refl
 
@@ -299,7 +315,8 @@ module _ (n : ℕ) (expr index : List Sign → Answer t.Expr) (le : ExprLaws (su
   abbrev item_behind : t.Place → Seq t.Item
   item_behind place = part (maybe_laws initial_laws (is w.Assign) initial_starts) (λ initial. done (record { place = place; initial = initial }))
 
-  item_over : (i : Option t.Initial) (rest : List Sign) → Over 11 rest → (heads (is w.OpenBracket) (spell_maybe spell_initial i rest) ≡ false) × OverMaybe (is w.Assign) (λ i rest. Over 11 rest) i rest
+  item_over : (i : Option t.Initial) (rest : List Sign) → Over 11 rest
+      → (heads (is w.OpenBracket) (spell_maybe spell_initial i rest) ≡ false) × OverMaybe (is w.Assign) (λ i rest. Over 11 rest) i rest
   item_over None rest o = (over_isnt w.OpenBracket 11 rest (omega arith) o, over_isnt w.Assign 11 rest (omega arith) o)
   item_over (Some (t.begun p r)) rest o = (refl, o)
   item_over (Some (t.braced p q values c)) rest o = (refl, o)
@@ -321,7 +338,11 @@ module _ (n : ℕ) (expr index : List Sign → Answer t.Expr) (le : ExprLaws (su
   -- a declaration stands before its `;`
   pub declaration_laws : Laws (declaration_of expr index) spell_declaration IsDeclaration (deep_declaration n) (λ d rest. first_of rest ≡ Some w.Semicolon)
   unfolding declaration_of
-  declaration_laws = laws_of (pick is_kind w.Int refl (λ s. part items_laws (λ items. done (record { kind = s.word; at = s.spot; items = items })))) (λ ts. refl) (λ c rest. refl) (λ c g. (g.0, g.1.0))
+  declaration_laws = laws_of (pick is_kind w.Int refl (λ s. part items_laws (λ items. done (record {
+    kind = s.word;
+    at = s.spot;
+    items = items;
+  })))) (λ ts. refl) (λ c rest. refl) (λ c g. (g.0, g.1.0))
       (λ d g. record {
         choice = (at d.kind d.at, (d.items, tt));
         of = refl;

@@ -76,7 +76,12 @@ module _ {A : Type 0} (spelled : A → List Sign) (Good : A → Type 0) (deepest
   pub unexpected_is : (ts rest : List Sign) → whole ts ≡ refuse Unexpected rest → IsUnexpected spelled Good deepest ts rest
   unexpected_is ts rest h =
       let k = goes ts (unexpected rest) h in let m = k.goes [] in
-      record { front = k.front; is = k.is; before = (k.tree, m.0, k.good, m.1, not_before ts (unexpected rest) k.front m.0 k.tree refl h k.is k.good m.1); none = none_goes ts k.front rest k.is h }
+      record {
+        front = k.front;
+        is = k.is;
+        before = (k.tree, m.0, k.good, m.1, not_before ts (unexpected rest) k.front m.0 k.tree refl h k.is k.good m.1);
+        none = none_goes ts k.front rest k.is h;
+      }
 
   pub too_deep_is : (ts rest : List Sign) (x : Sign) (r : List Sign) → rest ≡ x ∷ r → whole ts ≡ refuse TooDeep rest → IsTooDeep spelled Good deepest ts rest
   too_deep_is ts rest x r q h =

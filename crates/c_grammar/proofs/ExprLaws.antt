@@ -111,7 +111,13 @@ module _ (n : ℕ) (index : List Sign → Answer Expr) (li : ExprLaws n index) w
 
   place_chosen : (p : Place) → IsPlace p → Chosen place_seq (deep_place n) PlaceOver p
   place_chosen (whole m) g = record { choice = (m, inr tt); of = refl; fits = tt; depth = λ rest. refl; follows = λ rest o. (o, tt) }
-  place_chosen (cell m p e q) g = record { choice = (m, inl (p, (e, (q, tt)))); of = refl; fits = (g, tt); depth = λ rest. last (deep n e (at w.CloseBracket q ∷ rest)); follows = λ rest o. (refl, (omega arith, tt)) }
+  place_chosen (cell m p e q) g = record {
+    choice = (m, inl (p, (e, (q, tt))));
+    of = refl;
+    fits = (g, tt);
+    depth = λ rest. last (deep n e (at w.CloseBracket q ∷ rest));
+    follows = λ rest o. (refl, (omega arith, tt));
+  }
 
   pub place_laws : Laws (place_of index) spell_place IsPlace (deep_place n) PlaceOver
   unfolding place_of
@@ -167,10 +173,34 @@ module _ (n : ℕ) (under : Bool → List Sign → Answer Expr) (lt : ExprLaws n
   not_named _ h c = absurd (cc)
 
   sign_chosen : (x : Word) (p : Spot) (e : Expr) → is_sign x ≡ true → UpTo 0 (unary x p e) → Chosen (switch unary_seq) (deep (suc n)) (λ e rest. Over 0 rest) (unary x p e)
-  sign_chosen w.Minus p e h g = record { choice = (Some w.Minus, (at w.Minus p, (e, tt))); of = refl; fits = (refl, ((g.0.2, let l = g.0.1 in omega arith), tt)); depth = λ rest. last (deep n e rest); follows = λ rest o. (refl, (o, tt)) }
-  sign_chosen w.Plus p e h g = record { choice = (Some w.Plus, (at w.Plus p, (e, tt))); of = refl; fits = (refl, ((g.0.2, let l = g.0.1 in omega arith), tt)); depth = λ rest. last (deep n e rest); follows = λ rest o. (refl, (o, tt)) }
-  sign_chosen w.Not p e h g = record { choice = (Some w.Not, (at w.Not p, (e, tt))); of = refl; fits = (refl, ((g.0.2, let l = g.0.1 in omega arith), tt)); depth = λ rest. last (deep n e rest); follows = λ rest o. (refl, (o, tt)) }
-  sign_chosen w.Complement p e h g = record { choice = (Some w.Complement, (at w.Complement p, (e, tt))); of = refl; fits = (refl, ((g.0.2, let l = g.0.1 in omega arith), tt)); depth = λ rest. last (deep n e rest); follows = λ rest o. (refl, (o, tt)) }
+  sign_chosen w.Minus p e h g = record {
+    choice = (Some w.Minus, (at w.Minus p, (e, tt)));
+    of = refl;
+    fits = (refl, ((g.0.2, let l = g.0.1 in omega arith), tt));
+    depth = λ rest. last (deep n e rest);
+    follows = λ rest o. (refl, (o, tt));
+  }
+  sign_chosen w.Plus p e h g = record {
+    choice = (Some w.Plus, (at w.Plus p, (e, tt)));
+    of = refl;
+    fits = (refl, ((g.0.2, let l = g.0.1 in omega arith), tt));
+    depth = λ rest. last (deep n e rest);
+    follows = λ rest o. (refl, (o, tt));
+  }
+  sign_chosen w.Not p e h g = record {
+    choice = (Some w.Not, (at w.Not p, (e, tt)));
+    of = refl;
+    fits = (refl, ((g.0.2, let l = g.0.1 in omega arith), tt));
+    depth = λ rest. last (deep n e rest);
+    follows = λ rest o. (refl, (o, tt));
+  }
+  sign_chosen w.Complement p e h g = record {
+    choice = (Some w.Complement, (at w.Complement p, (e, tt)));
+    of = refl;
+    fits = (refl, ((g.0.2, let l = g.0.1 in omega arith), tt));
+    depth = λ rest. last (deep n e rest);
+    follows = λ rest o. (refl, (o, tt));
+  }
   sign_chosen _ p e h g = absurd (cc)
 
   starts_name : (p : Place) (rest : List Sign) → first_of (spell_place p rest) ≡ Some w.Name
@@ -193,7 +223,13 @@ module _ (n : ℕ) (under : Bool → List Sign → Answer Expr) (lt : ExprLaws n
     depth = λ rest. last (deep_place n place (at w.Dot p ∷ at w.Name m ∷ rest));
     follows = λ rest o. (starts_name place (at w.Dot p ∷ at w.Name m ∷ rest), (refl, (refl, tt)));
   }
-  unary_chosen (paren p e q) g = record { choice = (Some w.OpenParen, (p, (e, (q, tt)))); of = refl; fits = (g.0, tt); depth = λ rest. last (deep n e (at w.CloseParen q ∷ rest)); follows = λ rest o. (refl, (omega arith, tt)) }
+  unary_chosen (paren p e q) g = record {
+    choice = (Some w.OpenParen, (p, (e, (q, tt))));
+    of = refl;
+    fits = (g.0, tt);
+    depth = λ rest. last (deep n e (at w.CloseParen q ∷ rest));
+    follows = λ rest o. (refl, (omega arith, tt));
+  }
   unary_chosen (unary x p e) g = sign_chosen x p e g.0.0 g
   unary_chosen (chain k e ls) g = absurd (omega (arith, g.1, g.0.0))
   unary_chosen (choice c p a q b) g = absurd (omega (arith, g.1))
@@ -244,13 +280,24 @@ pieces_chained k e (link x p a ls) h = ap (λ z. chain k e (link x p a z)) (piec
 
 module _ (n k : ℕ) (low : k < 10) (below : List Sign → Answer Expr) (l : RankLaws (suc n) k below) where
   abbrev pub link_seq : Seq Piece
-  link_seq = pick (λ x. level_of x == suc k) (op_of (suc k)) (eq-eqb _ _ (op_level (suc k) (omega arith) (omega arith))) (λ s. part l (λ e. done (record { operator = s.word; at = s.spot; operand = e })))
+  link_seq = pick (λ x. level_of x == suc k) (op_of (suc k)) (eq-eqb _ _ (op_level (suc k) (omega arith) (omega arith))) (λ s. part l (λ e. done (record {
+    operator = s.word;
+    at = s.spot;
+    operand = e;
+  })))
 
   pub link_laws : Laws (link_of below (suc k)) spell_piece (IsPiece k) (deep_piece n) (λ p rest. Over k rest)
   link_laws = laws_of link_seq (λ ts. refl) (λ c rest. refl) (λ c g. (g.0, g.1.0))
-      (λ p g. record { choice = (at p.operator p.at, (p.operand, tt)); of = refl; fits = (g.0, (g.1, tt)); depth = λ rest. last (deep (suc n) p.operand rest); follows = λ rest o. (o, tt) })
+      (λ p g. record {
+        choice = (at p.operator p.at, (p.operand, tt));
+        of = refl;
+        fits = (g.0, (g.1, tt));
+        depth = λ rest. last (deep (suc n) p.operand rest);
+        follows = λ rest o. (o, tt);
+      })
 
-  pub links_laws : Laws (many (λ x. level_of x == suc k) (link_of below (suc k))) (spell_list spell_piece) (AreAll (IsPiece k)) (deep_list spell_piece (deep_piece n)) (λ list rest. OverMany (λ x. level_of x == suc k) (IsPiece k) (λ p rest. Over k rest) rest)
+  pub links_laws : Laws (many (λ x. level_of x == suc k) (link_of below (suc k))) (spell_list spell_piece) (AreAll (IsPiece k))
+      (deep_list spell_piece (deep_piece n)) (λ list rest. OverMany (λ x. level_of x == suc k) (IsPiece k) (λ p rest. Over k rest) rest)
   links_laws = many_laws link_laws (λ x. level_of x == suc k) (λ p g rest. g.0) (λ p q g h rest. let e = eqb-true _ _ h.0 in let s = level_strength q.operator (omega arith) in omega arith)
 
   abbrev pub bin_behind : Expr → Seq Expr
@@ -268,7 +315,13 @@ module _ (n k : ℕ) (low : k < 10) (below : List Sign → Answer Expr) (l : Ran
   bin_good e (p ∷ ps) g h = ((omega arith, omega arith, (let l = g.1 in omega arith), g.0, tt, links_good k (p ∷ ps) h), omega arith)
 
   bin_low : (e : Expr) → UpTo k e → Chosen bin_seq (deep (suc n)) (λ e rest. Over (suc k) rest) e
-  bin_low e g = record { choice = (e, ([], tt)); of = refl; fits = (g, (tt, tt)); depth = λ rest. last (deep (suc n) e rest); follows = λ rest o. (omega arith, ((over_level k rest o, λ p h. omega arith), tt)) }
+  bin_low e g = record {
+    choice = (e, ([], tt));
+    of = refl;
+    fits = (g, (tt, tt));
+    depth = λ rest. last (deep (suc n) e rest);
+    follows = λ rest o. (omega arith, ((over_level k rest o, λ p h. omega arith), tt));
+  }
 
   bin_top : (e : Expr) → Is e → rank e ≡ suc k → Chosen bin_seq (deep (suc n)) (λ e rest. Over (suc k) rest) e
   bin_top (chain j e ls) g r = record {
@@ -314,7 +367,13 @@ module _ (n : ℕ) (under : Bool → List Sign → Answer Expr) (lt : ExprLaws n
   choice_good (e, inr c) g = g.0.0
 
   choice_low : (e : Expr) → UpTo 10 e → Chosen choice_seq (deep (suc n)) (λ e rest. Over 11 rest) e
-  choice_low e g = record { choice = (e, inr tt); of = refl; fits = (g, tt); depth = λ rest. last (deep (suc n) e rest); follows = λ rest o. (omega arith, (over_isnt w.Question 11 rest (omega arith) o, tt)) }
+  choice_low e g = record {
+    choice = (e, inr tt);
+    of = refl;
+    fits = (g, tt);
+    depth = λ rest. last (deep (suc n) e rest);
+    follows = λ rest o. (omega arith, (over_isnt w.Question 11 rest (omega arith) o, tt));
+  }
 
   choice_chosen : (e : Expr) → Is e → Chosen choice_seq (deep (suc n)) (λ e rest. Over 11 rest) e
   choice_chosen (chain k e ls) g = choice_low (chain k e ls) (g, let l = g.1 in omega arith)
@@ -358,11 +417,19 @@ expr_starts (choice c p a q b) g rest = expr_starts c g.1 _
 expr_begun : (k : ℕ) (x : Word) (p : Spot) → starts_expr x ≡ true → Begun spell (UpTo k) x p
 expr_begun k w.Number p h = record { tree = number p; good = (tt, omega arith); more = λ rest. (rest, refl) }
 expr_begun k w.Name p h = record { tree = read (whole p); good = (tt, omega arith); more = λ rest. (rest, refl) }
-expr_begun k w.OpenParen p h = record { tree = paren p (number zero_spot) zero_spot; good = (tt, omega arith); more = λ rest. (spell (number zero_spot) (at w.CloseParen zero_spot ∷ rest), refl) }
+expr_begun k w.OpenParen p h = record {
+  tree = paren p (number zero_spot) zero_spot;
+  good = (tt, omega arith);
+  more = λ rest. (spell (number zero_spot) (at w.CloseParen zero_spot ∷ rest), refl);
+}
 expr_begun k w.Minus p h = record { tree = unary w.Minus p (number zero_spot); good = ((refl, refl, tt), omega arith); more = λ rest. (spell (number zero_spot) rest, refl) }
 expr_begun k w.Plus p h = record { tree = unary w.Plus p (number zero_spot); good = ((refl, refl, tt), omega arith); more = λ rest. (spell (number zero_spot) rest, refl) }
 expr_begun k w.Not p h = record { tree = unary w.Not p (number zero_spot); good = ((refl, refl, tt), omega arith); more = λ rest. (spell (number zero_spot) rest, refl) }
-expr_begun k w.Complement p h = record { tree = unary w.Complement p (number zero_spot); good = ((refl, refl, tt), omega arith); more = λ rest. (spell (number zero_spot) rest, refl) }
+expr_begun k w.Complement p h = record {
+  tree = unary w.Complement p (number zero_spot);
+  good = ((refl, refl, tt), omega arith);
+  more = λ rest. (spell (number zero_spot) rest, refl);
+}
 expr_begun k _ p h = absurd (cc)
 
 pub rank_top : (e : Expr) → Is e → rank e ≤ 11

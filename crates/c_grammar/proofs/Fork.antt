@@ -22,7 +22,8 @@ token_takes k t ts h =
     let e : t ∷ ts ≡ record { word = w.Name; spot = t.spot } ∷ ts = ap (λ z. record { word = z; spot = t.spot } ∷ ts) h in
     subst (λ z. Ends ts (rest_of (run (token w.Name k) z))) (sym e) (rw (expect-is w.Name t.spot ts) ((seq_local (k t.spot)).ends ts))
 
-pub part_takes : {T A : Type 0} {reader : List Sign → Answer A} {spelled : A → List Sign → List Sign} {Good : A → Type 0} {deeps : A → List Sign → Option (List Sign)} {Over : A → List Sign → Type 0}
+pub part_takes : {T A : Type 0} {reader : List Sign → Answer A} {spelled : A → List Sign → List Sign} {Good : A → Type 0}
+    {deeps : A → List Sign → Option (List Sign)} {Over : A → List Sign → Type 0}
     (l : Laws reader spelled Good deeps Over) (k : A → Seq T) → Takes reader → Takes (run (part l k))
 part_takes {reader = reader} l k h t ts e = bind_ends ts (reader (t ∷ ts)) _ (h t ts e) (λ y us. (seq_local (k y)).ends us)
 
@@ -86,7 +87,8 @@ pub data Forked {T : Type 0} (s r : Seq T) (spelled : T → List Sign → List S
   call : Chosen s deeps Over t → ((rest : List Sign) → Over t rest → calls (spelled t rest) ≡ true) → Forked s r spelled deeps Over t
   other : Chosen r deeps Over t → ((rest : List Sign) → Over t rest → calls (spelled t rest) ≡ false) → Forked s r spelled deeps Over t
 
-pub fork_laws : {T : Type 0} {reader : List Sign → Answer T} {spelled : T → List Sign → List Sign} {Good : T → Type 0} {deeps : T → List Sign → Option (List Sign)} {Over : T → List Sign → Type 0}
+pub fork_laws : {T : Type 0} {reader : List Sign → Answer T} {spelled : T → List Sign → List Sign} {Good : T → Type 0}
+    {deeps : T → List Sign → Option (List Sign)} {Over : T → List Sign → Type 0}
     → (s r : Seq T) → ((ts : List Sign) → reader ts ≡ fork (run s) (run r) ts) → Takes (run s) → Takes (run r)
     → ((c : Choice s) (rest : List Sign) → spelled (tree s c) rest ≡ spells s c rest)
     → ((c : Choice r) (rest : List Sign) → spelled (tree r c) rest ≡ spells r c rest)
@@ -110,14 +112,16 @@ fork_laws {T} {reader} {spelled} {Good} {deeps} {Over} s r same ts tr ss sr gs g
       fine = gs (seq_some s).0 (seq_some s).1;
     })
   where
-    sound : (s : Seq T) → ((c : Choice s) (rest : List Sign) → spelled (tree s c) rest ≡ spells s c rest) → ((c : Choice s) → Fits s c → Good (tree s c)) → (us : List Sign) (y : T × List Sign) → run s us ≡ Ok y → (us ≡ spelled y.0 y.1) × Good y.0 × Apart spelled y.0
+    sound : (s : Seq T) → ((c : Choice s) (rest : List Sign) → spelled (tree s c) rest ≡ spells s c rest) → ((c : Choice s) → Fits s c → Good (tree s c))
+        → (us : List Sign) (y : T × List Sign) → run s us ≡ Ok y → (us ≡ spelled y.0 y.1) × Good y.0 × Apart spelled y.0
     sound s ss gs us y h = let c = seq_sound s us y h in (
       c.is ∙ sym (ss c.choice y.1) ∙ ap (λ z. spelled z y.1) c.of,
       subst Good c.of (gs c.choice c.fits),
       subst (λ z. Apart spelled z) c.of (λ xs ys. ss c.choice (xs ++ ys) ∙ c.apart xs ys ∙ ap (λ z. z ++ ys) (sym (ss c.choice xs))),
     )
 
-    one : (s : Seq T) → ((c : Choice s) (rest : List Sign) → spelled (tree s c) rest ≡ spells s c rest) → (t : T) (rest : List Sign) → Over t rest → Chosen s deeps Over t → run s (spelled t rest) ≡ outcome (deeps t rest) t rest
+    one : (s : Seq T) → ((c : Choice s) (rest : List Sign) → spelled (tree s c) rest ≡ spells s c rest) → (t : T) (rest : List Sign) → Over t rest
+        → Chosen s deeps Over t → run s (spelled t rest) ≡ outcome (deeps t rest) t rest
     one s ss t rest o c =
         ap (λ z. run s z) (ap (λ z. spelled z rest) (sym c.of) ∙ ss c.choice rest) ∙ seq_complete s c.choice rest c.fits (c.follows rest o)
         ∙ ap (λ z. outcome z (tree s c.choice) rest) (c.depth rest) ∙ ap (λ z. outcome (deeps t rest) z rest) c.of

@@ -226,11 +226,17 @@ abbrev pub Apart : {A : Type 0} → (A → List Sign → List Sign) → A → Ty
 Apart spelled a = (xs ys : List Sign) → spelled a (xs ++ ys) ≡ spelled a xs ++ ys
 
 -- the trees of a reader: what they spell, which are good, where they are too deep, and what may follow
-pub record Laws {A : Type 0} (read : List Sign → Answer A) (spelled : A → List Sign → List Sign) (Good : A → Type 0) (deeps : A → List Sign → Option (List Sign)) (Over : A → List Sign → Type 0) : Type 0 where
+pub record Laws {A : Type 0} (read : List Sign → Answer A) (spelled : A → List Sign → List Sign) (Good : A → Type 0)
+    (deeps : A → List Sign → Option (List Sign)) (Over : A → List Sign → Type 0) : Type 0 where
+  -- it rests on the signs up to the one where it stops
   pub local : IsLocal read
+  -- a good tree is read from its spelling, or refused where it is too deep
   pub complete : (a : A) (rest : List Sign) → Good a → Over a rest → read (spelled a rest) ≡ outcome (deeps a rest) a rest
+  -- what is read is a good tree of the signs that were taken
   pub sound : (ts : List Sign) (y : A × List Sign) → read ts ≡ Ok y → (ts ≡ spelled y.0 y.1) × Good y.0 × Apart spelled y.0
+  -- where it stops, some good tree goes on
   pub goes : (ts : List Sign) (f : Fault) → read ts ≡ Err f → GoesOn spelled Good ts f
+  -- there is a good tree
   pub some : A
   pub fine : Good some
 

@@ -37,7 +37,8 @@ OverMaybe goes Over (Some a) rest = Over a rest
 abbrev pub OverMany : {A : Type 0} → (Word → Bool) → (A → Type 0) → (A → List Sign → Type 0) → List Sign → Type 0
 OverMany {A} goes Good Over rest = (heads goes rest ≡ false) × ((a : A) → Good a → Over a rest)
 
-module _ {A : Type 0} {one : List Sign → Answer A} {spelled : A → List Sign → List Sign} {Good : A → Type 0} {deeps : A → List Sign → Option (List Sign)} {Over : A → List Sign → Type 0}
+module _ {A : Type 0} {one : List Sign → Answer A} {spelled : A → List Sign → List Sign} {Good : A → Type 0} {deeps : A → List Sign → Option (List Sign)}
+    {Over : A → List Sign → Type 0}
     (l : Laws one spelled Good deeps Over) where
   abbrev maybe_seq : (Word → Bool) → Seq (Option A)
   maybe_seq goes = peek goes (part l (λ a. done (Some a))) (done None)
@@ -74,7 +75,8 @@ shortens {spelled = spelled} l goes starts ts y h =
     let s = l.sound ts y h in
     rw (s.0, s.2 [] y.1, length-append (spelled y.0 []) y.1) (omega (arith, some_length goes (spelled y.0 []) (starts y.0 s.1 [])))
 
-module _ {A : Type 0} {one : List Sign → Answer A} {spelled : A → List Sign → List Sign} {Good : A → Type 0} {deeps : A → List Sign → Option (List Sign)} {Over : A → List Sign → Type 0}
+module _ {A : Type 0} {one : List Sign → Answer A} {spelled : A → List Sign → List Sign} {Good : A → Type 0} {deeps : A → List Sign → Option (List Sign)}
+    {Over : A → List Sign → Type 0}
     (l : Laws one spelled Good deeps Over) (goes : Word → Bool)
     (starts : (a : A) → Good a → (rest : List Sign) → heads goes (spelled a rest) ≡ true)
     (next : (a b : A) → Good a → Good b → (rest : List Sign) → Over a (spelled b rest)) where
@@ -185,7 +187,8 @@ module _ {A : Type 0} {one : List Sign → Answer A} {spelled : A → List Sign 
   }
 
 -- what is always gone on with is read to its end
-module _ {A : Type 0} {one : List Sign → Answer A} {spelled : A → List Sign → List Sign} {Good : A → Type 0} {deeps : A → List Sign → Option (List Sign)} {Over : A → List Sign → Type 0}
+module _ {A : Type 0} {one : List Sign → Answer A} {spelled : A → List Sign → List Sign} {Good : A → Type 0} {deeps : A → List Sign → Option (List Sign)}
+    {Over : A → List Sign → Type 0}
     (l : Laws one spelled Good deeps Over)
     (starts : (a : A) → Good a → (rest : List Sign) → heads (λ x. true) (spelled a rest) ≡ true) where
   gone_out : (ts : List Sign) → heads (λ x. true) ts ≡ false → ts ≡ []
@@ -215,10 +218,12 @@ module _ {A : Type 0} {one : List Sign → Answer A} {spelled : A → List Sign 
 abbrev pub OverRow : {A : Type 0} → (A → Type 0) → (A → List Sign → Type 0) → Row A → List Sign → Type 0
 OverRow Good Over r rest = OverMany (is w.Comma) Good Over rest
 
-module _ {A : Type 0} {one : List Sign → Answer A} {spelled : A → List Sign → List Sign} {Good : A → Type 0} {deeps : A → List Sign → Option (List Sign)} {Over : A → List Sign → Type 0}
+module _ {A : Type 0} {one : List Sign → Answer A} {spelled : A → List Sign → List Sign} {Good : A → Type 0} {deeps : A → List Sign → Option (List Sign)}
+    {Over : A → List Sign → Type 0}
     (l : Laws one spelled Good deeps Over)
     (next : (a : A) (p : Spot) (rest : List Sign) → Good a → Over a (at w.Comma p ∷ rest)) where
-  more_laws : Laws (many (is w.Comma) (behind_of one)) (spell_list (spell_behind spelled)) (AreAll (λ b. Good b.1)) (deep_list (spell_behind spelled) (λ b rest. deeps b.1 rest)) (λ list rest. OverMany {A = Spot × A} (is w.Comma) (λ b. Good b.1) (λ b rest. Over b.1 rest) rest)
+  more_laws : Laws (many (is w.Comma) (behind_of one)) (spell_list (spell_behind spelled)) (AreAll (λ b. Good b.1))
+      (deep_list (spell_behind spelled) (λ b rest. deeps b.1 rest)) (λ list rest. OverMany {A = Spot × A} (is w.Comma) (λ b. Good b.1) (λ b rest. Over b.1 rest) rest)
   more_laws = many_laws (behind_laws l) (is w.Comma) (λ b g rest. refl) (λ a b g h rest. next a.1 b.0 (spelled b.1 rest) g)
 
   pub row_laws : Laws (row_of one) (spell_row spelled) (IsRow Good) (deep_row spelled deeps) (OverRow Good Over)
@@ -253,7 +258,8 @@ module _ {A : Type 0} {one : List Sign → Answer A} {spelled : A → List Sign 
   times_more : (m : ℕ) → TimesLaws m → TimesLaws (suc m)
   times_more m lm = laws_of (part l (λ a. part lm (λ more. done (a ∷ more)))) (λ ts. refl) (λ c rest. refl) (λ c g. (let e = g.1.0.0 in omega arith, (g.0, g.1.0.1))) chosen
     where
-      chosen : (list : List A) → (length list ≡ suc m) × AreAll Good list → Chosen (part l (λ a. part lm (λ more. done (a ∷ more)))) (deep_list spelled deeps) (λ list rest. Unit {0}) list
+      chosen : (list : List A) → (length list ≡ suc m) × AreAll Good list
+          → Chosen (part l (λ a. part lm (λ more. done (a ∷ more)))) (deep_list spelled deeps) (λ list rest. Unit {0}) list
       chosen [] g = absurd (omega (arith, g.0))
       chosen (a ∷ more) g = record {
         choice = (a, (more, tt));

@@ -17,9 +17,11 @@ pub data Seq (T : Type 0) : Type 1 where
   token : Word → (Spot → Seq T) → Seq T
   -- a sign of one of these words, of which x is one
   pick : (test : Word → Bool) (x : Word) → test x ≡ true → (Sign → Seq T) → Seq T
-  part : {A : Type 0} {read : List Sign → Answer A} {spelled : A → List Sign → List Sign} {Good : A → Type 0} {deeps : A → List Sign → Option (List Sign)} {Over : A → List Sign → Type 0} → Laws read spelled Good deeps Over → (A → Seq T) → Seq T
+  part : {A : Type 0} {read : List Sign → Answer A} {spelled : A → List Sign → List Sign} {Good : A → Type 0}
+      {deeps : A → List Sign → Option (List Sign)} {Over : A → List Sign → Type 0} → Laws read spelled Good deeps Over → (A → Seq T) → Seq T
   -- the word x behind it would be its own, where it is open; so one that goes on with x is not
-  split : {A : Type 0} {read : List Sign → Answer A} {spelled : A → List Sign → List Sign} {Good : A → Type 0} {deeps : A → List Sign → Option (List Sign)} {Over : A → List Sign → Type 0} → Laws read spelled Good deeps Over
+  split : {A : Type 0} {read : List Sign → Answer A} {spelled : A → List Sign → List Sign} {Good : A → Type 0}
+      {deeps : A → List Sign → Option (List Sign)} {Over : A → List Sign → Type 0} → Laws read spelled Good deeps Over
       → (open_end : A → Bool) (x : Word) → ((ts : List Sign) (y : A × List Sign) → read ts ≡ Ok y → open_end y.0 ≡ true → heads (is x) y.1 ≡ false)
       → (A → Seq T) → (A → Seq T) → Seq T
   peek : (Word → Bool) → Seq T → Seq T → Seq T
@@ -173,7 +175,8 @@ pub record Sound {T : Type 0} (s : Seq T) (ts : List Sign) (y : T × List Sign) 
   pub apart : Apart (spells s) choice
 
 -- a part, and what was read behind it
-module _ {A T : Type 0} {read : List Sign → Answer A} {spelled : A → List Sign → List Sign} {Good : A → Type 0} {deeps : A → List Sign → Option (List Sign)} {Over : A → List Sign → Type 0}
+module _ {A T : Type 0} {read : List Sign → Answer A} {spelled : A → List Sign → List Sign} {Good : A → Type 0} {deeps : A → List Sign → Option (List Sign)}
+    {Over : A → List Sign → Type 0}
     (l : Laws read spelled Good deeps Over) (s : Seq T) (ts : List Sign) (x : A × List Sign) (y : T × List Sign) (h : read ts ≡ Ok x) (r : Sound s x.1 y) where
   part_is : ts ≡ spelled x.0 (spells s r.choice y.1)
   part_is = (l.sound ts x h).0 ∙ ap (λ z. spelled x.0 z) r.is
@@ -331,7 +334,8 @@ pub record Chosen {T : Type 0} (s : Seq T) (deeps : T → List Sign → Option (
   pub follows : (rest : List Sign) → Over t rest → Follows s choice rest
 
 -- the reader of a production
-pub laws_of : {T : Type 0} {read : List Sign → Answer T} {spelled : T → List Sign → List Sign} {Good : T → Type 0} {deeps : T → List Sign → Option (List Sign)} {Over : T → List Sign → Type 0}
+pub laws_of : {T : Type 0} {read : List Sign → Answer T} {spelled : T → List Sign → List Sign} {Good : T → Type 0}
+    {deeps : T → List Sign → Option (List Sign)} {Over : T → List Sign → Type 0}
     → (s : Seq T) → ((ts : List Sign) → read ts ≡ run s ts)
     → ((c : Choice s) (rest : List Sign) → spelled (tree s c) rest ≡ spells s c rest)
     → ((c : Choice s) → Fits s c → Good (tree s c))

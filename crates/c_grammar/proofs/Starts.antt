@@ -1,4 +1,4 @@
--- What statements begin with, and that no else follows one that ends open.
+-- What statements begin with.
 use Rattle.std.proofs.Common.{◌≡◌, true, false, List, [], None, Ok, refl}
 use Rattle.c_grammar.specs.declared.word.Word.{Word}
 use Rattle.c_grammar.specs.declared.word.Word.TheVariants as w

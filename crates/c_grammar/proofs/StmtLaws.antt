@@ -77,7 +77,8 @@ module _ (n : ℕ) (expr index : List Sign → Answer t.Expr) (le : ExprLaws (su
   test_laws : Laws (maybe (isnt w.Semicolon) expr) (spell_maybe spell) (IsMaybe Is) (deep_maybe (deep (suc n))) (OverMaybe (isnt w.Semicolon) (λ e rest. Over 11 rest))
   test_laws = maybe_laws le (isnt w.Semicolon) (λ e g rest. heads_other starts_expr w.Semicolon (spell e rest) (expr_starts e g rest) refl)
 
-  step_laws : Laws (maybe (isnt w.CloseParen) (simple_of expr index)) (spell_maybe spell_simple) (IsMaybe IsSimple) (deep_maybe (deep_simple n)) (OverMaybe (isnt w.CloseParen) (λ s rest. Over 11 rest))
+  step_laws : Laws (maybe (isnt w.CloseParen) (simple_of expr index)) (spell_maybe spell_simple) (IsMaybe IsSimple) (deep_maybe (deep_simple n))
+      (OverMaybe (isnt w.CloseParen) (λ s rest. Over 11 rest))
   step_laws = maybe_laws (simple_laws n expr index le li te) (isnt w.CloseParen) (λ s g rest. heads_other starts_simple w.CloseParen (spell_simple s rest) (simple_starts s g rest) refl)
 
   abbrev block_seq : Seq t.Stmt
@@ -166,11 +167,41 @@ module _ (n : ℕ) (expr index : List Sign → Answer t.Expr) (le : ExprLaws (su
   plain_depth s p rest = deep_simple n s (at w.Semicolon p ∷ rest)
 
   simple_chosen : (s : t.Simple) (p : Spot) → IsSimple s → Chosen (switch stmt_seq) (deep_stmt (suc n)) StmtOver (t.simple s p)
-  simple_chosen (t.assign place x q r) p g = record { choice = (Some w.Name, (t.assign place x q r, (p, tt))); of = refl; fits = (g, tt); depth = λ rest. last (plain_depth (t.assign place x q r) p rest); follows = λ rest o. (place_first place _, (omega arith, tt)) }
-  simple_chosen (t.after place x q) p g = record { choice = (Some w.Name, (t.after place x q, (p, tt))); of = refl; fits = (g, tt); depth = λ rest. last (plain_depth (t.after place x q) p rest); follows = λ rest o. (place_first place _, (omega arith, tt)) }
-  simple_chosen (t.invoke c) p g = record { choice = (Some w.Name, (t.invoke c, (p, tt))); of = refl; fits = (g, tt); depth = λ rest. last (plain_depth (t.invoke c) p rest); follows = λ rest o. (refl, (omega arith, tt)) }
-  simple_chosen (t.before w.Increment q place) p g = record { choice = (Some w.Increment, (t.before w.Increment q place, (p, tt))); of = refl; fits = (g, tt); depth = λ rest. last (plain_depth (t.before w.Increment q place) p rest); follows = λ rest o. (refl, (omega arith, tt)) }
-  simple_chosen (t.before w.Decrement q place) p g = record { choice = (Some w.Decrement, (t.before w.Decrement q place, (p, tt))); of = refl; fits = (g, tt); depth = λ rest. last (plain_depth (t.before w.Decrement q place) p rest); follows = λ rest o. (refl, (omega arith, tt)) }
+  simple_chosen (t.assign place x q r) p g = record {
+    choice = (Some w.Name, (t.assign place x q r, (p, tt)));
+    of = refl;
+    fits = (g, tt);
+    depth = λ rest. last (plain_depth (t.assign place x q r) p rest);
+    follows = λ rest o. (place_first place _, (omega arith, tt));
+  }
+  simple_chosen (t.after place x q) p g = record {
+    choice = (Some w.Name, (t.after place x q, (p, tt)));
+    of = refl;
+    fits = (g, tt);
+    depth = λ rest. last (plain_depth (t.after place x q) p rest);
+    follows = λ rest o. (place_first place _, (omega arith, tt));
+  }
+  simple_chosen (t.invoke c) p g = record {
+    choice = (Some w.Name, (t.invoke c, (p, tt)));
+    of = refl;
+    fits = (g, tt);
+    depth = λ rest. last (plain_depth (t.invoke c) p rest);
+    follows = λ rest o. (refl, (omega arith, tt));
+  }
+  simple_chosen (t.before w.Increment q place) p g = record {
+    choice = (Some w.Increment, (t.before w.Increment q place, (p, tt)));
+    of = refl;
+    fits = (g, tt);
+    depth = λ rest. last (plain_depth (t.before w.Increment q place) p rest);
+    follows = λ rest o. (refl, (omega arith, tt));
+  }
+  simple_chosen (t.before w.Decrement q place) p g = record {
+    choice = (Some w.Decrement, (t.before w.Decrement q place, (p, tt)));
+    of = refl;
+    fits = (g, tt);
+    depth = λ rest. last (plain_depth (t.before w.Decrement q place) p rest);
+    follows = λ rest o. (refl, (omega arith, tt));
+  }
   simple_chosen (t.before _ q place) p g = absurd (let h = g.0 in cc)
 
   stmt_chosen : (s : t.Stmt) → IsStmt s → Chosen (switch stmt_seq) (deep_stmt (suc n)) StmtOver s
@@ -231,7 +262,8 @@ module _ (n : ℕ) (expr index : List Sign → Answer t.Expr) (le : ExprLaws (su
   }
 
   -- no else behind a statement that was read and ends open
-  shut : (o : Option Word) → ((c : Choice (stmt_seq o)) → ends_open (tree (stmt_seq o) c) ≡ false) → (ts : List Sign) (y : t.Stmt × List Sign) → run (stmt_seq o) ts ≡ Ok y → OpenOk y
+  shut : (o : Option Word) → ((c : Choice (stmt_seq o)) → ends_open (tree (stmt_seq o) c) ≡ false) → (ts : List Sign) (y : t.Stmt × List Sign)
+      → run (stmt_seq o) ts ≡ Ok y → OpenOk y
   shut o h ts y k = let c = seq_sound (stmt_seq o) ts y k in λ q. not_both (ends_open y.0) q (sym (ap ends_open c.of) ∙ h c.choice)
 
   kept : (s : t.Stmt) (y : t.Stmt × List Sign) → s ≡ y.0 → OpenOk (s, y.1) → OpenOk y

@@ -185,12 +185,48 @@ module _ (n : ℕ) (index : List Sign → Answer t.Expr) (li : ExprLaws n index)
   parameters_chosen : (p : t.Parameters) → AreParameters p → Chosen (switch parameters_seq) (deep_parameters n) Closed p
   parameters_chosen t.no_parameter g = record { choice = (Some w.CloseParen, tt); of = refl; fits = tt; depth = λ rest. refl; follows = λ rest o. (o, tt) }
   parameters_chosen (t.void p) g = record { choice = (Some w.Void, (p, tt)); of = refl; fits = tt; depth = λ rest. refl; follows = λ rest o. (refl, tt) }
-  parameters_chosen (t.parameters (t.row (t.int x m) more)) g = record { choice = (Some w.Int, (t.row (t.int x m) more, tt)); of = refl; fits = (g, tt); depth = λ rest. last (deep_row spell_parameter (deep_parameter n) (t.row (t.int x m) more) rest); follows = λ rest o. (refl, (row_over rest o, tt)) }
-  parameters_chosen (t.parameters (t.row (t.array x m o e c) more)) g = record { choice = (Some w.Int, (t.row (t.array x m o e c) more, tt)); of = refl; fits = (g, tt); depth = λ rest. last (deep_row spell_parameter (deep_parameter n) (t.row (t.array x m o e c) more) rest); follows = λ rest o. (refl, (row_over rest o, tt)) }
-  parameters_chosen (t.parameters (t.row (t.pointer x p m) more)) g = record { choice = (Some w.Int, (t.row (t.pointer x p m) more, tt)); of = refl; fits = (g, tt); depth = λ rest. last (deep_row spell_parameter (deep_parameter n) (t.row (t.pointer x p m) more) rest); follows = λ rest o. (refl, (row_over rest o, tt)) }
-  parameters_chosen (t.parameters (t.row (t.communicator x m) more)) g = record { choice = (Some w.Communicator, (t.row (t.communicator x m) more, tt)); of = refl; fits = (g, tt); depth = λ rest. last (deep_row spell_parameter (deep_parameter n) (t.row (t.communicator x m) more) rest); follows = λ rest o. (refl, (row_over rest o, tt)) }
-  parameters_chosen (t.parameters (t.row (t.text_pointers x p q m) more)) g = record { choice = (Some w.Char, (t.row (t.text_pointers x p q m) more, tt)); of = refl; fits = (g, tt); depth = λ rest. last (deep_row spell_parameter (deep_parameter n) (t.row (t.text_pointers x p q m) more) rest); follows = λ rest o. (refl, (row_over rest o, tt)) }
-  parameters_chosen (t.parameters (t.row (t.text_array x p m o c) more)) g = record { choice = (Some w.Char, (t.row (t.text_array x p m o c) more, tt)); of = refl; fits = (g, tt); depth = λ rest. last (deep_row spell_parameter (deep_parameter n) (t.row (t.text_array x p m o c) more) rest); follows = λ rest o. (refl, (row_over rest o, tt)) }
+  parameters_chosen (t.parameters (t.row (t.int x m) more)) g = record {
+    choice = (Some w.Int, (t.row (t.int x m) more, tt));
+    of = refl;
+    fits = (g, tt);
+    depth = λ rest. last (deep_row spell_parameter (deep_parameter n) (t.row (t.int x m) more) rest);
+    follows = λ rest o. (refl, (row_over rest o, tt));
+  }
+  parameters_chosen (t.parameters (t.row (t.array x m o e c) more)) g = record {
+    choice = (Some w.Int, (t.row (t.array x m o e c) more, tt));
+    of = refl;
+    fits = (g, tt);
+    depth = λ rest. last (deep_row spell_parameter (deep_parameter n) (t.row (t.array x m o e c) more) rest);
+    follows = λ rest o. (refl, (row_over rest o, tt));
+  }
+  parameters_chosen (t.parameters (t.row (t.pointer x p m) more)) g = record {
+    choice = (Some w.Int, (t.row (t.pointer x p m) more, tt));
+    of = refl;
+    fits = (g, tt);
+    depth = λ rest. last (deep_row spell_parameter (deep_parameter n) (t.row (t.pointer x p m) more) rest);
+    follows = λ rest o. (refl, (row_over rest o, tt));
+  }
+  parameters_chosen (t.parameters (t.row (t.communicator x m) more)) g = record {
+    choice = (Some w.Communicator, (t.row (t.communicator x m) more, tt));
+    of = refl;
+    fits = (g, tt);
+    depth = λ rest. last (deep_row spell_parameter (deep_parameter n) (t.row (t.communicator x m) more) rest);
+    follows = λ rest o. (refl, (row_over rest o, tt));
+  }
+  parameters_chosen (t.parameters (t.row (t.text_pointers x p q m) more)) g = record {
+    choice = (Some w.Char, (t.row (t.text_pointers x p q m) more, tt));
+    of = refl;
+    fits = (g, tt);
+    depth = λ rest. last (deep_row spell_parameter (deep_parameter n) (t.row (t.text_pointers x p q m) more) rest);
+    follows = λ rest o. (refl, (row_over rest o, tt));
+  }
+  parameters_chosen (t.parameters (t.row (t.text_array x p m o c) more)) g = record {
+    choice = (Some w.Char, (t.row (t.text_array x p m o c) more, tt));
+    of = refl;
+    fits = (g, tt);
+    depth = λ rest. last (deep_row spell_parameter (deep_parameter n) (t.row (t.text_array x p m o c) more) rest);
+    follows = λ rest o. (refl, (row_over rest o, tt));
+  }
 
   parameters_laws : Laws (λ ts. parameters_by index ts (first_of ts)) spell_parameters AreParameters (deep_parameters n) Closed
   parameters_laws = laws_of (switch parameters_seq) (λ ts. parameters_runs (first_of ts) ts) (λ c rest. parameters_spelling c.0 c.1 rest) (λ c g. parameters_good c.0 c.1 g) parameters_chosen
@@ -210,7 +246,8 @@ module _ (n : ℕ) (index : List Sign → Answer t.Expr) (li : ExprLaws n index)
       })
 
 -- as many of one word
-opens_laws : Laws (many (is w.OpenParen) (expect w.OpenParen)) (spell_list (spell_word w.OpenParen)) (AreAll (λ p. Unit {0})) (deep_list (spell_word w.OpenParen) (λ p rest. None)) (λ list rest. OverMany {A = Spot} (is w.OpenParen) (λ p. Unit {0}) (λ p rest. Unit {0}) rest)
+opens_laws : Laws (many (is w.OpenParen) (expect w.OpenParen)) (spell_list (spell_word w.OpenParen)) (AreAll (λ p. Unit {0}))
+    (deep_list (spell_word w.OpenParen) (λ p rest. None)) (λ list rest. OverMany {A = Spot} (is w.OpenParen) (λ p. Unit {0}) (λ p rest. Unit {0}) rest)
 opens_laws = many_laws (expect_laws w.OpenParen) (is w.OpenParen) (λ p g rest. refl) (λ p q g h rest. tt)
 
 minus_laws : Laws (maybe (is w.Minus) (expect w.Minus)) (spell_maybe (spell_word w.Minus)) (IsMaybe (λ p. Unit {0})) (deep_maybe (λ p rest. None)) (OverMaybe (is w.Minus) (λ p rest. Unit {0}))

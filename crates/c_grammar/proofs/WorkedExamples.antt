@@ -1,10 +1,13 @@
 -- What small texts are read as.
-use Rattle.std.proofs.Common.{◌≡◌, refl, true, ℕ, [], ◌∷◌, Some, Ok}
+use Rattle.std.proofs.Common.{List, ◌≡◌, refl, true, ℕ, [], ◌∷◌, Some, Ok}
 use Rattle.c_lex.specs.declared.fault.Why.TheVariants.{Unexpected, TooDeep}
 use Rattle.c_grammar.specs.declared.word.Word.TheVariants as w
 use Rattle.c_grammar.specs.declared.word.Spot.{Spot}
+use Rattle.c_grammar.specs.declared.word.Sign.{Sign}
 use Rattle.c_grammar.specs.Tree as t
 use Rattle.c_grammar.specs.Grammar.{at}
+use Rattle.c_grammar.specs.Programs.{IsTree, IsUnexpected}
+use Rattle.c_grammar.proofs.Programs.{read_fault}
 use Rattle.c_grammar.specs.Reading.{expect, one_of, too_deep, refuse, place_of, unary_of, bin_of, choice_of, expr_at}
 use Rattle.c_grammar.specs.StmtReading.{argument_of, call_of, right_of, change_of, simple_of, stmt_of, part_of, part_with, stmt_at, parameter_of, head_of, value_of, top_with, program_of}
 
@@ -34,25 +37,57 @@ nearest : stmt_at 64 (at w.If (spot 0) ∷ at w.OpenParen (spot 1) ∷ at w.Name
 unfolding expect one_of too_deep place_of unary_of bin_of choice_of expr_at stmt_of stmt_at
 nearest = refl
 
--- `void f(int a) { f(a); }` is a program
-program : program_of (at w.Void (spot 0) ∷ at w.Name (spot 1) ∷ at w.OpenParen (spot 2) ∷ at w.Int (spot 3) ∷ at w.Name (spot 4) ∷ at w.CloseParen (spot 5) ∷ at w.OpenBrace (spot 6)
-    ∷ at w.Name (spot 7) ∷ at w.OpenParen (spot 8) ∷ at w.Name (spot 9) ∷ at w.CloseParen (spot 10) ∷ at w.Semicolon (spot 11) ∷ at w.CloseBrace (spot 12) ∷ [])
-    ≡ Ok (
-      t.function
-          (record { result = w.Void; at = spot 0; name = spot 1; opening = spot 2; listed = t.parameters (t.row (t.int (spot 3) (Some (spot 4))) []); closing = spot 5 })
-          (spot 6)
-          (t.part (t.stmt (t.simple (t.invoke (record { name = spot 7; opening = spot 8; arguments = Some (t.row (t.value (t.read (t.whole (spot 9)))) []); closing = spot 10 })) (spot 11))) t.no_part)
-          (spot 12)
-          ∷ [],
-      [],
-    )
-unfolding expect one_of too_deep place_of unary_of bin_of choice_of expr_at argument_of call_of right_of change_of simple_of stmt_of part_of part_with stmt_at parameter_of head_of value_of top_with program_of
-program = refl
+-- `void f(int a) { f(a); }`
+function_signs : List Sign
+function_signs =
+    at w.Void (spot 0) ∷ at w.Name (spot 1) ∷ at w.OpenParen (spot 2) ∷ at w.Int (spot 3) ∷ at w.Name (spot 4) ∷ at w.CloseParen (spot 5) ∷ at w.OpenBrace (spot 6)
+    ∷ at w.Name (spot 7) ∷ at w.OpenParen (spot 8) ∷ at w.Name (spot 9) ∷ at w.CloseParen (spot 10) ∷ at w.Semicolon (spot 11) ∷ at w.CloseBrace (spot 12) ∷ []
+
+function_tree : t.Tree
+function_tree =
+    t.function
+    (record {
+      result = w.Void;
+      at = spot 0;
+      name = spot 1;
+      opening = spot 2;
+      listed = t.parameters (t.row (t.int (spot 3) (Some (spot 4))) []);
+      closing = spot 5;
+    })
+    (spot 6)
+    (t.part
+    (t.stmt
+    (t.simple
+    (t.invoke
+    (record {
+      name = spot 7;
+      opening = spot 8;
+      arguments = Some (t.row (t.value (t.read (t.whole (spot 9)))) []);
+      closing = spot 10;
+    }))
+    (spot 11)))
+    t.no_part)
+    (spot 12)
+    ∷ []
+
+-- it is read so,
+function_read : program_of function_signs ≡ Ok (function_tree, [])
+unfolding function_signs function_tree expect one_of too_deep place_of unary_of bin_of choice_of expr_at argument_of call_of right_of
+    change_of simple_of stmt_of part_of part_with stmt_at parameter_of head_of value_of top_with program_of
+function_read = refl
+
+-- and this is its tree by the grammar alone
+function_is : IsTree function_signs function_tree
+unfolding function_signs function_tree
+function_is = ((((refl, (tt, tt)), refl, ((tt, tt), tt)), tt), refl, refl)
 
 -- `int x;` at the outermost place: the `;` is unexpected
 variable : program_of (at w.Int (spot 0) ∷ at w.Name (spot 1) ∷ at w.Semicolon (spot 2) ∷ []) ≡ refuse Unexpected (at w.Semicolon (spot 2) ∷ [])
 unfolding expect one_of head_of top_with program_of
 variable = refl
+
+variable_fault : IsUnexpected (at w.Int (spot 0) ∷ at w.Name (spot 1) ∷ at w.Semicolon (spot 2) ∷ []) (at w.Semicolon (spot 2) ∷ [])
+variable_fault = read_fault _ Unexpected _ variable
 
 -- `int f(int) { }`: a parameter without a name, so the `{` is unexpected
 nameless : program_of (at w.Int (spot 0) ∷ at w.Name (spot 1) ∷ at w.OpenParen (spot 2) ∷ at w.Int (spot 3) ∷ at w.CloseParen (spot 4) ∷ at w.OpenBrace (spot 5) ∷ at w.CloseBrace (spot 6) ∷ [])

@@ -6,14 +6,17 @@ use Rattle.c_grammar.specs.Tree as t
 use Rattle.c_grammar.specs.Grammar.{at, spell, earlier, deep, deep_place}
 use Rattle.c_grammar.specs.StmtGrammar.{spell_maybe, spell_list, spell_behind, spell_argument, spell_right, spell_simple, spell_initial, spell_item, spell_stmt, spell_part, spell_parts, spell_parameter, spell_top}
 
+-- in something that may be missing
 abbrev pub deep_maybe : {A : Type 0} → (A → List Sign → Option (List Sign)) → Option A → List Sign → Option (List Sign)
 deep_maybe one None rest = None
 deep_maybe one (Some a) rest = one a rest
 
+-- in things one behind the other: the first place of all
 abbrev pub deep_list : {A : Type 0} → (A → List Sign → List Sign) → (A → List Sign → Option (List Sign)) → List A → List Sign → Option (List Sign)
 deep_list spells one [] rest = None
 deep_list spells one (a ∷ more) rest = earlier (one a (spell_list spells more rest)) (deep_list spells one more rest)
 
+-- in things with a comma between each two
 abbrev pub deep_row : {A : Type 0} → (A → List Sign → List Sign) → (A → List Sign → Option (List Sign)) → t.Row A → List Sign → Option (List Sign)
 deep_row spells one (t.row a more) rest =
     earlier (one a (spell_list (spell_behind spells) more rest)) (deep_list (spell_behind spells) (λ b. one b.1) more rest)
@@ -91,7 +94,7 @@ abbrev mutual
   deep_parts n t.no_part rest = None
   deep_parts n (t.part first more) rest = earlier (deep_part n first (spell_parts more rest)) (deep_parts n more rest)
 
--- n depths below the head's own
+-- with n depths below the head's own: an array's length is one deeper than the head
 abbrev pub deep_parameter : ℕ → t.Parameter → List Sign → Option (List Sign)
 deep_parameter n (t.array word name opening length closing) rest = deep_maybe (deep n) length (at w.CloseBracket closing ∷ rest)
 deep_parameter n _ rest = None

@@ -64,6 +64,7 @@ turns goes one (suc n) ts =
     then (one ts >>= λ a. turns goes one n a.1 >>= λ more. Ok (a.0 ∷ more.0, more.1))
     else Ok ([], ts)
 
+-- all of them: each takes a sign at least, so their bound is the number of signs
 abbrev pub many : {A : Type 0} → (Word → Bool) → (List Sign → Answer A) → List Sign → Answer (List A)
 many goes one ts = turns goes one (length ts) ts
 
