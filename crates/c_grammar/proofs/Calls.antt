@@ -321,7 +321,7 @@ module _ (n : ℕ) (expr index : List Sign → Answer t.Expr) (le : ExprLaws (su
   item_over (Some (t.begun p r)) rest o = (refl, o)
   item_over (Some (t.braced p q values c)) rest o = (refl, o)
 
-  item_laws : Laws (item_of expr index) spell_item IsItem (deep_item n) (λ i rest. Over 11 rest)
+  pub item_laws : Laws (item_of expr index) spell_item IsItem (deep_item n) (λ i rest. Over 11 rest)
   unfolding item_of
   item_laws = laws_of (part (place_laws n index li) item_behind) (λ ts. refl) (λ c rest. refl) (λ c g. (g.0, g.1.0))
       (λ i g. record {

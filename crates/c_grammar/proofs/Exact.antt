@@ -7,18 +7,18 @@ use Rattle.c_grammar.specs.Faults.{IsText, NoneGoesOn, IsUnexpected, IsTooDeep}
 use Rattle.c_grammar.proofs.Local.{IsLocal, rest_of, with_rest}
 use Rattle.c_grammar.proofs.Laws.{outcome, GoesOn, unexpected}
 
-test_le : (m n : ℕ) → (m ≤ n) ⊎ (n < m)
+pub test_le : (m n : ℕ) → (m ≤ n) ⊎ (n < m)
 test_le zero n = inl (omega arith)
 test_le (suc m) zero = inr (omega arith)
 test_le (suc m) (suc n) = elim (test_le m n) [ inl h ↦ inl (omega arith) | inr h ↦ inr (omega arith) ]
 
-record Longer (front z c d : List Sign) : Type 0 where
-  x : Sign
-  u : List Sign
-  d_is : d ≡ x ∷ (u ++ z)
-  front_is : front ≡ c ++ x ∷ u
+pub record Longer (front z c d : List Sign) : Type 0 where
+  pub x : Sign
+  pub u : List Sign
+  pub d_is : d ≡ x ∷ (u ++ z)
+  pub front_is : front ≡ c ++ x ∷ u
 
-longer : (front z c d : List Sign) → front ++ z ≡ c ++ d → length z < length d → Longer front z c d
+pub longer : (front z c d : List Sign) → front ++ z ≡ c ++ d → length z < length d → Longer front z c d
 longer [] z c d e l = absurd (omega (arith, ap length e, length-append c d))
 longer (x ∷ front) z [] d e l = record { x = x; u = front; d_is = sym e; front_is = refl }
 longer (x ∷ front) z (y ∷ c) d e l =
@@ -30,7 +30,7 @@ module _ {A : Type 0} (spelled : A → List Sign) (Good : A → Type 0) (deepest
     (complete : (a : A) → Good a → whole (spelled a) ≡ outcome (deepest a) a [])
     (goes : (ts : List Sign) (f : Fault) → whole ts ≡ Err f → GoesOn (λ a rest. spelled a) Good ts f) where
   -- the same answer at the same sign, whatever follows it
-  same_fault : (front : List Sign) (x : Sign) (r r' : List Sign) (f : Fault) → whole (front ++ x ∷ r) ≡ Err f → f.rest ≡ x ∷ r → whole (front ++ x ∷ r') ≡ refuse f.why (x ∷ r')
+  pub same_fault : (front : List Sign) (x : Sign) (r r' : List Sign) (f : Fault) → whole (front ++ x ∷ r) ≡ Err f → f.rest ≡ x ∷ r → whole (front ++ x ∷ r') ≡ refuse f.why (x ∷ r')
   same_fault front x r r' f h e =
       local.alike front x r r' [] (ap rest_of h ∙ e) ∙ ap (λ a. with_rest a (x ∷ r')) h
 

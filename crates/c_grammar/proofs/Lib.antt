@@ -1,3 +1,5 @@
+pub mod Viewed
+pub mod StmtViewed
 pub mod Local
 pub mod Laws
 pub mod Sequence
@@ -12,3 +14,5 @@ pub mod TopLaws
 pub mod Exact
 pub mod Programs
 pub mod WorkedExamples
+pub mod Shorter
+pub mod Firsts

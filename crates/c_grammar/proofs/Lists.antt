@@ -68,7 +68,7 @@ some_length goes [] h = absurd (cc)
 some_length goes (t ∷ ts) h = omega arith
 
 -- each thing takes a sign
-shortens : {A : Type 0} {one : List Sign → Answer A} {spelled : A → List Sign → List Sign} {Good : A → Type 0} {deeps : A → List Sign → Option (List Sign)} {Over : A → List Sign → Type 0}
+pub shortens : {A : Type 0} {one : List Sign → Answer A} {spelled : A → List Sign → List Sign} {Good : A → Type 0} {deeps : A → List Sign → Option (List Sign)} {Over : A → List Sign → Type 0}
     → Laws one spelled Good deeps Over → (goes : Word → Bool) → ((a : A) → Good a → (rest : List Sign) → heads goes (spelled a rest) ≡ true)
     → (ts : List Sign) (y : A × List Sign) → one ts ≡ Ok y → length y.1 < length ts
 shortens {spelled = spelled} l goes starts ts y h =

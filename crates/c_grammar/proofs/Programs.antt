@@ -12,10 +12,10 @@ use Rattle.c_grammar.proofs.Laws.{GoesOn, HasHead, outcome}
 use Rattle.c_grammar.proofs.Exact.{unexpected_is, too_deep_is, text_read}
 use Rattle.c_grammar.proofs.TopLaws.{program_laws, program_ends}
 
-complete : (tree : Tree) → AreTops tree → program_of (spelling tree) ≡ outcome (deepest tree) tree []
+pub complete : (tree : Tree) → AreTops tree → program_of (spelling tree) ≡ outcome (deepest tree) tree []
 complete tree g = program_laws.complete tree [] g (refl, λ p h. tt)
 
-goes : (ts : List Sign) (f : Fault) → program_of ts ≡ Err f → GoesOn (λ tree rest. spelling tree) AreTops ts f
+pub goes : (ts : List Sign) (f : Fault) → program_of ts ≡ Err f → GoesOn (λ tree rest. spelling tree) AreTops ts f
 goes ts f h = let g = program_laws.goes ts f h in record { front = g.front; is = g.is; head = g.head; tree = g.tree; good = g.good; goes = λ rest. g.goes [] }
 
 -- a tree of the signs is what is read
