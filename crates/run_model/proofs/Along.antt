@@ -1,5 +1,5 @@
 -- Lists in which each element is a step after those before it.
-use Rattle.std.proofs.Common.{List, [], ◌∷◌, ◌++◌, append_assoc, append-nil, subst}
+use Rattle.std.proofs.Common.{◌++◌, ◌∷◌, List, [], append-nil, append_assoc, subst}
 use Rattle.run_model.specs.Lists.{Along}
 
 -- one more step at the end
@@ -13,4 +13,15 @@ pub Along-keeps : {E : Type 0} (S : List E → E → Type 0) (P : List E → Typ
 Along-keeps S P keeps before [] holds all = rw append-nil holds
 Along-keeps S P keeps before (first ∷ events) holds all =
     let rest = Along-keeps S P keeps (before ++ first ∷ []) events (keeps before first holds all.0) all.1 in
+    rw append_assoc at rest
+
+-- the steps of a beginning, and those behind it
+pub Along-front : {E : Type 0} (S : List E → E → Type 0) (before xs ys : List E) → Along S before (xs ++ ys) → Along S before xs
+Along-front S before [] ys all = tt
+Along-front S before (x ∷ xs) ys all = (all.0, Along-front S (before ++ x ∷ []) xs ys all.1)
+
+pub Along-back : {E : Type 0} (S : List E → E → Type 0) (before xs ys : List E) → Along S before (xs ++ ys) → Along S (before ++ xs) ys
+Along-back S before [] ys all = rw append-nil all
+Along-back S before (x ∷ xs) ys all =
+    let rest = Along-back S (before ++ x ∷ []) xs ys all.1 in
     rw append_assoc at rest

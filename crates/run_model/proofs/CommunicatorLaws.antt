@@ -1,5 +1,5 @@
 -- The members of communicators.
-use Rattle.std.proofs.Common.{◌≡◌, ◌<◌, ◌≤◌, ◌+◌, ◌-◌, ◌==◌, ℕ, zero, suc, List, [], ◌∷◌, Some, None, true, refl, ap, sym, ◌∙◌, length, take, drop, slice_index, get_or, arith}
+use Rattle.std.proofs.Common.{◌≡◌, ◌<◌, ◌≤◌, ◌+◌, ◌-◌, ◌==◌, ℕ, zero, suc, List, [], ◌∷◌, ◌++◌, Some, None, true, refl, ap, sym, ◌∙◌, length, take, drop, slice_index, get_or, arith}
 use Rattle.mpi_call.specs.declared.call.Call.{Call}
 use Rattle.mpi_call.specs.declared.reply.Reply.{Reply}
 use Rattle.std.proofs.Math.Seq.{take-length}
@@ -36,3 +36,16 @@ known_after-first comm ((call, reply) ∷ view) members seen d some is h =
     let same : p ≡ seen = sym is in
     let learnt : learned comm None reply ≡ Some members = ap (λ (q : Call × Reply). learned comm None q.1) same ∙ h in
     rw learnt (known_after-some comm members view)
+
+-- all ranks but the last, and the last
+pub world-snoc : (n from : ℕ) → world (suc n) from ≡ world n from ++ (from + n) ∷ []
+world-snoc zero from = (let e : from + 0 ≡ from = omega arith in rw e refl)
+world-snoc (suc n) from =
+    let e : from + 1 + n ≡ from + suc n = omega arith in
+    ap (λ ranks. from ∷ ranks) (world-snoc n (from + 1) ∙ rw e refl)
+
+pub world-last : (n : ℕ) → world (n + 1) 0 ≡ world n 0 ++ n ∷ []
+world-last n =
+    let more : n + 1 ≡ suc n = omega arith in
+    let none : 0 + n ≡ n = omega arith in
+    ap (λ count. world count 0) more ∙ world-snoc n 0 ∙ ap (λ last. world n 0 ++ last ∷ []) none

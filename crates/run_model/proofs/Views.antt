@@ -1,5 +1,5 @@
 -- The views of longer histories.
-use Rattle.std.proofs.Common.{◌≡◌, ◌≤◌, ℕ, List, [], ◌∷◌, ◌++◌, ◌==◌, ◌⊎◌, Bool, true, false, inl, inr, refl, ◌∙◌, length, append-nil, arith}
+use Rattle.std.proofs.Common.{◌++◌, ◌==◌, ◌∙◌, ◌∷◌, ◌≡◌, ◌≤◌, ◌⊎◌, Bool, List, None, Option, Some, [], append-nil, arith, false, inl, inr, length, refl, true, ℕ}
 use Rattle.std.proofs.lemmas.Bool.{eq-eqb}
 use Rattle.run_model.specs.declared.event.Event.{Event}
 use Rattle.run_model.specs.Views.{view_of}
@@ -33,3 +33,13 @@ length-view_of (event ∷ events) rank =
       | inl h ↦ rw h (let rest = length-view_of events rank in omega (arith, rest))
       | inr h ↦ rw h (let rest = length-view_of events rank in omega (arith, rest))
     ]
+
+-- one more event of a rank that is given apart
+pub view_of-mine : (before : List Event) (event : Event) (rank : ℕ) → event.rank ≡ rank → view_of (before ++ event ∷ []) rank ≡ view_of before rank ++ (event.call, event.reply) ∷ []
+view_of-mine before event rank same =
+    let t : (event.rank == rank) ≡ true = eq-eqb event.rank rank same in
+    rw (view_of-append before (event ∷ []) rank, t)
+
+pub option_cases : {A : Type 0} (o : Option A) → ((x : A) × (o ≡ Some x)) ⊎ (o ≡ None)
+option_cases (Some x) = inl (x, refl)
+option_cases None = inr refl

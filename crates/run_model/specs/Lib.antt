@@ -10,3 +10,4 @@ pub mod Allowed
 pub mod Run
 pub mod Program
 pub mod Fits
+pub mod Forms

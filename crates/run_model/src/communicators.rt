@@ -34,7 +34,8 @@ pub fn are_the_members(n: u8, view: &[(Call, Reply)], comm: Comm, members: &[u8]
     }
 }
 
-fn are_same(known: &[u8], members: &[u8]) -> bool
+/// Whether two lists are the same.
+pub fn are_same(known: &[u8], members: &[u8]) -> bool
     ensures { result ≡ same_ranks known.now members.now }
 {
     known == members
@@ -71,7 +72,7 @@ fn find_made(view: &[(Call, Reply)], comm: Comm) -> Option<&Ranks>
 }
 
 /// The members that a reply gives for this number.
-fn made_in(reply: &Reply, comm: Comm) -> Option<&Ranks>
+pub fn made_in(reply: &Reply, comm: Comm) -> Option<&Ranks>
     ensures { option_map (λ members. members.now) result ≡ learned comm None reply.now }
 {
     match reply {

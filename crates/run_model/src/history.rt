@@ -69,7 +69,8 @@ impl History {
 
     /// The events in order.
     pub fn as_slice(&self) -> &[Event]
-        ensures { result.now ≡ self.now.events }
+        ensures events { result.now ≡ self.now.events }
+        ensures short { length result.now < 2 ^ 32 }
     {
         &self.events
     }

@@ -6,7 +6,7 @@
 //! allowed replies (`Allowed`), runs (`Run`), the shape of a reply (`Shape`), and what every program keeps (`Program`).
 #![tactic(auto)]
 
-mod communicators;
+pub mod communicators;
 pub mod event;
 pub mod history;
 pub mod lists;

@@ -1,9 +1,10 @@
 //! Which replies have the shape of a call.
-ghost use Rattle.std.specs.Prelude.{◌≡◌, ◌&&◌, ◌==◌, ◌*◌, ℕ, ℤ, List, Some, length, map, option_map};
+ghost use Rattle.std.specs.Prelude.{◌≡◌, ◌&&◌, ◌==◌, ◌*◌, ℕ, ℤ, List, Some, not, length, map, option_map};
+ghost use Rattle.mpi_call.specs.Calls.{is_enter, makes};
 ghost use Rattle.std.specs.List.{list_all};
 ghost use Rattle.mpi_call.specs.declared.reply.Got.TheVariants.{Nothing, Message, Joined, Made};
 ghost use Rattle.mpi_call.specs.declared.reply.Item.{Item};
-ghost use Rattle.mpi_call.specs.Collectives.{is_distinct, is_member};
+ghost use Rattle.mpi_call.specs.Collectives.{is_distinct, is_member, result_length};
 ghost use Rattle.mpi_call.specs.Halts.{fault_number};
 ghost use Rattle.run_model.specs.Fits.{fit_of};
 ghost use Rattle.run_model.specs.Lists.{are_below};
@@ -85,7 +86,7 @@ fn took_fits(
         && gots_fit(n, rank, view, starts, items)
 }
 
-fn is_test(mode: TakeMode) -> bool
+pub fn is_test(mode: TakeMode) -> bool
     ensures { result ≡ is_test mode }
 {
     matches!(
@@ -94,7 +95,7 @@ fn is_test(mode: TakeMode) -> bool
     )
 }
 
-fn has_count(mode: TakeMode, starts: usize, items: usize) -> bool
+pub fn has_count(mode: TakeMode, starts: usize, items: usize) -> bool
     ensures { result ≡ has_count mode starts items }
 {
     match mode {
@@ -157,7 +158,7 @@ fn gots_fit(n: u8, rank: u8, view: &[(Call, Reply)], starts: &[u32], items: &[It
 }
 
 /// Whether a halt fits a call: one that names the rank itself only the call that makes it.
-fn halt_fits(rank: u8, call: &Call, halt: &Halt) -> bool
+pub fn halt_fits(rank: u8, call: &Call, halt: &Halt) -> bool
     ensures { result ≡ halt_fits rank call.now halt.now }
 {
     match halt {
@@ -236,7 +237,7 @@ fn got_fits(n: u8, rank: u8, view: &[(Call, Reply)], start: Option<&Call>, got: 
 }
 
 /// Whether a call is a receive from the null process.
-fn is_from_null(call: &Call) -> bool
+pub fn is_from_null(call: &Call) -> bool
     ensures { (n : ℕ) (view : View) (rank : ℕ) → result ≡ got_fits n view rank (Some call.now) Nothing }
 {
     match call {
@@ -248,7 +249,7 @@ fn is_from_null(call: &Call) -> bool
     }
 }
 
-fn message_fits(call: &Call, source: u8, tag: u32, len: usize) -> bool
+pub fn message_fits(call: &Call, source: u8, tag: u32, len: usize) -> bool
     ensures { (n : ℕ) (view : View) (rank start : ℕ) (ints : List ℤ) → len ≡ length ints → result ≡ got_fits n view rank (Some call.now) (Message source start tag ints) }
 {
     match call {
@@ -267,14 +268,28 @@ fn result_fits(n: u8, rank: u8, view: &[(Call, Reply)], call: &Call, len: usize)
     ensures { (ints : List ℤ) → len ≡ length ints → result ≡ got_fits n view.now rank (Some call.now) (Joined ints) }
 {
     match call {
+        Call::Enter { comm, .. } => is_result_length(
+            call,
+            count_members(n, view, *comm),
+            rank,
+            len,
+        ),
+        _ => false,
+    }
+}
+
+/// Whether a collective that makes no communicator gives rank `rank` so many ints, on a communicator with so many members.
+pub fn is_result_length(call: &Call, members: usize, rank: u8, len: usize) -> bool
+    ensures { (ranks : List ℕ) → length ranks ≡ members
+        → result ≡ (is_enter call.now && (not (makes call.now) && (len == result_length call.now ranks rank))) }
+{
+    match call {
         Call::Enter {
-            comm,
             kind,
             root,
             count,
             ..
         } => {
-            let members = count_members(n, view, *comm);
             let at_root = is_root(root, rank);
             let count = *count as usize;
             match kind {
@@ -344,7 +359,7 @@ fn made_fits(
 }
 
 /// Whether these may be the members of a communicator of this rank.
-fn are_members(n: u8, rank: u8, members: &[u8]) -> bool
+pub fn are_members(n: u8, rank: u8, members: &[u8]) -> bool
     ensures { result ≡ (are_below n members.now && (is_distinct members.now && is_member members.now rank)) }
 {
     are_below(n, members) && are_distinct(members) && is_among(members, rank)

@@ -1,0 +1,12 @@
+pub mod PieceLaws
+pub mod ListLaws
+pub mod NoByteLaws
+pub mod MarkLaws
+pub mod EntryLaws
+pub mod LineLaws
+pub mod StateLaws
+pub mod LogLaws
+pub mod ReadLaws
+pub mod FaultLaws
+pub mod WriteLaws
+pub mod WorkedExamples

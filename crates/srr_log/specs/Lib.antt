@@ -1,3 +1,10 @@
 pub mod EntryText
 pub mod Bounds
 pub mod LogText
+pub mod Parts
+pub mod Faults
+pub mod Pieces
+pub mod EntryReading
+pub mod LineReading
+pub mod Reading
+pub mod Refused

@@ -19,7 +19,7 @@ pub fn entry_text(alloc: Global, out: &mut Bytes, entry: &Entry) -> Result<(), A
     out.extend(line.as_slice())
 }
 
-fn push_entry(out: &mut Bytes, entry: &Entry) -> Result<(), AllocError>
+pub(crate) fn push_entry(out: &mut Bytes, entry: &Entry) -> Result<(), AllocError>
     ensures { OnOk result (out.new ≡ out.old ++ entry_line entry.now) }
 {
     match entry {
@@ -56,7 +56,7 @@ fn push_entry(out: &mut Bytes, entry: &Entry) -> Result<(), AllocError>
 }
 
 /// A mark and a number.
-fn push_behind(out: &mut Bytes, mark: u8, number: u32) -> Result<(), AllocError>
+pub(crate) fn push_behind(out: &mut Bytes, mark: u8, number: u32) -> Result<(), AllocError>
     ensures { OnOk result (out.new ≡ out.old ++ mark ∷ decimal_text number) }
 {
     push_text(out, &[mark])?;

@@ -1,6 +1,15 @@
 //! The text of a log, format 1.
 #![tactic(auto)]
 
+mod entry_line;
 pub mod entry_text;
+pub mod fault;
+mod line;
+mod lists;
+mod mark;
+mod pieces;
+pub mod read_log;
+mod stop;
 #[cfg(test)]
 mod tests;
+pub mod write_log;

@@ -1,20 +1,21 @@
 -- What every replay keeps.
-use Rattle.std.proofs.Common.{◌≡◌, ◌≢◌, ◌<◌, ◌+◌, ℕ, List, [], ◌∷◌, ◌++◌, ◌==◌, inl, inr, Some, true, refl, sym, ◌∙◌, subst, length, slice_index, length-append, arith, get_or-set_same, get_or-set_other, set, length-set}
+use Rattle.std.proofs.Common.{◌≡◌, ◌≢◌, ◌<◌, ◌+◌, ℕ, List, [], ◌∷◌, ◌++◌, ◌==◌, inl, inr, Some, true, false, refl, sym, ◌∙◌, subst, length, slice_index, length-append, arith, get_or-set_same, get_or-set_other, set, length-set}
 use Rattle.std.proofs.lemmas.Bool.{eqb-true, eq-eqb}
 use Rattle.mpi_call.specs.declared.call.Call.{Call}
 use Rattle.mpi_call.specs.declared.reply.Reply.{Reply}
 use Rattle.mpi_call.specs.Collectives.{is_member}
 use Rattle.run_model.specs.declared.event.Event.{Event}
-use Rattle.run_model.specs.Program.{IsSeen, IsViewOf, MayGive}
+use Rattle.run_model.specs.Forms.{AreInOrder}
+use Rattle.run_model.specs.Program.{AsksInBounds, EntersInForm, IsSeen, IsViewOf, MayGive}
 use Rattle.run_model.specs.Views.{Next, view_of, replies_in}
 use Rattle.run_model.proofs.Along.{Along-snoc, Along-keeps}
+use Rattle.run_model.proofs.Orders.{in_order, short_sends}
 use Rattle.run_model.proofs.Views.{test_cases, view_of-own, view_of-other}
 use Rattle.srr_entry.specs.declared.log.Log.{Log}
 use Rattle.srr_replay.specs.declared.step.Step.TheVariants.{Replied}
-use Rattle.srr_replay.specs.Built.{AreSmall}
 use Rattle.srr_replay.specs.Replays.{Stop, IsStep, Replays, answer_of, event_of}
-use Rattle.srr_replay.specs.Rounds.{AreCounts}
-use Rattle.srr_replay.proofs.LogLemmas.{AreSmall-for}
+use Rattle.srr_replay.specs.Rounds.{AreCounts, IsReplayable}
+use Rattle.srr_replay.proofs.LogLemmas.{below_at}
 use Rattle.srr_replay.proofs.ShapeLemmas.{answer_shaped}
 
 -- the event of a reply keeps it a replay
@@ -22,39 +23,69 @@ pub Replays-after : (next : Next) (log : Log) (stop : Stop) (events : List Event
 Replays-after next log stop events rank call reply all member asked answered =
     Along-snoc (IsStep next log stop) [] events _ all (record { member = member; call = asked; reply = answered; mate = refl })
 
--- what a step adds to a rank's view is a call of its program with a reply in shape
-seen_more : (next : Next) (log : Log) (stop : Stop) (rank : ℕ) → AreSmall log.lists → (before : List Event) (event : Event) → IsViewOf next log.ranks rank (view_of before rank) → IsStep next log stop before event → IsViewOf next log.ranks rank (view_of (before ++ event ∷ []) rank)
-seen_more next log stop rank small before event came step =
-    elim (test_cases (event.rank == rank)) [
-      | inl h ↦
-          let P : ℕ → Type 0 = λ r. IsViewOf next log.ranks r (view_of before r) → IsViewOf next log.ranks r (view_of (before ++ event ∷ []) r) in
-          let own : P event.rank = λ here.
-          rw (view_of-own before event)
-          (Along-snoc (IsSeen next log.ranks event.rank) [] (view_of before event.rank) (event.call, event.reply) here
-          (record {
-            asked = step.call;
-            shaped = answer_shaped log stop (view_of before) (view_of before event.rank) event.rank event.call event.reply (AreSmall-for log.group log.lists event.rank small) step.reply;
-          })) in
-          subst P (eqb-true event.rank rank h) own came
-      | inr h ↦ rw (view_of-other before event rank h) came
-    ]
+-- each rank came to where it stands by replies in shape, and no rank outside the group has an event
+pub record Came (next : Next) (log : Log) (events : List Event) : Type 0 where
+  pub views : (rank : ℕ) → IsViewOf next log.ranks rank (view_of events rank)
+  pub alone : (rank : ℕ) → is_member log.group rank ≡ false → view_of events rank ≡ []
 
--- each rank came to where it stands by replies in shape
-pub IsViewOf-Replays : (next : Next) (log : Log) (stop : Stop) (rank : ℕ) (events : List Event) → AreSmall log.lists → Replays next log stop events → IsViewOf next log.ranks rank (view_of events rank)
-IsViewOf-Replays next log stop rank events small all =
-    Along-keeps (IsStep next log stop) (λ events. IsViewOf next log.ranks rank (view_of events rank))
-    (seen_more next log stop rank small) [] events tt all
+-- the laws of a program that its replays rest on
+pub record KeepsForm (next : Next) : Type 0 where
+  pub enters : EntersInForm next
+  pub bounds : AsksInBounds next
 
--- so the reply may be given
-pub MayGive-Replays : (next : Next) (log : Log) (stop : Stop) (events : List Event) (rank : ℕ) (call : Call) (reply : Reply) → AreSmall log.lists → Replays next log stop events → next log.ranks rank (replies_in (view_of events rank)) ≡ Some call → answer_of log stop (view_of events) (view_of events rank) rank call ≡ Replied reply → MayGive next log.ranks rank (replies_in (view_of events rank)) reply
-MayGive-Replays next log stop events rank call reply small all asked answered =
+pub Came-order : (next : Next) (log : Log) (events : List Event) → KeepsForm next → IsReplayable log → Came next log events → AreInOrder log.ranks events
+Came-order next log events laws fine came =
+    record {
+      ranks = λ rank below. in_order next log.ranks rank (view_of events rank) laws.enters (omega (arith, below), fine.few, below) (came.views rank);
+      sends = λ rank k comm dest tag ints at. elim (test_cases (is_member log.group rank)) [
+        | inl mine ↦ (
+            let below = below_at log.ranks log.group rank fine.below mine in
+            short_sends next log.ranks rank (view_of events rank) laws.bounds (omega (arith, below), fine.few, below) (came.views rank) k comm dest tag ints at)
+        | inr other ↦ (let none = rw (came.alone rank other) at at in absurd (cc))
+      ];
+    }
+
+came_more : (next : Next) (log : Log) (stop : Stop) → KeepsForm next → IsReplayable log → (before : List Event) (event : Event) → Came next log before → IsStep next log stop before event → Came next log (before ++ event ∷ [])
+came_more next log stop laws fine before event came step =
+    let below = below_at log.ranks log.group event.rank fine.below step.member in
+    let shaped = answer_shaped log stop before event.rank event.call event.reply below (Came-order next log before laws fine came) step.member step.reply in
+    record {
+      views = λ rank. elim (test_cases (event.rank == rank)) [
+        | inl h ↦
+            let P : ℕ → Type 0 = λ r. IsViewOf next log.ranks r (view_of (before ++ event ∷ []) r) in
+            let own : P event.rank =
+            rw (view_of-own before event)
+            (Along-snoc (IsSeen next log.ranks event.rank) [] (view_of before event.rank) (event.call, event.reply) (came.views event.rank)
+            (record { asked = step.call; shaped = shaped })) in
+            subst P (eqb-true event.rank rank h) own
+        | inr h ↦ rw (view_of-other before event rank h) (came.views rank)
+      ];
+      alone = λ rank other. elim (test_cases (event.rank == rank)) [
+        | inl h ↦ (let mine : is_member log.group rank ≡ true = rw (← eqb-true event.rank rank h) step.member in let no : true ≡ false = sym mine ∙ other in absurd (cc))
+        | inr h ↦ rw (view_of-other before event rank h) (came.alone rank other)
+      ];
+    }
+
+pub Came-Replays : (next : Next) (log : Log) (stop : Stop) (events : List Event) → KeepsForm next → IsReplayable log → Replays next log stop events → Came next log events
+Came-Replays next log stop events laws fine all =
+    Along-keeps (IsStep next log stop) (Came next log) (came_more next log stop laws fine) [] events
+    (record { views = λ rank. tt; alone = λ rank other. refl }) all
+
+-- so each rank's view is in order
+pub AreInOrder-Replays : (next : Next) (log : Log) (stop : Stop) (events : List Event) → KeepsForm next → IsReplayable log → Replays next log stop events → AreInOrder log.ranks events
+AreInOrder-Replays next log stop events laws fine all = Came-order next log events laws fine (Came-Replays next log stop events laws fine all)
+
+-- and the reply may be given
+pub MayGive-Replays : (next : Next) (log : Log) (stop : Stop) (events : List Event) (rank : ℕ) (call : Call) (reply : Reply) → KeepsForm next → IsReplayable log → Replays next log stop events → is_member log.group rank ≡ true → next log.ranks rank (replies_in (view_of events rank)) ≡ Some call → answer_of log stop (view_of events) (view_of events rank) rank call ≡ Replied reply → MayGive next log.ranks rank (replies_in (view_of events rank)) reply
+MayGive-Replays next log stop events rank call reply laws fine all mine asked answered =
+    let came = Came-Replays next log stop events laws fine all in
     record {
       view = view_of events rank;
       call = call;
       replies_are = refl;
-      came = IsViewOf-Replays next log stop rank events small all;
+      came = came.views rank;
       asked = asked;
-      shaped = answer_shaped log stop (view_of events) (view_of events rank) rank call reply (AreSmall-for log.group log.lists rank small) answered;
+      shaped = answer_shaped log stop events rank call reply (below_at log.ranks log.group rank fine.below mine) (Came-order next log events laws fine came) mine answered;
     }
 
 -- the counts after one more event of a rank

@@ -1,5 +1,5 @@
 -- Worked examples, by computing.
-use Rattle.std.proofs.Common.{◌≡◌, ℕ, ℤ, List, [], ◌∷◌, Option, Some, None, true, false, take, refl, pos, negsuc}
+use Rattle.std.proofs.Common.{◌≡◌, ℕ, ℤ, List, [], ◌∷◌, Option, Some, None, true, false, inl, take, drop, refl, pos, negsuc}
 use Rattle.mpi_call.specs.declared.call.Call.{Call}
 use Rattle.mpi_call.specs.declared.call.Call.TheVariants.{Send, Post, Enter, Take, End}
 use Rattle.mpi_call.specs.declared.call.Source.TheVariants.{Any, From}
@@ -22,10 +22,11 @@ use Rattle.srr_entry.specs.declared.entry.Mark.TheVariants.{Inside, Outside, Inn
 use Rattle.srr_entry.specs.declared.entry.Entry.{Entry}
 use Rattle.srr_entry.specs.declared.entry.Entry.TheVariants.{Posted, Entered, Ended as EntryEnded, Took as EntryTook}
 use Rattle.srr_entry.specs.Entries.{entries_from, log_of}
-use Rattle.srr_replay.specs.declared.step.Missing.TheVariants.{Start}
+use Rattle.srr_replay.specs.declared.step.Missing.TheVariants.{Start, Member}
 use Rattle.srr_replay.specs.declared.step.Step.TheVariants.{Replied, Wait, Diverged}
 use Rattle.srr_replay.specs.Fits.{fits}
 use Rattle.srr_replay.specs.Replays.{answer_of}
+use Rattle.srr_replay.specs.Rests.{IsCutOff, follows, number_of, rests, rests_on, stops}
 
 abbrev pub event : ℕ → Call → Reply → Option ℕ → Event
 event rank call reply mate = record { rank = rank; call = call; reply = reply; mate = mate }
@@ -84,6 +85,19 @@ diverged16 : answer_of (log_of [] 3 run3 (0 ∷ 1 ∷ 2 ∷ [])) None (view_of (
 unfolding fits
 diverged16 = refl
 
+-- that Take rests on the Send whose message it took, rank 1's call 0
+rests3 : rests 3 ((receive, Done) ∷ []) 2 (Take (0 ∷ []) All) (marked 0 (Inside 1 0)) ≡ Start 1 0 ∷ []
+rests3 = refl
+
+number3 : number_of (view_of run3) (Start 1 0) ≡ Some 0
+number3 = refl
+
+-- a breakpoint before that Send cuts it off, and so the second receive, the call after it
+cut3 : IsCutOff 3 (0 ∷ 1 ∷ 2 ∷ []) (view_of run3) (Some (1, 0)) 2 2
+cut3 =
+    follows 2 1 (rests_on 2 ((receive, Done) ∷ []) (drop 2 (view_of run3 2)) (Take (0 ∷ []) All) (one 0 (Message 1 0 9 (pos 1 ∷ []))) (Start 1 0) 0
+    refl refl (inl refl) refl (stops 1 0 refl))
+
 -- two ranks that both receive first wait for ever
 abbrev run9 : List Event
 run9 = event 0 (Post 0 (From 1) (Is 5) 1) Done None ∷ event 1 (Post 0 (From 0) (Is 5) 1) Done None ∷ []
@@ -138,6 +152,13 @@ run14 = event 0 (split_by (pos 1)) Done None ∷ event 1 (split_by (negsuc 32765
 answer14 : answer_of (log_of [] 3 run14 (0 ∷ 1 ∷ 2 ∷ [])) None (view_of (take 3 run14)) (view_of (take 3 run14) 0) 0 (Take (0 ∷ []) All) ≡ Replied (one 0 (Made 1 (0 ∷ 2 ∷ [])))
 unfolding fits
 answer14 = refl
+
+-- the new communicator rests on the Enters of all members, each its rank's call 0
+rests14 : rests 3 ((split_by (pos 1), Done) ∷ []) 0 (Take (0 ∷ []) All) (marked 0 (MarkMade 1)) ≡ Member 0 0 0 ∷ Member 1 0 0 ∷ Member 2 0 0 ∷ []
+rests14 = refl
+
+number14 : number_of (view_of run14) (Member 2 0 0) ≡ Some 0
+number14 = refl
 
 -- a barrier against a broadcast
 mismatch27 : due 2 (event 0 (Enter 0 Barrier None None 0 []) Done None ∷ []) [] 1 (Enter 0 Bcast (Some 0) None 1 []) ≡ Some (Mismatched 1)

@@ -86,3 +86,13 @@ filled n V own me call EntryNotYet = Ok NotYet
 filled n V own me call (PeekedInside source start) = peeked_from source start (start_at (V source) start)
 filled n V own me call (PeekedOutside source start tag count) = Ok (Peeked source start tag count)
 filled n V own me call (EntryStopped halt) = Ok (Stopped halt)
+
+-- what is missing where no reply can be made
+abbrev pub missing_of : {A : Type 0} → Result A Missing → Option Missing
+missing_of (Ok filled) = None
+missing_of (Err missing) = Some missing
+
+-- the needed member that has not entered yet
+abbrev pub absent_of : Result (List (List ℤ)) ℕ → Option ℕ
+absent_of (Ok inputs) = None
+absent_of (Err member) = Some member

@@ -1,5 +1,5 @@
 -- What an entry and a call agree on, by the rank's own view.
-use Rattle.std.specs.Prelude.{ℕ, List, [], ◌∷◌, Option, Some, None, Bool, true, false, not, ◌&&◌, ◌==◌, if◌then◌else◌, nat_le, map, length, slice_index}
+use Rattle.std.specs.Prelude.{◌≡◌, ℕ, List, [], ◌∷◌, Option, Some, None, Bool, true, false, not, ◌&&◌, ◌==◌, if◌then◌else◌, nat_le, map, length, slice_index}
 use Rattle.std.specs.List.{list_all}
 use Rattle.mpi_call.specs.declared.call.Call.{Call}
 use Rattle.mpi_call.specs.declared.call.Call.TheVariants.{Send, Post, Enter, Take, Peek, End}
@@ -60,3 +60,7 @@ fits n group me own (Take starts mode) (EntryTook marks) =
     && (rises 0 (length starts) (map (λ (marked : Marked). marked.index) marks)
     && (list_all (λ k. can_take own k) starts && marks_fit n group me own starts marks))
 fits n group me own call entry = false
+
+-- a start that is there is an Enter
+abbrev pub IsEnterAt : View → ℕ → Type 0
+IsEnterAt own k = (call : Call) → start_at own k ≡ Some call → is_enter call ≡ true

@@ -1,7 +1,10 @@
-pub mod Built
 pub mod Fits
 pub mod Filling
 pub mod Breaks
 pub mod Replays
+pub mod Collectives
+pub mod Seen
 pub mod Rounds
 pub mod Stands
+pub mod Rests
+pub mod Laws

@@ -71,6 +71,11 @@ Replays next log stop events = Along (IsStep next log stop) [] events
 abbrev pub IsExhausted : Next → Log → Stop → List Event → Type 0
 IsExhausted next log stop events = (event : Event) → IsStep next log stop events event → ⊥
 
+-- a replay that can go no further
+pub record IsWholeReplay (next : Next) (log : Log) (stop : Stop) (events : List Event) : Type 0 where
+  pub replays : Replays next log stop events
+  pub exhausted : IsExhausted next log stop events
+
 -- what contracts see of a replay
 pub record ReplayState (P : Type 0) : Type 0 where
   pub program : P

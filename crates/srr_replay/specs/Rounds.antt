@@ -7,7 +7,6 @@ use Rattle.run_model.specs.Lists.{are_below}
 use Rattle.run_model.specs.Program.{Standing, IsAfter}
 use Rattle.run_model.specs.Views.{Next, view_of}
 use Rattle.srr_entry.specs.declared.log.Log.{Log}
-use Rattle.srr_replay.specs.Built.{AreSmall}
 use Rattle.srr_replay.specs.Replays.{Stop, IsStep}
 
 -- 1 to 64 ranks, a group of distinct ranks below their number, a list of entries for each, no longer than a log holds
@@ -18,7 +17,6 @@ pub record IsReplayable (log : Log) : Type 0 where
   pub distinct : is_distinct log.group ≡ true
   pub as_many : length log.lists ≡ length log.group
   pub short : All (λ entries. length entries ≤ 999064) log.lists
-  pub small : AreSmall log.lists
 
 -- each number counts the calls of its rank
 abbrev pub AreCounts : ℕ → List Event → List ℕ → Type 0

@@ -2,9 +2,16 @@
 #![tactic(auto)]
 
 mod answer;
+mod asked;
+mod clash;
 mod counts;
+mod fill;
 mod find;
+mod fit;
+pub mod laws;
+mod missing;
 pub mod replay;
 pub mod replayed;
+mod seen;
 pub mod serial;
 pub mod step;

@@ -4,14 +4,13 @@ ghost use Rattle.mpi_call.specs.Collectives.{is_member};
 ghost use Rattle.mpi_call.specs.declared.reply.Reply.{Reply};
 ghost use Rattle.run_model.specs.Program.{MayGive};
 ghost use Rattle.run_model.specs.Views.{view_of, replies_in};
-ghost use Rattle.srr_replay.specs.Built.{AsksBuilt};
 ghost use Rattle.srr_replay.specs.Replays.{answer_of, events_after, event_of, Replays};
 ghost use Rattle.srr_replay.specs.Rounds.{IsReplayable};
 ghost use Rattle.srr_replay.specs.declared.step.Step.TheVariants.{Replied};
 
-use crate::answer;
-use crate::answer::Asked;
-use crate::counts::Counts;
+use crate::answer::answer;
+use crate::asked::Asked;
+use crate::seen::Seen;
 use crate::step::Step;
 use mpi_call::call::Call;
 use mpi_call::reply::Reply;
@@ -29,22 +28,20 @@ pub struct Replay<'a, P: Program> {
     program: &'a P,
     log: &'a Log,
     stop: Option<(u8, u32)>,
-    events: History,
-    /// How many calls each rank of the run has made: its next call's number, and its next entry's place.
-    counts: Counts,
+    seen: Seen,
     alloc: Global,
 }
 
 impl<'a, P: Program> Model for Replay<'a, P> {
-    ghost use Rattle.srr_replay.specs.Built.{AsksBuilt};
+    ghost use Rattle.std.specs.Prelude.{◌≡◌};
     ghost use Rattle.srr_replay.specs.Replays.{ReplayState, Replays};
-    ghost use Rattle.srr_replay.specs.Rounds.{AreCounts, IsReplayable};
+    ghost use Rattle.srr_replay.specs.Rounds.{IsReplayable};
 
     ghost Value = { ReplayState P };
 
-    ghost view = { λ r. record { program = r.program.now; log = r.log.now; stop = r.stop; events = r.events.events } };
+    ghost view = { λ r. record { program = r.program.now; log = r.log.now; stop = r.stop; events = r.seen.events } };
 
-    ghost invariant = { λ r. IsReplayable r.log.now × AsksBuilt (P.next r.program.now) × Replays (P.next r.program.now) r.log.now r.stop r.events.events × AreCounts r.log.now.ranks r.events.events r.counts };
+    ghost invariant = { λ r. IsReplayable r.log.now × Replays (P.next r.program.now) r.log.now r.stop r.seen.events × (r.seen.ranks ≡ r.log.now.ranks) };
 }
 
 impl<'a, P: Program> Replay<'a, P> {
@@ -57,16 +54,14 @@ impl<'a, P: Program> Replay<'a, P> {
         stop: Option<(u8, u32)>,
     ) -> Result<Self, AllocError>
         requires log { IsReplayable log.now }
-        requires built { AsksBuilt (P.next program.now) }
         ensures { IfOk result (λ r. r ≡ record { program = program.now; log = log.now; stop = stop; events = [] }) }
     {
-        let counts = Counts::new(alloc, log.ranks)?;
+        let seen = Seen::new(alloc, log.ranks)?;
         Ok(Replay {
             program,
             log,
             stop,
-            events: History::new(alloc),
-            counts,
+            seen,
             alloc,
         })
     }
@@ -80,15 +75,9 @@ impl<'a, P: Program> Replay<'a, P> {
         ensures shape { IfOk result (λ step. (reply : Reply) → step ≡ Replied reply → MayGive (P.next self.old.program) self.old.log.ranks rank (replies_in (view_of self.old.events rank)) reply) }
         ensures err { OnErr result (self.new ≡ self.old) }
     {
-        let number = self.counts.get(rank);
+        let number = self.seen.count(rank);
         let asked = Asked { rank, number, call };
-        let step = answer::answer(
-            self.alloc,
-            self.log,
-            &self.stop,
-            self.events.as_slice(),
-            &asked,
-        )?;
+        let step = answer(self.alloc, self.log, &self.stop, &self.seen, &asked)?;
         if let Step::Replied(reply) = &step {
             self.append(rank, call, reply)?;
             return Ok(step);
@@ -104,20 +93,14 @@ impl<'a, P: Program> Replay<'a, P> {
         ensures ok { OnOk result (self.new ≡ record self.old { events = self.old.events ++ event_of rank call.now reply.now ∷ [] }) }
         ensures err { OnErr result (self.new ≡ self.old) }
     {
-        // A log's bounds keep the events far below this.
-        if self.events.len() >= u32::MAX {
-            return Err(AllocError);
-        }
         let reply = reply::copy_of(reply)?;
         let call = call::copy_of(call)?;
-        self.events.reserve(1)?;
-        self.events.push(Event {
+        self.seen.add(Event {
             rank,
             call,
             reply,
             mate: None,
-        });
-        self.counts.rise(rank);
+        })?;
         Ok(())
     }
 
@@ -125,7 +108,7 @@ impl<'a, P: Program> Replay<'a, P> {
     pub fn len(&self) -> u32
         ensures { result ≡ length self.now.events }
     {
-        self.events.len()
+        self.seen.events().len()
     }
 
     /// The events so far. Takes no memory.
@@ -133,7 +116,7 @@ impl<'a, P: Program> Replay<'a, P> {
         ensures events { result.now.events ≡ self.now.events }
         ensures replays { Replays (P.next self.now.program) self.now.log self.now.stop self.now.events }
     {
-        &self.events
+        self.seen.events()
     }
 
     /// The events so far, handed out. Takes no memory.
@@ -141,6 +124,6 @@ impl<'a, P: Program> Replay<'a, P> {
         ensures events { result.events ≡ self.entry.events }
         ensures replays { Replays (P.next self.entry.program) self.entry.log self.entry.stop result.events }
     {
-        self.events
+        self.seen.into_events()
     }
 }

@@ -1,12 +1,15 @@
 //! A whole replay on one thread.
-ghost use Rattle.std.specs.Prelude.{◌≡◌, ◌<◌, ◌≤◌, ◌++◌, ◌∷◌, [], OnOk, OnErr, IfOk, length, map, Some, true, false};
+ghost use Rattle.std.specs.Prelude.{◌≡◌, ◌<◌, ◌≤◌, ◌++◌, ◌∷◌, [], OnOk, OnErr, IfOk, length, map, Some, true, false, ℕ, List};
 ghost use Rattle.mpi_call.specs.Collectives.{is_distinct, is_member};
+ghost use Rattle.run_model.specs.declared.event.Event.{Event};
 ghost use Rattle.run_model.specs.Program.{IsAfter};
-ghost use Rattle.srr_replay.specs.Built.{AsksBuilt};
-ghost use Rattle.srr_replay.specs.Replays.{IsExhausted, Replays};
+ghost use Rattle.run_model.specs.Views.{view_of};
+ghost use Rattle.srr_replay.specs.Laws.{IsReplayOfEveryRun};
+ghost use Rattle.srr_replay.specs.Replays.{IsExhausted, IsWholeReplay, Replays};
 ghost use Rattle.srr_replay.specs.Rounds.{GrowsBy, HasNoStep, IsReplayable, RunAll};
 ghost use Rattle.srr_replay.specs.Stands.{IsReplayed, printed_of, stand_of};
 
+use crate::laws::{begins_every_run, has_all_of_every_run, has_the_cut, replays_agree};
 use crate::replay::Replay;
 use crate::replayed::{Replayed, Stand, Stands};
 use crate::step::Step;
@@ -113,9 +116,10 @@ pub fn replay_serial<P: Program, R: RankRun<Of = P>>(
     stop: Option<(u8, u32)>,
 ) -> Result<Replayed, AllocError>
     requires log { IsReplayable log.now }
-    requires built { AsksBuilt (P.next program.now) }
     requires runs { RunAll R.standing program.now log.now [] runs.items }
-    ensures { IfOk result (λ replayed. IsReplayed (P.next program.now) (P.output program.now) (P.variables program.now) log.now stop replayed) }
+    ensures replay { IfOk result (λ replayed. IsReplayed (P.next program.now) (P.output program.now) (P.variables program.now) log.now stop replayed) }
+    ensures runs { IfOk result (λ replayed. IsReplayOfEveryRun (P.next program.now) (P.output program.now) log.now stop replayed) }
+    ensures alike { IfOk result (λ replayed. (other : List Event) → IsWholeReplay (P.next program.now) log.now stop other → (rank : ℕ) → view_of replayed.events.events rank ≡ view_of other rank) }
 {
     let mut replay = Replay::new(alloc, program, log, stop)?;
     let mut count = 0;
@@ -126,7 +130,12 @@ pub fn replay_serial<P: Program, R: RankRun<Of = P>>(
         }
         count = replay.len();
     }
-    finish(alloc, log, replay, runs.as_mut_slice())
+    let replayed = finish(alloc, log, replay, runs.as_mut_slice())?;
+    begins_every_run(program, log, &stop, &replayed.events);
+    has_the_cut(program, log, &stop, &replayed.events);
+    has_all_of_every_run(program, log, &stop, &replayed.events);
+    replays_agree(program, log, &stop);
+    Ok(replayed)
 }
 
 /// The stands and outputs of a replay that can go no further, with its events.

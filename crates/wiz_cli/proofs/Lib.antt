@@ -1,11 +1,7 @@
 pub mod FirstRowLaws
-pub mod PieceLaws
 pub mod ReadingLaws
 pub mod ReportLemmas
-pub mod SmallCallLaws
-pub mod SmallEntryLaws
-pub mod SmallListLaws
-pub mod SmallLogLaws
 pub mod SpelledLaws
 pub mod TokenLaws
 pub mod WordLemmas
+pub mod LogLemmas

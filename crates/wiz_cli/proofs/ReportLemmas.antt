@@ -1,37 +1,120 @@
 -- What comes of a file, from what comes of its bytes; and reports.
-use Rattle.std.proofs.Common.{◌≡◌, ◌≤◌, ℕ, List, Option, Some, None, IfSome, Ok, length, inr}
-use Rattle.srr_replay.specs.declared.replayed.Replayed.{Replayed}
+use Rattle.std.proofs.Common.{◌≡◌, ◌≢◌, ◌≤◌, ◌⊎◌, Result, Err, OnErr, ℕ, suc, List, [], ◌∷◌, Option, Some, None, IfSome, Ok, length, false, inl, inr, refl, sym, ap, ◌∙◌, ◌++◌, arith}
+use Rattle.std.proofs.Math.Seq.{take-length}
+use Rattle.std.specs.List.{All, list_any}
+use Rattle.run_model.specs.declared.event.Event.{Event}
 use Rattle.run_model.specs.Views.{Kept}
+use Rattle.srr_entry.specs.declared.log.Log.{Log}
+use Rattle.srr_replay.specs.declared.replayed.Replayed.{Replayed}
+use Rattle.srr_replay.specs.declared.replayed.Stand.{Stand}
+use Rattle.srr_replay.specs.Laws.{IsDone, IsRunWith}
 use Rattle.wiz_cli.specs.declared.outcome.Refusal.TheVariants.{Words, Missing, ReadFault, Program, Log as LogRefused, TooLong}
 use Rattle.wiz_cli.specs.declared.outcome.Outcome.{Outcome}
 use Rattle.wiz_cli.specs.declared.outcome.Outcome.TheVariants.{Refused, Replayed as WasReplayed}
-use Rattle.wiz_cli.specs.Reports.{IsBytesOutcome, IsFileOutcome, IsOutcome, IsReport, IsTold}
+use Rattle.wiz_cli.specs.Courses.{next_of, output_of}
+use Rattle.wiz_cli.specs.Reports.{GrewBy, GrewByPart, IsBytesOutcome, IsFileOutcome, IsOutcome, IsReplayOfLog, IsReport, IsShown, IsTold, IsTrace, ReplaysShowEveryRun, ShowsEveryRun, is_diverged, is_starved}
+use Rattle.wiz_cli.specs.TraceTexts.{trace_text}
 use Rattle.wiz_cli.specs.Words.{IsReplayOf}
 use Rattle.wiz_io.specs.Files.{Files, IsRead}
 
-pub IsFileOutcome-bytes : (files : Option Files) (name : List ℕ) (before after : ℕ) (bytes : List ℕ) (outcome : Outcome) → IfSome files (λ told. told name ≡ Some bytes) → length bytes ≤ 134217728 → IsBytesOutcome bytes outcome → IsFileOutcome files name before after outcome
+pub IsFileOutcome-bytes : (files : Option Files) (name : List ℕ) (before after : ℕ) (bytes : List ℕ) (outcome : Outcome)
+    → IfSome files (λ told. told name ≡ Some bytes) → length bytes ≤ 134217728 → IsBytesOutcome bytes outcome
+    → IsFileOutcome files name before after outcome
 IsFileOutcome-bytes files name before after bytes (Refused Words) is short h = absurd h.2
 IsFileOutcome-bytes files name before after bytes (Refused Missing) is short h = absurd h.2
 IsFileOutcome-bytes files name before after bytes (Refused ReadFault) is short h = absurd h.2
 IsFileOutcome-bytes files name before after bytes (Refused Program) is short h = (bytes, is, short, h)
-IsFileOutcome-bytes files name before after bytes (Refused LogRefused) is short h = (bytes, is, short, h)
+IsFileOutcome-bytes files name before after bytes (Refused (LogRefused fault)) is short h = (bytes, is, short, h)
 IsFileOutcome-bytes files name before after bytes (Refused TooLong) is short h = absurd h.2
 IsFileOutcome-bytes files name before after bytes (WasReplayed replayed) is short h = (bytes, is, short, h)
 
-pub IsOutcome-file : (words : List (List ℕ)) (files : Option Files) (before after : ℕ) (name : List ℕ) (outcome : Outcome) → IsReplayOf words name → IsFileOutcome files name before after outcome → IsOutcome words files before after name outcome
+pub IsOutcome-file : (words : List (List ℕ)) (files : Option Files) (before after : ℕ) (name : List ℕ) (outcome : Outcome)
+    → IsReplayOf words name → IsFileOutcome files name before after outcome → IsOutcome words files before after name outcome
 IsOutcome-file words files before after name (Refused Words) is h = absurd h
 IsOutcome-file words files before after name (Refused Missing) is h = (is, h)
 IsOutcome-file words files before after name (Refused ReadFault) is h = (is, h)
 IsOutcome-file words files before after name (Refused Program) is h = (is, h)
-IsOutcome-file words files before after name (Refused LogRefused) is h = (is, h)
+IsOutcome-file words files before after name (Refused (LogRefused fault)) is h = (is, h)
 IsOutcome-file words files before after name (Refused TooLong) is h = (is, h)
 IsOutcome-file words files before after name (WasReplayed replayed) is h = (is, h)
 
 -- an outcome of the words, told
-pub IsReport-told : (words : List (List ℕ)) (files : Option Files) (reads reads' : ℕ) (before after : Option (List ℕ)) (faults faults' status : ℕ) (run : Option Kept) (replays : List Replayed) (name : List ℕ) (outcome : Outcome) → IsOutcome words files reads reads' name outcome → IsTold outcome name before after faults faults' status run replays → IsReport words files reads reads' before after faults faults' status run replays
+pub IsReport-told : (words : List (List ℕ)) (files : Option Files) (reads reads' : ℕ) (before after : Option (List ℕ)) (faults faults' status : ℕ) (run : Option Kept) (replays : List Replayed) (name : List ℕ) (outcome : Outcome)
+    → IsOutcome words files reads reads' name outcome → IsTold outcome name before after faults faults' status run replays
+    → IsReport words files reads reads' before after faults faults' status run replays
 IsReport-told words files reads reads' before after faults faults' status run replays name outcome comes told = inr (name, outcome, comes, told)
 
 -- where files are told, what was read of one are its bytes
-pub IsRead-bytes : (files : Option Files) (name bytes : List ℕ) (limit : ℕ) → IfSome files (λ told. IsRead (told name) limit (Ok bytes)) → IfSome files (λ told. told name ≡ Some bytes)
+pub IsRead-bytes : (files : Option Files) (name bytes : List ℕ) (limit : ℕ)
+    → IfSome files (λ told. IsRead (told name) limit (Ok bytes)) → IfSome files (λ told. told name ≡ Some bytes)
 IsRead-bytes None name bytes limit h = h
 IsRead-bytes (Some told) name bytes limit h = h.0
+
+-- stands that have come to an end give the status 0
+done_status : (ends : List Stand) → All IsDone ends → (list_any is_diverged ends ≡ false) × (list_any is_starved ends ≡ false)
+done_status [] done = (refl, refl)
+done_status (stand ∷ ends) done =
+    let rest = done_status ends (λ k d below. done (suc k) d (omega (arith, below))) in
+    let first : IsDone stand = done 0 stand (omega arith) in
+    elim first [
+      | inl ended ↦ rw ended rest
+      | inr log_ended ↦ rw log_ended rest
+    ]
+
+not_nine : (status : ℕ) → (status ≡ 0) ⊎ (status ≡ 4) → (status ≢ 9) × (status ≢ 10)
+not_nine status (inl zero_is) = (λ nine. absurd (omega (arith, zero_is, nine)), λ ten. absurd (omega (arith, zero_is, ten)))
+not_nine status (inr four) = (λ nine. absurd (omega (arith, four, nine)), λ ten. absurd (omega (arith, four, ten)))
+
+traced_status : (before after : Option (List ℕ)) (faults faults' : ℕ) (replayed : Replayed) (status : ℕ)
+    → All IsDone replayed.ends → IsTrace before after faults faults' replayed status → (status ≡ 0) ⊎ (status ≡ 4)
+traced_status before after faults faults' replayed status done trace =
+    let none = done_status replayed.ends done in
+    elim trace [
+      | inl whole ↦ inl (rw (none.0, none.1) at whole.0)
+      | inr part ↦ inr part.0
+    ]
+
+shown_by : (log : Log) (replayed : Replayed) (before after : Option (List ℕ)) (faults faults' status : ℕ) (is : IsReplayOfLog log replayed)
+    → IsTrace before after faults faults' replayed status → (run : List Event) → IsRunWith (next_of is.program) log run
+    → IsShown (output_of is.program) log run replayed status
+shown_by log replayed before after faults faults' status is trace run with =
+    let of = is.runs run with in
+    let fine = not_nine status (traced_status before after faults faults' replayed status (of.ends refl) trace) in
+    record { views = of.views refl; outputs = of.outputs refl; not_diverged = fine.0; not_starved = fine.1 }
+
+-- an outcome of the words, told, shows every run
+pub ReplaysShowEveryRun-told : (words : List (List ℕ)) (files : Option Files) (reads reads' : ℕ) (before after : Option (List ℕ)) (faults faults' status : ℕ) (run : Option Kept) (replays : List Replayed) (name : List ℕ) (outcome : Outcome)
+    → IsOutcome words files reads reads' name outcome → IsTold outcome name before after faults faults' status run replays
+    → ReplaysShowEveryRun words files replays status
+ReplaysShowEveryRun-told words files reads reads' before after faults faults' status run replays name (Refused refusal) comes told = rw told.2 tt
+ReplaysShowEveryRun-told words files reads reads' before after faults faults' status run replays name (WasReplayed replayed) comes told =
+    let file = comes.1 in
+    let bytes = file.3 in
+    let is : IsReplayOfLog bytes.0 replayed = bytes.2 in
+    let shows : ShowsEveryRun words files replayed status = record {
+      name = name;
+      bytes = file.0;
+      log = bytes.0;
+      program = is.program;
+      is_named = comes.0;
+      is_there = file.1;
+      is_text = bytes.1;
+      is_program = is.is_program;
+      shown = shown_by bytes.0 replayed before after faults faults' status is told.2;
+    } in
+    rw told.1 (refl, shows)
+
+-- a text that is out is a part of itself
+GrewByPart-whole : (before after : Option (List ℕ)) (text : List ℕ) → GrewBy before after text → GrewByPart before after text
+GrewByPart-whole None after text h = h
+GrewByPart-whole (Some before) None text h = absurd h
+GrewByPart-whole (Some before) (Some after) text h = (length text, h ∙ ap (λ part. before ++ part) (sym (take-length text)))
+
+pub GrewByPart-trace : (before after : Option (List ℕ)) (faults faults' : ℕ) (replayed : Replayed) (status : ℕ) → IsTrace before after faults faults' replayed status → GrewByPart before after (trace_text replayed)
+GrewByPart-trace before after faults faults' replayed status (inl whole) = GrewByPart-whole before after (trace_text replayed) whole.1
+GrewByPart-trace before after faults faults' replayed status (inr part) = part.2
+
+-- what holds anyway holds at an error
+pub OnErr-any : {A E : Type 0} (result : Result A E) (P : Type 0) → P → OnErr result P
+OnErr-any (Ok value) P h = tt
+OnErr-any (Err error) P h = h

@@ -4,11 +4,8 @@ pub mod CourseLaws
 pub mod FirstRow
 pub mod Reading
 pub mod Reports
-pub mod SmallLogParts
-pub mod SmallLogs
 pub mod SmallTexts
 pub mod States
-pub mod TextPieces
 pub mod Tokens
 pub mod TraceTexts
 pub mod Words

@@ -1,29 +1,38 @@
 -- What a command comes to, and how it is told.
-use Rattle.std.specs.Prelude.{◌≡◌, ◌<◌, ◌≤◌, ◌⊎◌, ℕ, List, [], ◌∷◌, ◌++◌, Option, Some, None, Bool, true, false, ◌&&◌, not, if◌then◌else◌, IfSome, length, take, codes}
+use Rattle.std.specs.Prelude.{◌≡◌, ◌≢◌, ◌<◌, ◌≤◌, ◌⊎◌, ℕ, List, [], ◌∷◌, ◌++◌, Option, Some, None, Bool, true, false, ◌&&◌, not, if◌then◌else◌, IfSome, length, map, take, codes}
 use Rattle.std.specs.List.{list_any}
-use Rattle.run_model.specs.Views.{Kept}
+use Rattle.mpi_call.specs.declared.reply.Reply.{Reply}
+use Rattle.mpi_call.specs.Collectives.{is_member}
+use Rattle.run_model.specs.declared.event.Event.{Event}
+use Rattle.run_model.specs.Views.{Kept, view_of}
 use Rattle.srr_entry.specs.declared.log.Log.{Log}
+use Rattle.srr_log.specs.declared.fault.LogWhy.{LogWhy}
+use Rattle.srr_log.specs.declared.fault.LogWhy.TheVariants.{BadHead, BadNumber, BadGroup, BadEntry, Short, Extra, BadVersion, Digest, NoMemory}
+use Rattle.srr_log.specs.Faults.{IsFirstFault}
+use Rattle.srr_log.specs.LogText.{IsLogText}
 use Rattle.srr_replay.specs.declared.replayed.Replayed.{Replayed}
 use Rattle.srr_replay.specs.declared.replayed.Stand.{Stand}
 use Rattle.srr_replay.specs.declared.replayed.Stand.TheVariants.{AtBreak, Diverged, Starved}
-use Rattle.srr_replay.specs.Stands.{IsReplayed}
+use Rattle.srr_replay.specs.Laws.{IsReplayOfEveryRun, IsRunWith}
+use Rattle.srr_replay.specs.Stands.{IsReplayed, printed_of}
 use Rattle.wiz_cli.specs.declared.outcome.Refusal.{Refusal}
 use Rattle.wiz_cli.specs.declared.outcome.Refusal.TheVariants.{Words, Missing, ReadFault, Program, Log as LogRefused, TooLong}
 use Rattle.wiz_cli.specs.declared.outcome.Outcome.{Outcome}
 use Rattle.wiz_cli.specs.declared.outcome.Outcome.TheVariants.{Refused, Replayed as WasReplayed}
 use Rattle.wiz_cli.specs.declared.small_program.SmallProgram.{SmallProgram}
 use Rattle.wiz_cli.specs.Courses.{next_of, output_of, variables_of}
-use Rattle.wiz_cli.specs.SmallLogs.{IsSmallLogText}
 use Rattle.wiz_cli.specs.SmallTexts.{IsSmallText}
 use Rattle.wiz_cli.specs.TraceTexts.{trace_text}
 use Rattle.wiz_cli.specs.Words.{IsReplayOf}
+use Rattle.wiz_base.specs.Decimals.{decimal_text}
 use Rattle.wiz_io.specs.Files.{Files, HasRisen}
 
--- a whole replay of a log's group with the program whose text stands in it
+-- a whole replay of a log's group with the program whose text stands in it, beside every run of that program with that log
 pub record IsReplayOfLog (log : Log) (replayed : Replayed) : Type 0 where
   pub program : SmallProgram
   pub is_program : IsSmallText log.program program
   pub replay : IsReplayed (next_of program) (output_of program) (variables_of program) log None replayed
+  pub runs : IsReplayOfEveryRun (next_of program) (output_of program) log None replayed
 
 -- what comes of a log: its program is not of the small form, or its group is replayed
 abbrev pub IsLogOutcome : Log → Outcome → Type 0
@@ -31,10 +40,10 @@ IsLogOutcome log (Refused Program) = (program : SmallProgram) → IsSmallText lo
 IsLogOutcome log (Refused refusal) = ⊥
 IsLogOutcome log (WasReplayed replayed) = IsReplayOfLog log replayed
 
--- what comes of a file's bytes: they are no small log text, or that of a log of which this comes
+-- what comes of a file's bytes: they have a first fault, or are the text of a log of which this comes
 abbrev pub IsBytesOutcome : List ℕ → Outcome → Type 0
-IsBytesOutcome bytes (Refused LogRefused) = (log : Log) → IsSmallLogText bytes log → ⊥
-IsBytesOutcome bytes outcome = (log : Log) × IsSmallLogText bytes log × IsLogOutcome log outcome
+IsBytesOutcome bytes (Refused (LogRefused fault)) = IsFirstFault bytes fault
+IsBytesOutcome bytes outcome = (log : Log) × IsLogText bytes log × IsLogOutcome log outcome
 
 -- what comes of a file, by the files as they were, where they are told, and the counts of read faults before and after:
 -- it is missing, it could not be read, it is longer than a log file may be, or this comes of its bytes
@@ -58,8 +67,20 @@ refusal_status Words = 1
 refusal_status Missing = 2
 refusal_status ReadFault = 3
 refusal_status Program = 5
-refusal_status LogRefused = 8
+refusal_status (LogRefused fault) = 8
 refusal_status TooLong = 12
+
+-- what is wrong with a log
+abbrev pub why_text : LogWhy → List ℕ
+why_text BadHead = codes "bad head"
+why_text BadNumber = codes "bad number"
+why_text BadGroup = codes "bad group"
+why_text BadEntry = codes "bad entry"
+why_text Short = codes "short"
+why_text Extra = codes "extra"
+why_text BadVersion = codes "bad version"
+why_text Digest = codes "digest"
+why_text NoMemory = codes "no memory"
 
 -- its message
 abbrev pub message_text : Refusal → List ℕ → List ℕ
@@ -67,7 +88,7 @@ message_text Words name = codes "refused words\n"
 message_text Missing name = codes "no file " ++ name ++ codes "\n"
 message_text ReadFault name = codes "cannot read " ++ name ++ codes "\n"
 message_text Program name = codes "program 1:1 not built\n"
-message_text LogRefused name = codes "log refused\n"
+message_text (LogRefused fault) name = codes "log " ++ decimal_text fault.at ++ (32 ∷ why_text fault.why) ++ codes "\n"
 message_text TooLong name = codes "too long " ++ name ++ codes "\n"
 
 abbrev pub is_diverged : Stand → Bool
@@ -118,9 +139,45 @@ IsTold (Refused refusal) name before after faults faults' status run replays =
 IsTold (WasReplayed replayed) name before after faults faults' status run replays =
     (run ≡ None) × (replays ≡ replayed ∷ []) × IsTrace before after faults faults' replayed status
 
+-- the text that tells an outcome
+abbrev pub told_text : Outcome → List ℕ → List ℕ
+told_text (Refused refusal) name = message_text refusal name
+told_text (WasReplayed replayed) name = trace_text replayed
+
+-- where memory was wanting nothing is put out, or a part of what tells an outcome of the words
+abbrev pub IsCutShort : List (List ℕ) → Option Files → ℕ → ℕ → Option (List ℕ) → Option (List ℕ) → Type 0
+IsCutShort words files reads reads' before after =
+    (after ≡ before)
+    ⊎ ((name : List ℕ) × (outcome : Outcome) × IsOutcome words files reads reads' name outcome
+    × GrewByPart before after (told_text outcome name))
+
 -- a report: memory was wanting, or some outcome of the words was told
 abbrev pub IsReport : List (List ℕ) → Option Files → ℕ → ℕ → Option (List ℕ) → Option (List ℕ) → ℕ → ℕ → ℕ → Option Kept → List Replayed → Type 0
 IsReport words files reads reads' before after faults faults' status run replays =
-    (status ≡ 11)
+    ((status ≡ 11) × (run ≡ None) × (replays ≡ []) × IsCutShort words files reads reads' before after)
     ⊎ ((name : List ℕ) × (outcome : Outcome) × IsOutcome words files reads reads' name outcome
     × IsTold outcome name before after faults faults' status run replays)
+
+-- each rank of the group has its whole view and output of the run, and the status tells of no divergence and no starvation
+pub record IsShown (output : ℕ → ℕ → List Reply → List ℕ) (log : Log) (run : List Event) (replayed : Replayed) (status : ℕ) : Type 0 where
+  pub views : (rank : ℕ) → is_member log.group rank ≡ true → view_of replayed.events.events rank ≡ view_of run rank
+  pub outputs : replayed.outputs ≡ map (printed_of output log.ranks run) log.group
+  pub not_diverged : status ≢ 9
+  pub not_starved : status ≢ 10
+
+-- the named file holds the text of a log, and each run of the log's program with this log is shown
+pub record ShowsEveryRun (words : List (List ℕ)) (files : Option Files) (replayed : Replayed) (status : ℕ) : Type 0 where
+  pub name : List ℕ
+  pub bytes : List ℕ
+  pub log : Log
+  pub program : SmallProgram
+  pub is_named : IsReplayOf words name
+  pub is_there : IfSome files (λ told. told name ≡ Some bytes)
+  pub is_text : IsLogText bytes log
+  pub is_program : IsSmallText log.program program
+  pub shown : (run : List Event) → IsRunWith (next_of program) log run → IsShown (output_of program) log run replayed status
+
+-- the replays of a report, at most one, show every run
+abbrev pub ReplaysShowEveryRun : List (List ℕ) → Option Files → List Replayed → ℕ → Type 0
+ReplaysShowEveryRun words files [] status = Unit {0}
+ReplaysShowEveryRun words files (replayed ∷ more) status = (more ≡ []) × ShowsEveryRun words files replayed status

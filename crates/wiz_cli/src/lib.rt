@@ -8,8 +8,6 @@ pub mod outcome;
 mod replay_file;
 pub mod report;
 pub mod small_fault;
-pub mod small_log;
-pub mod small_log_fault;
 pub mod small_program;
 pub mod small_rank;
 pub mod small_source;
@@ -18,7 +16,6 @@ mod small_tokens;
 mod tell;
 #[cfg(test)]
 mod tests;
-mod text_pieces;
 pub mod top;
 pub mod trace;
 mod words;

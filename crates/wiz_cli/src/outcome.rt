@@ -1,4 +1,5 @@
 //! What a command comes to, before it is told.
+use srr_log::fault::LogFault;
 use srr_replay::replayed::Replayed;
 
 /// Why a command is refused.
@@ -13,7 +14,7 @@ pub enum Refusal {
     /// The log's program is not of the form that is read.
     Program,
     /// The file's bytes are no log.
-    Log,
+    Log(LogFault),
     /// The input file is longer than such a file may be.
     TooLong,
 }

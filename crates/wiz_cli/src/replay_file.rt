@@ -1,20 +1,20 @@
 //! The replay of a log file.
 ghost use Rattle.std.specs.Prelude.{◌≡◌, [], IfOk, Err, None, length, ◌≤◌};
 ghost use Rattle.srr_entry.specs.declared.log.Log.{Log};
+ghost use Rattle.srr_replay.specs.Laws.{IsReplayOfEveryRun};
 ghost use Rattle.srr_replay.specs.Rounds.{IsReplayable, RunAll};
 ghost use Rattle.srr_replay.specs.Stands.{IsReplayed};
 ghost use Rattle.wiz_cli.specs.Courses.{next_of, output_of, variables_of};
 ghost use Rattle.wiz_cli.specs.Reports.{IsBytesOutcome, IsFileOutcome, IsLogOutcome};
-ghost use Rattle.wiz_cli.specs.SmallLogs.{IsSmallLogText};
 
 use crate::outcome::{Outcome, Refusal};
 use crate::small_fault::SmallFault;
-use crate::small_log::read_small_log;
-use crate::small_log_fault::SmallLogFault;
 use crate::small_program::SmallProgram;
 use crate::small_rank::SmallRank;
 use crate::small_source::read_small;
 use srr_entry::log::Log;
+use srr_log::fault::LogWhy;
+use srr_log::read_log::read_log;
 use srr_replay::replayed::Replayed;
 use srr_replay::serial::replay_serial;
 use std::alloc::{AllocError, Global};
@@ -50,10 +50,12 @@ fn replay_bytes(alloc: Global, bytes: &[u8]) -> Result<Outcome, AllocError>
     requires { length bytes.now ≤ 134217728 }
     ensures { IfOk result (λ outcome. IsBytesOutcome bytes.now outcome) }
 {
-    match read_small_log(alloc, bytes) {
+    match read_log(alloc, bytes) {
         Ok(log) => replay_log(alloc, &log),
-        Err(SmallLogFault::Refused) => Ok(Outcome::Refused(Refusal::Log)),
-        Err(SmallLogFault::NoMemory) => Err(AllocError),
+        Err(fault) => match fault.why {
+            LogWhy::NoMemory => Err(AllocError),
+            _ => Ok(Outcome::Refused(Refusal::Log(fault))),
+        },
     }
 }
 
@@ -73,7 +75,8 @@ fn replay_log(alloc: Global, log: &Log) -> Result<Outcome, AllocError>
 /// The replay of a log's group with a program.
 fn replay_group(alloc: Global, program: &SmallProgram, log: &Log) -> Result<Replayed, AllocError>
     requires { IsReplayable log.now }
-    ensures { IfOk result (λ replayed. IsReplayed (next_of program.now) (output_of program.now) (variables_of program.now) log.now None replayed) }
+    ensures replay { IfOk result (λ replayed. IsReplayed (next_of program.now) (output_of program.now) (variables_of program.now) log.now None replayed) }
+    ensures runs { IfOk result (λ replayed. IsReplayOfEveryRun (next_of program.now) (output_of program.now) log.now None replayed) }
 {
     let runs = start_all(alloc, program, log)?;
     replay_serial(alloc, program, log, runs, None)

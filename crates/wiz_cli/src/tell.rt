@@ -1,14 +1,17 @@
 //! Telling an outcome: its status, and its message or trace.
-ghost use Rattle.std.specs.Prelude.{◌≡◌, ◌++◌, IfOk, OnOk, codes};
+ghost use Rattle.std.specs.Prelude.{◌≡◌, ◌++◌, ◌∷◌, IfOk, OnErr, OnOk, codes};
 ghost use Rattle.std.specs.List.{list_any};
-ghost use Rattle.wiz_cli.specs.Reports.{HasSaid, IsTold, IsTrace, is_at_break, is_diverged, is_starved, message_text, refusal_status, status_by};
+ghost use Rattle.wiz_cli.specs.Reports.{GrewByPart, HasSaid, IsTold, IsTrace, is_at_break, is_diverged, is_starved, message_text, refusal_status, status_by, told_text, why_text};
+ghost use Rattle.wiz_cli.specs.TraceTexts.{trace_text};
+ghost use Rattle.wiz_base.specs.Decimals.{decimal_text};
 
 use crate::outcome::{Outcome, Refusal};
 use crate::report::Report;
 use crate::trace::trace_text;
+use srr_log::fault::{LogFault, LogWhy};
 use srr_replay::replayed::{Replayed, Replays, Stand};
 use std::alloc::{AllocError, Global};
-use wiz_base::{Bytes, push_text};
+use wiz_base::{Bytes, push_decimal, push_text};
 use wiz_io::{PutFault, Sink};
 
 /// Tells an outcome. The error is want of memory.
@@ -18,7 +21,8 @@ pub fn tell<K: Sink>(
     name: &str,
     out: &mut K,
 ) -> Result<Report, AllocError>
-    ensures { IfOk result (λ report. IsTold outcome name.now (K.written out.old) (K.written out.new) (K.faults out.old) (K.faults out.new) report.status report.run report.replayed) }
+    ensures told { IfOk result (λ report. IsTold outcome name.now (K.written out.old) (K.written out.new) (K.faults out.old) (K.faults out.new) report.status report.run report.replayed) }
+    ensures short { OnErr result (GrewByPart (K.written out.old) (K.written out.new) (told_text outcome name.now)) }
 {
     match outcome {
         Outcome::Refused(refusal) => {
@@ -53,14 +57,15 @@ fn exit_status(refusal: Refusal) -> u8
         Refusal::Missing => 2,
         Refusal::ReadFault => 3,
         Refusal::Program => 5,
-        Refusal::Log => 8,
+        Refusal::Log(_) => 8,
         Refusal::TooLong => 12,
     }
 }
 
 /// Puts a refusal's message out. A fault of the sink changes no status.
 fn say<K: Sink>(alloc: Global, refusal: Refusal, name: &str, out: &mut K) -> Result<(), AllocError>
-    ensures { OnOk result (HasSaid (K.written out.old) (K.written out.new) (K.faults out.old) (K.faults out.new) (message_text refusal name.now)) }
+    ensures said { OnOk result (HasSaid (K.written out.old) (K.written out.new) (K.faults out.old) (K.faults out.new) (message_text refusal name.now)) }
+    ensures short { OnErr result (GrewByPart (K.written out.old) (K.written out.new) (message_text refusal name.now)) }
 {
     let text = message(alloc, refusal, name)?;
     match out.put(text.as_slice()) {
@@ -78,7 +83,7 @@ fn message(alloc: Global, refusal: Refusal, name: &str) -> Result<Bytes, AllocEr
         Refusal::Missing => about_file(alloc, b"no file ", name),
         Refusal::ReadFault => about_file(alloc, b"cannot read ", name),
         Refusal::Program => Bytes::from_slice(alloc, b"program 1:1 not built\n"),
-        Refusal::Log => Bytes::from_slice(alloc, b"log refused\n"),
+        Refusal::Log(fault) => about_log(alloc, fault),
         Refusal::TooLong => about_file(alloc, b"too long ", name),
     }
 }
@@ -93,9 +98,39 @@ fn about_file(alloc: Global, words: &[u8], name: &str) -> Result<Bytes, AllocErr
     Ok(text)
 }
 
+/// The message of a log that was refused: the place of its first fault, and the reason.
+fn about_log(alloc: Global, fault: LogFault) -> Result<Bytes, AllocError>
+    ensures { IfOk result (λ text. text ≡ codes "log " ++ decimal_text fault.at ++ (32 ∷ why_text fault.why) ++ codes "\n") }
+{
+    let mut text = Bytes::from_slice(alloc, b"log ")?;
+    push_decimal(&mut text, fault.at as u64)?;
+    push_text(&mut text, b" ")?;
+    push_text(&mut text, why_words(fault.why))?;
+    push_text(&mut text, b"\n")?;
+    Ok(text)
+}
+
+/// The reason in words.
+fn why_words(why: LogWhy) -> &'static [u8]
+    ensures { result.now ≡ why_text why }
+{
+    match why {
+        LogWhy::BadHead => b"bad head",
+        LogWhy::BadNumber => b"bad number",
+        LogWhy::BadGroup => b"bad group",
+        LogWhy::BadEntry => b"bad entry",
+        LogWhy::Short => b"short",
+        LogWhy::Extra => b"extra",
+        LogWhy::BadVersion => b"bad version",
+        LogWhy::Digest => b"digest",
+        LogWhy::NoMemory => b"no memory",
+    }
+}
+
 /// Puts the trace out. The status is that of the stands, or 4 where the sink failed.
 fn put_trace<K: Sink>(alloc: Global, replayed: &Replayed, out: &mut K) -> Result<u8, AllocError>
-    ensures { IfOk result (λ status. IsTrace (K.written out.old) (K.written out.new) (K.faults out.old) (K.faults out.new) replayed.now status) }
+    ensures trace { IfOk result (λ status. IsTrace (K.written out.old) (K.written out.new) (K.faults out.old) (K.faults out.new) replayed.now status) }
+    ensures short { OnErr result (GrewByPart (K.written out.old) (K.written out.new) (trace_text replayed.now)) }
 {
     let text = trace_text(alloc, replayed)?;
     match out.put(text.as_slice()) {

@@ -1,6 +1,7 @@
 //! Commands over files in memory: words, status and what is printed.
 use crate::gate::OpenGate;
 use crate::top::wiz;
+use std::alloc::{AllocError, Global};
 use std::sync::Wait;
 use std::thread::Threads;
 use wiz_io::{MemorySink, MemoryStore};
@@ -58,13 +59,15 @@ fn answers<R: Threads + Wait + Sync + AllocGlobal>(
 #[test]
 fn commands_have_their_status_and_output(rt: HostRuntime) {
     let replay: &[&str] = &["replay", "L", "--serial"];
-    let table: [(&[&str], &[u8], u8, &[u8]); 10] = [
+    let table: [(&[&str], &[u8], u8, &[u8]); 12] = [
         (replay, FIRST, 0, FIRST_TRACE),
         (replay, DIVERGED, 9, DIVERGED_TRACE),
         (replay, STARVED, 10, STARVED_TRACE),
         (replay, ALONE, 0, ALONE_TRACE),
         (replay, NO_ENTRY, 0, NO_ENTRY_TRACE),
         (replay, NOT_BUILT, 5, b"program 1:1 not built\n"),
+        (replay, &FIRST[..270], 8, b"log 270 short\n"),
+        (replay, b"srr 2\n", 8, b"log 0 bad version\n"),
         (&["replay", "L9", "--serial"], FIRST, 2, b"no file L9\n"),
         (&[], FIRST, 1, b"refused words\n"),
         (&["play"], FIRST, 1, b"refused words\n"),
@@ -75,14 +78,83 @@ fn commands_have_their_status_and_output(rt: HostRuntime) {
     }
 }
 
+/// The first log up to its lists.
+const FIRST_HEAD: &[u8] =
+    b"srr 1\nranks 2\ngroup 0 1\nprogram 209\nint main(void){int r,x=7;MPI_Comm_rank(MPI_COMM_WORLD,&r);if(r==0)MPI_Send(&x,1,MPI_INT,1,5,MPI_COMM_WORLD);if(r==1){x=0;MPI_Recv(&x,1,MPI_INT,0,5,MPI_COMM_WORLD,MPI_STATUS_IGNORE);printf(\"%d\\n\",x);}return 0;}\n";
+
+/// Its trace up to rank 1's first call.
+const FIRST_TRACE_HEAD: &[u8] =
+    b"rank 0\n0 send comm=0 to=1 tag=5 data=7 -> done\n1 end -> done\noutput 0\n\nended\nrank 1\n0 post comm=0 from=0 tag=5 room=1 -> done\n";
+
+/// A log of two ranks that both receive before they send, up to its lists.
+const CYCLE_HEAD: &[u8] =
+    b"srr 1\nranks 2\ngroup 0 1\nprogram 292\nint main(void){int r,x=0;MPI_Comm_rank(MPI_COMM_WORLD,&r);if(r==0){MPI_Recv(&x,1,MPI_INT,1,5,MPI_COMM_WORLD,MPI_STATUS_IGNORE);MPI_Send(&x,1,MPI_INT,1,5,MPI_COMM_WORLD);}if(r==1){MPI_Recv(&x,1,MPI_INT,0,5,MPI_COMM_WORLD,MPI_STATUS_IGNORE);MPI_Send(&x,1,MPI_INT,0,5,MPI_COMM_WORLD);}return 0;}\n";
+
+fn joined(alloc: Global, head: &[u8], tail: &[u8]) -> Result<Vec<u8>, AllocError> {
+    let mut all = Vec::new(alloc);
+    all.extend_from_slice(head)?;
+    all.extend_from_slice(tail)?;
+    Ok(all)
+}
+
 #[test]
-fn a_cut_or_longer_log_is_refused(rt: HostRuntime) {
+fn a_forged_log_starves_or_diverges(rt: HostRuntime) {
     let replay: &[&str] = &["replay", "L", "--serial"];
-    for end in 0..FIRST.len() {
-        assert!(&rt; answers(&rt, replay, &FIRST[..end], 8, b"log refused\n"));
+    let table: [(&[u8], &[u8], u8, &[u8], &[u8]); 5] = [
+        (
+            FIRST_HEAD,
+            b"rank 0 2\ns\nz\nrank 1 3\np\nt 0=0.999999\nz\nend\n",
+            10,
+            FIRST_TRACE_HEAD,
+            b"output 0\n\nstarved 0.999999\n",
+        ),
+        (
+            FIRST_HEAD,
+            b"rank 0 2\ns\nz\nrank 1 3\np\nt 1=0.0\nz\nend\n",
+            9,
+            FIRST_TRACE_HEAD,
+            b"output 0\n\ndiverged call 1 entry t 1=0.0 made take all 0\n",
+        ),
+        (
+            FIRST_HEAD,
+            b"rank 0 2\ns\nz\nrank 1 3\np\nt 0=0.0 1=0.0\nz\nend\n",
+            9,
+            FIRST_TRACE_HEAD,
+            b"output 0\n\ndiverged call 1 entry t 0=0.0 1=0.0 made take all 0\n",
+        ),
+        (
+            FIRST_HEAD,
+            b"rank 0 2\ns\nz\nrank 1 3\np\nt 0=0.0\nx 4 1\nend\n",
+            9,
+            FIRST_TRACE_HEAD,
+            b"1 take all 0 -> took 0=0.0 tag=5 data=7\noutput 2\n7\n\ndiverged call 2 entry x 4 1 made end\n",
+        ),
+        (
+            CYCLE_HEAD,
+            b"rank 0 4\np\nt 0=1.1\ns\nz\nrank 1 4\np\nt 0=0.1\ns\nz\nend\n",
+            10,
+            b"rank 0\n0 post comm=0 from=1 tag=5 room=1 -> done\noutput 0\n\nstarved 1.1\n",
+            b"rank 1\n0 post comm=0 from=0 tag=5 room=1 -> done\noutput 0\n\nstarved 0.1\n",
+        ),
+    ];
+    for (head, tail, status, front, back) in table {
+        let log = joined(rt.alloc(), head, tail).expect(&rt, "bytes");
+        let trace = joined(rt.alloc(), front, back).expect(&rt, "bytes");
+        assert!(&rt; answers(&rt, replay, log.as_slice(), status, trace.as_slice()));
     }
-    let mut longer = Vec::new(rt.alloc());
-    longer.extend_from_slice(FIRST).expect(&rt, "bytes");
-    longer.push(b'\n').expect(&rt, "bytes");
-    assert!(&rt; answers(&rt, replay, longer.as_slice(), 8, b"log refused\n"));
+}
+
+#[test]
+fn a_failing_read_or_put_is_told(rt: HostRuntime) {
+    let mut store = MemoryStore::new(rt.alloc());
+    store.add("L", FIRST).expect(&rt, "bytes");
+    store.fail(0).expect(&rt, "number");
+    let mut out = MemorySink::new(rt.alloc());
+    let words: &[&str] = &["replay", "L", "--serial"];
+    let unread = wiz(&rt, rt.alloc(), words, &mut store, &mut out, &OpenGate);
+    assert!(&rt; unread.status == 3 && out.bytes() == b"cannot read L\n".as_slice());
+    let mut full = MemorySink::new(rt.alloc());
+    full.fail(0).expect(&rt, "number");
+    let unwritten = wiz(&rt, rt.alloc(), words, &mut store, &mut full, &OpenGate);
+    assert!(&rt; unwritten.status == 4 && full.bytes().is_empty());
 }

@@ -1,6 +1,6 @@
 //! The top call.
-ghost use Rattle.std.specs.Prelude.{◌≡◌, IfOk, map};
-ghost use Rattle.wiz_cli.specs.Reports.{IsReport};
+ghost use Rattle.std.specs.Prelude.{◌≡◌, IfOk, OnErr, map};
+ghost use Rattle.wiz_cli.specs.Reports.{IsCutShort, IsReport, ReplaysShowEveryRun};
 
 use crate::gate::Gate;
 use crate::outcome::{Outcome, Refusal};
@@ -23,6 +23,7 @@ pub fn wiz_serial<S: Store, K: Sink>(
     out: &mut K,
 ) -> Report
     ensures report { IsReport (map (λ word. word.now) words.now) (S.files store.old) (S.read_faults store.old) (S.read_faults store.new) (K.written out.old) (K.written out.new) (K.faults out.old) (K.faults out.new) result.status result.run result.replayed }
+    ensures runs { ReplaysShowEveryRun (map (λ word. word.now) words.now) (S.files store.old) result.replayed result.status }
     ensures files { S.files store.new ≡ S.files store.old }
     ensures writes { S.write_faults store.new ≡ S.write_faults store.old }
 {
@@ -46,6 +47,7 @@ pub fn wiz<R: Threads + Wait + Sync, S: Store, K: Sink, G: Gate + Sync>(
     _gate: &G,
 ) -> Report
     ensures report { IsReport (map (λ word. word.now) words.now) (S.files store.old) (S.read_faults store.old) (S.read_faults store.new) (K.written out.old) (K.written out.new) (K.faults out.old) (K.faults out.new) result.status result.run result.replayed }
+    ensures runs { ReplaysShowEveryRun (map (λ word. word.now) words.now) (S.files store.old) result.replayed result.status }
     ensures files { S.files store.new ≡ S.files store.old }
     ensures writes { S.write_faults store.new ≡ S.write_faults store.old }
 {
@@ -59,7 +61,9 @@ fn answer<S: Store, K: Sink>(
     store: &mut S,
     out: &mut K,
 ) -> Result<Report, AllocError>
+    ensures short { OnErr result (IsCutShort (map (λ word. word.now) words.now) (S.files store.old) (S.read_faults store.old) (S.read_faults store.new) (K.written out.old) (K.written out.new)) }
     ensures report { IfOk result (λ report. IsReport (map (λ word. word.now) words.now) (S.files store.old) (S.read_faults store.old) (S.read_faults store.new) (K.written out.old) (K.written out.new) (K.faults out.old) (K.faults out.new) report.status report.run report.replayed) }
+    ensures runs { IfOk result (λ report. ReplaysShowEveryRun (map (λ word. word.now) words.now) (S.files store.old) report.replayed report.status) }
     ensures files { S.files store.new ≡ S.files store.old }
     ensures writes { S.write_faults store.new ≡ S.write_faults store.old }
 {

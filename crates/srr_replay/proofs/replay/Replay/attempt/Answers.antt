@@ -1,28 +1,30 @@
-use Rattle.std.proofs.Common.{◌≡◌, sym, ◌∙◌, arith, true}
+use Rattle.std.proofs.Common.{◌≡◌, sym, ◌∙◌, true}
 use Rattle.mpi_call.specs.Collectives.{is_member}
-use Rattle.srr_replay.proofs.LogLemmas.{below_at, AreSmall-for}
-use Rattle.srr_replay.proofs.ReplaysLemmas.{MayGive-Replays}
+use Rattle.srr_replay.proofs.LogLemmas.{below_at}
+use Rattle.srr_replay.proofs.ReplaysLemmas.{AreInOrder-Replays, MayGive-Replays}
 use Rattle.srr_replay.proofs.replay.Replay.attempt.Goals as goal
 
-pub get-number-requires : goal.get-number-requires
-get-number-requires g c =
+pub count-number-requires : goal.count-number-requires
+count-number-requires g c =
     let member : is_member c.self.inside.log.now.group c.args.rank ≡ true = rw (← c.self.view_is) at c.requires.member in
-    let below = below_at c.self.inside.log.now.ranks c.self.inside.log.now.group c.args.rank c.self.invariant.0.below member in
-    let as_many = c.self.invariant.3.0 in
-    omega (arith, below, as_many)
+    rw c.self.invariant.2 (below_at c.self.inside.log.now.ranks c.self.inside.log.now.group c.args.rank c.self.invariant.0.below member)
 
-pub answer-requires-clause-number : goal.answer-requires-clause-number
-answer-requires-clause-number g c =
+pub answer-requires-clause-rank : goal.answer-requires-clause-rank
+answer-requires-clause-rank g c =
     let member : is_member c.self.inside.log.now.group c.args.rank ≡ true = rw (← c.self.view_is) at c.requires.member in
-    let below = below_at c.self.inside.log.now.ranks c.self.inside.log.now.group c.args.rank c.self.invariant.0.below member in
-    rw c.as_slice.ensures (c.get-number.ensures ∙ c.self.invariant.3.1 c.args.rank below)
+    rw c.self.invariant.2 (below_at c.self.inside.log.now.ranks c.self.inside.log.now.group c.args.rank c.self.invariant.0.below member)
 
-pub answer-requires-clause-entries : goal.answer-requires-clause-entries
-answer-requires-clause-entries g c = AreSmall-for _ _ _ c.self.invariant.0.small
+pub answer-requires-clause-order : goal.answer-requires-clause-order
+answer-requires-clause-order g c =
+    rw c.self.invariant.2
+    (AreInOrder-Replays _ _ _ _ (record { enters = g.P.Program.enters_in_form c.self.inside.program.now; bounds = g.P.Program.asks_in_bounds c.self.inside.program.now })
+    c.self.invariant.0 c.self.invariant.1)
 
 pub returns-in-Replied-clause-shape : goal.returns-in-Replied-clause-shape
 returns-in-Replied-clause-shape g c = λ reply is.
     rw (← c.self.view_is)
-    (MayGive-Replays _ _ _ _ _ _ _ c.self.invariant.0.small c.self.invariant.2
+    (MayGive-Replays _ _ _ _ _ _ _ (record { enters = g.P.Program.enters_in_form c.self.inside.program.now; bounds = g.P.Program.asks_in_bounds c.self.inside.program.now })
+    c.self.invariant.0 c.self.invariant.1
+    (rw (← c.self.view_is) at c.requires.member)
     (rw (← c.self.view_is) at c.requires.next)
-    (rw (← c.as_slice.ensures) (sym c.in_ok-step.ensures ∙ is)))
+    (sym c.in_ok-step.ensures ∙ is))

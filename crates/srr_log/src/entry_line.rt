@@ -1,0 +1,205 @@
+//! Reading an entry's line.
+ghost use Rattle.std.specs.Prelude.{◌≡◌, ◌++◌, ◌∷◌, []};
+ghost use Rattle.srr_log.specs.EntryReading.{all_items_in, detail_in, detailed_in, entry_in, fault_of, halt_in, item_in, items_in, long_entry_in, named_in, peek_in};
+ghost use Rattle.srr_log.specs.Pieces.{Adds, Gives};
+
+use crate::lists::indices_rise;
+use crate::mark::{inside, mark, outside};
+use crate::pieces::{behind, cut, int, number, rank};
+use crate::stop::Unread;
+use mpi_call::call::{Fault, Halt};
+use srr_entry::entry::{Entry, Marked, MarkedItems};
+use std::alloc::Global;
+
+/// The entry whose line it is, within the bounds of a log of so many ranks and of this group.
+#[tactic(auto, unfolding(crate::specs::EntryReading::entry_in))]
+pub fn entry(alloc: Global, line: &[u8], ranks: u8, group: &[u8]) -> Result<Entry, Unread>
+    ensures { Gives result (entry_in ranks group.now line.now) }
+{
+    if line == b"s".as_slice() {
+        return Ok(Entry::Sent);
+    }
+    if line == b"p".as_slice() {
+        return Ok(Entry::Posted);
+    }
+    if line == b"e".as_slice() {
+        return Ok(Entry::Entered);
+    }
+    if line == b"z".as_slice() {
+        return Ok(Entry::Ended);
+    }
+    if line == b"n".as_slice() {
+        return Ok(Entry::NotYet);
+    }
+    long_entry(alloc, line, ranks, group)
+}
+
+/// An entry whose line has more than one letter.
+#[tactic(auto, unfolding(crate::specs::EntryReading::long_entry_in))]
+fn long_entry(alloc: Global, line: &[u8], ranks: u8, group: &[u8]) -> Result<Entry, Unread>
+    ensures { Gives result (long_entry_in ranks group.now line.now) }
+{
+    if let Some(listed) = behind(line, b"t ") {
+        let items = items(alloc, listed, ranks, group)?;
+        return Ok(Entry::Took(items));
+    }
+    if let Some(found) = behind(line, b"k ") {
+        return peek(found, ranks, group).ok_or(Unread::NotAllowed);
+    }
+    if let Some(named) = behind(line, b"x ") {
+        let halt = halt(named, ranks).ok_or(Unread::NotAllowed)?;
+        return Ok(Entry::Stopped(halt));
+    }
+    Err(Unread::NotAllowed)
+}
+
+/// Completed starts, with blanks between; the indices rise.
+#[tactic(auto, unfolding(crate::specs::EntryReading::items_in))]
+fn items(alloc: Global, text: &[u8], ranks: u8, group: &[u8]) -> Result<MarkedItems, Unread>
+    ensures { Gives result (items_in ranks group.now text.now) }
+{
+    let items = all_items(alloc, text, ranks, group)?;
+    if indices_rise(items.as_slice()) {
+        Ok(items)
+    } else {
+        Err(Unread::NotAllowed)
+    }
+}
+
+fn all_items(alloc: Global, text: &[u8], ranks: u8, group: &[u8]) -> Result<MarkedItems, Unread>
+    ensures { Gives result (all_items_in ranks group.now text.now) }
+{
+    let mut found = MarkedItems::new(alloc);
+    let mut rest = text;
+    while let Some((piece, after)) = cut(rest, b' ') {
+        add_item(alloc, &mut found, piece, ranks, group)?;
+        rest = after;
+    }
+    add_item(alloc, &mut found, rest, ranks, group)?;
+    Ok(found)
+}
+
+fn add_item(
+    alloc: Global,
+    found: &mut MarkedItems,
+    piece: &[u8],
+    ranks: u8,
+    group: &[u8],
+) -> Result<(), Unread>
+    ensures { Adds found.old found.new result (item_in ranks group.now piece.now) }
+{
+    let item = match item(alloc, piece, ranks, group) {
+        Ok(item) => item,
+        Err(unread) => return Err(unread),
+    };
+    found.push(item).map_err(|_| Unread::NoMemory)
+}
+
+/// A completed start: its index in the call's list, and its mark.
+#[tactic(auto, unfolding(crate::specs::EntryReading::item_in))]
+fn item(alloc: Global, text: &[u8], ranks: u8, group: &[u8]) -> Result<Marked, Unread>
+    ensures { Gives result (item_in ranks group.now text.now) }
+{
+    let (index, kept) = cut(text, b'=').ok_or(Unread::NotAllowed)?;
+    let index = number(index, 999_999).ok_or(Unread::NotAllowed)?;
+    let mark = mark(alloc, kept, ranks, group)?;
+    Ok(Marked { index, mark })
+}
+
+/// A message that a probe found.
+#[tactic(auto, unfolding(crate::specs::EntryReading::peek_in))]
+fn peek(text: &[u8], ranks: u8, group: &[u8]) -> Option<Entry>
+    ensures { result ≡ peek_in ranks group.now text.now }
+{
+    let Some((name, count)) = cut(text, b':') else {
+        let (source, start) = inside(text, ranks, group)?;
+        return Some(Entry::PeekedInside { source, start });
+    };
+    let (source, start, tag) = outside(name, ranks, group)?;
+    let count = number(count, 65_536)?;
+    Some(Entry::PeekedOutside {
+        source,
+        start,
+        tag,
+        count,
+    })
+}
+
+#[tactic(auto, unfolding(crate::specs::EntryReading::halt_in))]
+fn halt(text: &[u8], ranks: u8) -> Option<Halt>
+    ensures { result ≡ halt_in ranks text.now }
+{
+    if text == b"6".as_slice() {
+        return Some(Halt::Limit);
+    }
+    if text == b"7".as_slice() {
+        return Some(Halt::Stuck);
+    }
+    named(text, ranks)
+}
+
+/// A halt that names a rank.
+#[tactic(auto, unfolding(crate::specs::EntryReading::named_in))]
+fn named(text: &[u8], ranks: u8) -> Option<Halt>
+    ensures { result ≡ named_in ranks text.now }
+{
+    let (kind, others) = cut(text, b' ')?;
+    if kind == b"4".as_slice() {
+        let rank = rank(others, ranks)?;
+        return Some(Halt::Mismatched { rank });
+    }
+    detailed(kind, others, ranks)
+}
+
+/// A halt that names a rank and one thing more.
+#[tactic(auto, unfolding(crate::specs::EntryReading::detailed_in))]
+fn detailed(kind: &[u8], text: &[u8], ranks: u8) -> Option<Halt>
+    ensures { result ≡ detailed_in ranks kind.now text.now }
+{
+    let (named, other) = cut(text, b' ')?;
+    let rank = rank(named, ranks)?;
+    detail(kind, rank, other)
+}
+
+#[tactic(auto, unfolding(crate::specs::EntryReading::detail_in))]
+fn detail(kind: &[u8], rank: u8, text: &[u8]) -> Option<Halt>
+    ensures { result ≡ detail_in kind.now rank text.now }
+{
+    if kind == b"1".as_slice() {
+        let code = int(text)?;
+        return Some(Halt::Aborted { rank, code });
+    }
+    if kind == b"2".as_slice() {
+        let fault = fault(number(text, 10)?)?;
+        return Some(Halt::Trapped { rank, fault });
+    }
+    if kind == b"3".as_slice() {
+        let start = number(text, 999_999)?;
+        return Some(Halt::Truncated { rank, start });
+    }
+    if kind == b"5".as_slice() {
+        let start = number(text, 999_999)?;
+        return Some(Halt::BadRequest { rank, start });
+    }
+    None
+}
+
+/// Faults are numbered from 1.
+#[tactic(auto, unfolding(crate::specs::EntryReading::fault_of))]
+fn fault(number: u32) -> Option<Fault>
+    ensures { result ≡ fault_of number }
+{
+    match number {
+        1 => Some(Fault::DivideByZero),
+        2 => Some(Fault::OutOfBounds),
+        3 => Some(Fault::BadRank),
+        4 => Some(Fault::BadTag),
+        5 => Some(Fault::BadCount),
+        6 => Some(Fault::BadComm),
+        7 => Some(Fault::Budget),
+        8 => Some(Fault::OutputFull),
+        9 => Some(Fault::Depth),
+        10 => Some(Fault::Cells),
+        _ => None,
+    }
+}

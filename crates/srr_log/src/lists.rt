@@ -1,0 +1,103 @@
+//! Lists within a line, a mark between each two elements.
+ghost use Rattle.std.specs.Prelude.{◌≡◌, ◌++◌, ◌∷◌, [], IsTrue, OnOk, length, map};
+ghost use Rattle.srr_log.specs.EntryReading.{few_ints_in, indices, ints_in, ranks_in, rises};
+ghost use Rattle.srr_log.specs.Pieces.{Adds, Gives, int_in, rank_in};
+
+use crate::pieces::{cut, int, rank};
+use crate::stop::Unread;
+use mpi_call::lists::{Ints, Ranks};
+use srr_entry::entry::Marked;
+use std::alloc::{AllocError, Global};
+
+/// Ints with commas between, so many at most; none is no byte.
+#[tactic(auto, unfolding(crate::specs::EntryReading::few_ints_in))]
+pub fn few_ints(alloc: Global, text: &[u8], most: usize) -> Result<Ints, Unread>
+    ensures { Gives result (few_ints_in most text.now) }
+{
+    if text.is_empty() {
+        return Ok(Ints::new(alloc));
+    }
+    let found = ints(alloc, text)?;
+    if found.as_slice().len() <= most {
+        Ok(found)
+    } else {
+        Err(Unread::NotAllowed)
+    }
+}
+
+fn ints(alloc: Global, text: &[u8]) -> Result<Ints, Unread>
+    ensures { Gives result (ints_in text.now) }
+{
+    let mut found = Ints::new(alloc);
+    let mut rest = text;
+    while let Some((piece, after)) = cut(rest, b',') {
+        add_int(&mut found, piece)?;
+        rest = after;
+    }
+    add_int(&mut found, rest)?;
+    Ok(found)
+}
+
+fn add_int(found: &mut Ints, piece: &[u8]) -> Result<(), Unread>
+    ensures { Adds found.old found.new result (int_in piece.now) }
+{
+    let Some(value) = int(piece) else {
+        return Err(Unread::NotAllowed);
+    };
+    found.push(value).map_err(|_| Unread::NoMemory)
+}
+
+/// Ranks of the run with such marks between.
+pub fn ranks(alloc: Global, text: &[u8], mark: u8, ranks: u8) -> Result<Ranks, Unread>
+    ensures { Gives result (ranks_in mark ranks text.now) }
+{
+    let mut found = Ranks::new(alloc);
+    let mut rest = text;
+    while let Some((piece, after)) = cut(rest, mark) {
+        add_rank(&mut found, piece, ranks)?;
+        rest = after;
+    }
+    add_rank(&mut found, rest, ranks)?;
+    Ok(found)
+}
+
+fn add_rank(found: &mut Ranks, piece: &[u8], ranks: u8) -> Result<(), Unread>
+    ensures { Adds found.old found.new result (rank_in ranks piece.now) }
+{
+    let Some(value) = rank(piece, ranks) else {
+        return Err(Unread::NotAllowed);
+    };
+    found.push(value).map_err(|_| Unread::NoMemory)
+}
+
+/// Whether each rank is above the one before it.
+pub fn rise(ranks: &[u8]) -> bool
+    ensures { result ≡ rises 0 ranks.now }
+{
+    let mut least = 0;
+    let mut rest = ranks;
+    while let [rank, after @ ..] = rest {
+        if (*rank as u16) < least {
+            return false;
+        }
+        least = *rank as u16 + 1;
+        rest = after;
+    }
+    true
+}
+
+/// Whether each index is above the one before it.
+pub fn indices_rise(items: &[Marked]) -> bool
+    ensures { result ≡ rises 0 (indices items.now) }
+{
+    let mut least = 0;
+    let mut rest = items;
+    while let [item, after @ ..] = rest {
+        if (item.index as u64) < least {
+            return false;
+        }
+        least = item.index as u64 + 1;
+        rest = after;
+    }
+    true
+}

@@ -1,0 +1,110 @@
+//! Reading marks: what a completed start gave.
+ghost use Rattle.std.specs.Prelude.{◌≡◌};
+ghost use Rattle.srr_log.specs.EntryReading.{inside_in, long_mark_in, made_in, mark_in, message_in, outside_in};
+ghost use Rattle.srr_log.specs.Pieces.{Gives};
+
+use crate::lists::few_ints;
+use crate::pieces::{behind, cut, number, rank};
+use crate::stop::Unread;
+use srr_entry::entry::Mark;
+use std::alloc::Global;
+
+/// The name of a message from inside the group.
+#[tactic(auto, unfolding(crate::specs::EntryReading::inside_in))]
+pub fn inside(text: &[u8], ranks: u8, group: &[u8]) -> Option<(u8, u32)>
+    ensures { result ≡ inside_in ranks group.now text.now }
+{
+    let (source, start) = cut(text, b'.')?;
+    let source = rank(source, ranks)?;
+    let start = number(start, 999_999)?;
+    if group.contains(&source) {
+        Some((source, start))
+    } else {
+        None
+    }
+}
+
+/// The name of a message from outside, and its tag.
+#[tactic(auto, unfolding(crate::specs::EntryReading::outside_in))]
+pub fn outside(text: &[u8], ranks: u8, group: &[u8]) -> Option<(u8, u32, u32)>
+    ensures { result ≡ outside_in ranks group.now text.now }
+{
+    let (source, others) = cut(text, b'.')?;
+    let (start, tag) = cut(others, b'.')?;
+    let source = rank(source, ranks)?;
+    let start = number(start, 999_999)?;
+    let tag = number(tag, 2_147_483_647)?;
+    if group.contains(&source) {
+        None
+    } else {
+        Some((source, start, tag))
+    }
+}
+
+#[tactic(auto, unfolding(crate::specs::EntryReading::mark_in))]
+pub fn mark(alloc: Global, text: &[u8], ranks: u8, group: &[u8]) -> Result<Mark, Unread>
+    ensures { Gives result (mark_in ranks group.now text.now) }
+{
+    if text == b"s".as_slice() {
+        return Ok(Mark::Sent);
+    }
+    if text == b"n".as_slice() {
+        return Ok(Mark::Nothing);
+    }
+    if text == b"c".as_slice() {
+        return Ok(Mark::Inner);
+    }
+    long_mark(alloc, text, ranks, group)
+}
+
+/// A mark of more than one letter.
+#[tactic(auto, unfolding(crate::specs::EntryReading::long_mark_in))]
+fn long_mark(alloc: Global, text: &[u8], ranks: u8, group: &[u8]) -> Result<Mark, Unread>
+    ensures { Gives result (long_mark_in ranks group.now text.now) }
+{
+    if let Some(outer) = behind(text, b"c:") {
+        let ints = few_ints(alloc, outer, 262_144)?;
+        return Ok(Mark::Outer { ints });
+    }
+    if let Some(new) = behind(text, b"m.") {
+        return made(alloc, new, ranks);
+    }
+    message(alloc, text, ranks, group)
+}
+
+/// A new communicator: its number, and behind a colon its members.
+#[tactic(auto, unfolding(crate::specs::EntryReading::made_in))]
+fn made(alloc: Global, text: &[u8], ranks: u8) -> Result<Mark, Unread>
+    ensures { Gives result (made_in ranks text.now) }
+{
+    let Some((comm, listed)) = cut(text, b':') else {
+        let comm = number(text, 999_999).ok_or(Unread::NotAllowed)?;
+        return Ok(Mark::Made { comm });
+    };
+    let comm = number(comm, 999_999).ok_or(Unread::NotAllowed)?;
+    let members = crate::lists::ranks(alloc, listed, b',', ranks)?;
+    if comm > 0 && members.as_slice().len() <= 64 {
+        Ok(Mark::MadeOutside { comm, members })
+    } else {
+        Err(Unread::NotAllowed)
+    }
+}
+
+/// A message: its name, and behind a colon its ints.
+#[tactic(auto, unfolding(crate::specs::EntryReading::message_in))]
+fn message(alloc: Global, text: &[u8], ranks: u8, group: &[u8]) -> Result<Mark, Unread>
+    ensures { Gives result (message_in ranks group.now text.now) }
+{
+    let Some((name, ints)) = cut(text, b':') else {
+        let (source, start) = inside(text, ranks, group).ok_or(Unread::NotAllowed)?;
+        return Ok(Mark::Inside { source, start });
+    };
+    let (source, start, tag) = outside(name, ranks, group).ok_or(Unread::NotAllowed)?;
+    let ints = few_ints(alloc, ints, 65_536)?;
+    Ok(Mark::Outside {
+        source,
+        start,
+        tag,
+        ints,
+    })
+}

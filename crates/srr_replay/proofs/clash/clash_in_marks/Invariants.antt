@@ -1,0 +1,15 @@
+use Rattle.std.proofs.Common.{◌≡◌, ℕ, List, length, true}
+use Rattle.run_model.specs.Views.{view_of}
+use Rattle.srr_replay.specs.Breaks.{break_marks}
+use Rattle.srr_replay.specs.Fits.{marks_fit}
+use Rattle.srr_replay.proofs.clash.clash_in_marks.Given as goal
+
+abbrev pub invariant-loop-rest : goal.invariant-loop-rest
+invariant-loop-rest l = record {
+  same : break_marks l.seen.ranks (view_of l.seen.events) (view_of l.seen.events l.rank) l.rank l.starts l.rest
+      ≡ break_marks l.seen.ranks (view_of l.seen.events) (view_of l.seen.events l.rank) l.rank l.starts l.marks;
+  fit : (group : List ℕ) × (marks_fit l.seen.ranks group l.rank (view_of l.seen.events l.rank) l.starts l.rest ≡ true);
+}
+
+abbrev pub decreases-loop-rest : goal.decreases-loop-rest
+decreases-loop-rest l = length l.rest

@@ -1,0 +1,177 @@
+//! The events of a replay, and what each rank has seen in them.
+ghost use Rattle.std.specs.Prelude.{◌≡◌, ◌<◌, ◌++◌, ◌∷◌, [], IfOk, IfSome, OnOk, OnErr, true, length, option_map};
+ghost use Rattle.mpi_call.specs.Calls.{is_enter};
+ghost use Rattle.mpi_call.specs.Collectives.{is_member};
+ghost use Rattle.run_model.specs.Communicators.{enter_at, instance_of, is_on, members_in};
+ghost use Rattle.run_model.specs.Lists.{world};
+ghost use Rattle.run_model.specs.Views.{start_at, taken_of, view_of};
+ghost use Rattle.srr_replay.specs.Seen.{entered_of};
+
+use crate::counts::Counts;
+use crate::find::{count_enters, find_enter, find_made, find_start, is_taken};
+use mpi_call::call::{Call, Comm};
+use mpi_call::lists::Ranks;
+use run_model::event::Event;
+use run_model::history::History;
+use std::alloc::{AllocError, Global};
+use std::marker::Model;
+
+/// An Enter of a rank: its start number, and the communicator's members for the rank when it entered.
+#[derive(Clone, Copy)]
+pub struct Enter<'a> {
+    pub number: u32,
+    pub call: &'a Call,
+    pub members: Option<&'a Ranks>,
+}
+
+/// The events so far. Contracts see the number of ranks and the events.
+#[derive(Drop)]
+pub struct Seen {
+    ranks: u8,
+    events: History,
+    /// How many calls each rank has made.
+    counts: Counts,
+    /// All ranks.
+    world: Ranks,
+    /// The members of a communicator that a rank doesn't know.
+    nobody: Ranks,
+}
+
+impl Model for Seen {
+    ghost use Rattle.std.specs.Prelude.{◌≡◌, []};
+    ghost use Rattle.run_model.specs.Lists.{world as all_of};
+    ghost use Rattle.srr_replay.specs.Rounds.{AreCounts};
+    ghost use Rattle.srr_replay.specs.Seen.{SeenSoFar};
+
+    ghost Value = { SeenSoFar };
+
+    ghost view = { λ s. record { ranks = s.ranks; events = s.events.events } };
+
+    ghost invariant = { λ s. AreCounts s.ranks s.events.events s.counts × (s.world ≡ all_of s.ranks 0) × (s.nobody ≡ []) };
+}
+
+impl Seen {
+    /// No events of so many ranks.
+    pub fn new(alloc: Global, ranks: u8) -> Result<Self, AllocError>
+        ensures { IfOk result (λ seen. seen ≡ record { ranks = ranks; events = [] }) }
+    {
+        let counts = Counts::new(alloc, ranks)?;
+        let world = all_ranks(alloc, ranks)?;
+        Ok(Seen {
+            ranks,
+            events: History::new(alloc),
+            counts,
+            world,
+            nobody: Ranks::new(alloc),
+        })
+    }
+
+    /// The number of ranks.
+    pub fn ranks(&self) -> u8
+        ensures { result ≡ self.now.ranks }
+    {
+        self.ranks
+    }
+
+    /// The events.
+    pub fn events(&self) -> &History
+        ensures { result.now.events ≡ self.now.events }
+    {
+        &self.events
+    }
+
+    /// The events, handed out.
+    pub fn into_events(self) -> History
+        ensures { result.events ≡ self.events }
+    {
+        self.events
+    }
+
+    /// How many calls a rank has made.
+    pub fn count(&self, rank: u8) -> u32
+        requires { rank < self.now.ranks }
+        ensures { result ≡ length (view_of self.now.events rank) }
+    {
+        self.counts.get(rank)
+    }
+
+    /// The rank's start with this number.
+    pub fn start(&self, rank: u8, number: u32) -> Option<&Call>
+        ensures { option_map (λ found. found.now) result ≡ start_at (view_of self.now.events rank) number }
+    {
+        find_start(self.events.as_slice(), rank, number)
+    }
+
+    /// Whether the rank's start with this number was taken.
+    pub fn is_taken(&self, rank: u8, number: u32) -> bool
+        ensures { result ≡ is_member (taken_of (view_of self.now.events rank)) number }
+    {
+        is_taken(self.events.as_slice(), rank, number)
+    }
+
+    /// The members of a communicator for a rank; none where it doesn't know it.
+    pub fn members(&self, rank: u8, comm: Comm) -> &Ranks
+        ensures { result.now ≡ members_in self.now.ranks (view_of self.now.events rank) comm }
+    {
+        if comm == 0 {
+            return &self.world;
+        }
+        match find_made(self.events.as_slice(), rank, comm) {
+            Some(members) => members,
+            None => &self.nobody,
+        }
+    }
+
+    /// How many of a rank's starts before this one are Enters on a communicator.
+    pub fn instance(&self, rank: u8, number: u32, comm: Comm) -> u32
+        ensures { result ≡ instance_of (view_of self.now.events rank) number comm }
+    {
+        count_enters(self.events.as_slice(), rank, number, comm)
+    }
+
+    /// A rank's Enter of an instance.
+    pub fn entered(&self, rank: u8, comm: Comm, instance: u32) -> Option<Enter<'_>>
+        ensures enter { IfSome result (λ found. is_enter found.call.now ≡ true) }
+        ensures found { option_map entered_of result ≡ enter_at self.now.ranks (view_of self.now.events rank) comm instance }
+    {
+        let known = if comm == 0 { Some(&self.world) } else { None };
+        find_enter(self.events.as_slice(), known, rank, comm, instance)
+    }
+
+    /// Appends an event. For want of memory nothing has changed.
+    pub fn add(&mut self, event: Event) -> Result<(), AllocError>
+        requires { event.rank < self.old.ranks }
+        ensures ok { OnOk result (self.new ≡ record self.old { events = self.old.events ++ event ∷ [] }) }
+        ensures err { OnErr result (self.new ≡ self.old) }
+    {
+        // A log's bounds keep the events far below this.
+        if self.events.len() >= u32::MAX {
+            return Err(AllocError);
+        }
+        let rank = event.rank;
+        self.events.reserve(1)?;
+        self.events.push(event);
+        self.counts.rise(rank);
+        Ok(())
+    }
+}
+
+/// All ranks below a number, rising.
+fn all_ranks(alloc: Global, ranks: u8) -> Result<Ranks, AllocError>
+    ensures { IfOk result (λ all. all ≡ world ranks 0) }
+{
+    let mut all = Ranks::new(alloc);
+    for rank in 0..ranks {
+        append(&mut all, rank)?;
+    }
+    Ok(all)
+}
+
+fn append(ranks: &mut Ranks, rank: u8) -> Result<(), AllocError>
+    ensures { OnOk result (ranks.new ≡ ranks.old ++ rank ∷ []) }
+{
+    match ranks.push(rank) {
+        Ok(()) => Ok(()),
+        Err(_) => Err(AllocError),
+    }
+}
