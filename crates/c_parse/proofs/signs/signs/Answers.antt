@@ -1,0 +1,11 @@
+use Rattle.std.proofs.Common.{◌≡◌, ◌<◌, ◌≤◌, List, length, subst, sym, arith}
+use Rattle.c_lex.specs.Readings.{AreSlices}
+use Rattle.c_lex.specs.declared.token.Token.{Token}
+use Rattle.c_lex.proofs.SliceLaws.{slice_inside}
+use Rattle.c_parse.proofs.signs.signs.Goals as goal
+
+pub sign-requires : goal.sign-requires
+sign-requires c =
+    slice_inside c.args.text.now 0 c.as_slice-tokens.result.now c.loop-token.token-index _
+    (subst (λ tokens. AreSlices c.args.text.now 0 tokens) (sym c.as_slice-tokens.ensures) c.requires)
+    c.loop-token-test.true
