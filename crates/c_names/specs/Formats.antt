@@ -71,7 +71,10 @@ abbrev pub pieces_of : List ℕ → Option (List Piece)
 pieces_of bytes = pieces_from Pieces bytes
 
 -- how many ints it takes
+abbrev pub ints_of : Option Piece → ℕ
+ints_of (Some (Int filling width base)) = 1
+ints_of _ = 0
+
 abbrev pub ints_in : List Piece → ℕ
 ints_in [] = 0
-ints_in (Byte byte ∷ pieces) = ints_in pieces
-ints_in (Int filling width base ∷ pieces) = suc (ints_in pieces)
+ints_in (piece ∷ pieces) = ints_of (Some piece) + ints_in pieces

@@ -1,9 +1,11 @@
 -- What each MPI function takes. (MPI 3.1, the C bindings.) `NULL` is a reference without cells.
-use Rattle.std.specs.Prelude.{List, [], ◌∷◌}
+use Rattle.std.specs.Prelude.{Bool, true, false, List, [], ◌∷◌}
 use Rattle.c_names.specs.declared.function.MpiFunction.{MpiFunction}
 use Rattle.c_names.specs.declared.function.MpiFunction.TheVariants as f
 use Rattle.c_names.specs.declared.function.ArgumentKind.{ArgumentKind}
-use Rattle.c_names.specs.declared.function.ArgumentKind.TheVariants.{Number, Buffer, Ints, Datatype, Operation, Communicator, NewCommunicator, Requests, Status, Statuses, ArgumentCount, ArgumentTexts}
+use Rattle.c_names.specs.declared.function.ArgumentKind.TheVariants.{Number, Buffer, Ints, Datatype, Operation, Communicator, NewCommunicator, Requests, Status, Statuses, ArgumentCount, ArgumentTexts, NoReference, Output}
+use Rattle.c_names.specs.declared.predefined.Predefined.{Predefined}
+use Rattle.c_names.specs.declared.predefined.Predefined.TheVariants as p
 
 abbrev pub arguments : MpiFunction → List ArgumentKind
 arguments f.Init = ArgumentCount ∷ ArgumentTexts ∷ []
@@ -39,3 +41,14 @@ arguments f.Alltoall = Buffer ∷ Number ∷ Datatype ∷ Buffer ∷ Number ∷ 
 arguments f.CommSplit = Communicator ∷ Number ∷ Number ∷ NewCommunicator ∷ []
 arguments f.CommDup = Communicator ∷ NewCommunicator ∷ []
 arguments f.Abort = Communicator ∷ Number ∷ []
+
+-- the predefined names that may stand for an argument
+abbrev pub accepts : ArgumentKind → Predefined → Bool
+accepts Buffer p.NoReference = true
+accepts NoReference p.NoReference = true
+accepts Datatype p.Datatype = true
+accepts Operation (p.Operation op) = true
+accepts Status p.IgnoredStatus = true
+accepts Statuses p.IgnoredStatuses = true
+accepts Output p.Output = true
+accepts _ _ = false

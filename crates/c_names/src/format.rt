@@ -1,6 +1,6 @@
 //! Formats of `printf`.
-ghost use Rattle.std.specs.Prelude.{◌≡◌, ◌≤◌, ◌∷◌, [], IfOk, MatchOption, None, Option, Some, option_map, length};
-ghost use Rattle.c_names.specs.Formats.{begins_width, converts, end, escaped, ints_in, on, pieces_of, step_of};
+ghost use Rattle.std.specs.Prelude.{◌≡◌, ◌++◌, IfOk, OnOk, option_map, option_to_list};
+ghost use Rattle.c_names.specs.Formats.{begins_width, converts, end, escaped, ints_in, ints_of, on, pieces_of, step_of};
 
 use std::alloc::{AllocError, Global};
 
@@ -141,18 +141,28 @@ fn next_step(before: Before, byte: u8) -> Option<Step>
     }
 }
 
+fn ints(piece: Option<Piece>) -> usize
+    ensures { result ≡ ints_of piece }
+{
+    match piece {
+        Some(Piece::Int { .. }) => 1,
+        _ => 0,
+    }
+}
+
 /// How many ints a format takes, or `None` where it is none. Takes no memory.
+#[tactic(auto, using(crate::proofs::FormatLaws::counted))]
 pub fn count_ints(format: &[u8]) -> Option<usize>
     ensures { result ≡ option_map ints_in (pieces_of format.now) }
 {
     let mut count = 0;
     let mut before = Before::Pieces;
-    for byte in format {
+    let mut left = format;
+    while let [byte, after @ ..] = left {
         let step = next_step(before, *byte)?;
-        if let Some(Piece::Int { .. }) = step.piece {
-            count += 1;
-        }
+        count += ints(step.piece);
         before = step.before;
+        left = after;
     }
     match before {
         Before::Pieces => Some(count),
@@ -160,20 +170,30 @@ pub fn count_ints(format: &[u8]) -> Option<usize>
     }
 }
 
+fn push(found: &mut Vec<Piece>, piece: Option<Piece>) -> Result<(), AllocError>
+    ensures { OnOk result (found.new.items ≡ found.old.items ++ option_to_list piece) }
+{
+    if let Some(piece) = piece {
+        found.push(piece)?;
+    }
+    Ok(())
+}
+
 /// The pieces of a format, or `None` where it is none.
+#[tactic(auto, using(crate::proofs::FormatLaws::appended))]
 pub fn pieces(alloc: Global, format: &[u8]) -> Result<Option<Vec<Piece>>, AllocError>
     ensures { IfOk result (λ found. option_map (λ pieces. pieces.items) found ≡ pieces_of format.now) }
 {
     let mut found = Vec::new(alloc);
     let mut before = Before::Pieces;
-    for byte in format {
+    let mut left = format;
+    while let [byte, after @ ..] = left {
         let Some(step) = next_step(before, *byte) else {
             return Ok(None);
         };
-        if let Some(piece) = step.piece {
-            found.push(piece)?;
-        }
+        push(&mut found, step.piece)?;
         before = step.before;
+        left = after;
     }
     match before {
         Before::Pieces => Ok(Some(found)),

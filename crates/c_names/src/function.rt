@@ -1,6 +1,8 @@
 //! The MPI functions and what each takes.
 ghost use Rattle.std.specs.Prelude.{◌≡◌};
-ghost use Rattle.c_names.specs.Functions.{arguments};
+ghost use Rattle.c_names.specs.Functions.{accepts, arguments};
+
+use crate::predefined::Predefined;
 
 /// An MPI function.
 #[derive(Clone, Copy)]
@@ -166,5 +168,20 @@ pub fn arguments(function: MpiFunction) -> &'static [ArgumentKind]
         MpiFunction::CommSplit => &[Communicator, Number, Number, NewCommunicator],
         MpiFunction::CommDup => &[Communicator, NewCommunicator],
         MpiFunction::Abort => &[Communicator, Number],
+    }
+}
+
+/// Whether a predefined name may stand for an argument.
+pub fn accepts(kind: ArgumentKind, known: Predefined) -> bool
+    ensures { result ≡ accepts kind known }
+{
+    match (kind, known) {
+        (ArgumentKind::Buffer | ArgumentKind::NoReference, Predefined::NoReference) => true,
+        (ArgumentKind::Datatype, Predefined::Datatype) => true,
+        (ArgumentKind::Operation, Predefined::Operation(_)) => true,
+        (ArgumentKind::Status, Predefined::IgnoredStatus) => true,
+        (ArgumentKind::Statuses, Predefined::IgnoredStatuses) => true,
+        (ArgumentKind::Output, Predefined::Output) => true,
+        _ => false,
     }
 }

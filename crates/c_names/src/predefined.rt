@@ -98,13 +98,16 @@ pub fn meaning_of(name: &[u8]) -> Option<Predefined>
     find(&NAMES, name)
 }
 
+/// What the first row with this name has.
 fn find(rows: &[(&'static str, Predefined)], name: &[u8]) -> Option<Predefined>
     ensures { result ≡ found_in (map (λ row. (row.0.now, row.1)) rows.now) name.now }
 {
-    for row in rows {
+    let mut left = rows;
+    while let [row, after @ ..] = left {
         if row.0.as_bytes() == name {
             return Some(row.1);
         }
+        left = after;
     }
     None
 }

@@ -1,0 +1,9 @@
+pub mod Least
+pub mod Scopes
+pub mod Kinds
+pub mod Literals
+pub mod Constants
+pub mod Expressions
+pub mod Calls
+pub mod Statements
+pub mod Programs
