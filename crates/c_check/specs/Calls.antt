@@ -15,8 +15,9 @@ use Rattle.c_names.specs.declared.function.MpiFunction.TheVariants as f
 use Rattle.c_names.specs.declared.predefined.Predefined.{Predefined}
 use Rattle.c_names.specs.declared.predefined.Predefined.TheVariants as p
 use Rattle.c_check.specs.Least.{fault, unless}
-use Rattle.c_check.specs.Kinds.{is_int, is_same_kind, kind_faults, kind_of, start_of}
-use Rattle.c_check.specs.Scopes.{Env, cut, meaning, name_faults}
+use Rattle.c_check.specs.Kinds.{is_same_kind, kind_faults, kind_of, start_of}
+use Rattle.c_check.specs.Signatures.{listed}
+use Rattle.c_check.specs.Scopes.{Env, Signature, cut, meaning, name_faults}
 use Rattle.c_check.specs.Expressions.{int_faults, wanted_faults}
 use Rattle.c_check.specs.declared.fault.Fault.{Fault}
 use Rattle.c_check.specs.declared.thing.ExprKind.{ExprKind}
@@ -27,10 +28,6 @@ use Rattle.c_check.specs.declared.thing.Meaning.{Meaning}
 use Rattle.c_check.specs.declared.thing.Meaning.TheVariants as m
 use Rattle.c_check.specs.declared.thing.Thing.{Thing}
 use Rattle.c_check.specs.declared.thing.Thing.TheVariants as d
-
--- things in a row
-abbrev pub listed : {A : Type 0} → t.Row A → List A
-listed (t.row first more) = first ∷ map (λ behind. behind.1) more
 
 abbrev pub arguments_listed : Option (t.Row t.Argument) → List t.Argument
 arguments_listed None = []
@@ -158,23 +155,9 @@ arguments_faults env _ _ = []
 
 -- ---- calls
 
--- what a parameter takes; no argument fits a `char` parameter
-abbrev pub parameter_takes : t.Parameter → ArgumentKind
-parameter_takes (t.int word name) = a.Number
-parameter_takes (t.array word name opening length closing) = a.Buffer
-parameter_takes (t.pointer word star name) = a.Buffer
-parameter_takes (t.communicator word name) = a.Communicator
-parameter_takes (t.text_pointers word star second name) = a.Nothing
-parameter_takes (t.text_array word star name opening closing) = a.Nothing
-
-abbrev pub parameters_listed : t.Parameters → List t.Parameter
-parameters_listed t.no_parameter = []
-parameters_listed (t.void at) = []
-parameters_listed (t.parameters row) = listed row
-
-abbrev pub head_takes : Option t.Head → List ArgumentKind
-head_takes None = []
-head_takes (Some head) = map parameter_takes (parameters_listed head.listed)
+abbrev pub signature_takes : Option Signature → List ArgumentKind
+signature_takes None = []
+signature_takes (Some signature) = signature.takes
 
 -- `NULL` for both arguments, or main's own parameters
 abbrev pub first_is_null : Env → List t.Argument → Bool
@@ -187,7 +170,7 @@ mpi_takes env function _ = arguments function
 
 -- what the name of a call takes, or nothing where it is no function
 abbrev pub takes : Env → Meaning → List t.Argument → Option (List ArgumentKind)
-takes env (m.Declared (d.Function number)) given = Some (head_takes (slice_get env.heads number))
+takes env (m.Declared (d.Function number)) given = Some (signature_takes (slice_get env.functions number))
 takes env (m.Known (p.Mpi function)) given = Some (mpi_takes env function given)
 takes env (m.Known p.Fflush) given = Some (a.Output ∷ [])
 takes env _ given = None
@@ -227,14 +210,14 @@ call_faults env call = meant_faults env call.name (meaning env call.name) (argum
 
 -- ---- right sides
 
-abbrev pub gives_int : Option t.Head → Bool
+abbrev pub gives_int : Option Signature → Bool
 gives_int None = false
-gives_int (Some head) = is_int head.result
+gives_int (Some signature) = signature.gives
 
 -- what a call gives where a kind is wanted: an int function of the text gives an int, and nothing else may stand there
 abbrev pub result_faults : Env → ExprKind → Meaning → Spot → List Fault
 result_faults env wanted (m.Declared (d.Function number)) name =
-    if gives_int (slice_get env.heads number) then kind_faults wanted (Of Int) name else fault name WrongType
+    if gives_int (slice_get env.functions number) then kind_faults wanted (Of Int) name else fault name WrongType
 result_faults env wanted (m.Known (p.Mpi function)) name = fault name LeftOut
 result_faults env wanted (m.Known p.Printf) name = fault name LeftOut
 result_faults env wanted (m.Known p.Fflush) name = fault name WrongType

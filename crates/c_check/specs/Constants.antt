@@ -70,11 +70,15 @@ over Nameless b whole = Nameless
 over a Nameless whole = Nameless
 over a b whole = whole
 
--- the value of two operands that may have none: `&&` and `||` need their right one only where the left does not decide
+-- `&&` and `||` need their right operand only where the left one does not decide
+abbrev pub decided : Operator → ℤ → Constant
+decided o.LogicalOr a = if is_set a then Value (pos 1) else NoValue
+decided o.LogicalAnd a = if is_set a then NoValue else Value (pos 0)
+decided _ a = NoValue
+
 abbrev pub joined_values : Operator → Constant → Constant → Constant
-joined_values o.LogicalOr (Value a) NoValue = if is_set a then Value (pos 1) else NoValue
-joined_values o.LogicalAnd (Value a) NoValue = if is_set a then NoValue else Value (pos 0)
 joined_values operator (Value a) (Value b) = or_no_value (applied operator a b)
+joined_values operator (Value a) NoValue = decided operator a
 joined_values operator a b = NoValue
 
 abbrev pub joined : Operator → Constant → Constant → Constant

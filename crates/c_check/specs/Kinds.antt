@@ -24,10 +24,6 @@ kind_of_word w.Request = Request
 kind_of_word w.Communicator = Communicator
 kind_of_word _ = Int
 
-abbrev pub is_int : Word → Bool
-is_int w.Int = true
-is_int _ = false
-
 abbrev pub is_same_kind : Kind → Kind → Bool
 is_same_kind Int Int = true
 is_same_kind Status Status = true

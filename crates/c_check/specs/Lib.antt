@@ -1,9 +1,12 @@
 pub mod Least
 pub mod Scopes
+pub mod Signatures
+pub mod ScopeView
 pub mod Kinds
 pub mod Literals
 pub mod Constants
 pub mod Expressions
 pub mod Calls
+pub mod CallView
 pub mod Statements
 pub mod Programs

@@ -1,6 +1,5 @@
 -- The faults of a whole program. (ISO C, "External definitions", "Program startup".)
 use Rattle.std.specs.Prelude.{◌++◌, ◌&&◌, ◌||◌, ℕ, ℤ, pos, neg_ℤ, zero, suc, Bool, true, false, not, List, [], ◌∷◌, length, map, if◌then◌else◌, Option, Some, None, codes}
-
 use Rattle.std.specs.List.{list_any}
 use Rattle.std.specs.Option.{is_some}
 use Rattle.std.specs.Str.{bytes_eq}
@@ -11,9 +10,8 @@ use Rattle.c_names.specs.Predefined.{predefined}
 use Rattle.c_check.specs.Least.{fault, unless}
 use Rattle.c_check.specs.Literals.{number_at}
 use Rattle.c_check.specs.Constants.{length_faults}
-use Rattle.c_check.specs.Kinds.{is_int}
+use Rattle.c_check.specs.Signatures.{is_int, listed, parameters_listed, signature_of}
 use Rattle.c_check.specs.Scopes.{Entry, named, Env, cut, declare, opened, twice_faults}
-use Rattle.c_check.specs.Calls.{listed, parameters_listed}
 use Rattle.c_check.specs.Statements.{parts_faults}
 use Rattle.c_check.specs.declared.fault.Fault.{Fault}
 use Rattle.c_check.specs.declared.thing.Kind.TheVariants.{Int, Communicator}
@@ -145,7 +143,7 @@ function_entries text number [] = []
 function_entries text number (head ∷ heads) = named (cut text head.name) (d.Function number) ∷ function_entries text (suc number) heads
 
 abbrev pub text_env : List ℕ → t.Tree → Env
-text_env text tree = record { text = text; heads = heads_of tree; entries = function_entries text 0 (heads_of tree) }
+text_env text tree = record { text = text; functions = map signature_of (heads_of tree); entries = function_entries text 0 (heads_of tree) }
 
 -- no main, at the end of the text
 abbrev pub main_faults : List ℕ → t.Tree → List Fault

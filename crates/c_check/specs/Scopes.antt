@@ -6,8 +6,8 @@ use Rattle.std.specs.Option.{is_some}
 use Rattle.std.specs.Str.{bytes_eq}
 use Rattle.c_lex.specs.declared.fault.Why.TheVariants.{Unknown, Twice, LeftOut}
 use Rattle.c_grammar.specs.declared.word.Spot.{Spot}
-use Rattle.c_grammar.specs.Tree as t
 use Rattle.c_names.specs.Predefined.{predefined}
+use Rattle.c_names.specs.declared.function.ArgumentKind.{ArgumentKind}
 use Rattle.c_names.specs.declared.predefined.Predefined.{Predefined}
 use Rattle.c_check.specs.Least.{fault, unless}
 use Rattle.c_check.specs.declared.fault.Fault.{Fault}
@@ -19,10 +19,15 @@ pub data Entry : Type 0 where
   opening : Entry
   named : List ℕ → Thing → Entry
 
--- what stands around a piece of a program: the text, the heads of its functions, and what is declared
+-- what a function takes, and whether it gives an int
+pub record Signature : Type 0 where
+  pub gives : Bool
+  pub takes : List ArgumentKind
+
+-- what stands around a piece of a program: the text, its functions, and what is declared
 pub record Env : Type 0 where
   pub text : List ℕ
-  pub heads : List t.Head
+  pub functions : List Signature
   pub entries : List Entry
 
 -- the bytes of a token
@@ -73,3 +78,9 @@ declare env spot thing = record env { entries = named (cut env.text spot) thing 
 
 abbrev pub opened : Env → Env
 opened env = record env { entries = opening ∷ env.entries }
+
+-- the end of a block
+abbrev pub closed : List Entry → List Entry
+closed [] = []
+closed (opening ∷ rest) = rest
+closed (named name thing ∷ rest) = closed rest

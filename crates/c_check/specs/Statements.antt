@@ -8,9 +8,10 @@ use Rattle.c_grammar.specs.Tree as t
 use Rattle.c_check.specs.Least.{fault, unless}
 use Rattle.c_check.specs.Constants.{length_faults, length_of}
 use Rattle.c_check.specs.Kinds.{cell_kind, kind_of_word, place_start, target_kind}
+use Rattle.c_check.specs.Signatures.{listed}
 use Rattle.c_check.specs.Scopes.{Env, declare, meaning, opened, twice_faults}
 use Rattle.c_check.specs.Expressions.{int_faults, place_faults}
-use Rattle.c_check.specs.Calls.{call_faults, listed, right_faults, right_start}
+use Rattle.c_check.specs.Calls.{call_faults, right_faults, right_start}
 use Rattle.c_check.specs.declared.fault.Fault.{Fault}
 use Rattle.c_check.specs.declared.thing.ExprKind.{ExprKind}
 use Rattle.c_check.specs.declared.thing.ExprKind.TheVariants.{Of, NullRequest, Other, Nothing}
@@ -54,7 +55,7 @@ abbrev pub simple_faults : Env → t.Simple → List Fault
 simple_faults env (t.assign place operator at right) =
     if is_assign operator
     then (place_faults env place ++ unless (is_goal (goal_kind env place)) (place_start place) WrongType)
-        ++ right_faults env (goal_takes (goal_kind env place)) right
+    ++ right_faults env (goal_takes (goal_kind env place)) right
     else int_goal_faults env place ++ right_faults env (Of Int) right
 simple_faults env (t.after place operator at) = int_goal_faults env place
 simple_faults env (t.before operator at place) = int_goal_faults env place

@@ -58,10 +58,13 @@ pub fn note(best: &mut Option<Fault>, found: Fault)
 pub fn note_at(best: &mut Option<Fault>, spot: Spot, why: Why)
     ensures { best.new ≡ least_from best.old (fault spot why) }
 {
-    note(best, Fault {
-        at: spot.start,
-        why,
-    });
+    note(
+        best,
+        Fault {
+            at: spot.start,
+            why,
+        },
+    );
 }
 
 /// A fault at a token, unless all is well.
