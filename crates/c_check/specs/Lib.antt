@@ -2,6 +2,7 @@ pub mod Least
 pub mod Scopes
 pub mod Signatures
 pub mod ScopeView
+pub mod Variables
 pub mod Kinds
 pub mod Literals
 pub mod Constants

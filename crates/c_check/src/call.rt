@@ -339,7 +339,7 @@ fn count(takes: Takes) -> usize
     }
 }
 
-fn kind_at(takes: Takes, place: usize) -> Option<ArgumentKind>
+pub fn kind_at(takes: Takes, place: usize) -> Option<ArgumentKind>
     ensures { result ≡ slice_get (takes_view takes.entry) place }
 {
     match takes {

@@ -5,6 +5,7 @@ ghost use Rattle.c_grammar.specs.StmtView.{head_view};
 ghost use Rattle.c_check.specs.Least.{least_from};
 ghost use Rattle.c_check.specs.Literals.{number_at};
 ghost use Rattle.c_check.specs.Signatures.{signature_of};
+ghost use Rattle.c_check.specs.Variables.{variable};
 ghost use Rattle.c_check.specs.Scopes.{closed, cut, declare, found, is_in_block, is_taken, meaning, meaning_of, name_faults, opened, twice_faults};
 
 use crate::fault::{Fault, note_at, note_unless};
@@ -156,6 +157,26 @@ impl<'a> Scope<'a> {
         }
     }
 
+    /// How many variables of the function stand before this one.
+    pub fn variable(&self, spot: Spot) -> usize
+        ensures { result ≡ variable self.now spot }
+    {
+        let name = cut(self.text, spot);
+        let mut number = 0;
+        let mut found = 0;
+        for placed in &self.placed {
+            if let Placed::Named { name: other, thing } = placed {
+                if *other == name {
+                    found = number;
+                }
+                if is_variable(*thing) {
+                    number += 1;
+                }
+            }
+        }
+        found
+    }
+
     fn is_in_block(&self, name: &[u8]) -> bool
         ensures { result ≡ is_in_block self.now.entries name.now }
     {
@@ -179,6 +200,13 @@ impl<'a> Scope<'a> {
         let name = cut(self.text, spot);
         let taken = meaning_of(name).is_some() || self.is_in_block(name);
         note_unless(best, !taken, spot, Why::Twice);
+    }
+}
+
+fn is_variable(thing: Thing) -> bool {
+    match thing {
+        Thing::Function(_) | Thing::Define(_) => false,
+        _ => true,
     }
 }
 
