@@ -13,7 +13,7 @@ mod statement_of;
 pub mod typing;
 
 pub use program::CProgram;
-pub use typing::check;
+pub use typing::{check, read_program};
 
 #[cfg(test)]
 mod tests;

@@ -18,7 +18,8 @@ use c_check::thing::Thing;
 use c_grammar::statement;
 use c_grammar::statement::{Head, Top, Tree};
 use c_grammar::word::Word;
-use c_lex::SourceFault;
+use c_lex::{SourceFault, tokens};
+use c_parse::parse;
 use std::alloc::{AllocError, Global};
 use wiz_base::Bytes;
 
@@ -135,4 +136,13 @@ pub fn check(alloc: Global, text: &[u8], tree: Tree) -> Result<CProgram, SourceF
         return Err(fault_at(text, place, fault.why));
     }
     Ok(program_of(alloc, text, &tree)?)
+}
+
+/// The program of a text: its tokens, its tree and its types, in this order.
+pub fn read_program(alloc: Global, text: &[u8]) -> Result<CProgram, SourceFault>
+    requires { length text.now ≤ 65536 }
+{
+    let tokens = tokens(alloc, text)?;
+    let tree = parse(alloc, text, &tokens)?;
+    check(alloc, text, tree)
 }
