@@ -1,2 +1,4 @@
 pub mod Least
 pub mod LiteralLaws
+pub mod Rows
+pub mod Entries

@@ -48,12 +48,16 @@ abbrev pub word_meant : Meaning → Option Predefined
 word_meant (m.Known known) = Some known
 word_meant _ = None
 
-abbrev pub expr_word : Env → t.Expr → Option Predefined
-expr_word env (t.read (t.whole name)) = word_meant (meaning env name)
-expr_word env _ = None
+abbrev pub name_alone : t.Expr → Option Spot
+name_alone (t.read (t.whole name)) = Some name
+name_alone _ = None
+
+abbrev pub name_word : Env → Option Spot → Option Predefined
+name_word env None = None
+name_word env (Some name) = word_meant (meaning env name)
 
 abbrev pub word_of : Env → t.Argument → Option Predefined
-word_of env (t.value e) = expr_word env e
+word_of env (t.value e) = name_word env (name_alone e)
 word_of env _ = None
 
 abbrev pub accepts_word : ArgumentKind → Option Predefined → Bool
@@ -97,11 +101,7 @@ is_nameless m.LeftOut = true
 is_nameless m.Unknown = true
 is_nameless _ = false
 
--- a name alone, or a name and what is added to it: the name of an array stands on the whole left side
-abbrev pub name_alone : t.Expr → Option Spot
-name_alone (t.read (t.whole name)) = Some name
-name_alone _ = None
-
+-- a name and what is added to it: the name of an array stands on the whole left side
 abbrev pub is_plus : Word → Bool
 is_plus w.Plus = true
 is_plus _ = false

@@ -1,6 +1,7 @@
 pub mod Least
 pub mod Scopes
 pub mod Signatures
+pub mod Rows
 pub mod ScopeView
 pub mod Variables
 pub mod Kinds

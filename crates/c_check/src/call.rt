@@ -1,16 +1,17 @@
 //! The faults of calls and of right sides.
 ghost use Rattle.std.specs.Prelude.{◌≡◌, length, map, option_map, slice_get};
-ghost use Rattle.c_grammar.specs.StmtView.{argument_view, call_view, head_view, right_view};
+ghost use Rattle.c_grammar.specs.StmtView.{argument_view, call_view, head_view, parameter_view, parameters_view, right_view};
 ghost use Rattle.c_grammar.specs.View.{place_view, view};
-ghost use Rattle.c_check.specs.Calls.{accepts_own, accepts_word, argument_faults, arguments_faults, arguments_of, call_faults, counted_faults, expr_word, first_is_null, format_faults, gives_int, inside, is_array_name, is_array_of, is_nameless, is_own, is_place_of, is_plus, meant_faults, misfit_faults, mpi_takes, name_alone, numbers_faults, print_faults, reference_faults, result_faults, right_faults, right_start, takes, unaccepted_faults, value_faults, word_meant, word_of};
+ghost use Rattle.c_check.specs.Calls.{accepts_own, accepts_word, argument_faults, arguments_faults, arguments_of, call_faults, counted_faults, first_is_null, format_faults, gives_int, inside, is_array_name, is_array_of, is_nameless, is_own, is_place_of, is_plus, meant_faults, misfit_faults, mpi_takes, name_alone, name_word, numbers_faults, print_faults, reference_faults, result_faults, right_faults, right_start, takes, unaccepted_faults, value_faults, word_meant, word_of};
 ghost use Rattle.c_check.specs.CallView.{takes_view};
 ghost use Rattle.c_check.specs.Least.{least_from};
 ghost use Rattle.c_check.specs.Scopes.{meaning};
-ghost use Rattle.c_check.specs.Signatures.{is_int, parameter_takes};
+ghost use Rattle.c_check.specs.Signatures.{is_int, parameter_takes, parameters_listed};
 
 use crate::expression::{check_expr, want_expr, want_int};
 use crate::fault::{Fault, note_at, note_unless};
 use crate::kind::{is_same_kind, start_of, want_kind};
+use crate::row::{item_at, item_count};
 use crate::scope::{Scope, cut, want_meaning};
 use crate::thing::{ExprKind, Kind, Meaning, Thing};
 use c_grammar::statement::{Argument, Call, Head, Parameter, Parameters, Right};
@@ -23,12 +24,21 @@ use c_names::predefined::Predefined;
 
 // ---- one argument
 
-fn expr_word(scope: &Scope, e: &Expr) -> Option<Predefined>
-    ensures { result ≡ expr_word scope.now (view e.now) }
+fn word_meant(meaning: Meaning) -> Option<Predefined>
+    ensures { result ≡ word_meant meaning }
 {
-    match scope.meaning(name_alone(e)?) {
+    match meaning {
         Meaning::Known(known) => Some(known),
         _ => None,
+    }
+}
+
+fn name_word(scope: &Scope, name: Option<Spot>) -> Option<Predefined>
+    ensures { result ≡ name_word scope.now name }
+{
+    match name {
+        Some(name) => word_meant(scope.meaning(name)),
+        None => None,
     }
 }
 
@@ -37,7 +47,7 @@ pub fn word_of(scope: &Scope, argument: &Argument) -> Option<Predefined>
     ensures { result ≡ word_of scope.now (argument_view argument.now) }
 {
     match argument {
-        Argument::Value(e) => expr_word(scope, e),
+        Argument::Value(e) => name_word(scope, name_alone(e)),
         _ => None,
     }
 }
@@ -135,7 +145,12 @@ pub fn name_alone(e: &Expr) -> Option<Spot>
             Place::Whole(name) => Some(*name),
             Place::Cell { .. } => None,
         },
-        _ => None,
+        Expr::Number(_) => None,
+        Expr::Field { .. } => None,
+        Expr::Paren { .. } => None,
+        Expr::Unary { .. } => None,
+        Expr::Chain { .. } => None,
+        Expr::Choice { .. } => None,
     }
 }
 
@@ -265,7 +280,7 @@ pub fn argument_count(call: &Call) -> usize
     ensures { result ≡ length (arguments_of (call_view call.now)) }
 {
     match &call.arguments {
-        Some(list) => list.more.len() + 1,
+        Some(list) => item_count(list),
         None => 0,
     }
 }
@@ -275,20 +290,14 @@ pub fn argument_at(call: &Call, place: usize) -> Option<&Argument>
     ensures { option_map (λ argument. argument_view argument.now) result ≡ slice_get (arguments_of (call_view call.now)) place }
 {
     match &call.arguments {
-        Some(list) => {
-            if place == 0 {
-                return Some(&list.first);
-            }
-            match list.more.get(place - 1) {
-                Some(behind) => Some(&behind.item),
-                None => None,
-            }
-        }
+        Some(list) => item_at(list, place),
         None => None,
     }
 }
 
-fn parameter_takes(parameter: &Parameter) -> ArgumentKind {
+pub fn parameter_takes(parameter: &Parameter) -> ArgumentKind
+    ensures { result ≡ parameter_takes (parameter_view parameter.now) }
+{
     match parameter {
         Parameter::Int { .. } => ArgumentKind::Number,
         Parameter::Array { .. } => ArgumentKind::Buffer,
@@ -300,26 +309,24 @@ fn parameter_takes(parameter: &Parameter) -> ArgumentKind {
 }
 
 /// How many parameters a head has.
-pub fn parameter_count(head: &Head) -> usize {
+pub fn parameter_count(head: &Head) -> usize
+    ensures { result ≡ length (parameters_listed (parameters_view head.now.parameters)) }
+{
     match &head.parameters {
-        Parameters::Listed(list) => list.more.len() + 1,
-        _ => 0,
+        Parameters::Nothing => 0,
+        Parameters::Void(_) => 0,
+        Parameters::Listed(list) => item_count(list),
     }
 }
 
 /// A parameter by its place.
-pub fn parameter_at(head: &Head, place: usize) -> Option<&Parameter> {
+pub fn parameter_at(head: &Head, place: usize) -> Option<&Parameter>
+    ensures { option_map (λ parameter. parameter_view parameter.now) result ≡ slice_get (parameters_listed (parameters_view head.now.parameters)) place }
+{
     match &head.parameters {
-        Parameters::Listed(list) => {
-            if place == 0 {
-                return Some(&list.first);
-            }
-            match list.more.get(place - 1) {
-                Some(behind) => Some(&behind.item),
-                None => None,
-            }
-        }
-        _ => None,
+        Parameters::Nothing => None,
+        Parameters::Void(_) => None,
+        Parameters::Listed(list) => item_at(list, place),
     }
 }
 
@@ -476,7 +483,7 @@ pub fn check_call(best: &mut Option<Fault>, scope: &Scope, call: &Call)
 
 // ---- right sides
 
-fn is_int(word: Word) -> bool
+pub fn is_int(word: Word) -> bool
     ensures { result ≡ is_int word }
 {
     match word {
@@ -486,7 +493,7 @@ fn is_int(word: Word) -> bool
 }
 
 /// Whether a function of the text gives an int.
-pub fn gives_int(scope: &Scope, number: u32) -> bool
+pub fn gives_int(scope: &Scope, number: usize) -> bool
     ensures { result ≡ gives_int (slice_get scope.now.functions number) }
 {
     match scope.head(number) {

@@ -80,7 +80,12 @@ pub fn kind_of(scope: &Scope, e: &Expr) -> ExprKind
 {
     match e {
         Expr::Read(place) => place_kind(scope, place),
-        _ => ExprKind::Of(Kind::Int),
+        Expr::Number(_) => ExprKind::Of(Kind::Int),
+        Expr::Field { .. } => ExprKind::Of(Kind::Int),
+        Expr::Paren { .. } => ExprKind::Of(Kind::Int),
+        Expr::Unary { .. } => ExprKind::Of(Kind::Int),
+        Expr::Chain { .. } => ExprKind::Of(Kind::Int),
+        Expr::Choice { .. } => ExprKind::Of(Kind::Int),
     }
 }
 

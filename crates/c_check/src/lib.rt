@@ -7,6 +7,7 @@ pub mod expression;
 pub mod fault;
 pub mod kind;
 pub mod program;
+pub mod row;
 pub mod scope;
 pub mod statement;
 pub mod thing;

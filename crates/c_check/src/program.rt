@@ -1,17 +1,18 @@
 //! The faults of a whole program.
 ghost use Rattle.std.specs.Prelude.{◌≡◌, IfOk, MatchOption, [], OnOk};
-ghost use Rattle.c_grammar.specs.StmtView.{head_view, parameter_view, top_view, tree_view, value_view};
+ghost use Rattle.c_grammar.specs.StmtView.{head_view, parameter_view, parameters_view, top_view, tree_view, value_view};
+ghost use Rattle.c_check.specs.Signatures.{parameters_listed};
 ghost use Rattle.c_check.specs.Least.{IsFirst, least_from};
-ghost use Rattle.c_check.specs.Programs.{after_top, define_value, faults, is_main, is_one_int, is_text, optional_twice_faults, parameter_faults, parameter_name, parameter_thing};
+ghost use Rattle.c_check.specs.Programs.{after_top, are_main_parameters, define_value, faults, is_main, is_one_int, is_text, optional_twice_faults, parameter_faults, parameter_name, parameter_thing};
 
-use crate::call::{parameter_at, parameter_count};
+use crate::call::{is_int, parameter_at, parameter_count};
 use crate::constant::want_length;
 use crate::fault::{Fault, note, note_unless};
 use crate::scope::{Scope, cut, is_same, number_at};
 use crate::statement::check_parts;
 use crate::thing::{Kind, Thing};
-use c_grammar::statement::{Head, Parameter, Part, Top, Tree, Value};
-use c_grammar::word::{Spot, Word};
+use c_grammar::statement::{Head, Parameter, Parameters, Part, Top, Tree, Value};
+use c_grammar::word::Spot;
 use c_lex::Why;
 use c_names::predefined::meaning_of;
 use std::alloc::{AllocError, Global};
@@ -36,14 +37,16 @@ fn is_one_int(parameter: &Parameter) -> bool
     }
 }
 
-fn are_main_parameters(head: &Head) -> bool {
-    match parameter_count(head) {
-        0 => true,
-        2 => match (parameter_at(head, 0), parameter_at(head, 1)) {
-            (Some(count), Some(texts)) => is_one_int(count) && is_text(texts),
+fn are_main_parameters(parameters: &Parameters) -> bool
+    ensures { result ≡ are_main_parameters (parameters_listed (parameters_view parameters.now)) }
+{
+    match parameters {
+        Parameters::Nothing => true,
+        Parameters::Void(_) => true,
+        Parameters::Listed(list) => match list.more.as_slice() {
+            [texts] => is_one_int(&list.first) && is_text(&texts.item),
             _ => false,
         },
-        _ => false,
     }
 }
 
@@ -51,14 +54,9 @@ fn are_main_parameters(head: &Head) -> bool {
 pub fn is_main(text: &[u8], head: &Head) -> bool
     ensures { result ≡ is_main text.now (head_view head.now) }
 {
-    is_int(head.result) && is_same(cut(text, head.name), b"main") && are_main_parameters(head)
-}
-
-fn is_int(word: Word) -> bool {
-    match word {
-        Word::Int => true,
-        _ => false,
-    }
+    is_int(head.result)
+        && is_same(cut(text, head.name), b"main")
+        && are_main_parameters(&head.parameters)
 }
 
 // ---- heads

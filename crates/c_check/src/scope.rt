@@ -1,11 +1,11 @@
 //! Scopes: what names stand for at a place of a program.
-ghost use Rattle.std.specs.Prelude.{◌≡◌, [], OnOk, map, option_map, slice_get};
+ghost use Rattle.std.specs.Prelude.{◌≡◌, [], OnOk, length, map, option_map, slice_get};
 ghost use Rattle.std.specs.Str.{bytes_eq};
 ghost use Rattle.c_grammar.specs.StmtView.{head_view};
 ghost use Rattle.c_check.specs.Least.{least_from};
 ghost use Rattle.c_check.specs.Literals.{number_at};
 ghost use Rattle.c_check.specs.Signatures.{signature_of};
-ghost use Rattle.c_check.specs.Variables.{variable};
+ghost use Rattle.c_check.specs.Variables.{is_variable, variable};
 ghost use Rattle.c_check.specs.Scopes.{closed, cut, declare, found, is_in_block, is_taken, meaning, meaning_of, name_faults, opened, twice_faults};
 
 use crate::fault::{Fault, note_at, note_unless};
@@ -86,15 +86,17 @@ impl<'a> Scope<'a> {
     }
 
     /// How many functions the text has.
-    pub fn head_count(&self) -> u32 {
-        self.heads.len() as u32
+    pub fn head_count(&self) -> usize
+        ensures { result ≡ length self.now.functions }
+    {
+        self.heads.len()
     }
 
     /// The head of a function by its number.
-    pub fn head(&self, number: u32) -> Option<&'a Head>
+    pub fn head(&self, number: usize) -> Option<&'a Head>
         ensures { option_map (λ head. signature_of (head_view head.now)) result ≡ slice_get self.now.functions number }
     {
-        self.heads.get(number as usize).copied()
+        self.heads.get(number).copied()
     }
 
     pub fn declare(&mut self, name: Spot, thing: Thing) -> Result<(), AllocError>
@@ -113,6 +115,7 @@ impl<'a> Scope<'a> {
         Ok(())
     }
 
+    #[tactic(auto, using(crate::proofs::Entries::entries_push))]
     /// Ends the innermost block.
     pub fn close(&mut self)
         ensures { self.new ≡ record self.old { entries = closed self.old.entries } }
@@ -124,17 +127,19 @@ impl<'a> Scope<'a> {
         }
     }
 
+    #[tactic(auto, using(crate::proofs::Entries::entries_more))]
     fn find(&self, name: &[u8]) -> Option<Thing>
         ensures { result ≡ found self.now.entries name.now }
     {
-        for placed in self.placed.iter().rev() {
+        let mut found = None;
+        for placed in &self.placed {
             if let Placed::Named { name: other, thing } = placed {
-                if *other == name {
-                    return Some(*thing);
+                if is_same(other, name) {
+                    found = Some(*thing);
                 }
             }
         }
-        None
+        found
     }
 
     /// What a name means.
@@ -157,6 +162,7 @@ impl<'a> Scope<'a> {
         }
     }
 
+    #[tactic(auto, using(crate::proofs::Entries::entries_more))]
     /// How many variables of the function stand before this one.
     pub fn variable(&self, spot: Spot) -> usize
         ensures { result ≡ variable self.now spot }
@@ -166,31 +172,27 @@ impl<'a> Scope<'a> {
         let mut found = 0;
         for placed in &self.placed {
             if let Placed::Named { name: other, thing } = placed {
-                if *other == name {
+                if is_same(other, name) {
                     found = number;
                 }
-                if is_variable(*thing) {
-                    number += 1;
-                }
+                number += is_variable(*thing);
             }
         }
         found
     }
 
+    #[tactic(auto, using(crate::proofs::Entries::entries_more))]
     fn is_in_block(&self, name: &[u8]) -> bool
         ensures { result ≡ is_in_block self.now.entries name.now }
     {
-        for placed in self.placed.iter().rev() {
+        let mut found = false;
+        for placed in &self.placed {
             match placed {
-                Placed::Opening => return false,
-                Placed::Named { name: other, .. } => {
-                    if *other == name {
-                        return true;
-                    }
-                }
+                Placed::Opening => found = false,
+                Placed::Named { name: other, .. } => found = is_same(other, name) || found,
             }
         }
-        false
+        found
     }
 
     /// A name that may not be declared here.
@@ -203,10 +205,12 @@ impl<'a> Scope<'a> {
     }
 }
 
-fn is_variable(thing: Thing) -> bool {
+fn is_variable(thing: Thing) -> usize
+    ensures { result ≡ is_variable thing }
+{
     match thing {
-        Thing::Function(_) | Thing::Define(_) => false,
-        _ => true,
+        Thing::Function(_) | Thing::Define(_) => 0,
+        _ => 1,
     }
 }
 

@@ -18,7 +18,7 @@ pub enum Kind {
 #[derive(Clone, Copy)]
 pub enum Thing {
     /// By its number among the text's functions.
-    Function(u32),
+    Function(usize),
     Define(i32),
     /// A variable that is no array, or such a parameter.
     Variable(Kind),

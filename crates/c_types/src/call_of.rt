@@ -79,7 +79,7 @@ fn argument_of(
 pub fn call_of(
     alloc: Global,
     scope: &Scope,
-    number: u32,
+    number: usize,
     call: &statement::Call,
 ) -> Result<Call, AllocError> {
     let mut arguments = Vec::new(alloc);

@@ -73,7 +73,7 @@ pub enum Argument {
 /// A call of a function of the text, by its number.
 #[derive(Drop)]
 pub struct Call {
-    pub function: u32,
+    pub function: usize,
     pub arguments: Vec<Argument>,
 }
 

@@ -34,5 +34,5 @@ pub struct Function {
 #[derive(Drop)]
 pub struct CProgram {
     pub functions: Vec<Function>,
-    pub main: u32,
+    pub main: usize,
 }
