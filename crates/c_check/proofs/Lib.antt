@@ -2,3 +2,5 @@ pub mod Least
 pub mod LiteralLaws
 pub mod Rows
 pub mod Entries
+pub mod Lists
+pub mod Links
