@@ -4,3 +4,4 @@ pub mod Rows
 pub mod Entries
 pub mod Lists
 pub mod Links
+pub mod Arguments

@@ -18,12 +18,12 @@ use Rattle.c_check.proofs.Lists.{drop_at}
 
 pub constant_next : (env : Env) (value : Constant) (links : List Link) (i : ℕ) (link : Link) → i < length links → link ≡ get_or links i link
     → links_constant env value (links_from (map piece (drop i links)))
-      ≡ links_constant env (joined (operator_of link.operator) value (constant_of env (view link.operand))) (links_from (map piece (drop (i + 1) links)))
+    ≡ links_constant env (joined (operator_of link.operator) value (constant_of env (view link.operand))) (links_from (map piece (drop (i + 1) links)))
 constant_next env value links i link h e = ap (λ left. links_constant env value (links_from (map piece left))) (drop_at links i link h e)
 
 pub names_next : (env : Env) (best : Option Fault) (links : List Link) (i : ℕ) (link : Link) → i < length links → link ≡ get_or links i link
     → least_from best (names_in_links env (links_from (map piece (drop i links))))
-      ≡ least_from (least_from best (names_in env (view link.operand))) (names_in_links env (links_from (map piece (drop (i + 1) links))))
+    ≡ least_from (least_from best (names_in env (view link.operand))) (names_in_links env (links_from (map piece (drop (i + 1) links))))
 names_next env best links i link h e =
     ap (λ left. least_from best (names_in_links env (links_from (map piece left)))) (drop_at links i link h e)
     ∙ least_from_append best (names_in env (view link.operand)) (names_in_links env (links_from (map piece (drop (i + 1) links))))
@@ -31,9 +31,9 @@ names_next env best links i link h e =
 pub faults_next : (env : Env) (best : Option Fault) (kind : ExprKind) (at : Spot) (links : List Link) (i : ℕ) (link : Link)
     → i < length links → link ≡ get_or links i link
     → least_from best (links_faults env kind at (links_from (map piece (drop i links))))
-      ≡ least_from (least_from (least_from best (expr_faults env (view link.operand)))
-          (operand_faults link.operator kind at (kind_of env (view link.operand)) (start_of (view link.operand))))
-          (links_faults env (Of Int) at (links_from (map piece (drop (i + 1) links))))
+    ≡ least_from (least_from (least_from best (expr_faults env (view link.operand)))
+    (operand_faults link.operator kind at (kind_of env (view link.operand)) (start_of (view link.operand))))
+    (links_faults env (Of Int) at (links_from (map piece (drop (i + 1) links))))
 faults_next env best kind at links i link h e =
     let own = expr_faults env (view link.operand) in
     let pair = operand_faults link.operator kind at (kind_of env (view link.operand)) (start_of (view link.operand)) in

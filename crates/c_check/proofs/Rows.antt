@@ -1,21 +1,19 @@
 -- A thing in a row by its place.
-use Rattle.std.proofs.Common.{◌≡◌, ℕ, zero, suc, List, [], ◌∷◌, Option, Some, None, option_map, map, refl, sym, ◌∙◌, ap, slice_get, length, length-map, ◌-◌, arith}
+use Rattle.std.proofs.Common.{◌≡◌, ℕ, zero, suc, List, [], ◌∷◌, Option, Some, None, option_map, map, refl, sym, ◌∙◌, ap, slice_get, length, ◌-◌, arith}
 use Rattle.std.proofs.lemmas.Option.{slice_get-map}
+use Rattle.c_grammar.specs.declared.word.Spot.{Spot}
 use Rattle.c_grammar.specs.declared.statement.Behind.{Behind}
 use Rattle.c_grammar.specs.declared.statement.Listed.{Listed}
 use Rattle.c_grammar.specs.StmtView.{row_view}
 use Rattle.c_check.specs.Rows.{items_of}
 use Rattle.c_check.specs.Signatures.{listed}
 
-more_viewed : {A B : Type 0} (view : A → B) (more : List (Behind A)) → map (λ behind. behind.1) (map (λ behind. (behind.comma, view behind.item)) more) ≡ map view (map (λ behind. behind.item) more)
+more_viewed : {A B : Type 0} (view : A → B) (more : List (Behind A)) → map (λ (behind : Spot × B). behind.1) (map (λ (behind : Behind A). (behind.comma, view behind.item)) more) ≡ map view (map (λ behind. behind.item) more)
 more_viewed view [] = refl
 more_viewed view (b ∷ bs) = ap (λ xs. view b.item ∷ xs) (more_viewed view bs)
 
 pub listed_viewed : {A B : Type 0} (view : A → B) (list : Listed A) → listed (row_view view list) ≡ map view (items_of list)
 listed_viewed view list = ap (λ xs. view list.first ∷ xs) (more_viewed view list.more.items)
-
-pub length_viewed : {A B : Type 0} (view : A → B) (list : Listed A) → length (listed (row_view view list)) ≡ length (items_of list)
-length_viewed view list = rw (listed_viewed view list) (length-map view (items_of list))
 
 map_twice : {A B C : Type 0} (view : A → B) (now : C → A) (found : Option C) → option_map (λ one. view (now one)) found ≡ option_map view (option_map now found)
 map_twice view now None = refl

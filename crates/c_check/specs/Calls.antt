@@ -122,16 +122,21 @@ abbrev pub sum_faults : Env → Kind → t.Expr → Option (Spot × t.Expr) → 
 sum_faults env wanted e None = wanted_faults env Other e
 sum_faults env wanted e (Some sum) = if is_array_of wanted (meaning env sum.0) then int_faults env sum.1 else wanted_faults env Other e
 
+abbrev pub array_faults : Env → Kind → t.Expr → List Fault
+array_faults env wanted e = if is_array_name env wanted (name_alone e) then [] else sum_faults env wanted e (array_sum e)
+
+abbrev pub address_faults : Env → Kind → Spot → t.Place → List Fault
+address_faults env wanted mark (t.whole name) =
+    name_faults (meaning env name) name ++ unless (is_nameless (meaning env name) || is_place_of wanted (meaning env name)) mark WrongType
+address_faults env wanted mark (t.cell name opening index closing) =
+    (name_faults (meaning env name) name ++ unless (is_nameless (meaning env name) || is_array_of wanted (meaning env name)) mark WrongType)
+    ++ int_faults env index
+
 -- a reference to cells of one kind: `&NAME`, `&NAME[e]`, the name of an array, or such a name `+` an expression
 abbrev pub reference_faults : Env → Kind → t.Argument → List Fault
 reference_faults env wanted (t.text at) = fault at WrongType
-reference_faults env wanted (t.address mark (t.whole name)) =
-    name_faults (meaning env name) name ++ unless (is_nameless (meaning env name) || is_place_of wanted (meaning env name)) mark WrongType
-reference_faults env wanted (t.address mark (t.cell name opening index closing)) =
-    (name_faults (meaning env name) name ++ unless (is_nameless (meaning env name) || is_array_of wanted (meaning env name)) mark WrongType)
-    ++ int_faults env index
-reference_faults env wanted (t.value e) =
-    if is_array_name env wanted (name_alone e) then [] else sum_faults env wanted e (array_sum e)
+reference_faults env wanted (t.address mark place) = address_faults env wanted mark place
+reference_faults env wanted (t.value e) = array_faults env wanted e
 
 abbrev pub unaccepted_faults : Env → ArgumentKind → t.Argument → List Fault
 unaccepted_faults env a.Number argument = value_faults env (Of Int) argument

@@ -1,14 +1,14 @@
 //! The faults of calls and of right sides.
 ghost use Rattle.std.specs.Prelude.{◌≡◌, length, map, option_map, slice_get};
 ghost use Rattle.c_grammar.specs.StmtView.{argument_view, call_view, head_view, parameter_view, parameters_view, right_view};
-ghost use Rattle.c_grammar.specs.View.{place_view, view};
-ghost use Rattle.c_check.specs.Calls.{accepts_own, accepts_word, argument_faults, arguments_faults, arguments_of, call_faults, counted_faults, first_is_null, format_faults, gives_int, inside, is_array_name, is_array_of, is_nameless, is_own, is_place_of, is_plus, meant_faults, misfit_faults, mpi_takes, name_alone, name_word, numbers_faults, print_faults, reference_faults, result_faults, right_faults, right_start, takes, unaccepted_faults, value_faults, word_meant, word_of};
+ghost use Rattle.c_grammar.specs.View.{links_from, piece, place_view, view};
+ghost use Rattle.c_check.specs.Calls.{accepts_own, accepts_word, address_faults, argument_faults, array_faults, array_sum, arguments_faults, arguments_of, call_faults, counted_faults, first_is_null, format_faults, gives_int, inside, is_array_name, is_array_of, is_nameless, is_own, is_place_of, is_plus, meant_faults, misfit_faults, mpi_takes, name_alone, name_word, numbers_faults, print_faults, reference_faults, result_faults, right_faults, right_start, sum_base, sum_faults, takes, unaccepted_faults, value_faults, word_meant, word_of};
 ghost use Rattle.c_check.specs.CallView.{takes_view};
 ghost use Rattle.c_check.specs.Least.{least_from};
 ghost use Rattle.c_check.specs.Scopes.{meaning};
 ghost use Rattle.c_check.specs.Signatures.{is_int, parameter_takes, parameters_listed};
 
-use crate::expression::{check_expr, want_expr, want_int};
+use crate::expression::{want_expr, want_int};
 use crate::fault::{Fault, note_at, note_unless};
 use crate::kind::{is_same_kind, start_of, want_kind};
 use crate::row::{item_at, item_count};
@@ -163,23 +163,39 @@ pub fn is_plus(word: Word) -> bool
     }
 }
 
-/// The name and the operand of a sum of two, whose first is a name alone.
-pub fn array_sum(e: &Expr) -> Option<(Spot, &Expr)> {
-    match e {
-        Expr::Chain { first, links, .. } => {
-            let name = name_alone(first)?;
-            match links.as_slice() {
-                [link] => {
-                    if is_plus(link.operator) {
-                        Some((name, &link.operand))
-                    } else {
-                        None
-                    }
+/// The name and the operand of a sum of two, where its first one is a name alone.
+fn sum_base(name: Option<Spot>, links: &[Link]) -> Option<(Spot, &Expr)>
+    ensures { option_map (λ sum. (sum.0, view sum.1.now)) result ≡ sum_base name (links_from (map piece links.now)) }
+{
+    match name {
+        None => None,
+        Some(name) => match links {
+            [] => None,
+            [link] => {
+                if is_plus(link.operator) {
+                    Some((name, &link.operand))
+                } else {
+                    None
                 }
-                _ => None,
             }
-        }
-        _ => None,
+            [_, _, ..] => None,
+        },
+    }
+}
+
+/// The name of an array and what is added to it.
+#[tactic(auto, using(c_grammar::proofs::Viewed::views))]
+pub fn array_sum(e: &Expr) -> Option<(Spot, &Expr)>
+    ensures { option_map (λ sum. (sum.0, view sum.1.now)) result ≡ array_sum (view e.now) }
+{
+    match e {
+        Expr::Chain { first, links, .. } => sum_base(name_alone(first), links),
+        Expr::Number(_) => None,
+        Expr::Read(_) => None,
+        Expr::Field { .. } => None,
+        Expr::Paren { .. } => None,
+        Expr::Unary { .. } => None,
+        Expr::Choice { .. } => None,
     }
 }
 
@@ -192,12 +208,17 @@ fn is_array_name(scope: &Scope, wanted: Kind, name: Option<Spot>) -> bool
     }
 }
 
-/// The name of an array, or such a name and an operand behind `+`.
-fn want_array(best: &mut Option<Fault>, scope: &Scope, wanted: Kind, e: &Expr) {
-    if is_array_name(scope, wanted, name_alone(e)) {
-        return;
-    }
-    match array_sum(e) {
+/// What is added to the name of an array.
+fn want_sum(
+    best: &mut Option<Fault>,
+    scope: &Scope,
+    wanted: Kind,
+    e: &Expr,
+    sum: Option<(Spot, &Expr)>,
+)
+    ensures { best.new ≡ least_from best.old (sum_faults scope.now wanted (view e.now) (option_map (λ sum. (sum.0, view sum.1.now)) sum.entry)) }
+{
+    match sum {
         Some((name, operand)) => {
             if is_array_of(wanted, scope.meaning(name)) {
                 want_int(best, scope, operand);
@@ -209,9 +230,20 @@ fn want_array(best: &mut Option<Fault>, scope: &Scope, wanted: Kind, e: &Expr) {
     }
 }
 
+/// The name of an array, or such a name and an operand behind `+`.
+fn want_array(best: &mut Option<Fault>, scope: &Scope, wanted: Kind, e: &Expr)
+    ensures { best.new ≡ least_from best.old (array_faults scope.now wanted (view e.now)) }
+{
+    if !is_array_name(scope, wanted, name_alone(e)) {
+        want_sum(best, scope, wanted, e, array_sum(e));
+    }
+}
+
 /// A place behind `&`.
 #[tactic(auto, using(c_grammar::proofs::Viewed::views, crate::proofs::Least::least_from_append))]
-fn want_address(best: &mut Option<Fault>, scope: &Scope, wanted: Kind, mark: Spot, place: &Place) {
+fn want_address(best: &mut Option<Fault>, scope: &Scope, wanted: Kind, mark: Spot, place: &Place)
+    ensures { best.new ≡ least_from best.old (address_faults scope.now wanted mark (place_view place.now)) }
+{
     match place {
         Place::Whole(name) => {
             let meaning = scope.meaning(*name);
