@@ -23,7 +23,7 @@ sum_many (Some name) (a ∷ b ∷ rest) h = refl
 pub arguments_next : (env : Env) (best : Option Fault) (kinds : List ArgumentKind) (given : List t.Argument) (i : ℕ) (kind : ArgumentKind) (argument : t.Argument)
     → slice_get kinds i ≡ Some kind → slice_get given i ≡ Some argument
     → least_from best (arguments_faults env (drop i kinds) (drop i given))
-      ≡ least_from (least_from best (argument_faults env kind argument)) (arguments_faults env (drop (i + 1) kinds) (drop (i + 1) given))
+    ≡ least_from (least_from best (argument_faults env kind argument)) (arguments_faults env (drop (i + 1) kinds) (drop (i + 1) given))
 arguments_next env best kinds given i kind argument k a =
     rw (drop_got kinds i kind k, drop_got given i argument a)
     (least_from_append best (argument_faults env kind argument) (arguments_faults env (drop (i + 1) kinds) (drop (i + 1) given)))
@@ -38,7 +38,7 @@ arguments_end env best kinds given i kind k a = rw (drop_got kinds i kind k, dro
 
 pub numbers_next : (env : Env) (best : Option Fault) (given : List t.Argument) (i : ℕ) (argument : t.Argument) → slice_get given i ≡ Some argument
     → least_from best (numbers_faults env (drop i given))
-      ≡ least_from (least_from best (value_faults env (Of Int) argument)) (numbers_faults env (drop (i + 1) given))
+    ≡ least_from (least_from best (value_faults env (Of Int) argument)) (numbers_faults env (drop (i + 1) given))
 numbers_next env best given i argument a =
     rw (drop_got given i argument a) (least_from_append best (value_faults env (Of Int) argument) (numbers_faults env (drop (i + 1) given)))
 

@@ -5,3 +5,5 @@ pub mod Entries
 pub mod Lists
 pub mod Links
 pub mod Arguments
+pub mod Closed
+pub mod More

@@ -8,7 +8,11 @@ use Rattle.c_grammar.specs.StmtView.{row_view}
 use Rattle.c_check.specs.Rows.{items_of}
 use Rattle.c_check.specs.Signatures.{listed}
 
-more_viewed : {A B : Type 0} (view : A → B) (more : List (Behind A)) → map (λ (behind : Spot × B). behind.1) (map (λ (behind : Behind A). (behind.comma, view behind.item)) more) ≡ map view (map (λ behind. behind.item) more)
+-- what stands behind the first one, as `listed` and `row_view` make it
+abbrev pub behind_viewed : {A B : Type 0} → (A → B) → List (Behind A) → List B
+behind_viewed {A} {B} view more = map (λ (behind : Spot × B). behind.1) (map (λ (behind : Behind A). (behind.comma, view behind.item)) more)
+
+more_viewed : {A B : Type 0} (view : A → B) (more : List (Behind A)) → behind_viewed view more ≡ map view (map (λ behind. behind.item) more)
 more_viewed view [] = refl
 more_viewed view (b ∷ bs) = ap (λ xs. view b.item ∷ xs) (more_viewed view bs)
 

@@ -164,6 +164,10 @@ abbrev pub after_part : Env → t.Part → Env
 after_part env (t.declare declaration end) = after_declaration env declaration
 after_part env (t.stmt inner) = env
 
+abbrev pub after_parts : Env → t.Parts → Env
+after_parts env t.no_part = env
+after_parts env (t.part one others) = after_parts (after_part env one) others
+
 -- `gives`: the function gives an int; `loops`: a loop stands around
 abbrev mutual
   pub stmt_faults : Env → Bool → Bool → t.Stmt → List Fault

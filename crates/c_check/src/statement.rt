@@ -1,15 +1,17 @@
 //! The faults of statements and declarations.
-ghost use Rattle.std.specs.Prelude.{◌≡◌, OnOk, length, map, true};
-ghost use Rattle.c_grammar.specs.StmtView.{declaration_view, initial_view, item_view, part_view, parts_view, simple_view, start_view, stmt_view};
+ghost use Rattle.std.specs.Prelude.{◌≡◌, OnOk, option_map};
+ghost use Rattle.c_grammar.specs.StmtView.{declaration_view, initial_view, item_view, part_view, parts_view, right_view, row_view, simple_view, start_view, stmt_view};
 ghost use Rattle.c_grammar.specs.View.{place_view, view};
 ghost use Rattle.c_check.specs.Least.{least_from};
-ghost use Rattle.c_check.specs.Statements.{after_declaration, after_item, after_part, array_length, begins_with, begun_takes, braces_faults, can_begin, declaration_faults, declared_thing, goal_kind, goal_takes, initial_faults, int_goal_faults, is_assign, is_goal, is_int_array, is_int_goal, item_faults, place_length_faults, simple_faults, stmt_faults, parts_faults, part_faults};
+ghost use Rattle.c_check.specs.Signatures.{listed};
+ghost use Rattle.c_check.specs.Statements.{after_declaration, after_item, after_part, after_parts, after_start, array_length, begins_with, begun_takes, braces_faults, can_begin, declaration_faults, declared_thing, goal_kind, goal_takes, initial_faults, int_goal_faults, is_assign, is_goal, is_int_array, is_int_goal, item_faults, part_faults, parts_faults, place_length_faults, return_faults, simple_faults, start_faults, step_faults, stmt_faults, test_faults, values_faults};
 
 use crate::call::{check_call, right_start, want_right};
 use crate::constant::{length_of, want_length};
 use crate::expression::{check_place, want_int};
 use crate::fault::{Fault, note_at, note_unless};
 use crate::kind::{cell_kind, place_start, target_kind};
+use crate::row::item_count;
 use crate::scope::Scope;
 use crate::thing::{ExprKind, Kind, Thing, kind_of_word};
 use c_grammar::statement::{
@@ -179,7 +181,11 @@ fn array_length(thing: Thing) -> u32
     }
 }
 
-fn want_values(best: &mut Option<Fault>, scope: &Scope, values: &Listed<Expr>) {
+/// Ints in braces.
+#[tactic(auto, using(crate::proofs::Least::least_from_append))]
+fn want_values(best: &mut Option<Fault>, scope: &Scope, values: &Listed<Expr>)
+    ensures { best.new ≡ least_from best.old (values_faults scope.now (listed (row_view view values.now))) }
+{
     want_int(best, scope, &values.first);
     for behind in &values.more {
         want_int(best, scope, &behind.item);
@@ -198,27 +204,32 @@ fn want_braces(best: &mut Option<Fault>, name: Spot, thing: Thing, count: usize)
     }
 }
 
+#[tactic(auto, using(crate::proofs::Least::least_from_append))]
 fn check_initial(
     best: &mut Option<Fault>,
     scope: &Scope,
     name: Spot,
     thing: Thing,
-    initial: &Initial,
-) {
+    initial: &Option<Initial>,
+)
+    ensures { best.new ≡ least_from best.old (initial_faults scope.now name thing (option_map initial_view initial.now)) }
+{
     match initial {
-        Initial::Right { right, .. } => {
+        None => {}
+        Some(Initial::Right { right, .. }) => {
             let kind = begins_with(thing);
             note_unless(best, can_begin(kind), name, Why::WrongType);
             want_right(best, scope, begun_takes(kind), right);
         }
-        Initial::Braced { values, .. } => {
-            want_braces(best, name, thing, values.more.len() + 1);
+        Some(Initial::Braced { values, .. }) => {
+            want_braces(best, name, thing, item_count(values));
             want_values(best, scope, values);
         }
     }
 }
 
 /// A declared name, which is then declared.
+#[tactic(auto, using(crate::proofs::Least::least_from_append))]
 fn check_item(
     best: &mut Option<Fault>,
     scope: &mut Scope,
@@ -233,12 +244,12 @@ fn check_item(
     scope.want_free(best, name);
     let thing = declared_thing(scope, kind, &item.place);
     scope.declare(name, thing)?;
-    if let Some(initial) = &item.initial {
-        check_initial(best, scope, name, thing, initial);
-    }
+    check_initial(best, scope, name, thing, &item.initial);
     Ok(())
 }
 
+/// The faults of a declaration, whose names are then declared.
+#[tactic(auto, using(crate::proofs::Least::least_from_append))]
 pub fn check_declaration(
     best: &mut Option<Fault>,
     scope: &mut Scope,
@@ -258,7 +269,10 @@ pub fn check_declaration(
 // ---- statements
 
 /// What a function gives back.
-fn check_return(best: &mut Option<Fault>, scope: &Scope, gives: bool, value: &Option<Right>) {
+#[tactic(auto, using(crate::proofs::Least::least_from_append))]
+fn check_return(best: &mut Option<Fault>, scope: &Scope, gives: bool, value: &Option<Right>)
+    ensures { best.new ≡ least_from best.old (return_faults scope.now gives (option_map right_view value.now)) }
+{
     if let Some(right) = value {
         if gives {
             want_right(best, scope, ExprKind::Of(Kind::Int), right);
@@ -273,18 +287,39 @@ fn check_start(
     best: &mut Option<Fault>,
     scope: &mut Scope,
     start: &ForStart,
-) -> Result<(), AllocError> {
+) -> Result<(), AllocError>
+    ensures faults { OnOk result (best.new ≡ least_from best.old (start_faults scope.old (start_view start.now))) }
+    ensures scope { OnOk result (scope.new ≡ after_start scope.old (start_view start.now)) }
+{
     match start {
-        ForStart::Nothing => {}
-        ForStart::Declaration(declaration) => check_declaration(best, scope, declaration)?,
-        ForStart::Simple(simple) => check_simple(best, scope, simple),
+        ForStart::Nothing => Ok(()),
+        ForStart::Declaration(declaration) => check_declaration(best, scope, declaration),
+        ForStart::Simple(simple) => {
+            check_simple(best, scope, simple);
+            Ok(())
+        }
     }
-    Ok(())
+}
+
+fn check_test(best: &mut Option<Fault>, scope: &Scope, test: &Option<Expr>)
+    ensures { best.new ≡ least_from best.old (test_faults scope.now (option_map view test.now)) }
+{
+    if let Some(test) = test {
+        want_int(best, scope, test);
+    }
+}
+
+fn check_step(best: &mut Option<Fault>, scope: &Scope, step: &Option<Simple>)
+    ensures { best.new ≡ least_from best.old (step_faults scope.now (option_map simple_view step.now)) }
+{
+    if let Some(step) = step {
+        check_simple(best, scope, step);
+    }
 }
 
 /// The faults of a statement. `gives`: the function gives an int; `loops`: a loop stands around.
 #[cycle(statement)]
-#[tactic(auto, using(c_grammar::proofs::StmtViewed::stmt_views, crate::proofs::Least::least_from_append))]
+#[tactic(auto, using(c_grammar::proofs::StmtViewed::stmt_views, crate::proofs::Least::least_from_append, crate::proofs::Closed::closed_parts, crate::proofs::Closed::closed_start))]
 pub fn check_stmt(
     best: &mut Option<Fault>,
     scope: &mut Scope,
@@ -337,12 +372,8 @@ pub fn check_stmt(
         } => {
             scope.open()?;
             check_start(best, scope, start)?;
-            if let Some(test) = test {
-                want_int(best, scope, test);
-            }
-            if let Some(step) = step {
-                check_simple(best, scope, step);
-            }
+            check_test(best, scope, test);
+            check_step(best, scope, step);
             check_stmt(best, scope, gives, true, body)?;
             scope.close();
         }
@@ -351,7 +382,7 @@ pub fn check_stmt(
 }
 
 #[cycle(statement)]
-#[tactic(auto, using(c_grammar::proofs::StmtViewed::stmt_views, crate::proofs::Least::least_from_append))]
+#[tactic(auto, using(c_grammar::proofs::StmtViewed::stmt_views, crate::proofs::Least::least_from_append, crate::proofs::Closed::closed_parts, crate::proofs::Closed::closed_start))]
 fn check_part(
     best: &mut Option<Fault>,
     scope: &mut Scope,
@@ -377,6 +408,7 @@ pub fn check_parts(
     parts: &[Part],
 ) -> Result<(), AllocError>
     ensures faults { OnOk result (best.new ≡ least_from best.old (parts_faults scope.old gives loops (parts_view parts.now))) }
+    ensures scope { OnOk result (scope.new ≡ after_parts scope.old (parts_view parts.now)) }
 {
     for part in parts {
         check_part(best, scope, gives, loops, part)?;
