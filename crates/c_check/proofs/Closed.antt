@@ -1,5 +1,8 @@
 -- The end of a block leaves what stood before it.
-use Rattle.std.proofs.Common.{◌≡◌, List, [], ◌∷◌, refl, ◌∙◌}
+use Rattle.std.proofs.Common.{◌≡◌, Bool, List, [], ◌∷◌, Option, Some, None, refl, ◌∙◌}
+use Rattle.c_grammar.specs.declared.word.Spot.{Spot}
+use Rattle.c_check.specs.Programs.{after_parameter, after_parameters, declare_optional, parameter_name, parameter_thing}
+use Rattle.c_check.specs.declared.thing.Thing.{Thing}
 use Rattle.c_grammar.specs.Tree as t
 use Rattle.c_check.specs.Scopes.{Env, closed, opened}
 use Rattle.c_check.specs.Signatures.{listed}
@@ -35,3 +38,18 @@ closed_started env (t.simple_start simple) = refl
 
 pub closed_start : (env : Env) (start : t.ForStart) → closing (after_start (opened env) start) ≡ env
 closed_start env start = closed_started (opened env) start
+
+closed_declared : (env : Env) (main : Bool) (one : t.Parameter) → closing (after_parameter env main one) ≡ closing env
+closed_declared env main one = closed_optional env (parameter_name one) (parameter_thing main one)
+  where
+    closed_optional : (env : Env) (name : Option Spot) (thing : Thing) → closing (declare_optional env name thing) ≡ closing env
+    closed_optional env None thing = refl
+    closed_optional env (Some name) thing = refl
+
+closed_parameters : (env : Env) (main : Bool) (parameters : List t.Parameter) → closing (after_parameters env main parameters) ≡ closing env
+closed_parameters env main [] = refl
+closed_parameters env main (one ∷ others) = closed_parameters (after_parameter env main one) main others ∙ closed_declared env main one
+
+pub closed_function : (env : Env) (main : Bool) (parameters : List t.Parameter) (parts : t.Parts)
+    → closing (after_parts (after_parameters (opened env) main parameters) parts) ≡ env
+closed_function env main parameters parts = closed_more (after_parameters (opened env) main parameters) parts ∙ closed_parameters (opened env) main parameters

@@ -7,3 +7,4 @@ pub mod Links
 pub mod Arguments
 pub mod Closed
 pub mod More
+pub mod Parameters

@@ -19,29 +19,29 @@ use Rattle.c_check.proofs.Rows.{behind_viewed}
 
 pub values_next : (env : Env) (best : Option Fault) (more : List (Behind Expr)) (i : ℕ) (one : Behind Expr) → i < length more → one ≡ get_or more i one
     → least_from best (values_faults env (behind_viewed view (drop i more)))
-      ≡ least_from (least_from best (int_faults env (view one.item))) (values_faults env (behind_viewed view (drop (i + 1) more)))
+    ≡ least_from (least_from best (int_faults env (view one.item))) (values_faults env (behind_viewed view (drop (i + 1) more)))
 values_next env best more i one h e =
     ap (λ left. least_from best (values_faults env (behind_viewed view left))) (drop_at more i one h e)
     ∙ least_from_append best (int_faults env (view one.item)) (values_faults env (behind_viewed view (drop (i + 1) more)))
 
 pub items_next : (env : Env) (kind : Kind) (best : Option Fault) (more : List (Behind Item)) (i : ℕ) (one : Behind Item) → i < length more → one ≡ get_or more i one
     → least_from best (items_faults env kind (behind_viewed item_view (drop i more)))
-      ≡ least_from (least_from best (item_faults env kind (item_view one.item)))
-          (items_faults (after_item env kind (item_view one.item)) kind (behind_viewed item_view (drop (i + 1) more)))
+    ≡ least_from (least_from best (item_faults env kind (item_view one.item)))
+    (items_faults (after_item env kind (item_view one.item)) kind (behind_viewed item_view (drop (i + 1) more)))
 items_next env kind best more i one h e =
     ap (λ left. least_from best (items_faults env kind (behind_viewed item_view left))) (drop_at more i one h e)
     ∙ least_from_append best (item_faults env kind (item_view one.item))
-      (items_faults (after_item env kind (item_view one.item)) kind (behind_viewed item_view (drop (i + 1) more)))
+    (items_faults (after_item env kind (item_view one.item)) kind (behind_viewed item_view (drop (i + 1) more)))
 
 pub after_items_next : (env : Env) (kind : Kind) (more : List (Behind Item)) (i : ℕ) (one : Behind Item) → i < length more → one ≡ get_or more i one
     → after_items env kind (behind_viewed item_view (drop i more))
-      ≡ after_items (after_item env kind (item_view one.item)) kind (behind_viewed item_view (drop (i + 1) more))
+    ≡ after_items (after_item env kind (item_view one.item)) kind (behind_viewed item_view (drop (i + 1) more))
 after_items_next env kind more i one h e = ap (λ left. after_items env kind (behind_viewed item_view left)) (drop_at more i one h e)
 
 pub parts_next : (env : Env) (gives loops : Bool) (best : Option Fault) (parts : List Part) (i : ℕ) (one : Part) → i < length parts → one ≡ get_or parts i one
     → least_from best (parts_faults env gives loops (parts_view (drop i parts)))
-      ≡ least_from (least_from best (part_faults env gives loops (part_view one)))
-          (parts_faults (after_part env (part_view one)) gives loops (parts_view (drop (i + 1) parts)))
+    ≡ least_from (least_from best (part_faults env gives loops (part_view one)))
+    (parts_faults (after_part env (part_view one)) gives loops (parts_view (drop (i + 1) parts)))
 parts_next env gives loops best parts i one h e =
     ap (λ left. least_from best (parts_faults env gives loops (parts_view left))) (drop_at parts i one h e)
     ∙ least_from_append best (part_faults env gives loops (part_view one)) (parts_faults (after_part env (part_view one)) gives loops (parts_view (drop (i + 1) parts)))

@@ -10,7 +10,7 @@ use Rattle.c_names.specs.Predefined.{predefined}
 use Rattle.c_check.specs.Least.{fault, unless}
 use Rattle.c_check.specs.Literals.{number_at}
 use Rattle.c_check.specs.Constants.{length_faults}
-use Rattle.c_check.specs.Signatures.{is_int, listed, parameters_listed, signature_of}
+use Rattle.c_check.specs.Signatures.{function_entries, is_int, listed, parameters_listed, signature_of}
 use Rattle.c_check.specs.Scopes.{Entry, named, Env, cut, declare, opened, twice_faults}
 use Rattle.c_check.specs.Statements.{parts_faults}
 use Rattle.c_check.specs.declared.fault.Fault.{Fault}
@@ -121,8 +121,8 @@ after_top env (t.define word name value end) = declare env name (d.Define (defin
 after_top env _ = env
 
 abbrev pub seen_after : List ℕ → List (List ℕ) → t.Top → List (List ℕ)
-seen_after text seen (t.define word name value end) = cut text name ∷ seen
-seen_after text seen (t.function head opening parts closing) = cut text head.name ∷ seen
+seen_after text seen (t.define word name value end) = seen ++ cut text name ∷ []
+seen_after text seen (t.function head opening parts closing) = seen ++ cut text head.name ∷ []
 seen_after text seen (t.prototype head end) = seen
 
 abbrev pub tops_faults : Env → List (List ℕ) → List t.Top → List Fault
@@ -136,11 +136,6 @@ with_head _ heads = heads
 abbrev pub heads_of : t.Tree → List t.Head
 heads_of [] = []
 heads_of (top ∷ tops) = with_head top (heads_of tops)
-
--- functions are visible in the whole text; of two with one name, the first
-abbrev pub function_entries : List ℕ → ℕ → List t.Head → List Entry
-function_entries text number [] = []
-function_entries text number (head ∷ heads) = named (cut text head.name) (d.Function number) ∷ function_entries text (suc number) heads
 
 abbrev pub text_env : List ℕ → t.Tree → Env
 text_env text tree = record { text = text; functions = map signature_of (heads_of tree); entries = function_entries text 0 (heads_of tree) }

@@ -1,11 +1,12 @@
 -- What a function takes and gives. (ISO C, "Function definitions".)
-use Rattle.std.specs.Prelude.{Bool, true, false, List, [], ◌∷◌, map}
+use Rattle.std.specs.Prelude.{ℕ, suc, Bool, true, false, List, [], ◌∷◌, map}
 use Rattle.c_grammar.specs.declared.word.Word.{Word}
 use Rattle.c_grammar.specs.declared.word.Word.TheVariants as w
 use Rattle.c_grammar.specs.Tree as t
 use Rattle.c_names.specs.declared.function.ArgumentKind.{ArgumentKind}
 use Rattle.c_names.specs.declared.function.ArgumentKind.TheVariants as a
-use Rattle.c_check.specs.Scopes.{Signature}
+use Rattle.c_check.specs.Scopes.{Entry, named, Signature, cut}
+use Rattle.c_check.specs.declared.thing.Thing.TheVariants as d
 
 -- things in a row
 abbrev pub listed : {A : Type 0} → t.Row A → List A
@@ -31,3 +32,8 @@ parameters_listed (t.parameters row) = listed row
 
 abbrev pub signature_of : t.Head → Signature
 signature_of head = record { gives = is_int head.result; takes = map parameter_takes (parameters_listed head.listed) }
+
+-- functions are visible in the whole text; of two with one name, the first
+abbrev pub function_entries : List ℕ → ℕ → List t.Head → List Entry
+function_entries text number [] = []
+function_entries text number (head ∷ heads) = named (cut text head.name) (d.Function number) ∷ function_entries text (suc number) heads

@@ -1,9 +1,12 @@
 //! The faults of a whole program.
-ghost use Rattle.std.specs.Prelude.{◌≡◌, IfOk, MatchOption, [], OnOk};
-ghost use Rattle.c_grammar.specs.StmtView.{head_view, parameter_view, parameters_view, top_view, tree_view, value_view};
-ghost use Rattle.c_check.specs.Signatures.{parameters_listed};
+ghost use Rattle.std.specs.Prelude.{◌≡◌, ◌≤◌, ◌++◌, ◌∷◌, [], IfOk, MatchOption, OnOk, length, map};
+ghost use Rattle.std.specs.List.{list_any};
+ghost use Rattle.std.specs.Str.{bytes_eq};
+ghost use Rattle.c_grammar.specs.StmtView.{head_view, parameter_view, parameters_view, parts_view, top_view, tree_view, value_view};
 ghost use Rattle.c_check.specs.Least.{IsFirst, least_from};
-ghost use Rattle.c_check.specs.Programs.{after_top, are_main_parameters, define_value, faults, is_main, is_one_int, is_text, optional_twice_faults, parameter_faults, parameter_name, parameter_thing};
+ghost use Rattle.c_check.specs.Programs.{after_parameter, after_parameters, after_top, are_main_parameters, declare_optional, define_value, faults, function_faults, heads_of, is_main, is_one_int, is_text, main_faults, optional_twice_faults, parameter_faults, parameter_name, parameter_thing, parameters_faults, prototype_faults, seen_after, text_env, top_faults, top_twice_faults, tops_faults, with_head};
+ghost use Rattle.c_check.specs.Scopes.{cut};
+ghost use Rattle.c_check.specs.Signatures.{parameters_listed};
 
 use crate::call::{is_int, parameter_at, parameter_count};
 use crate::constant::want_length;
@@ -110,8 +113,10 @@ fn check_parameter(best: &mut Option<Fault>, scope: &Scope, main: bool, paramete
     }
 }
 
-fn check_prototype(best: &mut Option<Fault>, scope: &Scope, head: &Head) {
-    let main = is_main(scope.text(), head);
+/// A prototype declares nothing.
+fn check_prototype(best: &mut Option<Fault>, scope: &Scope, main: bool, head: &Head)
+    ensures { best.new ≡ least_from best.old (prototype_faults scope.now main (parameters_listed (parameters_view head.now.parameters))) }
+{
     for place in 0..parameter_count(head) {
         let Some(parameter) = parameter_at(head, place) else {
             return;
@@ -120,43 +125,72 @@ fn check_prototype(best: &mut Option<Fault>, scope: &Scope, head: &Head) {
     }
 }
 
-fn check_declared_parameter(
+fn want_free(best: &mut Option<Fault>, scope: &Scope, name: Option<Spot>)
+    ensures { best.new ≡ least_from best.old (optional_twice_faults scope.now name) }
+{
+    if let Some(name) = name {
+        scope.want_free(best, name);
+    }
+}
+
+fn declare(scope: &mut Scope, name: Option<Spot>, thing: Thing) -> Result<(), AllocError>
+    ensures { OnOk result (scope.new ≡ declare_optional scope.old name thing) }
+{
+    match name {
+        Some(name) => scope.declare(name, thing),
+        None => Ok(()),
+    }
+}
+
+/// A parameter, which is then declared.
+#[tactic(auto, using(crate::proofs::Least::least_from_append))]
+fn check_declared(
     best: &mut Option<Fault>,
     scope: &mut Scope,
     main: bool,
     parameter: &Parameter,
-) -> Result<(), AllocError> {
+) -> Result<(), AllocError>
+    ensures faults { OnOk result (best.new ≡ least_from best.old (parameter_faults scope.old main (parameter_view parameter.now) ++ optional_twice_faults scope.old (parameter_name (parameter_view parameter.now)))) }
+    ensures scope { OnOk result (scope.new ≡ after_parameter scope.old main (parameter_view parameter.now)) }
+{
     check_parameter(best, scope, main, parameter);
-    if let Some(name) = parameter_name(parameter) {
-        scope.want_free(best, name);
-        scope.declare(name, parameter_thing(main, parameter))?;
-    }
-    Ok(())
+    let name = parameter_name(parameter);
+    want_free(best, scope, name);
+    declare(scope, name, parameter_thing(main, parameter))
 }
 
 fn check_parameters(
     best: &mut Option<Fault>,
     scope: &mut Scope,
+    main: bool,
     head: &Head,
-) -> Result<(), AllocError> {
-    let main = is_main(scope.text(), head);
+) -> Result<(), AllocError>
+    ensures faults { OnOk result (best.new ≡ least_from best.old (parameters_faults scope.old main (parameters_listed (parameters_view head.now.parameters)))) }
+    ensures scope { OnOk result (scope.new ≡ after_parameters scope.old main (parameters_listed (parameters_view head.now.parameters))) }
+{
     for place in 0..parameter_count(head) {
         let Some(parameter) = parameter_at(head, place) else {
             return Ok(());
         };
-        check_declared_parameter(best, scope, main, parameter)?;
+        check_declared(best, scope, main, parameter)?;
     }
     Ok(())
 }
 
+/// The faults of a function behind its name.
+#[tactic(auto, using(crate::proofs::Least::least_from_append, crate::proofs::Closed::closed_function))]
 fn check_function(
     best: &mut Option<Fault>,
     scope: &mut Scope,
     head: &Head,
     parts: &[Part],
-) -> Result<(), AllocError> {
+) -> Result<(), AllocError>
+    ensures faults { OnOk result (best.new ≡ least_from best.old (function_faults scope.old (head_view head.now) (parts_view parts.now))) }
+    ensures scope { OnOk result (scope.new ≡ scope.old) }
+{
+    let main = is_main(scope.text(), head);
     scope.open()?;
-    check_parameters(best, scope, head)?;
+    check_parameters(best, scope, main, head)?;
     check_parts(best, scope, is_int(head.result), false, parts)?;
     scope.close();
     Ok(())
@@ -164,21 +198,30 @@ fn check_function(
 
 // ---- the text
 
-fn is_seen(seen: &[&[u8]], name: &[u8]) -> bool {
-    seen.iter().any(|other| is_same(name, other))
+fn is_seen(seen: &[&[u8]], name: &[u8]) -> bool
+    ensures { result ≡ list_any (bytes_eq name.now) (map (λ other. other.now) seen.now) }
+{
+    for other in seen {
+        if is_same(name, other) {
+            return true;
+        }
+    }
+    false
 }
 
-/// A name that is free in the text, and is then seen.
-fn want_new<'a>(
-    best: &mut Option<Fault>,
-    text: &'a [u8],
-    seen: &mut Vec<&'a [u8]>,
-    spot: Spot,
-) -> Result<(), AllocError> {
+/// A name that is free in the text.
+fn want_new(best: &mut Option<Fault>, text: &[u8], seen: &[&[u8]], spot: Spot)
+    ensures { best.new ≡ least_from best.old (top_twice_faults text.now (map (λ other. other.now) seen.now) spot) }
+{
     let name = cut(text, spot);
     let taken = meaning_of(name).is_some() || is_seen(seen, name);
     note_unless(best, !taken, spot, Why::Twice);
-    seen.push(name)?;
+}
+
+fn see<'a>(text: &'a [u8], seen: &mut Vec<&'a [u8]>, spot: Spot) -> Result<(), AllocError>
+    ensures { OnOk result (map (λ other. other.now) seen.new.items ≡ map (λ other. other.now) seen.old.items ++ cut text.now spot ∷ []) }
+{
+    seen.push(cut(text, spot))?;
     Ok(())
 }
 
@@ -194,35 +237,53 @@ pub fn define_value(text: &[u8], value: &Value) -> i32
     }
 }
 
+/// The faults of what stands in the text, which is then seen, and declared if it is a define.
+#[tactic(auto, using(crate::proofs::Least::least_from_append))]
 fn check_top<'a>(
     best: &mut Option<Fault>,
     scope: &mut Scope<'a>,
     seen: &mut Vec<&'a [u8]>,
     top: &Top,
-) -> Result<(), AllocError> {
+) -> Result<(), AllocError>
+    ensures faults { OnOk result (best.new ≡ least_from best.old (top_faults scope.old (map (λ other. other.now) seen.old.items) (top_view top.now))) }
+    ensures scope { OnOk result (scope.new ≡ after_top scope.old (top_view top.now)) }
+    ensures seen { OnOk result (map (λ other. other.now) seen.new.items ≡ seen_after scope.old.text (map (λ other. other.now) seen.old.items) (top_view top.now)) }
+{
+    let text = scope.text();
     match top {
         Top::Define { name, value, .. } => {
-            want_new(best, scope.text(), seen, *name)?;
-            scope.declare(*name, Thing::Define(define_value(scope.text(), value)))
+            want_new(best, text, seen, *name);
+            see(text, seen, *name)?;
+            scope.declare(*name, Thing::Define(define_value(text, value)))
         }
         Top::Function { head, parts, .. } => {
-            want_new(best, scope.text(), seen, head.name)?;
+            want_new(best, text, seen, head.name);
+            see(text, seen, head.name)?;
             check_function(best, scope, head, parts)
         }
         Top::Prototype { head, .. } => {
-            check_prototype(best, scope, head);
+            check_prototype(best, scope, is_main(text, head), head);
             Ok(())
         }
     }
 }
 
+fn push_head<'a>(heads: &mut Vec<&'a Head>, top: &'a Top) -> Result<(), AllocError>
+    ensures { OnOk result (map (λ head. head_view head.now) heads.new.items ≡ map (λ head. head_view head.now) heads.old.items ++ with_head (top_view top.now) []) }
+{
+    if let Top::Function { head, .. } = top {
+        heads.push(head)?;
+    }
+    Ok(())
+}
+
 /// The heads of the text's functions, in order.
-fn heads_of<'a>(alloc: Global, tree: &'a Tree) -> Result<Vec<&'a Head>, AllocError> {
+fn heads_of(alloc: Global, tops: &[Top]) -> Result<Vec<&Head>, AllocError>
+    ensures { IfOk result (λ heads. map (λ head. head_view head.now) heads.items ≡ heads_of (map top_view tops.now)) }
+{
     let mut heads = Vec::new(alloc);
-    for top in &tree.tops {
-        if let Top::Function { head, .. } = top {
-            heads.push(head)?;
-        }
+    for top in tops {
+        push_head(&mut heads, top)?;
     }
     Ok(heads)
 }
@@ -232,48 +293,74 @@ pub fn text_scope<'a>(
     alloc: Global,
     text: &'a [u8],
     tree: &'a Tree,
-) -> Result<Scope<'a>, AllocError> {
-    let heads = heads_of(alloc, tree)?;
-    let mut scope = Scope::new(alloc, text, heads);
-    let mut number = scope.head_count();
-    while number > 0 {
-        number -= 1;
-        if let Some(head) = scope.head(number) {
-            scope.declare(head.name, Thing::Function(number))?;
-        }
-    }
-    Ok(scope)
+) -> Result<Scope<'a>, AllocError>
+    ensures { IfOk result (λ scope. scope ≡ text_env text.now (tree_view tree.now)) }
+{
+    let heads = heads_of(alloc, &tree.tops)?;
+    Scope::of_functions(alloc, text, heads)
 }
 
-fn has_main(text: &[u8], tree: &Tree) -> bool {
-    for top in &tree.tops {
-        if let Top::Function { head, .. } = top {
-            if is_main(text, head) {
-                return true;
-            }
+fn is_main_top(text: &[u8], top: &Top) -> bool
+    ensures { result ≡ list_any (is_main text.now) (with_head (top_view top.now) []) }
+{
+    match top {
+        Top::Function { head, .. } => is_main(text, head),
+        Top::Define { .. } => false,
+        Top::Prototype { .. } => false,
+    }
+}
+
+fn has_main(text: &[u8], tops: &[Top]) -> bool
+    ensures { result ≡ list_any (is_main text.now) (heads_of (map top_view tops.now)) }
+{
+    for top in tops {
+        if is_main_top(text, top) {
+            return true;
         }
     }
     false
 }
 
-/// The first fault of a program in source order, or `None` where it has none.
-pub fn first_fault(alloc: Global, text: &[u8], tree: &Tree) -> Result<Option<Fault>, AllocError>
-    ensures { IfOk result (λ first. MatchOption first (faults text.now (tree_view tree.now) ≡ []) (λ found. IsFirst (faults text.now (tree_view tree.now)) found)) }
+/// A text without a main.
+fn want_main(best: &mut Option<Fault>, text: &[u8], tree: &Tree)
+    requires { length text.now ≤ 65536 }
+    ensures { best.new ≡ least_from best.old (main_faults text.now (tree_view tree.now)) }
 {
-    let mut best = None;
-    let mut scope = text_scope(alloc, text, tree)?;
-    let mut seen = Vec::new(alloc);
-    for top in &tree.tops {
-        check_top(&mut best, &mut scope, &mut seen, top)?;
-    }
-    if !has_main(text, tree) {
+    if !has_main(text, &tree.tops) {
         note(
-            &mut best,
+            best,
             Fault {
                 at: text.len() as u32,
                 why: Why::NoMain,
             },
         );
     }
+}
+
+fn check_tops<'a>(
+    alloc: Global,
+    best: &mut Option<Fault>,
+    scope: &mut Scope<'a>,
+    tops: &[Top],
+) -> Result<(), AllocError>
+    ensures { OnOk result (best.new ≡ least_from best.old (tops_faults scope.old [] (map top_view tops.now))) }
+{
+    let mut seen = Vec::new(alloc);
+    for top in tops {
+        check_top(best, scope, &mut seen, top)?;
+    }
+    Ok(())
+}
+
+/// The first fault of a program in source order, or `None` where it has none.
+#[tactic(auto, using(crate::proofs::Least::least_from_append, crate::proofs::Least::first_of))]
+pub fn first_fault(alloc: Global, text: &[u8], tree: &Tree) -> Result<Option<Fault>, AllocError>
+    requires { length text.now ≤ 65536 }
+    ensures { IfOk result (λ first. MatchOption first (faults text.now (tree_view tree.now) ≡ []) (λ found. IsFirst (faults text.now (tree_view tree.now)) found)) }
+{
+    let mut best = None;
+    let mut scope = text_scope(alloc, text, tree)?;
+    check_tops(alloc, &mut best, &mut scope, &tree.tops)?;
+    want_main(&mut best, text, tree);
     Ok(best)
 }

@@ -1,10 +1,10 @@
 //! Scopes: what names stand for at a place of a program.
-ghost use Rattle.std.specs.Prelude.{◌≡◌, [], OnOk, length, map, option_map, slice_get};
+ghost use Rattle.std.specs.Prelude.{◌≡◌, IfOk, OnOk, length, map, option_map, slice_get};
 ghost use Rattle.std.specs.Str.{bytes_eq};
 ghost use Rattle.c_grammar.specs.StmtView.{head_view};
 ghost use Rattle.c_check.specs.Least.{least_from};
 ghost use Rattle.c_check.specs.Literals.{number_at};
-ghost use Rattle.c_check.specs.Signatures.{signature_of};
+ghost use Rattle.c_check.specs.Signatures.{function_entries, signature_of};
 ghost use Rattle.c_check.specs.Variables.{is_variable, variable};
 ghost use Rattle.c_check.specs.Scopes.{closed, cut, declare, found, is_in_block, is_taken, meaning, meaning_of, name_faults, opened, twice_faults};
 
@@ -68,28 +68,35 @@ impl<'a> Model for Scope<'a> {
 }
 
 impl<'a> Scope<'a> {
-    /// Nothing is declared.
-    pub fn new(alloc: Global, text: &'a [u8], heads: Vec<&'a Head>) -> Self
-        ensures { result ≡ record { text = text.now; functions = map (λ head. signature_of (head_view head.now)) heads.entry.items; entries = [] } }
+    /// The functions are declared, from the last one on, so that of two of one name the first is found.
+    #[tactic(auto, using(crate::proofs::Entries::function_more))]
+    pub fn of_functions(
+        alloc: Global,
+        text: &'a [u8],
+        heads: Vec<&'a Head>,
+    ) -> Result<Self, AllocError>
+        ensures { IfOk result (λ scope. scope ≡ record { text = text.now; functions = map (λ head. signature_of (head_view head.now)) heads.entry.items; entries = function_entries text.now 0 (map (λ head. head_view head.now) heads.entry.items) }) }
     {
-        Scope {
+        let mut placed = Vec::new(alloc);
+        let mut number = heads.len();
+        while number > 0 {
+            number -= 1;
+            placed.push(Placed::Named {
+                name: cut(text, heads[number].name),
+                thing: Thing::Function(number),
+            })?;
+        }
+        Ok(Scope {
             text,
             heads,
-            placed: Vec::new(alloc),
-        }
+            placed,
+        })
     }
 
     pub fn text(&self) -> &'a [u8]
         ensures { result.now ≡ self.now.text }
     {
         self.text
-    }
-
-    /// How many functions the text has.
-    pub fn head_count(&self) -> usize
-        ensures { result ≡ length self.now.functions }
-    {
-        self.heads.len()
     }
 
     /// The head of a function by its number.

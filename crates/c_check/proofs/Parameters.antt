@@ -1,0 +1,40 @@
+-- One parameter, one thing in the text more.
+use Rattle.std.proofs.Common.{◌≡◌, ℕ, ◌+◌, ◌<◌, ◌++◌, Bool, List, length, drop, get_or, map, Option, Some, slice_get, ◌∙◌, ap}
+use Rattle.c_grammar.specs.Tree as t
+use Rattle.c_grammar.specs.declared.statement.Top.{Top}
+use Rattle.c_grammar.specs.StmtView.{top_view}
+use Rattle.c_check.specs.Least.{least_from}
+use Rattle.c_check.specs.Programs.{after_parameter, after_parameters, after_top, optional_twice_faults, parameter_faults, parameter_name, parameters_faults, prototype_faults, seen_after, top_faults, tops_faults}
+use Rattle.c_check.specs.Scopes.{Env}
+use Rattle.c_check.specs.declared.fault.Fault.{Fault}
+use Rattle.c_check.proofs.Least.{least_from_append}
+use Rattle.c_check.proofs.Lists.{drop_at, drop_got}
+
+pub prototype_next : (env : Env) (main : Bool) (best : Option Fault) (all : List t.Parameter) (i : ℕ) (one : t.Parameter) → slice_get all i ≡ Some one
+    → least_from best (prototype_faults env main (drop i all))
+    ≡ least_from (least_from best (parameter_faults env main one)) (prototype_faults env main (drop (i + 1) all))
+prototype_next env main best all i one e =
+    ap (λ left. least_from best (prototype_faults env main left)) (drop_got all i one e)
+    ∙ least_from_append best (parameter_faults env main one) (prototype_faults env main (drop (i + 1) all))
+
+pub parameters_next : (env : Env) (main : Bool) (best : Option Fault) (all : List t.Parameter) (i : ℕ) (one : t.Parameter) → slice_get all i ≡ Some one
+    → least_from best (parameters_faults env main (drop i all))
+    ≡ least_from (least_from best (parameter_faults env main one ++ optional_twice_faults env (parameter_name one)))
+    (parameters_faults (after_parameter env main one) main (drop (i + 1) all))
+parameters_next env main best all i one e =
+    ap (λ left. least_from best (parameters_faults env main left)) (drop_got all i one e)
+    ∙ least_from_append best (parameter_faults env main one ++ optional_twice_faults env (parameter_name one))
+    (parameters_faults (after_parameter env main one) main (drop (i + 1) all))
+
+pub after_parameters_next : (env : Env) (main : Bool) (all : List t.Parameter) (i : ℕ) (one : t.Parameter) → slice_get all i ≡ Some one
+    → after_parameters env main (drop i all) ≡ after_parameters (after_parameter env main one) main (drop (i + 1) all)
+after_parameters_next env main all i one e = ap (λ left. after_parameters env main left) (drop_got all i one e)
+
+pub tops_next : (env : Env) (seen : List (List ℕ)) (best : Option Fault) (tops : List Top) (i : ℕ) (one : Top) → i < length tops → one ≡ get_or tops i one
+    → least_from best (tops_faults env seen (map top_view (drop i tops)))
+    ≡ least_from (least_from best (top_faults env seen (top_view one)))
+    (tops_faults (after_top env (top_view one)) (seen_after env.text seen (top_view one)) (map top_view (drop (i + 1) tops)))
+tops_next env seen best tops i one h e =
+    ap (λ left. least_from best (tops_faults env seen (map top_view left))) (drop_at tops i one h e)
+    ∙ least_from_append best (top_faults env seen (top_view one))
+    (tops_faults (after_top env (top_view one)) (seen_after env.text seen (top_view one)) (map top_view (drop (i + 1) tops)))
