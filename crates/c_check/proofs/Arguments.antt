@@ -1,5 +1,5 @@
 -- One argument more.
-use Rattle.std.proofs.Common.{◌≡◌, ℕ, ◌+◌, ◌≤◌, ◌++◌, List, [], ◌∷◌, drop, map, length, Option, Some, None, slice_get, refl, sym, ◌∙◌, ap, arith}
+use Rattle.std.proofs.Common.{◌≡◌, ℕ, ◌+◌, ◌≤◌, List, [], ◌∷◌, drop, map, length, Option, Some, None, slice_get, refl, arith}
 use Rattle.c_grammar.specs.Tree as t
 use Rattle.c_grammar.specs.declared.tree.Link.{Link}
 use Rattle.c_grammar.specs.declared.word.Spot.{Spot}

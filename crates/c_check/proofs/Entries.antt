@@ -1,10 +1,9 @@
 -- Scopes, declaration by declaration.
-use Rattle.std.proofs.Common.{◌≡◌, ℕ, ◌+◌, ◌<◌, ◌≤◌, List, [], ◌∷◌, ◌++◌, length, take, get_or, map, reverse, drop, suc, Bor, refl, sym, ◌∙◌, ap, arith, append_assoc}
+use Rattle.std.proofs.Common.{◌≡◌, ℕ, ◌+◌, ◌<◌, ◌≤◌, List, [], ◌∷◌, ◌++◌, length, take, get_or, map, reverse, drop, suc, Bor, sym, ◌∙◌, ap, arith}
 use Rattle.std.proofs.lemmas.List.{take_more, map-append, reverse-append}
-use Rattle.std.proofs.Math.Seq.{take-length}
 use Rattle.c_grammar.specs.StmtView.{head_view}
 use Rattle.c_grammar.specs.declared.statement.Head.{Head}
-use Rattle.c_check.specs.Scopes.{Entry, named, cut}
+use Rattle.c_check.specs.Scopes.{named, cut}
 use Rattle.c_check.specs.Signatures.{function_entries}
 use Rattle.c_check.specs.declared.thing.Thing.TheVariants as d
 use Rattle.c_check.proofs.Lists.{drop_at}

@@ -1,5 +1,5 @@
 -- One link more.
-use Rattle.std.proofs.Common.{◌≡◌, ℕ, ◌+◌, ◌<◌, ◌++◌, List, length, drop, get_or, map, Option, refl, sym, ◌∙◌, ap}
+use Rattle.std.proofs.Common.{◌≡◌, ℕ, ◌+◌, ◌<◌, ◌++◌, List, length, drop, get_or, map, Option, ◌∙◌, ap}
 use Rattle.c_grammar.specs.declared.tree.Link.{Link}
 use Rattle.c_grammar.specs.declared.word.Spot.{Spot}
 use Rattle.c_grammar.specs.View.{links_from, piece, view}

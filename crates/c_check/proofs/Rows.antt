@@ -1,5 +1,5 @@
 -- A thing in a row by its place.
-use Rattle.std.proofs.Common.{◌≡◌, ℕ, zero, suc, List, [], ◌∷◌, Option, Some, None, option_map, map, refl, sym, ◌∙◌, ap, slice_get, length, ◌-◌, arith}
+use Rattle.std.proofs.Common.{◌≡◌, ℕ, zero, suc, List, [], ◌∷◌, Option, Some, None, option_map, map, refl, sym, ◌∙◌, ap, slice_get, ◌-◌, arith}
 use Rattle.std.proofs.lemmas.Option.{slice_get-map}
 use Rattle.c_grammar.specs.declared.word.Spot.{Spot}
 use Rattle.c_grammar.specs.declared.statement.Behind.{Behind}

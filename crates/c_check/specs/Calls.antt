@@ -1,5 +1,5 @@
 -- The faults of calls and of what stands on the right of an assignment. (ISO C, "Function calls"; MPI 3.1, the C bindings.)
-use Rattle.std.specs.Prelude.{◌++◌, ◌&&◌, ◌||◌, ◌==◌, ℕ, Bool, true, false, List, [], ◌∷◌, length, map, if◌then◌else◌, Option, Some, None, slice_get, take, drop, ◌-◌}
+use Rattle.std.specs.Prelude.{◌++◌, ◌||◌, ◌==◌, ℕ, Bool, true, false, List, [], ◌∷◌, length, if◌then◌else◌, Option, Some, None, slice_get, take, drop, ◌-◌}
 use Rattle.std.specs.Option.{option_map}
 use Rattle.c_lex.specs.declared.fault.Why.TheVariants.{Unknown, WrongType, WrongCount, BadFormat, LeftOut}
 use Rattle.c_grammar.specs.declared.word.Spot.{Spot}
@@ -15,7 +15,7 @@ use Rattle.c_names.specs.declared.function.MpiFunction.TheVariants as f
 use Rattle.c_names.specs.declared.predefined.Predefined.{Predefined}
 use Rattle.c_names.specs.declared.predefined.Predefined.TheVariants as p
 use Rattle.c_check.specs.Least.{fault, unless}
-use Rattle.c_check.specs.Kinds.{is_same_kind, kind_faults, kind_of, start_of}
+use Rattle.c_check.specs.Kinds.{is_same_kind, kind_faults, start_of}
 use Rattle.c_check.specs.Signatures.{listed}
 use Rattle.c_check.specs.Scopes.{Env, Signature, cut, meaning, name_faults}
 use Rattle.c_check.specs.Expressions.{int_faults, wanted_faults}
@@ -26,7 +26,6 @@ use Rattle.c_check.specs.declared.thing.Kind.{Kind}
 use Rattle.c_check.specs.declared.thing.Kind.TheVariants.{Int, Status, Request, Communicator}
 use Rattle.c_check.specs.declared.thing.Meaning.{Meaning}
 use Rattle.c_check.specs.declared.thing.Meaning.TheVariants as m
-use Rattle.c_check.specs.declared.thing.Thing.{Thing}
 use Rattle.c_check.specs.declared.thing.Thing.TheVariants as d
 
 abbrev pub arguments_listed : Option (t.Row t.Argument) → List t.Argument

@@ -1,7 +1,7 @@
 -- Expressions of numbers, defines and predefined ints, as the lengths of arrays are. (ISO C, "Constant expressions".)
-use Rattle.std.specs.Prelude.{◌||◌, ◌++◌, ℕ, ℤ, pos, negsuc, zero, suc, Bool, true, false, nat_le, if◌then◌else◌, List, [], Option, Some, None}
+use Rattle.std.specs.Prelude.{◌++◌, ℕ, ℤ, pos, zero, suc, nat_le, if◌then◌else◌, List, [], Option, Some, None}
 use Rattle.c_lex.specs.declared.fault.Why.TheVariants.{WrongType}
-use Rattle.mpi_call.specs.Operations.{is_set, int_of}
+use Rattle.mpi_call.specs.Operations.{is_set}
 use Rattle.c_grammar.specs.declared.word.Spot.{Spot}
 use Rattle.c_grammar.specs.declared.word.Word.{Word}
 use Rattle.c_grammar.specs.declared.word.Word.TheVariants as w

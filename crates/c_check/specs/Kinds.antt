@@ -1,12 +1,12 @@
 -- The kinds of expressions. (ISO C, "Expressions".)
-use Rattle.std.specs.Prelude.{Bool, true, false, List, []}
+use Rattle.std.specs.Prelude.{Bool, true, false, List}
 use Rattle.c_lex.specs.declared.fault.Why.TheVariants.{WrongType}
 use Rattle.c_grammar.specs.declared.word.Spot.{Spot}
 use Rattle.c_grammar.specs.declared.word.Word.{Word}
 use Rattle.c_grammar.specs.declared.word.Word.TheVariants as w
 use Rattle.c_grammar.specs.Tree as t
 use Rattle.c_names.specs.declared.predefined.Predefined.TheVariants as p
-use Rattle.c_check.specs.Least.{fault, unless}
+use Rattle.c_check.specs.Least.{unless}
 use Rattle.c_check.specs.Scopes.{Env, meaning}
 use Rattle.c_check.specs.declared.fault.Fault.{Fault}
 use Rattle.c_check.specs.declared.thing.ExprKind.{ExprKind}
@@ -15,7 +15,6 @@ use Rattle.c_check.specs.declared.thing.Kind.{Kind}
 use Rattle.c_check.specs.declared.thing.Kind.TheVariants.{Int, Status, Request, Communicator}
 use Rattle.c_check.specs.declared.thing.Meaning.{Meaning}
 use Rattle.c_check.specs.declared.thing.Meaning.TheVariants as m
-use Rattle.c_check.specs.declared.thing.Thing.{Thing}
 use Rattle.c_check.specs.declared.thing.Thing.TheVariants as d
 
 abbrev pub kind_of_word : Word → Kind

@@ -1,5 +1,5 @@
 -- The faults of a whole program. (ISO C, "External definitions", "Program startup".)
-use Rattle.std.specs.Prelude.{◌++◌, ◌&&◌, ◌||◌, ℕ, ℤ, pos, neg_ℤ, zero, suc, Bool, true, false, not, List, [], ◌∷◌, length, map, if◌then◌else◌, Option, Some, None, codes}
+use Rattle.std.specs.Prelude.{◌++◌, ◌&&◌, ◌||◌, ℕ, ℤ, pos, neg_ℤ, Bool, true, false, not, List, [], ◌∷◌, length, map, if◌then◌else◌, Option, Some, None, codes}
 use Rattle.std.specs.List.{list_any}
 use Rattle.std.specs.Option.{is_some}
 use Rattle.std.specs.Str.{bytes_eq}
@@ -7,11 +7,11 @@ use Rattle.c_lex.specs.declared.fault.Why.TheVariants.{Twice, NoMain, LeftOut}
 use Rattle.c_grammar.specs.declared.word.Spot.{Spot}
 use Rattle.c_grammar.specs.Tree as t
 use Rattle.c_names.specs.Predefined.{predefined}
-use Rattle.c_check.specs.Least.{fault, unless}
+use Rattle.c_check.specs.Least.{unless}
 use Rattle.c_check.specs.Literals.{number_at}
 use Rattle.c_check.specs.Constants.{length_faults}
-use Rattle.c_check.specs.Signatures.{function_entries, is_int, listed, parameters_listed, signature_of}
-use Rattle.c_check.specs.Scopes.{Entry, named, Env, cut, declare, opened, twice_faults}
+use Rattle.c_check.specs.Signatures.{function_entries, is_int, parameters_listed, signature_of}
+use Rattle.c_check.specs.Scopes.{Env, cut, declare, opened, twice_faults}
 use Rattle.c_check.specs.Statements.{parts_faults}
 use Rattle.c_check.specs.declared.fault.Fault.{Fault}
 use Rattle.c_check.specs.declared.thing.Kind.TheVariants.{Int, Communicator}

@@ -1,6 +1,6 @@
 -- Scopes without where they lie in memory.
-use Rattle.std.specs.Prelude.{◌≡◌, List, map, reverse}
-use Rattle.c_check.specs.Scopes.{Env, Entry, opening, named}
+use Rattle.std.specs.Prelude.{List, map, reverse}
+use Rattle.c_check.specs.Scopes.{Entry, opening, named}
 use Rattle.c_check.specs.declared.scope.Placed.{Placed}
 use Rattle.c_check.specs.declared.scope.Placed.TheVariants as p
 

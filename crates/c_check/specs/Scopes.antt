@@ -1,6 +1,6 @@
 -- What names stand for. Scopes are one list, the innermost declaration first, with a mark where a block opens.
 -- (ISO C, "Scopes of identifiers".)
-use Rattle.std.specs.Prelude.{◌||◌, Bool, true, false, not, ℕ, List, [], ◌∷◌, Option, Some, None, if◌then◌else◌, take, drop, codes, nat_eq}
+use Rattle.std.specs.Prelude.{◌||◌, Bool, false, not, ℕ, List, [], ◌∷◌, Option, Some, None, if◌then◌else◌, take, drop, codes, nat_eq}
 use Rattle.std.specs.List.{starts_with}
 use Rattle.std.specs.Option.{is_some}
 use Rattle.std.specs.Str.{bytes_eq}

@@ -1,5 +1,5 @@
 -- The faults of statements and declarations. (ISO C, "Statements and blocks", "Declarations".)
-use Rattle.std.specs.Prelude.{◌++◌, ◌&&◌, ◌||◌, ℕ, zero, suc, Bool, true, false, not, List, [], ◌∷◌, length, if◌then◌else◌, nat_lt, Option, Some, None}
+use Rattle.std.specs.Prelude.{◌++◌, ◌&&◌, ℕ, Bool, true, false, not, List, [], ◌∷◌, length, if◌then◌else◌, nat_lt, Option, Some, None}
 use Rattle.c_lex.specs.declared.fault.Why.TheVariants.{WrongType, WrongCount}
 use Rattle.c_grammar.specs.declared.word.Spot.{Spot}
 use Rattle.c_grammar.specs.declared.word.Word.{Word}
@@ -14,9 +14,9 @@ use Rattle.c_check.specs.Expressions.{int_faults, place_faults}
 use Rattle.c_check.specs.Calls.{call_faults, right_faults, right_start}
 use Rattle.c_check.specs.declared.fault.Fault.{Fault}
 use Rattle.c_check.specs.declared.thing.ExprKind.{ExprKind}
-use Rattle.c_check.specs.declared.thing.ExprKind.TheVariants.{Of, NullRequest, Other, Nothing}
+use Rattle.c_check.specs.declared.thing.ExprKind.TheVariants.{Of, Other, Nothing}
 use Rattle.c_check.specs.declared.thing.Kind.{Kind}
-use Rattle.c_check.specs.declared.thing.Kind.TheVariants.{Int, Status, Request, Communicator}
+use Rattle.c_check.specs.declared.thing.Kind.TheVariants.{Int, Status}
 use Rattle.c_check.specs.declared.thing.Thing.{Thing}
 use Rattle.c_check.specs.declared.thing.Thing.TheVariants as d
 

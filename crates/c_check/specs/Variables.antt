@@ -1,9 +1,9 @@
 -- The numbers of variables, and the names that are values.
-use Rattle.std.specs.Prelude.{◌+◌, ℕ, ℤ, pos, negsuc, Bool, true, false, List, [], ◌∷◌, Option, Some, None, if◌then◌else◌}
+use Rattle.std.specs.Prelude.{◌+◌, ℕ, ℤ, negsuc, List, [], ◌∷◌, Option, Some, None, if◌then◌else◌}
 use Rattle.std.specs.Str.{bytes_eq}
 use Rattle.c_grammar.specs.declared.word.Spot.{Spot}
 use Rattle.c_names.specs.declared.predefined.Predefined.TheVariants as p
-use Rattle.c_check.specs.Scopes.{Entry, opening, named, Env, cut, meaning}
+use Rattle.c_check.specs.Scopes.{Entry, opening, named, Env, cut}
 use Rattle.c_check.specs.declared.thing.Meaning.{Meaning}
 use Rattle.c_check.specs.declared.thing.Meaning.TheVariants as m
 use Rattle.c_check.specs.declared.thing.Thing.{Thing}

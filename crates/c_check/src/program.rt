@@ -297,7 +297,8 @@ pub fn text_scope<'a>(
     ensures { IfOk result (λ scope. scope ≡ text_env text.now (tree_view tree.now)) }
 {
     let heads = heads_of(alloc, &tree.tops)?;
-    Scope::of_functions(alloc, text, heads)
+    let scope = Scope::of_functions(alloc, text, heads)?;
+    Ok(scope)
 }
 
 fn is_main_top(text: &[u8], top: &Top) -> bool

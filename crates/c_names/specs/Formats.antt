@@ -1,7 +1,6 @@
 -- The formats of `printf`, byte by byte. (ISO C, "Escape sequences" and "The fprintf function", of which `%%`, `%d`, `%i`
 -- and `%x` are here, with `-` or `0`, and a width from 1 to 99.)
-use Rattle.std.specs.Prelude.{◌+◌, ◌-◌, ◌*◌, ◌==◌, ◌&&◌, ◌||◌, ℕ, zero, suc, nat_le, nat_lt, if◌then◌else◌, List, [], ◌∷◌, length, Option, Some, None, option_map}
-use Rattle.c_names.specs.declared.format.Base.{Base}
+use Rattle.std.specs.Prelude.{◌+◌, ◌-◌, ◌*◌, ◌==◌, ◌&&◌, ◌||◌, ℕ, nat_le, nat_lt, if◌then◌else◌, List, [], ◌∷◌, Option, Some, None, option_map}
 use Rattle.c_names.specs.declared.format.Base.TheVariants.{Decimal, Hexadecimal}
 use Rattle.c_names.specs.declared.format.Before.{Before}
 use Rattle.c_names.specs.declared.format.Before.TheVariants.{Pieces, Escape, Percent, Filled, Wide}

@@ -1,5 +1,5 @@
 -- Operators on ints of 32 bits, which wrap. (ISO C, "Expressions"; what C leaves open is fixed here.)
-use Rattle.std.specs.Prelude.{ℕ, ℤ, pos, ◌%◌, ◌&&◌, ◌||◌, Bool, not, if◌then◌else◌, Option, Some, None, int_lt, int_le, int_rem}
+use Rattle.std.specs.Prelude.{ℕ, ℤ, pos, ◌%◌, ◌&&◌, ◌||◌, not, if◌then◌else◌, Option, Some, None, int_lt, int_le, int_rem}
 use Rattle.std.specs.Int.{w32, cast_unsigned, int_wrapping_add, int_wrapping_sub, int_wrapping_mul, int_wrapping_div, int_wrapping_neg, int_bit_and, int_bit_or, int_bit_xor, int_bit_not, int_shl, int_shr}
 use Rattle.std.specs.Ordering.{int_eq}
 use Rattle.mpi_call.specs.Operations.{is_set, int_of}

@@ -5,3 +5,5 @@ pub mod format;
 pub mod function;
 pub mod operator;
 pub mod predefined;
+#[cfg(test)]
+mod tests;

@@ -1,4 +1,4 @@
-use Rattle.std.proofs.Common.{◌≡◌, ◌∙◌, Bor}
+use Rattle.std.proofs.Common.{Bor}
 use Rattle.c_grammar.specs.StmtView.{argument_view}
 use Rattle.c_grammar.specs.declared.statement.Argument.{Argument}
 use Rattle.c_check.proofs.Rows.{viewed_at}

@@ -1,4 +1,4 @@
-use Rattle.std.proofs.Common.{◌≡◌, sym, ◌∙◌, ap}
+use Rattle.std.proofs.Common.{sym}
 use Rattle.c_grammar.specs.StmtView.{argument_view, call_view}
 use Rattle.c_check.specs.Calls.{arguments_of}
 use Rattle.c_check.proofs.Arguments.{numbers_next}

@@ -1,4 +1,4 @@
-use Rattle.std.proofs.Common.{◌≡◌, sym, ◌∙◌, ap, ◌+◌, drop, map}
+use Rattle.std.proofs.Common.{sym, ◌∙◌, ap, ◌+◌, drop, map}
 use Rattle.c_grammar.specs.View.{links_from, piece}
 use Rattle.c_check.specs.Constants.{names_in_links}
 use Rattle.c_check.specs.Least.{least_from}

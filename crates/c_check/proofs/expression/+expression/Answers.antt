@@ -1,4 +1,3 @@
-use Rattle.std.proofs.Common.{◌≡◌, sym, ◌∙◌, ap, ◌+◌, drop, map}
 use Rattle.c_check.proofs.Links.{faults_next}
 use Rattle.c_check.proofs.expression.+expression.Goals as goal
 

@@ -1,4 +1,4 @@
-use Rattle.std.proofs.Common.{◌≡◌, map}
+use Rattle.std.proofs.Common.{map}
 use Rattle.c_check.proofs.Parameters.{tops_next}
 use Rattle.c_check.proofs.program.check_tops.Goals as goal
 

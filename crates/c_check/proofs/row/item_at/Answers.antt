@@ -1,4 +1,4 @@
-use Rattle.std.proofs.Common.{◌≡◌, ◌-◌, Some, None, sym, ◌∙◌, ap, slice_get}
+use Rattle.std.proofs.Common.{◌-◌, Some, None, sym, ◌∙◌, ap, slice_get}
 use Rattle.c_check.proofs.Rows.{item_behind}
 use Rattle.c_check.proofs.row.item_at.Goals as goal
 

@@ -1,4 +1,4 @@
-use Rattle.std.proofs.Common.{◌≡◌, ◌∙◌, ap, if◌then◌else◌}
+use Rattle.std.proofs.Common.{◌∙◌, ap, if◌then◌else◌}
 use Rattle.c_lex.specs.Literals.{literal_value}
 use Rattle.c_check.specs.Literals.{is_literal}
 use Rattle.c_check.proofs.LiteralLaws.{number_of}

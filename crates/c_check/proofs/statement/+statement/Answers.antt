@@ -1,5 +1,3 @@
-use Rattle.std.proofs.Common.{◌≡◌}
-use Rattle.c_grammar.specs.StmtView.{part_view, parts_view}
 use Rattle.c_check.proofs.More.{after_parts_next, parts_next}
 use Rattle.c_check.proofs.statement.+statement.Goals as goal
 

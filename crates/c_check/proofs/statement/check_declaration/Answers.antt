@@ -1,4 +1,3 @@
-use Rattle.std.proofs.Common.{◌≡◌}
 use Rattle.c_grammar.specs.StmtView.{item_view}
 use Rattle.c_check.specs.Kinds.{kind_of_word}
 use Rattle.c_check.proofs.More.{after_items_next, declaration_end, items_next}

@@ -1,4 +1,4 @@
-use Rattle.std.proofs.Common.{◌≡◌, drop, map}
+use Rattle.std.proofs.Common.{◌≡◌, drop}
 use Rattle.c_grammar.specs.StmtView.{item_view}
 use Rattle.c_check.specs.Least.{least_from}
 use Rattle.c_check.specs.Statements.{after_items, items_faults}

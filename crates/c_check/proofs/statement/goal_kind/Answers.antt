@@ -1,4 +1,4 @@
-use Rattle.std.proofs.Common.{◌≡◌, ◌∙◌, ap}
+use Rattle.std.proofs.Common.{◌∙◌, ap}
 use Rattle.c_grammar.proofs.Viewed.{view-cell}
 use Rattle.c_check.specs.Kinds.{cell_kind}
 use Rattle.c_check.proofs.statement.goal_kind.Goals as goal

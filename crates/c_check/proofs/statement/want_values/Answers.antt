@@ -1,4 +1,4 @@
-use Rattle.std.proofs.Common.{◌≡◌, refl}
+use Rattle.std.proofs.Common.{refl}
 use Rattle.c_grammar.specs.View.{view}
 use Rattle.c_check.specs.Expressions.{int_faults}
 use Rattle.c_check.specs.Statements.{values_faults}
