@@ -1,3 +1,11 @@
 pub mod Tree
 pub mod View
 pub mod StmtView
+pub mod Words
+pub mod Grammar
+pub mod StmtGrammar
+pub mod Depth
+pub mod Reading
+pub mod StmtReading
+pub mod Faults
+pub mod Programs

@@ -1,10 +1,7 @@
 -- The tree of a program without where it lies in memory.
-use Rattle.std.specs.Prelude.{ℕ, List, [], ◌∷◌, map, option_map}
-use Rattle.c_grammar.specs.declared.tree.Place.{Place}
-use Rattle.c_grammar.specs.declared.tree.Expr.{Expr}
+use Rattle.std.specs.Prelude.{List, [], ◌∷◌, map, option_map}
 use Rattle.c_grammar.specs.declared.statement.Argument.{Argument}
 use Rattle.c_grammar.specs.declared.statement.Argument.TheVariants as argument
-use Rattle.c_grammar.specs.declared.statement.Behind.{Behind}
 use Rattle.c_grammar.specs.declared.statement.Call.{Call}
 use Rattle.c_grammar.specs.declared.statement.Declaration.{Declaration}
 use Rattle.c_grammar.specs.declared.statement.ForStart.{ForStart}

@@ -1,5 +1,5 @@
 -- Trees, one constructor for each production, with the place of each token. (ISO C, "Expressions", "Statements and blocks".)
-use Rattle.std.specs.Prelude.{ℕ, List, Option, Bool}
+use Rattle.std.specs.Prelude.{ℕ, List, Option}
 use Rattle.c_grammar.specs.declared.word.Word.{Word}
 use Rattle.c_grammar.specs.declared.word.Spot.{Spot}
 

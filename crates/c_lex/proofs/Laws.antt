@@ -204,7 +204,7 @@ piece_inside text m at kinds.Text end inside h = h.1
 piece_inside text m at kinds.Mark end inside h = h.1
 piece_inside text m at kinds.Define end inside h = h.1
 
-begin_one : {text : List ℕ} {place a b : ℕ} → IsLineBegin text place a → IsLineBegin text place b → a ≡ b
+pub begin_one : {text : List ℕ} {place a b : ℕ} → IsLineBegin text place a → IsLineBegin text place b → a ≡ b
 begin_one {text} {place} {a} {b} u v = elim (cases_order a b) [
   | inl e ↦ e
   | inr (inl less) ↦ absurd (apart a b u v less)

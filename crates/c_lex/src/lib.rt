@@ -17,6 +17,7 @@ mod word;
 pub use fault::{SourceFault, Why};
 pub use lexer::{one_reading, tokens};
 pub use literal::literal_value;
+pub use place::fault_at;
 pub use token::{Token, TokenKind, TokenList};
 
 #[cfg(test)]

@@ -1,6 +1,5 @@
-use Rattle.std.proofs.Common.{◌≡◌, ◌<◌, ◌≤◌, List, length, subst, sym, arith}
+use Rattle.std.proofs.Common.{subst, sym}
 use Rattle.c_lex.specs.Readings.{AreSlices}
-use Rattle.c_lex.specs.declared.token.Token.{Token}
 use Rattle.c_lex.proofs.SliceLaws.{slice_inside}
 use Rattle.c_parse.proofs.signs.signs.Goals as goal
 

@@ -1,0 +1,37 @@
+-- What small texts give, by computing.
+use Rattle.std.proofs.Common.{◌≡◌, ◌==◌, ◌∷◌, [], List, false, map, refl}
+use Rattle.std.specs.Prelude.{codes}
+use Rattle.std.specs.List.{list_any}
+use Rattle.c_lex.specs.Marks.{marks}
+use Rattle.c_lex.specs.declared.token.TokenKind.TheVariants as kinds
+use Rattle.c_lex.specs.declared.token.Token.{Token}
+use Rattle.c_grammar.specs.Words.{code_of}
+use Rattle.c_grammar.specs.declared.word.Word.TheVariants as w
+use Rattle.c_parse.specs.Signs.{spellings, word_among, word_of}
+use Rattle.c_parse.specs.Parsing.{place_of, signs_of}
+
+-- each mark of the tokens has a word, and none is a name
+marks_are_no_names : list_any (λ mark. code_of (word_among spellings mark) == code_of w.Name) marks ≡ false
+unfolding spellings marks
+marks_are_no_names = refl
+
+-- the words of `int ints MPI_Comm MPI_Com`
+names : map (λ word. word_of kinds.Name word) (codes "int" ∷ codes "ints" ∷ codes "MPI_Comm" ∷ codes "MPI_Com" ∷ [])
+    ≡ w.Int ∷ w.Name ∷ w.Communicator ∷ w.Name ∷ []
+unfolding spellings
+names = refl
+
+tokens : List Token
+tokens =
+    (record { kind = kinds.Name; start = 0; len = 1 }) ∷ (record { kind = kinds.Mark; start = 2; len = 2 })
+    ∷ (record { kind = kinds.Number; start = 5; len = 1 }) ∷ []
+
+-- `x += 1` and its places; its end is a place too
+signs : signs_of (codes "x += 1") tokens
+    ≡ (record { word = w.Name; spot = record { start = 0; len = 1 } }) ∷ (record { word = w.PlusAssign; spot = record { start = 2; len = 2 } })
+    ∷ (record { word = w.Number; spot = record { start = 5; len = 1 } }) ∷ []
+unfolding spellings tokens
+signs = refl
+
+end_place : place_of (codes "x += 1") [] ≡ 6
+end_place = refl

@@ -1,0 +1,57 @@
+//! The tree of a text.
+ghost use Rattle.std.specs.Prelude.{◌≡◌, ◌≤◌, ◌⊎◌, IfOk, IfErr, MatchResult, length};
+ghost use Rattle.c_lex.specs.NoMemory.{no_memory};
+ghost use Rattle.c_lex.specs.Readings.{AreTokens};
+ghost use Rattle.c_lex.specs.declared.fault.SourceFault.{SourceFault};
+ghost use Rattle.c_grammar.specs.Tree as t;
+ghost use Rattle.c_grammar.specs.StmtView.{tree_view};
+ghost use Rattle.c_parse.specs.Parsing.{IsFirstFault, IsTree, place_of};
+ghost use Rattle.c_parse.specs.Locating.{IsLocated, StandsWithin};
+
+use crate::signs::signs;
+use crate::top::program;
+use c_expr::read::ReadError;
+use c_grammar::statement::Tree;
+use c_grammar::word::Sign;
+use c_lex::{SourceFault, TokenList, fault_at};
+use std::alloc::{AllocError, Global};
+
+/// The tree of a text with these tokens, or its first fault, `Unexpected` or `TooDeep`.
+pub fn parse(alloc: Global, text: &[u8], tokens: &TokenList) -> Result<Tree, SourceFault>
+    requires fits { length text.now ≤ 65536 }
+    requires tokens { AreTokens text.now tokens.now }
+    ensures tree { IfOk result (λ tree. IsTree text.now tokens.now (tree_view tree)) }
+    ensures only { (tree : t.Tree) → IsTree text.now tokens.now tree
+        → MatchResult result (λ found. tree_view found ≡ tree) (λ fault. fault ≡ no_memory) }
+    ensures fault { IfErr result (λ fault. (fault ≡ no_memory) ⊎ IsFirstFault text.now tokens.now fault) }
+    ensures only_fault { (first : SourceFault) → IsFirstFault text.now tokens.now first
+        → MatchResult result (λ _. ⊥) (λ fault. (fault ≡ no_memory) ⊎ (fault ≡ first)) }
+{
+    let signs = signs(alloc, text, tokens)?;
+    match program(alloc, &signs) {
+        Ok(tree) => Ok(tree),
+        Err(error) => Err(located(text, error)),
+    }
+}
+
+/// A refusal with its line and column.
+fn located(text: &[u8], error: ReadError) -> SourceFault
+    requires fits { length text.now ≤ 65536 }
+    requires within { StandsWithin text.now error }
+    ensures { IsLocated text.now error.entry result }
+{
+    match error {
+        ReadError::Memory => SourceFault::from(AllocError),
+        ReadError::At(why, rest) => fault_at(text, place_of(text, rest), why),
+    }
+}
+
+/// Where the first of these signs stands; behind the last one, the end of the text.
+fn place_of(text: &[u8], signs: &[Sign]) -> usize
+    ensures { result ≡ place_of text.now signs.now }
+{
+    match signs {
+        [first, ..] => first.spot.start as usize,
+        [] => text.len(),
+    }
+}
