@@ -6,7 +6,6 @@ pub mod expr;
 mod expr_of;
 pub mod mpi;
 mod mpi_of;
-mod place;
 pub mod program;
 pub mod statement;
 mod statement_of;

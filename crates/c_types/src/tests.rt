@@ -31,7 +31,12 @@ fn place_of_mark(row: &str) -> Option<(u32, u32)> {
 }
 
 /// Reads a row: `@` marks the place of the first fault, and stands in no program.
-fn judge(alloc: Global, before: &str, row: &str, behind: &str) -> Result<Option<SourceFault>, Fail> {
+fn judge(
+    alloc: Global,
+    before: &str,
+    row: &str,
+    behind: &str,
+) -> Result<Option<SourceFault>, Fail> {
     let mut text = Vec::new(alloc);
     for part in [before, row, behind] {
         for byte in part.as_bytes() {
@@ -117,8 +122,14 @@ fn bodies_have_their_first_fault(rt: HostRuntime) -> Result<(), Fail> {
         ("MPI_Comm g = MPI_COMM_WORLD;", None),
         ("MPI_Request g = MPI_REQUEST_NULL;", None),
         ("int b[2] = {1, @c};", Some(Why::WrongType)),
-        ("MPI_Request @g[1] = {MPI_REQUEST_NULL};", Some(Why::WrongType)),
-        ("MPI_Comm_rank(c, &x); MPI_Comm_rank(e[1], a + 1); MPI_Comm_rank(c, &a[1]); MPI_Comm_rank(c, a);", None),
+        (
+            "MPI_Request @g[1] = {MPI_REQUEST_NULL};",
+            Some(Why::WrongType),
+        ),
+        (
+            "MPI_Comm_rank(c, &x); MPI_Comm_rank(e[1], a + 1); MPI_Comm_rank(c, &a[1]); MPI_Comm_rank(c, a);",
+            None,
+        ),
         ("MPI_Comm_rank(c, @x);", Some(Why::WrongType)),
         ("MPI_Comm_rank(c, @a + 1 + 1);", Some(Why::WrongType)),
         ("MPI_Comm_rank(c, &a);", None),
@@ -140,11 +151,26 @@ fn bodies_have_their_first_fault(rt: HostRuntime) -> Result<(), Fail> {
         ("MPI_Send(a, 1, @1, 1, 5, c);", Some(Why::WrongType)),
         ("MPI_Send(a, @c, MPI_INT, 1, 5, c);", Some(Why::WrongType)),
         ("MPI_Allreduce(a, &x, 1, MPI_INT, MPI_SUM, c);", None),
-        ("MPI_Allreduce(a, &x, 1, MPI_INT, @MPI_MAXLOC, c);", Some(Why::LeftOut)),
-        ("MPI_Recv(a, 1, MPI_INT, 0, 5, c, MPI_STATUS_IGNORE); MPI_Recv(a, 1, MPI_INT, 0, 5, c, &s);", None),
-        ("MPI_Recv(a, 1, MPI_INT, 0, 5, c, @MPI_STATUSES_IGNORE);", Some(Why::WrongType)),
-        ("MPI_Waitall(2, q, MPI_STATUSES_IGNORE); MPI_Waitall(1, &p, t);", None),
-        ("MPI_Waitall(2, q, @MPI_STATUS_IGNORE);", Some(Why::WrongType)),
+        (
+            "MPI_Allreduce(a, &x, 1, MPI_INT, @MPI_MAXLOC, c);",
+            Some(Why::LeftOut),
+        ),
+        (
+            "MPI_Recv(a, 1, MPI_INT, 0, 5, c, MPI_STATUS_IGNORE); MPI_Recv(a, 1, MPI_INT, 0, 5, c, &s);",
+            None,
+        ),
+        (
+            "MPI_Recv(a, 1, MPI_INT, 0, 5, c, @MPI_STATUSES_IGNORE);",
+            Some(Why::WrongType),
+        ),
+        (
+            "MPI_Waitall(2, q, MPI_STATUSES_IGNORE); MPI_Waitall(1, &p, t);",
+            None,
+        ),
+        (
+            "MPI_Waitall(2, q, @MPI_STATUS_IGNORE);",
+            Some(Why::WrongType),
+        ),
         ("MPI_Init(NULL, NULL);", None),
         ("MPI_Init(NULL, @&x);", Some(Why::WrongType)),
         ("@MPI_Cancel(&p);", Some(Why::LeftOut)),
@@ -195,30 +221,93 @@ fn texts_have_their_first_fault(rt: HostRuntime) -> Result<(), Fail> {
         ("@", Some(Why::NoMain)),
         ("void main(void){}@", Some(Why::NoMain)),
         ("int main(int n){return 0;}@", Some(Why::NoMain)),
-        ("int main(int n, char **v){MPI_Init(&n, &v);return n;}", None),
-        ("int main(int n, char *v[]){MPI_Init(&n, @NULL);return 0;}", Some(Why::WrongType)),
-        ("int main(int n, char *v[]){n = @v;return 0;}", Some(Why::WrongType)),
-        ("int f(@char **v){return 0;}int main(void){return 0;}", Some(Why::LeftOut)),
+        (
+            "int main(int n, char **v){MPI_Init(&n, &v);return n;}",
+            None,
+        ),
+        (
+            "int main(int n, char *v[]){MPI_Init(&n, @NULL);return 0;}",
+            Some(Why::WrongType),
+        ),
+        (
+            "int main(int n, char *v[]){n = @v;return 0;}",
+            Some(Why::WrongType),
+        ),
+        (
+            "int f(@char **v){return 0;}int main(void){return 0;}",
+            Some(Why::LeftOut),
+        ),
         ("int main(int n, char **v);int main(void){return 0;}", None),
         ("int main(void){return f(1);}int f(int a){return a;}", None),
-        ("void f(void){}int main(void){return @f();}", Some(Why::WrongType)),
-        ("void f(void){return @1;}int main(void){return 0;}", Some(Why::WrongType)),
-        ("int f(int a){return a;}int main(void){MPI_Comm c = @f(1);return 0;}", Some(Why::WrongType)),
-        ("int f(int a[3], MPI_Comm c){return a[0];}int main(void){int b[2];f(NULL, MPI_COMM_WORLD);return f(b, MPI_COMM_WORLD);}", None),
-        ("int f(int a[3]){return a[0];}int main(void){return f(@1);}", Some(Why::WrongType)),
-        ("int f(int a[3]){return a[0];}int main(void){return @f();}", Some(Why::WrongCount)),
-        ("int f(int a, int @a){return a;}int main(void){return 0;}", Some(Why::Twice)),
-        ("int f(int a){int @a;return 0;}int main(void){return 0;}", Some(Why::Twice)),
-        ("int f(int n, int a[@n]){return 0;}int main(void){return 0;}", Some(Why::WrongType)),
+        (
+            "void f(void){}int main(void){return @f();}",
+            Some(Why::WrongType),
+        ),
+        (
+            "void f(void){return @1;}int main(void){return 0;}",
+            Some(Why::WrongType),
+        ),
+        (
+            "int f(int a){return a;}int main(void){MPI_Comm c = @f(1);return 0;}",
+            Some(Why::WrongType),
+        ),
+        (
+            "int f(int a[3], MPI_Comm c){return a[0];}int main(void){int b[2];f(NULL, MPI_COMM_WORLD);return f(b, MPI_COMM_WORLD);}",
+            None,
+        ),
+        (
+            "int f(int a[3]){return a[0];}int main(void){return f(@1);}",
+            Some(Why::WrongType),
+        ),
+        (
+            "int f(int a[3]){return a[0];}int main(void){return @f();}",
+            Some(Why::WrongCount),
+        ),
+        (
+            "int f(int a, int @a){return a;}int main(void){return 0;}",
+            Some(Why::Twice),
+        ),
+        (
+            "int f(int a){int @a;return 0;}int main(void){return 0;}",
+            Some(Why::Twice),
+        ),
+        (
+            "int f(int n, int a[@n]){return 0;}int main(void){return 0;}",
+            Some(Why::WrongType),
+        ),
         ("#define N 3\nint main(void){int a[N];return N;}", None),
-        ("int main(void){return @N;}\n#define N 3\n", Some(Why::Unknown)),
-        ("#define N 3\n#define @N 4\nint main(void){return 0;}", Some(Why::Twice)),
-        ("#define @INT_MAX 1\nint main(void){return 0;}", Some(Why::Twice)),
-        ("int g(int a[@0]);int main(void){return 0;}", Some(Why::WrongType)),
-        ("int g(int);int g(int);int main(void){return @g(1);}", Some(Why::Unknown)),
-        ("int main(void){return 0;}int @main(void){return 0;}", Some(Why::Twice)),
-        ("int f(void){return @f(1);}int main(void){return 0;}", Some(Why::WrongCount)),
-        ("int main(void){int r,x=7;MPI_Comm_rank(MPI_COMM_WORLD,&r);if(r==0)MPI_Send(&x,1,MPI_INT,1,5,MPI_COMM_WORLD);if(r==1){x=0;MPI_Recv(&x,1,MPI_INT,0,5,MPI_COMM_WORLD,MPI_STATUS_IGNORE);printf(\"%d\\n\",x);}return 0;}", None),
+        (
+            "int main(void){return @N;}\n#define N 3\n",
+            Some(Why::Unknown),
+        ),
+        (
+            "#define N 3\n#define @N 4\nint main(void){return 0;}",
+            Some(Why::Twice),
+        ),
+        (
+            "#define @INT_MAX 1\nint main(void){return 0;}",
+            Some(Why::Twice),
+        ),
+        (
+            "int g(int a[@0]);int main(void){return 0;}",
+            Some(Why::WrongType),
+        ),
+        (
+            "int g(int);int g(int);int main(void){return @g(1);}",
+            Some(Why::Unknown),
+        ),
+        (
+            "int main(void){return 0;}int @main(void){return 0;}",
+            Some(Why::Twice),
+        ),
+        (
+            "int f(void){return @f(1);}int main(void){return 0;}",
+            Some(Why::WrongCount),
+        ),
+        (
+            "int main(void){int r,x=7;MPI_Comm_rank(MPI_COMM_WORLD,&r);if(r==0)MPI_Send(&x,1,MPI_INT,1,5,MPI_COMM_WORLD);if(r==1){x=0;MPI_Recv(&x,1,MPI_INT,0,5,MPI_COMM_WORLD,MPI_STATUS_IGNORE);printf(\"%d\\n\",x);}return 0;}",
+            None,
+        ),
     ] {
         let found = judge(rt.alloc(), "", row, "")?;
         let expected = match (place_of_mark(row), why) {

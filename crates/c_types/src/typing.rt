@@ -3,10 +3,9 @@ ghost use Rattle.std.specs.Prelude.{◌≡◌, ◌≤◌, ◌⊎◌, IfErr, IfOk
 ghost use Rattle.c_grammar.specs.StmtView.{tree_view};
 ghost use Rattle.c_lex.specs.NoMemory.{no_memory};
 ghost use Rattle.c_check.specs.Programs.{faults};
-ghost use Rattle.c_types.specs.Checks.{IsFirstIn};
+ghost use Rattle.c_types.specs.Checks.{IsFaultOf, IsFirstIn, IsProgramOf};
 ghost use Rattle.c_types.specs.Programs.{IsProgram};
 
-use crate::place::fault_at;
 use crate::program::{CProgram, Function, Parameter, ParameterKind};
 use crate::statement_of::parts_of;
 use c_check::call::{parameter_at, parameter_count};
@@ -18,7 +17,7 @@ use c_check::thing::Thing;
 use c_grammar::statement;
 use c_grammar::statement::{Head, Top, Tree};
 use c_grammar::word::Word;
-use c_lex::{SourceFault, tokens};
+use c_lex::{SourceFault, fault_at, tokens};
 use c_parse::parse;
 use std::alloc::{AllocError, Global};
 use wiz_base::Bytes;
@@ -141,8 +140,11 @@ pub fn check(alloc: Global, text: &[u8], tree: Tree) -> Result<CProgram, SourceF
 /// The program of a text: its tokens, its tree and its types, in this order.
 pub fn read_program(alloc: Global, text: &[u8]) -> Result<CProgram, SourceFault>
     requires { length text.now ≤ 65536 }
+    ensures program { IfOk result (λ program. IsProgramOf text.now program) }
+    ensures fault { IfErr result (λ fault. (fault ≡ no_memory) ⊎ IsFaultOf text.now fault) }
 {
     let tokens = tokens(alloc, text)?;
     let tree = parse(alloc, text, &tokens)?;
-    check(alloc, text, tree)
+    let program = check(alloc, text, tree)?;
+    Ok(program)
 }
