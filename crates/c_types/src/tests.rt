@@ -218,6 +218,14 @@ fn bodies_have_their_first_fault(rt: HostRuntime) -> Result<(), Fail> {
 fn texts_have_their_first_fault(rt: HostRuntime) -> Result<(), Fail> {
     for (row, why) in [
         ("int main(void){return @y;}", Some(Why::Unknown)),
+        (
+            "#include <stdio.h>\n#include <mpi.h>\n#define N 65536\nint main(int argc, char **argv) {\n  int rank, size, i, sum = 0, big[N]; /* one block */\n  MPI_Status st;\n  MPI_Init(&argc, &argv);\n  MPI_Comm_rank(MPI_COMM_WORLD, &rank);\n  MPI_Comm_size(MPI_COMM_WORLD, &size);\n  for (i = 0; i < N; i++) big[i] = rank;\n  if (rank == 0) {\n    for (i = 1; i < size; i++) {\n      MPI_Recv(big, N, MPI_INT, MPI_ANY_SOURCE, 1, MPI_COMM_WORLD, &st);\n      sum += big[N - 1] * st.MPI_SOURCE;\n    }\n    printf(\"sum %d\\n\", sum);\n  } else {\n    MPI_Send(big, N, MPI_INT, 0, 1, MPI_COMM_WORLD);\n  }\n  MPI_Finalize();\n  return 0;\n}\n",
+            None,
+        ),
+        (
+            "#define SEED 1\n#define ROUNDS 8\nint main(void) {\n  int rank, k, i, d, s = SEED, x, t = 0;\n  MPI_Comm c;\n  MPI_Comm_rank(MPI_COMM_WORLD, &rank);\n  for (k = 0; k < ROUNDS; k++) {\n    s = s * 1103515245 + 12345;\n    d = ((s >> 16) & 32767) % 3;\n    if (d == 0) {\n      MPI_Sendrecv(&rank, 1, MPI_INT, (rank + 1) % 16, k, &x, 1, MPI_INT, (rank + 15) % 16, k, MPI_COMM_WORLD, MPI_STATUS_IGNORE);\n      t += x;\n    } else {\n      MPI_Comm_split(MPI_COMM_WORLD, rank % 4, rank, &c);\n      MPI_Allreduce(&rank, &x, 1, MPI_INT, MPI_SUM, c);\n      t += x;\n      MPI_Comm_free(&c);\n    }\n  }\n  printf(\"rank %d total %d\\n\", rank, t);\n  return 0;\n}\n",
+            None,
+        ),
         ("@", Some(Why::NoMain)),
         ("void main(void){}@", Some(Why::NoMain)),
         ("int main(int n){return 0;}@", Some(Why::NoMain)),
@@ -316,5 +324,17 @@ fn texts_have_their_first_fault(rt: HostRuntime) -> Result<(), Fail> {
         };
         assert_eq!(rt; found, expected, "{row}");
     }
+    Ok(())
+}
+
+#[test]
+fn a_program_has_typed_functions(rt: HostRuntime) -> Result<(), Fail> {
+    let text =
+        b"#define N 2\nint f(int a[N]){return a[1];}int main(void){int b[N]={1,2};return f(b);}";
+    let program = read_program(rt.alloc(), text).ok().ok_or("no program")?;
+    assert_eq!(rt; program.functions.len(), 2);
+    assert_eq!(rt; program.main, 1);
+    assert_eq!(rt; program.functions[0].parameters.len(), 1);
+    assert_eq!(rt; program.functions[1].body.len(), 2);
     Ok(())
 }
