@@ -1,3 +1,4 @@
+pub mod Shapes
 pub mod Checks
 pub mod Exprs
 pub mod Calls

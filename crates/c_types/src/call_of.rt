@@ -1,5 +1,14 @@
 //! Typed calls of functions of the text, and right sides.
 
+ghost use Rattle.std.specs.Prelude.{◌≡◌, IfOk, None, true};
+ghost use Rattle.std.specs.Option.{is_some};
+ghost use Rattle.c_grammar.specs.StmtView.{argument_view};
+ghost use Rattle.c_grammar.specs.Tree as t;
+ghost use Rattle.c_grammar.specs.View.{place_view, view};
+ghost use Rattle.c_check.specs.Calls.{array_sum, word_of};
+ghost use Rattle.c_types.specs.Calls.{IsReference, IsValue};
+ghost use Rattle.c_types.specs.Shapes.{is_array, is_reference, is_value};
+
 use crate::expr::{Argument, Call, Expr, Reference, Right};
 use crate::expr_of::expr_of;
 use c_check::call::{
@@ -7,59 +16,105 @@ use c_check::call::{
 };
 use c_check::scope::Scope;
 use c_check::thing::{Meaning, Thing};
+use c_grammar::word::Spot;
 use c_grammar::{statement, tree};
 use c_names::function::ArgumentKind;
 use std::alloc::{AllocError, Global};
 
-/// The name of an array, or such a name and what is added to it.
-fn array_of(alloc: Global, scope: &Scope, e: &tree::Expr) -> Result<Reference, AllocError> {
-    if let Some(name) = name_alone(e) {
-        return Ok(Reference::Whole(scope.variable(name)));
-    }
+/// What is added to the name of an array.
+fn sum_of(alloc: Global, scope: &Scope, e: &tree::Expr) -> Result<Reference, AllocError>
+    requires { is_some (array_sum (view e.now)) ≡ true }
+    ensures { IfOk result (λ typed. IsReference scope.now (t.value (view e.now)) typed) }
+{
     match array_sum(e) {
-        Some((name, operand)) => Ok(Reference::From {
-            variable: scope.variable(name),
-            index: expr_of(alloc, scope, operand)?,
-        }),
+        Some((name, operand)) => {
+            let index = expr_of(alloc, scope, operand)?;
+            Ok(Reference::From {
+                variable: scope.variable(name),
+                index,
+            })
+        }
         None => unreachable!(),
     }
 }
 
-fn address_of(alloc: Global, scope: &Scope, place: &tree::Place) -> Result<Reference, AllocError> {
-    match place {
-        tree::Place::Whole(name) => Ok(Reference::Whole(scope.variable(*name))),
-        tree::Place::Cell { name, index, .. } => Ok(Reference::From {
-            variable: scope.variable(*name),
-            index: expr_of(alloc, scope, index)?,
-        }),
+/// The name of an array, or such a name and what is added to it.
+fn array_of(alloc: Global, scope: &Scope, e: &tree::Expr) -> Result<Reference, AllocError>
+    requires shape { is_array (view e.now) ≡ true }
+    requires word { word_of scope.now (t.value (view e.now)) ≡ None }
+    ensures { IfOk result (λ typed. IsReference scope.now (t.value (view e.now)) typed) }
+{
+    match name_alone(e) {
+        Some(name) => Ok(Reference::Whole(scope.variable(name))),
+        None => {
+            let typed = sum_of(alloc, scope, e)?;
+            Ok(typed)
+        }
     }
 }
 
-/// The reference of an argument without faults.
+/// A place behind `&`.
+fn address_of(
+    alloc: Global,
+    scope: &Scope,
+    mark: Spot,
+    place: &tree::Place,
+) -> Result<Reference, AllocError>
+    ensures { IfOk result (λ typed. IsReference scope.now (t.address mark (place_view place.now)) typed) }
+{
+    match place {
+        tree::Place::Whole(name) => Ok(Reference::Whole(scope.variable(*name))),
+        tree::Place::Cell { name, index, .. } => {
+            let index = expr_of(alloc, scope, index)?;
+            Ok(Reference::From {
+                variable: scope.variable(*name),
+                index,
+            })
+        }
+    }
+}
+
+/// The reference of an argument that is one.
 pub fn reference_of(
     alloc: Global,
     scope: &Scope,
     argument: &statement::Argument,
-) -> Result<Reference, AllocError> {
+) -> Result<Reference, AllocError>
+    requires { is_reference scope.now (argument_view argument.now) ≡ true }
+    ensures { IfOk result (λ typed. IsReference scope.now (argument_view argument.now) typed) }
+{
     if word_of(scope, argument).is_some() {
         return Ok(Reference::Nothing);
     }
     match argument {
-        statement::Argument::Address { place, .. } => address_of(alloc, scope, place),
-        statement::Argument::Value(e) => array_of(alloc, scope, e),
+        statement::Argument::Address { mark, place } => {
+            let typed = address_of(alloc, scope, *mark, place)?;
+            Ok(typed)
+        }
+        statement::Argument::Value(e) => {
+            let typed = array_of(alloc, scope, e)?;
+            Ok(typed)
+        }
         statement::Argument::Text(_) => unreachable!(),
     }
 }
 
-/// The expression of an argument without faults.
+/// The expression of an argument that is one.
 pub fn value_of(
     alloc: Global,
     scope: &Scope,
     argument: &statement::Argument,
-) -> Result<Expr, AllocError> {
+) -> Result<Expr, AllocError>
+    requires { is_value (argument_view argument.now) ≡ true }
+    ensures { IfOk result (λ typed. IsValue scope.now (argument_view argument.now) typed) }
+{
     match argument {
-        statement::Argument::Value(e) => expr_of(alloc, scope, e),
-        _ => unreachable!(),
+        statement::Argument::Value(e) => {
+            let typed = expr_of(alloc, scope, e)?;
+            Ok(typed)
+        }
+        statement::Argument::Address { .. } => unreachable!(),
+        statement::Argument::Text(_) => unreachable!(),
     }
 }
 
