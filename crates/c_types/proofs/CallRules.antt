@@ -1,5 +1,6 @@
 -- Each rule of typed references and values at the variants of the tree.
-use Rattle.std.proofs.Common.{◌≡◌, ℕ, Bool, true, Option, Some, None, refl, sym, ap, subst}
+use Rattle.std.proofs.Common.{◌≡◌, ◌⊎◌, inl, inr, ℕ, Bool, true, false, Option, Some, None, refl, sym, ap, subst}
+use Rattle.c_grammar.specs.declared.word.Word.{Word}
 use Rattle.std.specs.Option.{is_some}
 use Rattle.std.specs.declared.alloc.Global.{Global}
 use Rattle.std.specs.declared.boxed.Box.{Box}
@@ -15,7 +16,7 @@ use Rattle.c_grammar.specs.View.{place_view, view}
 use Rattle.c_grammar.proofs.Viewed.{view-whole, view-cell}
 use Rattle.c_names.specs.declared.predefined.Predefined.{Predefined}
 use Rattle.c_names.specs.declared.predefined.Predefined.TheVariants as p
-use Rattle.c_check.specs.Calls.{name_alone, word_of}
+use Rattle.c_check.specs.Calls.{array_sum, is_plus, name_alone, sum_base, word_of}
 use Rattle.c_check.specs.Scopes.{Env}
 use Rattle.c_check.specs.Variables.{variable}
 use Rattle.c_types.specs.Calls as y
@@ -76,3 +77,47 @@ null_rule env argument word e h k =
 pub value_rule : (env : Env) (argument : Argument) (e : source.Expr) (typed : Expr) → argument ≡ ta.Value e → IsExpr env (view e) typed
     → IsValue env (argument_view argument) typed
 value_rule env argument e typed s h = rw s (y.value h)
+
+-- what is a name and an operand added to it
+record SumOf (found : Option Spot) (links : t.Links) (name : Spot) (operand : t.Expr) : Type 0 where
+  operator : Word
+  at : Spot
+  name_is : found ≡ Some name
+  links_are : links ≡ t.link operator at operand t.no_link
+  plus : is_plus operator ≡ true
+
+cases : (b : Bool) → (b ≡ true) ⊎ (b ≡ false)
+cases true = inl refl
+cases false = inr refl
+
+base_tells : (found : Option Spot) (links : t.Links) (name : Spot) (operand : t.Expr) → sum_base found links ≡ Some (name, operand) → SumOf found links name operand
+base_tells None links name operand h = absurd (let z : ⊥ = cc in z)
+base_tells (Some n) t.no_link name operand h = absurd (let z : ⊥ = cc in z)
+base_tells (Some n) (t.link operator at o (t.link p a q rest)) name operand h = absurd (let z : ⊥ = cc in z)
+base_tells (Some n) (t.link operator at o t.no_link) name operand h = elim (cases (is_plus operator)) [
+  | inl e ↦
+      let g = rw e at h in
+      let pair : ◌≡◌ {A = Spot × t.Expr} (n, o) (name, operand) = cc g in
+      record {
+        operator = operator;
+        at = at;
+        name_is = ap (λ (x : Spot × t.Expr). Some x.0) pair;
+        links_are = ap (λ (x : Spot × t.Expr). t.link operator at x.1 t.no_link) pair;
+        plus = e;
+      }
+  | inr e ↦ let g = rw e at h in absurd (let z : ⊥ = cc g in z)
+]
+
+pub sum_rule : (env : Env) (e : t.Expr) (name : Spot) (operand : t.Expr) (number : ℕ) (typed : Expr) → Some (name, operand) ≡ array_sum e
+    → number ≡ variable env name → IsExpr env operand typed → IsReference env (t.value e) (r.From number typed)
+sum_rule env (t.chain level first links) name operand number typed h n k =
+    let s = base_tells (name_alone first) links name operand (sym h) in
+    let P : t.Expr → Type 0 = λ one. IsReference env (t.value (t.chain level one links)) (r.From number typed) in
+    let Q : t.Links → Type 0 = λ one. IsReference env (t.value (t.chain level (t.read (t.whole name)) one)) (r.From number typed) in
+    subst P (sym (name_tells first name s.name_is)) (subst Q (sym s.links_are) (rw n (y.sum s.plus k)))
+sum_rule env (t.number at) name operand number typed h n k = absurd (let z : ⊥ = cc in z)
+sum_rule env (t.read place) name operand number typed h n k = absurd (let z : ⊥ = cc in z)
+sum_rule env (t.field place dot field) name operand number typed h n k = absurd (let z : ⊥ = cc in z)
+sum_rule env (t.paren opening inner closing) name operand number typed h n k = absurd (let z : ⊥ = cc in z)
+sum_rule env (t.unary sign at one) name operand number typed h n k = absurd (let z : ⊥ = cc in z)
+sum_rule env (t.choice test question taken colon spared) name operand number typed h n k = absurd (let z : ⊥ = cc in z)
