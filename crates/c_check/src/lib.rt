@@ -11,3 +11,6 @@ pub mod row;
 pub mod scope;
 pub mod statement;
 pub mod thing;
+
+#[cfg(test)]
+mod tests;
