@@ -61,7 +61,7 @@ choice_of events starts rank call (Some at) knows e =
         name = k.name;
         start = k.call;
         unpaired = subst F e.position k.unpaired;
-        fit = sym (kept_fits events e.start rank call k) ∙ e.fits;
+        fit = sym (kept_fits events e.start rank call k) ∙ e.fit;
       },
       λ other f. (
           let h = held events starts rank call other knows f in

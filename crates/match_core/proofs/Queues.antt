@@ -91,7 +91,7 @@ first_some rank call (x ∷ starts) at rises h =
             start = x;
             among = inl refl;
             position = same;
-            fits = t;
+            fit = t;
             first = λ other among fit. elim among [
               | inl e ↦ (let F : Start → Type 0 = λ s. x.at ≡ s.at in let here : x.at ≡ other.at = subst F e refl in omega arith)
               | inr later ↦ (let above : x.at < other.at = rises.0 other later in omega arith)
@@ -103,7 +103,7 @@ first_some rank call (x ∷ starts) at rises h =
             start = rest.start;
             among = inr rest.among;
             position = rest.position;
-            fits = rest.fits;
+            fit = rest.fit;
             first = λ other among fit. elim among [
               | inl e ↦ (let F : Start → Type 0 = λ s. fits_start rank call s ≡ false in let off = subst F e t in let no : false ≡ true = sym off ∙ fit in absurd (cc))
               | inr later ↦ rest.first other later fit

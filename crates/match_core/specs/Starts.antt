@@ -49,7 +49,7 @@ pub record IsEarliestAt (rank : ℕ) (call : Call) (starts : List Start) (at : �
   pub start : Start
   pub among : IsAmong start starts
   pub position : start.at ≡ at
-  pub fits : fits_start rank call start ≡ true
+  pub fit : fits_start rank call start ≡ true
   pub first : (other : Start) → IsAmong other starts → fits_start rank call other ≡ true → at ≤ other.at
 
 -- a call finds the earliest start that it fits, and nothing exactly where it fits none
