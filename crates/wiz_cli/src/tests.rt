@@ -172,7 +172,8 @@ fn stops_with<R: AllocGlobal>(rt: &R, stop: (u8, u32), trace: &[u8]) -> Option<b
     let program = read_small(alloc, log.program.as_slice()).ok()?;
     let mut runs = Vec::new(alloc);
     for rank in log.group.as_slice() {
-        runs.push(SmallRank::start(alloc, &program, log.ranks, *rank).ok()?).ok()?;
+        runs.push(SmallRank::start(alloc, &program, log.ranks, *rank).ok()?)
+            .ok()?;
     }
     let replayed = replay_serial(alloc, &program, &log, runs, Some(stop)).ok()?;
     let mut out = MemorySink::new(alloc);
