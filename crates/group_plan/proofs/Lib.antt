@@ -10,3 +10,4 @@ mod UniqueLaws
 mod PlanLaws
 mod ReadLaws
 mod GroupLaws
+mod WorkedExamples

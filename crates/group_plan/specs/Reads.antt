@@ -8,8 +8,8 @@ use Rattle.group_plan.specs.declared.fault.OrderFault.{OrderFault}
 use Rattle.group_plan.specs.declared.fault.OrderFault.TheVariants.{BadLine as BadRankLine, NoMemory as OrderMemory}
 use Rattle.group_plan.specs.declared.fault.PlanFault.{PlanFault}
 use Rattle.group_plan.specs.declared.fault.PlanFault.TheVariants.{BadLine, NoMemory}
-use Rattle.group_plan.specs.declared.fault.Unread.{Unread}
-use Rattle.group_plan.specs.declared.fault.Unread.TheVariants.{NotAllowed, NoMemory as UnreadMemory}
+use Rattle.group_plan.specs.declared.line.Unread.{Unread}
+use Rattle.group_plan.specs.declared.line.Unread.TheVariants.{NotAllowed, NoMemory as UnreadMemory}
 use Rattle.group_plan.specs.declared.span.Span.{Span}
 use Rattle.group_plan.specs.Lines.{IsFirstBad}
 use Rattle.group_plan.specs.Listing.{IsListedOnce, IsListingFault, times}

@@ -2,12 +2,19 @@
 ghost use Rattle.std.specs.Prelude.{◌≡◌, ◌++◌, ◌∷◌, [], OnOk, IfOk, IfErr, Ok, Err, option_copied};
 ghost use Rattle.group_plan.specs.Reads.{AddsLine, AddsWord, IsLineRead, IsListingRead, IsNextLine};
 
-use crate::fault::{PlanFault, Unread};
+use crate::fault::PlanFault;
 use crate::span::{Span, word_span};
 use crate::word::{before_comment, first_word};
 use std::alloc::Global;
 use std::marker::Model;
 use wiz_base::Cursor;
+
+/// Why a line of a plan was not read.
+#[derive(Clone, Copy)]
+enum Unread {
+    NotAllowed,
+    NoMemory,
+}
 
 /// The ranks and ranges of a line, which contracts see as a list.
 #[derive(Drop)]
