@@ -22,6 +22,7 @@ pub record IsListedOnce (listing : List (List Span)) (n : ℕ) : Type 0 where
   pub once : (rank : ℕ) → rank < n → times rank listing ≡ 1
   pub none : (rank : ℕ) → n ≤ rank → times rank listing ≡ 0
 
+-- no rank above 63 is listed
 abbrev pub IsSmall : List (List Span) → Type 0
 IsSmall listing = (rank : ℕ) → 63 < rank → times rank listing ≡ 0
 

@@ -10,9 +10,11 @@ use Rattle.group_plan.specs.Lines.{lines, IsFirstBad}
 abbrev pub IsRankLine : ℕ → List ℕ → ℕ → Type 0
 IsRankLine n line rank = (line ≡ decimal_text rank) × (rank < n)
 
+-- each line as it stands
 abbrev pub order_lines : List ℕ → List (List ℕ)
 order_lines text = lines (λ line. line) text
 
+-- the lines are these ranks, in order
 abbrev pub IsOrderText : ℕ → List ℕ → List ℕ → Type 0
 IsOrderText n text ranks = AllZip (IsRankLine n) (order_lines text) ranks
 

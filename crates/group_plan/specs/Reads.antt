@@ -21,14 +21,17 @@ use Rattle.group_plan.specs.Words.{IsSpan, IsPlanLine, IsGoodLine, words_in}
 abbrev pub kept : Span → Span
 kept span = record { first = min span.first 64; last = min span.last 64 }
 
+-- the number that the text spells, or none where it spells none
 abbrev pub IsRankRead : List ℕ → Option ℕ → Type 0
 IsRankRead text (Some rank) = (value : ℕ) × (text ≡ decimal_text value) × (rank ≡ min value 64)
 IsRankRead text None = ¬ (IsDecimal text)
 
+-- what the word says, or none where it says nothing
 abbrev pub IsSpanRead : List ℕ → Option Span → Type 0
 IsSpanRead word (Some span) = (said : Span) × IsSpan word said × (span ≡ kept said)
 IsSpanRead word None = (said : Span) → IsSpan word said → ⊥
 
+-- the same of the two sides of a dash
 abbrev pub IsRangeRead : List ℕ → List ℕ → Option Span → Type 0
 IsRangeRead first last (Some span) = (said : Span) × (first ≡ decimal_text said.first) × (last ≡ decimal_text said.last) × (said.first ≤ said.last) × (span ≡ kept said)
 IsRangeRead first last None = (said : Span) → first ≡ decimal_text said.first → last ≡ decimal_text said.last → said.first ≤ said.last → ⊥
@@ -38,16 +41,19 @@ abbrev pub IsFirstWord : List ℕ → Option (Bor (List ℕ) × Bor (List ℕ)) 
 IsFirstWord text (Some parts) = (words_in text ≡ parts.0.now ∷ words_in parts.1.now) × (length parts.1.now < length text)
 IsFirstWord text None = words_in text ≡ []
 
+-- one word more, unless it says nothing or memory ran out
 abbrev pub AddsWord : List ℕ → List Span → List Span → Result (Unit {0}) Unread → Type 0
 AddsWord word before now (Ok done) = (said : Span) × IsSpan word said × (now ≡ before ++ kept said ∷ [])
 AddsWord word before now (Err NotAllowed) = (said : Span) → IsSpan word said → ⊥
 AddsWord word before now (Err UnreadMemory) = Unit {0}
 
+-- all that a line lists
 abbrev pub IsLineRead : List ℕ → Result (List Span) Unread → Type 0
 IsLineRead line (Ok spans) = (said : List Span) × IsPlanLine line said × (spans ≡ map kept said)
 IsLineRead line (Err NotAllowed) = ¬ (IsGoodLine line)
 IsLineRead line (Err UnreadMemory) = Unit {0}
 
+-- one line more, unless it is bad or memory ran out
 abbrev pub AddsLine : ℕ → List ℕ → List (List Span) → List (List Span) → Result (Unit {0}) PlanFault → Type 0
 AddsLine number line before now (Ok done) = (said : List Span) × IsPlanLine line said × (now ≡ before ++ map kept said ∷ [])
 AddsLine number line before now (Err (BadLine place)) = (place ≡ number) × ¬ (IsGoodLine line)
@@ -59,6 +65,7 @@ abbrev pub IsNextLine : List ℕ → Option (List ℕ) → List ℕ → Type 0
 IsNextLine text (Some line) rest = (plan_lines text ≡ line ∷ plan_lines rest) × (length rest < length text)
 IsNextLine text None rest = plan_lines text ≡ []
 
+-- all that the lines list, or the first bad line
 abbrev pub IsListingRead : List ℕ → Result (List (List Span)) PlanFault → Type 0
 IsListingRead text (Ok listing) = (said : List (List Span)) × Lists text said × (listing ≡ map (map kept) said)
 IsListingRead text (Err (BadLine place)) = IsFirstBad IsGoodLine (plan_lines text) place
@@ -69,6 +76,7 @@ IsListingRead text (Err fault) = ⊥
 abbrev pub IsTop : List (List Span) → ℕ → Type 0
 IsTop listing n = (n ≤ 64) × ((rank : ℕ) → n ≤ rank → rank < 64 → times rank listing ≡ 0) × (0 < n → 0 < times (n - 1) listing)
 
+-- a range does not run downward
 abbrev pub IsUpward : Span → Type 0
 IsUpward span = span.first ≤ span.last
 
@@ -81,6 +89,7 @@ IsSizeOf said (Err fault) = IsListingFault said fault
 abbrev pub IsSizeRead : List (List Span) → Result ℕ PlanFault → Type 0
 IsSizeRead listing size = (said : List (List Span)) → AllByRecursion (AllByRecursion IsUpward) said → listing ≡ map (map kept) said → IsSizeOf said size
 
+-- one line of an order more, unless it is bad or memory ran out
 abbrev pub AddsRank : ℕ → ℕ → List ℕ → List ℕ → List ℕ → Result (Unit {0}) OrderFault → Type 0
 AddsRank n number line before now (Ok done) = (rank : ℕ) × IsRankLine n line rank × (now ≡ before ++ rank ∷ [])
 AddsRank n number line before now (Err (BadRankLine place)) = (place ≡ number) × ¬ ((rank : ℕ) × IsRankLine n line rank)
