@@ -10,7 +10,6 @@ pub mod program;
 pub mod row;
 pub mod scope;
 pub mod statement;
-pub mod thing;
-
 #[cfg(test)]
 mod tests;
+pub mod thing;

@@ -43,23 +43,56 @@ fn programs_have_their_first_fault(rt: HostRuntime) -> Result<(), Fail> {
         ("int main(void){return @y;}", Why::Unknown),
         ("int main(void){int x; int @x; return 0;}", Why::Twice),
         ("int main(void){int @INT_MAX; return 0;}", Why::Twice),
-        ("int main(void){for(int i=0;i<3;i++){int i;} return 0;}", Why::Twice),
+        (
+            "int main(void){for(int i=0;i<3;i++){int i;} return 0;}",
+            Why::Twice,
+        ),
         ("int main(void){return @MPI_Foo;}", Why::LeftOut),
         ("int main(void){MPI_Comm c; return 1 + @c;}", Why::WrongType),
-        ("int main(void){MPI_Status s; return s.@MPI_ERROR;}", Why::LeftOut),
+        (
+            "int main(void){MPI_Status s; return s.@MPI_ERROR;}",
+            Why::LeftOut,
+        ),
         ("int main(void){int b[@0]; return 0;}", Why::WrongType),
-        ("int main(void){int b[262144]; return b[1 ? 2 : 1 / 0];}", Why::WrongType),
-        ("int main(void){int @b[2] = {1, 2, 3}; return 0;}", Why::WrongCount),
+        (
+            "int main(void){int b[262144]; return b[1 ? 2 : 1 / 0];}",
+            Why::WrongType,
+        ),
+        (
+            "int main(void){int @b[2] = {1, 2, 3}; return 0;}",
+            Why::WrongCount,
+        ),
         ("int main(void){@MPI_Send(); return 0;}", Why::WrongCount),
-        ("int main(void){int x = @MPI_Finalize(); return x;}", Why::LeftOut),
-        ("int main(void){int x; MPI_Comm_rank(MPI_COMM_WORLD, @x); return 0;}", Why::WrongType),
-        ("int main(void){int a[4]; MPI_Comm_rank(MPI_COMM_WORLD, a + 1); return 0;}", Why::WrongType),
+        (
+            "int main(void){int x = @MPI_Finalize(); return x;}",
+            Why::LeftOut,
+        ),
+        (
+            "int main(void){int x; MPI_Comm_rank(MPI_COMM_WORLD, @x); return 0;}",
+            Why::WrongType,
+        ),
+        (
+            "int main(void){int a[4]; MPI_Comm_rank(MPI_COMM_WORLD, a + 1); return 0;}",
+            Why::WrongType,
+        ),
         ("int main(void){printf(@\"%d\"); return 0;}", Why::BadFormat),
-        ("int main(void){if (1) @continue; return 0;}", Why::WrongType),
-        ("int f(int a, int @a){return a;}int main(void){return 0;}", Why::Twice),
-        ("int main(void){return f(1);}int f(int a){return a;}", Why::Unknown),
+        (
+            "int main(void){if (1) @continue; return 0;}",
+            Why::WrongType,
+        ),
+        (
+            "int f(int a, int @a){return a;}int main(void){return 0;}",
+            Why::Twice,
+        ),
+        (
+            "int main(void){return f(1);}int f(int a){return a;}",
+            Why::Unknown,
+        ),
         ("int main(void){return @N;}\n#define N 3\n", Why::Unknown),
-        ("int main(int n, char **v){MPI_Init(&n, &v);return n;}", Why::WrongType),
+        (
+            "int main(int n, char **v){MPI_Init(&n, &v);return n;}",
+            Why::WrongType,
+        ),
     ] {
         assert!(&rt; is_judged(&rt, row, why)?);
     }
