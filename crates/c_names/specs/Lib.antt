@@ -1,0 +1,4 @@
+pub mod Operators
+pub mod Formats
+pub mod Functions
+pub mod Predefined

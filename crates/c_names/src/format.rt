@@ -1,0 +1,202 @@
+//! Formats of `printf`.
+ghost use Rattle.std.specs.Prelude.{◌≡◌, ◌++◌, IfOk, OnOk, option_map, option_to_list};
+ghost use Rattle.c_names.specs.Formats.{begins_width, converts, end, escaped, ints_in, ints_of, on, pieces_of, step_of};
+
+use std::alloc::{AllocError, Global};
+
+/// How an int is filled up to its width.
+#[derive(Clone, Copy)]
+pub enum Filling {
+    /// Blanks on its left.
+    Blanks,
+    /// Blanks on its right.
+    Left,
+    /// Zeros on its left, behind the `-`.
+    Zeros,
+}
+
+#[derive(Clone, Copy)]
+pub enum Base {
+    Decimal,
+    Hexadecimal,
+}
+
+/// A piece of a format: a byte, or the place of the next int, `width` bytes at least.
+#[derive(Clone, Copy)]
+pub enum Piece {
+    Byte(u8),
+    Int {
+        filling: Filling,
+        width: u8,
+        base: Base,
+    },
+}
+
+/// What stands before a byte of a format.
+#[derive(Clone, Copy)]
+pub enum Before {
+    /// Whole pieces.
+    Pieces,
+    /// `\`.
+    Escape,
+    /// `%`.
+    Percent,
+    /// `%` and a filling.
+    Filled(Filling),
+    /// `%`, a filling or not, and digits of a width.
+    Wide(Filling, u8),
+}
+
+/// What one byte adds.
+#[derive(Clone, Copy)]
+pub struct Step {
+    pub before: Before,
+    pub piece: Option<Piece>,
+}
+
+/// No piece ends at this byte.
+fn on(before: Before) -> Option<Step>
+    ensures { result ≡ on before }
+{
+    Some(Step {
+        before,
+        piece: None,
+    })
+}
+
+fn end(piece: Piece) -> Option<Step>
+    ensures { result ≡ end piece }
+{
+    Some(Step {
+        before: Before::Pieces,
+        piece: Some(piece),
+    })
+}
+
+fn escaped(byte: u8) -> Option<u8>
+    ensures { result ≡ escaped byte }
+{
+    match byte {
+        b'n' => Some(b'\n'),
+        b't' => Some(b'\t'),
+        b'r' => Some(b'\r'),
+        b'\\' | b'"' | b'\'' => Some(byte),
+        _ => None,
+    }
+}
+
+fn converts(filling: Filling, width: u8, byte: u8) -> Option<Step>
+    ensures { result ≡ converts filling width byte }
+{
+    match byte {
+        b'd' | b'i' => end(Piece::Int {
+            filling,
+            width,
+            base: Base::Decimal,
+        }),
+        b'x' => end(Piece::Int {
+            filling,
+            width,
+            base: Base::Hexadecimal,
+        }),
+        _ => None,
+    }
+}
+
+fn begins_width(filling: Filling, byte: u8) -> Option<Step>
+    ensures { result ≡ begins_width filling byte }
+{
+    if byte >= b'1' && byte <= b'9' {
+        on(Before::Wide(filling, byte - b'0'))
+    } else {
+        converts(filling, 0, byte)
+    }
+}
+
+/// One byte more. `None` where no format goes on so.
+fn next_step(before: Before, byte: u8) -> Option<Step>
+    ensures { result ≡ step_of before byte }
+{
+    match before {
+        Before::Pieces => match byte {
+            b'\\' => on(Before::Escape),
+            b'%' => on(Before::Percent),
+            _ => end(Piece::Byte(byte)),
+        },
+        Before::Escape => end(Piece::Byte(escaped(byte)?)),
+        Before::Percent => match byte {
+            b'%' => end(Piece::Byte(b'%')),
+            b'-' => on(Before::Filled(Filling::Left)),
+            b'0' => on(Before::Filled(Filling::Zeros)),
+            _ => begins_width(Filling::Blanks, byte),
+        },
+        Before::Filled(filling) => begins_width(filling, byte),
+        Before::Wide(filling, width) => {
+            if width < 10 && byte >= b'0' && byte <= b'9' {
+                on(Before::Wide(filling, width * 10 + (byte - b'0')))
+            } else {
+                converts(filling, width, byte)
+            }
+        }
+    }
+}
+
+fn ints(piece: Option<Piece>) -> usize
+    ensures { result ≡ ints_of piece }
+{
+    match piece {
+        Some(Piece::Int { .. }) => 1,
+        _ => 0,
+    }
+}
+
+/// How many ints a format takes, or `None` where it is none. Takes no memory.
+#[tactic(auto, using(crate::proofs::FormatLaws::counted))]
+pub fn count_ints(format: &[u8]) -> Option<usize>
+    ensures { result ≡ option_map ints_in (pieces_of format.now) }
+{
+    let mut count = 0;
+    let mut before = Before::Pieces;
+    let mut left = format;
+    while let [byte, after @ ..] = left {
+        let step = next_step(before, *byte)?;
+        count += ints(step.piece);
+        before = step.before;
+        left = after;
+    }
+    match before {
+        Before::Pieces => Some(count),
+        _ => None,
+    }
+}
+
+fn push(found: &mut Vec<Piece>, piece: Option<Piece>) -> Result<(), AllocError>
+    ensures { OnOk result (found.new.items ≡ found.old.items ++ option_to_list piece) }
+{
+    if let Some(piece) = piece {
+        found.push(piece)?;
+    }
+    Ok(())
+}
+
+/// The pieces of a format, or `None` where it is none.
+#[tactic(auto, using(crate::proofs::FormatLaws::appended))]
+pub fn pieces(alloc: Global, format: &[u8]) -> Result<Option<Vec<Piece>>, AllocError>
+    ensures { IfOk result (λ found. option_map (λ pieces. pieces.items) found ≡ pieces_of format.now) }
+{
+    let mut found = Vec::new(alloc);
+    let mut before = Before::Pieces;
+    let mut left = format;
+    while let [byte, after @ ..] = left {
+        let Some(step) = next_step(before, *byte) else {
+            return Ok(None);
+        };
+        push(&mut found, step.piece)?;
+        before = step.before;
+        left = after;
+    }
+    match before {
+        Before::Pieces => Ok(Some(found)),
+        _ => Ok(None),
+    }
+}

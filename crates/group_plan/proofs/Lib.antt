@@ -1,0 +1,13 @@
+mod WordLaws
+mod ZipLaws
+mod LineLaws
+mod NumberLaws
+mod SpanLaws
+mod LoopLaws
+mod KeptLaws
+mod SizeLaws
+mod UniqueLaws
+mod PlanLaws
+mod ReadLaws
+mod GroupLaws
+mod WorkedExamples

@@ -1,0 +1,7 @@
+//! Which send meets which receive.
+#![tactic(auto)]
+
+pub mod matcher;
+pub mod start;
+#[cfg(test)]
+mod tests;

@@ -1,0 +1,104 @@
+//! The pairing of sends with receives.
+ghost use Rattle.std.specs.Prelude.{◌≡◌, ◌++◌, ◌∷◌, [], ℕ, List, length, IfOk, IsTrue, OnErr};
+ghost use Rattle.run_model.specs.declared.event.Event.{Event};
+ghost use Rattle.match_core.specs.Starts.{is_message, is_peek, is_post, is_send, left_by, start_of, AreBelow, IsEarliest};
+ghost use Rattle.match_core.specs.Histories.{event_of, IsChoice, IsOther, Knows, KnowsMore};
+
+use crate::start::{Start, first_of, take_out, without_ints};
+use mpi_call::call::Call;
+use std::alloc::{AllocError, Global};
+use std::marker::Model;
+
+/// The Sends and Posts that have no partner, in the order of the history; contracts see their list.
+#[derive(Drop)]
+pub struct Matcher {
+    unpaired: Vec<Start>,
+    alloc: Global,
+}
+
+impl Model for Matcher {
+    ghost use Rattle.std.specs.Prelude.{List};
+    ghost use Rattle.match_core.specs.declared.start.Start.{Start};
+
+    ghost Value = { List Start };
+
+    ghost use Rattle.match_core.specs.Starts.{Rises};
+
+    ghost view = { λ s. s.unpaired.items };
+
+    ghost invariant = { λ s. Rises s.unpaired.items };
+}
+
+impl Matcher {
+    /// No starts.
+    pub fn new(alloc: Global) -> Self
+        ensures value { result ≡ [] }
+        ensures knows { Knows [] result }
+    {
+        Matcher {
+            unpaired: Vec::new(alloc),
+            alloc,
+        }
+    }
+
+    /// Adds the Send at position `at` of the history and answers the position of its partner: the earliest unpaired Post
+    /// that accepts it. After the want of memory nothing has changed.
+    pub fn send(&mut self, at: u32, rank: u8, call: &Call) -> Result<Option<u32>, AllocError>
+        requires kind { IsTrue (is_send call.now) }
+        requires position { AreBelow at self.old }
+        ensures mate { IfOk result (λ mate. IsEarliest rank call.now self.old mate) }
+        ensures ok { IfOk result (λ mate. self.new ≡ left_by self.old (start_of at rank call.now) mate) }
+        ensures err { OnErr result (self.new ≡ self.old) }
+        ensures knows { IfOk result (λ mate. (events : List Event) → Knows events self.old → at ≡ length events → KnowsMore events (event_of rank call.now mate) self.new) }
+    {
+        self.add(at, rank, call)
+    }
+
+    /// Adds the Post at position `at` of the history and answers the position of its partner: the earliest unpaired Send
+    /// that it accepts. After the want of memory nothing has changed.
+    pub fn post(&mut self, at: u32, rank: u8, call: &Call) -> Result<Option<u32>, AllocError>
+        requires kind { IsTrue (is_post call.now) }
+        requires position { AreBelow at self.old }
+        ensures mate { IfOk result (λ mate. IsEarliest rank call.now self.old mate) }
+        ensures ok { IfOk result (λ mate. self.new ≡ left_by self.old (start_of at rank call.now) mate) }
+        ensures err { OnErr result (self.new ≡ self.old) }
+        ensures knows { IfOk result (λ mate. (events : List Event) → Knows events self.old → at ≡ length events → KnowsMore events (event_of rank call.now mate) self.new) }
+    {
+        self.add(at, rank, call)
+    }
+
+    /// The position of the Send that a probe finds: the earliest unpaired one that it accepts. Takes no memory.
+    pub fn peek(&self, rank: u8, call: &Call) -> Option<u32>
+        requires kind { IsTrue (is_peek call.now) }
+        ensures earliest { IsEarliest rank call.now self.now result }
+        ensures choice { (events : List Event) → Knows events self.now → IsChoice events rank call.now result }
+    {
+        first_of(rank, call, &self.unpaired)
+    }
+
+    /// What the matcher knows stays so after every event that is no new Send or Post, and all that it keeps stands before the
+    /// history's end.
+    pub fn knows_on(&self)
+        ensures others { (events : List Event) (event : Event) → Knows events self.now → IsOther event → Knows (events ++ event ∷ []) self.now }
+        ensures below { (events : List Event) → Knows events self.now → AreBelow (length events) self.now }
+    {}
+
+    /// Adds a start.
+    fn add(&mut self, at: u32, rank: u8, call: &Call) -> Result<Option<u32>, AllocError>
+        requires kind { IsTrue (is_message call.now) }
+        requires position { AreBelow at self.old }
+        ensures mate { IfOk result (λ mate. IsEarliest rank call.now self.old mate) }
+        ensures ok { IfOk result (λ mate. self.new ≡ left_by self.old (start_of at rank call.now) mate) }
+        ensures err { OnErr result (self.new ≡ self.old) }
+        ensures knows { IfOk result (λ mate. (events : List Event) → Knows events self.old → at ≡ length events → KnowsMore events (event_of rank call.now mate) self.new) }
+    {
+        let mate = first_of(rank, call, &self.unpaired);
+        if let Some(partner) = mate {
+            take_out(&mut self.unpaired, partner);
+            return Ok(mate);
+        }
+        let call = without_ints(self.alloc, call);
+        self.unpaired.push(Start { at, rank, call })?;
+        Ok(mate)
+    }
+}
