@@ -30,7 +30,7 @@ use Rattle.c_check.specs.declared.thing.Thing.TheVariants as d
 
 abbrev pub arguments_listed : Option (t.Row t.Argument) → List t.Argument
 arguments_listed None = []
-arguments_listed (Some row) = listed row
+arguments_listed (Some arguments) = listed arguments
 
 abbrev pub arguments_of : t.Call → List t.Argument
 arguments_of call = arguments_listed call.arguments

@@ -42,7 +42,7 @@ is_field name = bytes_eq name (codes "MPI_SOURCE") || bytes_eq name (codes "MPI_
 
 abbrev pub field_faults : Env → ExprKind → Spot → List Fault
 field_faults env (Of Status) name = unless (is_field (cut env.text name)) name LeftOut
-field_faults env other name = []
+field_faults env kind name = []
 
 abbrev mutual
   pub expr_faults : Env → t.Expr → List Fault

@@ -28,7 +28,7 @@ parameter_takes (t.text_array word star name opening closing) = a.Nothing
 abbrev pub parameters_listed : t.Parameters → List t.Parameter
 parameters_listed t.no_parameter = []
 parameters_listed (t.void at) = []
-parameters_listed (t.parameters row) = listed row
+parameters_listed (t.parameters parameters) = listed parameters
 
 abbrev pub signature_of : t.Head → Signature
 signature_of head = record { gives = is_int head.result; takes = map parameter_takes (parameters_listed head.listed) }
