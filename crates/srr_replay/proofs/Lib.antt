@@ -7,6 +7,8 @@ pub mod MemberLemmas
 pub mod MissingMarks
 pub mod ShapeLemmas
 pub mod StartTableLemmas
+pub mod EnterTableLemmas
+pub mod InstanceLemmas
 pub mod ReplaysLemmas
 pub mod RoundsLemmas
 pub mod WorkedExamples

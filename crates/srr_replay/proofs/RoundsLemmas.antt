@@ -1,5 +1,5 @@
 -- The runs of the ranks beside a replay, and rounds over them.
-use Rattle.std.proofs.Common.{◌≡◌, ◌≢◌, ◌<◌, ◌≤◌, ◌+◌, ◌==◌, ◌⊎◌, ℕ, zero, suc, List, [], ◌∷◌, ◌++◌, Some, None, Bool, true, false, inl, inr, refl, ap, sym, ◌∙◌, map, length, length-append, length-set, slice_index, set, get_or-set_same, get_or-set_other, take, arith}
+use Rattle.std.proofs.Common.{◌≡◌, ◌≢◌, ◌<◌, ◌≤◌, ◌+◌, ◌==◌, ◌⊎◌, ℕ, zero, suc, List, [], ◌∷◌, ◌++◌, Some, None, Bool, true, false, inl, inr, refl, ap, sym, ◌∙◌, map, length, length-append, length-set, slice_index, set, get_or-set_same, get_or-set_other, drop, take, arith}
 use Rattle.std.proofs.lemmas.List.{take_more, map-append}
 use Rattle.std.proofs.lemmas.Bool.{eqb-true, eq-eqb}
 use Rattle.mpi_call.specs.declared.call.Call.{Call}
@@ -159,3 +159,12 @@ RunAll-kept {P} {R} standing program log events runs k run all lt stands =
 -- one element more of a list that was mapped so far
 pub map_take-more : {Y : Type 0} (f : ℕ → Y) (xs : List ℕ) (k : ℕ) → k < length xs → map f (take (k + 1) xs) ≡ map f (take k xs) ++ f (slice_index xs k) ∷ []
 map_take-more f xs k lt = ap (map f) (take_more xs k 0 lt) ∙ map-append f (take k xs) (slice_index xs k ∷ [])
+
+-- a list that was lent whole comes back whole
+pub lent_whole : {A : Type 0} (xs items : List A) (n : ℕ) → length xs ≡ n → length items ≡ n → take n (xs ++ drop (length xs) items) ≡ xs
+lent_whole [] [] n e f = rw (← e) refl
+lent_whole [] (y ∷ items) n e f = absurd (omega (arith, e, f))
+lent_whole (x ∷ xs) [] n e f = absurd (omega (arith, e, f))
+lent_whole (x ∷ xs) (y ∷ items) n e f =
+    let less : suc (n - 1) ≡ n = omega (arith, e) in
+    rw (← less) (ap (λ l. x ∷ l) (lent_whole xs items (n - 1) (omega (arith, e)) (omega (arith, f))))
