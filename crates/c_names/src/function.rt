@@ -74,6 +74,88 @@ pub enum ArgumentKind {
     Nothing,
 }
 
+/// A blocking receive.
+const RECEIVE: &[ArgumentKind] = &[
+    ArgumentKind::Buffer,
+    ArgumentKind::Number,
+    ArgumentKind::Datatype,
+    ArgumentKind::Number,
+    ArgumentKind::Number,
+    ArgumentKind::Communicator,
+    ArgumentKind::Status,
+];
+
+/// A send and a receive in one call.
+const SEND_RECEIVE: &[ArgumentKind] = &[
+    ArgumentKind::Buffer,
+    ArgumentKind::Number,
+    ArgumentKind::Datatype,
+    ArgumentKind::Number,
+    ArgumentKind::Number,
+    ArgumentKind::Buffer,
+    ArgumentKind::Number,
+    ArgumentKind::Datatype,
+    ArgumentKind::Number,
+    ArgumentKind::Number,
+    ArgumentKind::Communicator,
+    ArgumentKind::Status,
+];
+
+/// A send or receive that is started alone.
+const STARTED: &[ArgumentKind] = &[
+    ArgumentKind::Buffer,
+    ArgumentKind::Number,
+    ArgumentKind::Datatype,
+    ArgumentKind::Number,
+    ArgumentKind::Number,
+    ArgumentKind::Communicator,
+    ArgumentKind::Requests,
+];
+
+/// A reduction to a root.
+const REDUCE: &[ArgumentKind] = &[
+    ArgumentKind::Buffer,
+    ArgumentKind::Buffer,
+    ArgumentKind::Number,
+    ArgumentKind::Datatype,
+    ArgumentKind::Operation,
+    ArgumentKind::Number,
+    ArgumentKind::Communicator,
+];
+
+/// A reduction without a root.
+const REDUCE_FOR_ALL: &[ArgumentKind] = &[
+    ArgumentKind::Buffer,
+    ArgumentKind::Buffer,
+    ArgumentKind::Number,
+    ArgumentKind::Datatype,
+    ArgumentKind::Operation,
+    ArgumentKind::Communicator,
+];
+
+/// Pieces from or to a root.
+const EXCHANGE: &[ArgumentKind] = &[
+    ArgumentKind::Buffer,
+    ArgumentKind::Number,
+    ArgumentKind::Datatype,
+    ArgumentKind::Buffer,
+    ArgumentKind::Number,
+    ArgumentKind::Datatype,
+    ArgumentKind::Number,
+    ArgumentKind::Communicator,
+];
+
+/// Pieces without a root.
+const EXCHANGE_FOR_ALL: &[ArgumentKind] = &[
+    ArgumentKind::Buffer,
+    ArgumentKind::Number,
+    ArgumentKind::Datatype,
+    ArgumentKind::Buffer,
+    ArgumentKind::Number,
+    ArgumentKind::Datatype,
+    ArgumentKind::Communicator,
+];
+
 /// What an MPI function takes, in order.
 pub fn arguments(function: MpiFunction) -> &'static [ArgumentKind]
     ensures { result.now ≡ arguments function }
@@ -86,38 +168,9 @@ pub fn arguments(function: MpiFunction) -> &'static [ArgumentKind]
         MpiFunction::GetCount => &[Status, Datatype, Ints],
         MpiFunction::CommFree => &[NewCommunicator],
         MpiFunction::Send => &[Buffer, Number, Datatype, Number, Number, Communicator],
-        MpiFunction::Recv => &[
-            Buffer,
-            Number,
-            Datatype,
-            Number,
-            Number,
-            Communicator,
-            Status,
-        ],
-        MpiFunction::Sendrecv => &[
-            Buffer,
-            Number,
-            Datatype,
-            Number,
-            Number,
-            Buffer,
-            Number,
-            Datatype,
-            Number,
-            Number,
-            Communicator,
-            Status,
-        ],
-        MpiFunction::Isend | MpiFunction::Irecv => &[
-            Buffer,
-            Number,
-            Datatype,
-            Number,
-            Number,
-            Communicator,
-            Requests,
-        ],
+        MpiFunction::Recv => RECEIVE,
+        MpiFunction::Sendrecv => SEND_RECEIVE,
+        MpiFunction::Isend | MpiFunction::Irecv => STARTED,
         MpiFunction::Wait => &[Requests, Status],
         MpiFunction::Waitall => &[Number, Requests, Statuses],
         MpiFunction::Waitany => &[Number, Requests, Ints, Status],
@@ -129,42 +182,10 @@ pub fn arguments(function: MpiFunction) -> &'static [ArgumentKind]
         MpiFunction::Iprobe => &[Number, Number, Communicator, Ints, Status],
         MpiFunction::Barrier => &[Communicator],
         MpiFunction::Bcast => &[Buffer, Number, Datatype, Number, Communicator],
-        MpiFunction::Reduce => &[
-            Buffer,
-            Buffer,
-            Number,
-            Datatype,
-            Operation,
-            Number,
-            Communicator,
-        ],
-        MpiFunction::Allreduce | MpiFunction::Scan => &[
-            Buffer,
-            Buffer,
-            Number,
-            Datatype,
-            Operation,
-            Communicator,
-        ],
-        MpiFunction::Gather | MpiFunction::Scatter => &[
-            Buffer,
-            Number,
-            Datatype,
-            Buffer,
-            Number,
-            Datatype,
-            Number,
-            Communicator,
-        ],
-        MpiFunction::Allgather | MpiFunction::Alltoall => &[
-            Buffer,
-            Number,
-            Datatype,
-            Buffer,
-            Number,
-            Datatype,
-            Communicator,
-        ],
+        MpiFunction::Reduce => REDUCE,
+        MpiFunction::Allreduce | MpiFunction::Scan => REDUCE_FOR_ALL,
+        MpiFunction::Gather | MpiFunction::Scatter => EXCHANGE,
+        MpiFunction::Allgather | MpiFunction::Alltoall => EXCHANGE_FOR_ALL,
         MpiFunction::CommSplit => &[Communicator, Number, Number, NewCommunicator],
         MpiFunction::CommDup => &[Communicator, NewCommunicator],
         MpiFunction::Abort => &[Communicator, Number],
