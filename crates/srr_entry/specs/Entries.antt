@@ -1,5 +1,4 @@
--- The entry of a place in a run for a group of ranks, and the log of a run.
--- (Xue and others, "MPIWiz: Subgroup Reproducible Replay of MPI Applications": contents across groups, orders inside.)
+-- The entry of a place in a run for a group of ranks, and the log of a run. Contents are kept of what crosses groups, orders of what goes on inside.
 use Rattle.std.specs.Prelude.{ℕ, List, [], ◌∷◌, ◌++◌, Option, Some, None, Bool, true, false, ◌&&◌, ◌==◌, if◌then◌else◌, map, slice_index}
 use Rattle.mpi_call.specs.declared.call.Call.{Call}
 use Rattle.mpi_call.specs.declared.call.Call.TheVariants.{Send, Post, Enter}

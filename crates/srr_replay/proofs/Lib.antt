@@ -6,6 +6,7 @@ pub mod LogLemmas
 pub mod MemberLemmas
 pub mod MissingMarks
 pub mod ShapeLemmas
+pub mod StartTableLemmas
 pub mod ReplaysLemmas
 pub mod RoundsLemmas
 pub mod WorkedExamples

@@ -15,8 +15,10 @@ use Rattle.srr_entry.specs.declared.log.Log.{Log}
 use Rattle.srr_replay.specs.declared.step.Step.TheVariants.{Replied}
 use Rattle.srr_replay.specs.Replays.{Stop, IsStep, Replays, answer_of, event_of}
 use Rattle.srr_replay.specs.Rounds.{AreCounts, IsReplayable}
+use Rattle.srr_replay.specs.StartTable.{TakesMade}
 use Rattle.srr_replay.proofs.LogLemmas.{below_at}
 use Rattle.srr_replay.proofs.ShapeLemmas.{answer_shaped}
+use Rattle.srr_replay.proofs.StartTableLemmas.{takes_made}
 
 -- the event of a reply keeps it a replay
 pub Replays-after : (next : Next) (log : Log) (stop : Stop) (events : List Event) (rank : ℕ) (call : Call) (reply : Reply) → Replays next log stop events → is_member log.group rank ≡ true → next log.ranks rank (replies_in (view_of events rank)) ≡ Some call → answer_of log stop (view_of events) (view_of events rank) rank call ≡ Replied reply → Replays next log stop (events ++ event_of rank call reply ∷ [])
@@ -87,6 +89,13 @@ MayGive-Replays next log stop events rank call reply laws fine all mine asked an
       asked = asked;
       shaped = answer_shaped log stop events rank call reply (below_at log.ranks log.group rank fine.below mine) (Came-order next log events laws fine came) mine answered;
     }
+
+-- so it completes starts that were made alone
+pub TakesMade-Replays : (next : Next) (log : Log) (stop : Stop) (events : List Event) (rank : ℕ) (call : Call) (reply : Reply) → KeepsForm next → IsReplayable log → Replays next log stop events → is_member log.group rank ≡ true → next log.ranks rank (replies_in (view_of events rank)) ≡ Some call → answer_of log stop (view_of events) (view_of events rank) rank call ≡ Replied reply → TakesMade (view_of events rank) call reply
+TakesMade-Replays next log stop events rank call reply laws fine all mine asked answered =
+    let order = AreInOrder-Replays next log stop events laws fine all in
+    takes_made log.ranks rank (view_of events rank) call reply
+    (answer_shaped log stop events rank call reply (below_at log.ranks log.group rank fine.below mine) order mine answered)
 
 -- the counts after one more event of a rank
 pub AreCounts-after : (n : ℕ) (events : List Event) (counts : List ℕ) (event : Event) → event.rank < n → AreCounts n events counts → AreCounts n (events ++ event ∷ []) (set counts event.rank (slice_index counts event.rank + 1))

@@ -4,6 +4,7 @@ pub mod Breaks
 pub mod Replays
 pub mod Collectives
 pub mod Seen
+pub mod StartTable
 pub mod Rounds
 pub mod Stands
 pub mod Rests

@@ -1,9 +1,8 @@
-//! Looking starts and entries up.
+//! Looking Enters and entries up.
 ghost use Rattle.std.specs.Prelude.{◌≡◌, ◌<◌, ◌^◌, None, true, IfSome, length, option_map, slice_get};
 ghost use Rattle.mpi_call.specs.Calls.{is_enter};
-ghost use Rattle.mpi_call.specs.Collectives.{is_member};
 ghost use Rattle.run_model.specs.Communicators.{entered_from, instance_of, is_on, known_after, learned};
-ghost use Rattle.run_model.specs.Views.{view_of, start_at, taken_of};
+ghost use Rattle.run_model.specs.Views.{view_of};
 ghost use Rattle.srr_entry.specs.Entries.{entries_for};
 ghost use Rattle.srr_replay.specs.Seen.{entered_of};
 
@@ -13,41 +12,9 @@ use mpi_call::lists::Ranks;
 use mpi_call::reply::Reply;
 use run_model::communicators::made_in;
 use run_model::event::Event;
-use run_model::starts::{is_start, is_taken_by};
+use run_model::starts::is_start;
 use srr_entry::entry::Entry;
 use srr_entry::log::Entries;
-
-/// The rank's start with this number.
-pub fn find_start(events: &[Event], rank: u8, number: u32) -> Option<&Call>
-    ensures { option_map (λ found. found.now) result ≡ start_at (view_of events.now rank) number }
-{
-    let mut left = number;
-    let mut rest = events;
-    while let [event, after @ ..] = rest {
-        if event.rank == rank && is_start(&event.call, &event.reply) {
-            if left == 0 {
-                return Some(&event.call);
-            }
-            left -= 1;
-        }
-        rest = after;
-    }
-    None
-}
-
-/// Whether the rank's start with this number was taken.
-pub fn is_taken(events: &[Event], rank: u8, number: u32) -> bool
-    ensures { result ≡ is_member (taken_of (view_of events.now rank)) number }
-{
-    let mut rest = events;
-    while let [event, after @ ..] = rest {
-        if event.rank == rank && is_taken_by(&event.call, &event.reply, number) {
-            return true;
-        }
-        rest = after;
-    }
-    false
-}
 
 /// The members that the rank's first reply with this number gave.
 pub fn find_made(events: &[Event], rank: u8, comm: Comm) -> Option<&Ranks>

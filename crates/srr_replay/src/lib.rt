@@ -14,4 +14,5 @@ pub mod replay;
 pub mod replayed;
 mod seen;
 pub mod serial;
+mod start_table;
 pub mod step;

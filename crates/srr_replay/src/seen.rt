@@ -6,9 +6,11 @@ ghost use Rattle.run_model.specs.Communicators.{enter_at, instance_of, is_on, me
 ghost use Rattle.run_model.specs.Lists.{world};
 ghost use Rattle.run_model.specs.Views.{start_at, taken_of, view_of};
 ghost use Rattle.srr_replay.specs.Seen.{entered_of};
+ghost use Rattle.srr_replay.specs.StartTable.{TakesMade};
 
 use crate::counts::Counts;
-use crate::find::{count_enters, find_enter, find_made, find_start, is_taken};
+use crate::find::{count_enters, find_enter, find_made};
+use crate::start_table::StartTable;
 use mpi_call::call::{Call, Comm};
 use mpi_call::lists::Ranks;
 use run_model::event::Event;
@@ -31,6 +33,8 @@ pub struct Seen {
     events: History,
     /// How many calls each rank has made.
     counts: Counts,
+    /// The starts of each rank.
+    starts: StartTable,
     /// All ranks.
     world: Ranks,
     /// The members of a communicator that a rank doesn't know.
@@ -42,12 +46,13 @@ impl Model for Seen {
     ghost use Rattle.run_model.specs.Lists.{world as all_of};
     ghost use Rattle.srr_replay.specs.Rounds.{AreCounts};
     ghost use Rattle.srr_replay.specs.Seen.{SeenSoFar};
+    ghost use Rattle.srr_replay.specs.StartTable.{IsStartTable};
 
     ghost Value = { SeenSoFar };
 
     ghost view = { λ s. record { ranks = s.ranks; events = s.events.events } };
 
-    ghost invariant = { λ s. AreCounts s.ranks s.events.events s.counts × (s.world ≡ all_of s.ranks 0) × (s.nobody ≡ []) };
+    ghost invariant = { λ s. AreCounts s.ranks s.events.events s.counts × IsStartTable s.ranks s.events.events s.starts × (s.world ≡ all_of s.ranks 0) × (s.nobody ≡ []) };
 }
 
 impl Seen {
@@ -56,11 +61,13 @@ impl Seen {
         ensures { IfOk result (λ seen. seen ≡ record { ranks = ranks; events = [] }) }
     {
         let counts = Counts::new(alloc, ranks)?;
+        let starts = StartTable::new(alloc, ranks)?;
         let world = all_ranks(alloc, ranks)?;
         Ok(Seen {
             ranks,
             events: History::new(alloc),
             counts,
+            starts,
             world,
             nobody: Ranks::new(alloc),
         })
@@ -99,14 +106,20 @@ impl Seen {
     pub fn start(&self, rank: u8, number: u32) -> Option<&Call>
         ensures { option_map (λ found. found.now) result ≡ start_at (view_of self.now.events rank) number }
     {
-        find_start(self.events.as_slice(), rank, number)
+        match self.starts.get(rank, number) {
+            Some(start) => Some(&self.events.get(start.at).call),
+            None => None,
+        }
     }
 
     /// Whether the rank's start with this number was taken.
     pub fn is_taken(&self, rank: u8, number: u32) -> bool
         ensures { result ≡ is_member (taken_of (view_of self.now.events rank)) number }
     {
-        is_taken(self.events.as_slice(), rank, number)
+        match self.starts.get(rank, number) {
+            Some(start) => start.taken,
+            None => false,
+        }
     }
 
     /// The members of a communicator for a rank; none where it doesn't know it.
@@ -140,7 +153,8 @@ impl Seen {
 
     /// Appends an event. For want of memory nothing has changed.
     pub fn add(&mut self, event: Event) -> Result<(), AllocError>
-        requires { event.rank < self.old.ranks }
+        requires rank { event.rank < self.old.ranks }
+        requires takes { TakesMade (view_of self.old.events event.rank) event.call event.reply }
         ensures ok { OnOk result (self.new ≡ record self.old { events = self.old.events ++ event ∷ [] }) }
         ensures err { OnErr result (self.new ≡ self.old) }
     {
@@ -150,6 +164,7 @@ impl Seen {
         }
         let rank = event.rank;
         self.events.reserve(1)?;
+        self.starts.note(self.events.len(), &event)?;
         self.events.push(event);
         self.counts.rise(rank);
         Ok(())

@@ -8,4 +8,4 @@ use Rattle.srr_replay.proofs.seen.Seen.members.Goals as goal
 pub returns-then-comm-eq0 : goal.returns-then-comm-eq0
 returns-then-comm-eq0 c =
     rw (← c.self.view_is, c.if-comm-eq0.true)
-    (c.self.invariant.1 ∙ sym (ap or_none (known_after-some 0 (world c.self.inside.ranks 0) (view_of c.self.inside.events.events c.args.rank))))
+    (c.self.invariant.2 ∙ sym (ap or_none (known_after-some 0 (world c.self.inside.ranks 0) (view_of c.self.inside.events.events c.args.rank))))

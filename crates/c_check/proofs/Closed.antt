@@ -1,0 +1,55 @@
+-- The end of a block leaves what stood before it.
+use Rattle.std.proofs.Common.{◌≡◌, Bool, List, [], ◌∷◌, Option, Some, None, refl, ◌∙◌}
+use Rattle.c_grammar.specs.declared.word.Spot.{Spot}
+use Rattle.c_check.specs.Programs.{after_parameter, after_parameters, declare_optional, parameter_name, parameter_thing}
+use Rattle.c_check.specs.declared.thing.Thing.{Thing}
+use Rattle.c_grammar.specs.Tree as t
+use Rattle.c_check.specs.Scopes.{Env, closed, opened}
+use Rattle.c_check.specs.Signatures.{listed}
+use Rattle.c_check.specs.Kinds.{kind_of_word}
+use Rattle.c_check.specs.Statements.{after_declaration, after_item, after_items, after_part, after_parts, after_start}
+use Rattle.c_check.specs.declared.thing.Kind.{Kind}
+
+abbrev pub closing : Env → Env
+closing env = record env { entries = closed env.entries }
+
+closed_items : (env : Env) (kind : Kind) (items : List t.Item) → closing (after_items env kind items) ≡ closing env
+closed_items env kind [] = refl
+closed_items env kind (item ∷ items) = closed_items (after_item env kind item) kind items
+
+closed_declaration : (env : Env) (one : t.Declaration) → closing (after_declaration env one) ≡ closing env
+closed_declaration env one = closed_items env (kind_of_word one.kind) (listed one.items)
+
+closed_part : (env : Env) (one : t.Part) → closing (after_part env one) ≡ closing env
+closed_part env (t.declare declaration end) = closed_declaration env declaration
+closed_part env (t.stmt inner) = refl
+
+closed_more : (env : Env) (parts : t.Parts) → closing (after_parts env parts) ≡ closing env
+closed_more env t.no_part = refl
+closed_more env (t.part one others) = closed_more (after_part env one) others ∙ closed_part env one
+
+pub closed_parts : (env : Env) (parts : t.Parts) → closing (after_parts (opened env) parts) ≡ env
+closed_parts env parts = closed_more (opened env) parts
+
+closed_started : (env : Env) (start : t.ForStart) → closing (after_start env start) ≡ closing env
+closed_started env t.no_start = refl
+closed_started env (t.declared_start declaration) = closed_declaration env declaration
+closed_started env (t.simple_start simple) = refl
+
+pub closed_start : (env : Env) (start : t.ForStart) → closing (after_start (opened env) start) ≡ env
+closed_start env start = closed_started (opened env) start
+
+closed_declared : (env : Env) (main : Bool) (one : t.Parameter) → closing (after_parameter env main one) ≡ closing env
+closed_declared env main one = closed_optional env (parameter_name one) (parameter_thing main one)
+  where
+    closed_optional : (env : Env) (name : Option Spot) (thing : Thing) → closing (declare_optional env name thing) ≡ closing env
+    closed_optional env None thing = refl
+    closed_optional env (Some name) thing = refl
+
+closed_parameters : (env : Env) (main : Bool) (parameters : List t.Parameter) → closing (after_parameters env main parameters) ≡ closing env
+closed_parameters env main [] = refl
+closed_parameters env main (one ∷ others) = closed_parameters (after_parameter env main one) main others ∙ closed_declared env main one
+
+pub closed_function : (env : Env) (main : Bool) (parameters : List t.Parameter) (parts : t.Parts)
+    → closing (after_parts (after_parameters (opened env) main parameters) parts) ≡ env
+closed_function env main parameters parts = closed_more (after_parameters (opened env) main parameters) parts ∙ closed_parameters (opened env) main parameters

@@ -1,0 +1,10 @@
+pub mod Least
+pub mod LiteralLaws
+pub mod Rows
+pub mod Entries
+pub mod Lists
+pub mod Links
+pub mod Arguments
+pub mod Closed
+pub mod More
+pub mod Parameters

@@ -1,0 +1,60 @@
+-- One parameter, one thing in the text more.
+use Rattle.std.proofs.Common.{◌≡◌, ℕ, ◌+◌, ◌<◌, ◌++◌, Bool, Bor, List, [], ◌∷◌, length, drop, get_or, map, Option, Some, slice_get, refl, ◌∙◌, ap}
+use Rattle.c_grammar.specs.Tree as t
+use Rattle.c_grammar.specs.declared.statement.Top.{Top}
+use Rattle.c_grammar.specs.declared.statement.Head.{Head}
+use Rattle.c_grammar.specs.StmtView.{head_view, top_view}
+use Rattle.c_check.specs.Least.{least_from}
+use Rattle.c_check.specs.Programs.{heads_of, text_env, after_parameter, after_parameters, after_top, optional_twice_faults, parameter_faults, parameter_name, parameters_faults, prototype_faults, seen_after, top_faults, tops_faults}
+use Rattle.c_check.specs.Scopes.{Env, Signature}
+use Rattle.c_check.specs.Signatures.{function_entries, signature_of}
+use Rattle.c_check.specs.declared.fault.Fault.{Fault}
+use Rattle.c_check.proofs.Least.{least_from_append}
+use Rattle.c_check.proofs.Lists.{drop_at, drop_got}
+
+pub prototype_next : (env : Env) (main : Bool) (best : Option Fault) (all : List t.Parameter) (i : ℕ) (one : t.Parameter) → slice_get all i ≡ Some one
+    → least_from best (prototype_faults env main (drop i all))
+    ≡ least_from (least_from best (parameter_faults env main one)) (prototype_faults env main (drop (i + 1) all))
+prototype_next env main best all i one e =
+    ap (λ left. least_from best (prototype_faults env main left)) (drop_got all i one e)
+    ∙ least_from_append best (parameter_faults env main one) (prototype_faults env main (drop (i + 1) all))
+
+pub parameters_next : (env : Env) (main : Bool) (best : Option Fault) (all : List t.Parameter) (i : ℕ) (one : t.Parameter) → slice_get all i ≡ Some one
+    → least_from best (parameters_faults env main (drop i all))
+    ≡ least_from (least_from best (parameter_faults env main one ++ optional_twice_faults env (parameter_name one)))
+    (parameters_faults (after_parameter env main one) main (drop (i + 1) all))
+parameters_next env main best all i one e =
+    ap (λ left. least_from best (parameters_faults env main left)) (drop_got all i one e)
+    ∙ least_from_append best (parameter_faults env main one ++ optional_twice_faults env (parameter_name one))
+    (parameters_faults (after_parameter env main one) main (drop (i + 1) all))
+
+pub after_parameters_next : (env : Env) (main : Bool) (all : List t.Parameter) (i : ℕ) (one : t.Parameter) → slice_get all i ≡ Some one
+    → after_parameters env main (drop i all) ≡ after_parameters (after_parameter env main one) main (drop (i + 1) all)
+after_parameters_next env main all i one e = ap (λ left. after_parameters env main left) (drop_got all i one e)
+
+pub tops_next : (env : Env) (seen : List (List ℕ)) (best : Option Fault) (tops : List Top) (i : ℕ) (one : Top) → i < length tops → one ≡ get_or tops i one
+    → least_from best (tops_faults env seen (map top_view (drop i tops)))
+    ≡ least_from (least_from best (top_faults env seen (top_view one)))
+    (tops_faults (after_top env (top_view one)) (seen_after env.text seen (top_view one)) (map top_view (drop (i + 1) tops)))
+tops_next env seen best tops i one h e =
+    ap (λ left. least_from best (tops_faults env seen (map top_view left))) (drop_at tops i one h e)
+    ∙ least_from_append best (top_faults env seen (top_view one))
+    (tops_faults (after_top env (top_view one)) (seen_after env.text seen (top_view one)) (map top_view (drop (i + 1) tops)))
+
+map_twice : {A B C : Type 0} (f : B → C) (g : A → B) (xs : List A) → map (λ x. f (g x)) xs ≡ map f (map g xs)
+map_twice f g [] = refl
+map_twice f g (x ∷ xs) = ap (λ ys. f (g x) ∷ ys) (map_twice f g xs)
+
+pub text_env_of : (text : List ℕ) (heads : List (Bor Head)) (tree : t.Tree) → map (λ head. head_view head.now) heads ≡ heads_of tree
+    → ◌≡◌ {A = Env} (record {
+      text = text;
+      functions = map (λ head. signature_of (head_view head.now)) heads;
+      entries = function_entries text 0 (map (λ head. head_view head.now) heads);
+    }) (text_env text tree)
+text_env_of text heads tree e =
+    let viewed : List t.Head = map (λ (head : Bor Head). head_view head.now) heads in
+    let f : map (λ (head : Bor Head). signature_of (head_view head.now)) heads ≡ map signature_of viewed =
+    map_twice signature_of (λ (head : Bor Head). head_view head.now) heads in
+    let P : List Signature → Env = λ functions. record { text = text; functions = functions; entries = function_entries text 0 viewed } in
+    let Q : List t.Head → Env = λ all. record { text = text; functions = map signature_of all; entries = function_entries text 0 all } in
+    ap P f ∙ ap Q e

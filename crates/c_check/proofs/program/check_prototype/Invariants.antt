@@ -1,0 +1,11 @@
+use Rattle.std.proofs.Common.{◌≡◌, drop}
+use Rattle.c_grammar.specs.StmtView.{parameters_view}
+use Rattle.c_check.specs.Least.{least_from}
+use Rattle.c_check.specs.Programs.{prototype_faults}
+use Rattle.c_check.specs.Signatures.{parameters_listed}
+use Rattle.c_check.proofs.program.check_prototype.Given as goal
+
+abbrev pub invariant-loop-place : goal.invariant-loop-place
+invariant-loop-place l =
+    least_from l.best (prototype_faults l.scope l.main (drop l.place (parameters_listed (parameters_view l.head.parameters))))
+    ≡ least_from l.initial.best (prototype_faults l.scope l.main (parameters_listed (parameters_view l.head.parameters)))

@@ -1,0 +1,11 @@
+use Rattle.std.proofs.Common.{◌∙◌, ap, map}
+use Rattle.c_grammar.specs.StmtView.{top_view, tree_view}
+use Rattle.c_check.specs.Programs.{heads_of}
+use Rattle.c_check.proofs.Parameters.{text_env_of}
+use Rattle.c_check.proofs.program.text_scope.Goals as goal
+
+pub returns : goal.returns
+returns c =
+    c.in_ok-scope.ensures
+    ∙ text_env_of c.args.text.now c.in_ok-heads.heads.items (tree_view c.args.tree.now)
+    (c.in_ok-heads.ensures ∙ ap (λ tops. heads_of (map top_view tops)) c.deref.ensures.value)

@@ -1,0 +1,149 @@
+-- The faults of a whole program. (ISO C, "External definitions", "Program startup".)
+use Rattle.std.specs.Prelude.{◌++◌, ◌&&◌, ◌||◌, ℕ, ℤ, pos, neg_ℤ, Bool, true, false, not, List, [], ◌∷◌, length, map, if◌then◌else◌, Option, Some, None, codes}
+use Rattle.std.specs.List.{list_any}
+use Rattle.std.specs.Option.{is_some}
+use Rattle.std.specs.Str.{bytes_eq}
+use Rattle.c_lex.specs.declared.fault.Why.TheVariants.{Twice, NoMain, LeftOut}
+use Rattle.c_grammar.specs.declared.word.Spot.{Spot}
+use Rattle.c_grammar.specs.Tree as t
+use Rattle.c_names.specs.Predefined.{predefined}
+use Rattle.c_check.specs.Least.{unless}
+use Rattle.c_check.specs.Literals.{number_at}
+use Rattle.c_check.specs.Constants.{length_faults}
+use Rattle.c_check.specs.Signatures.{function_entries, is_int, parameters_listed, signature_of}
+use Rattle.c_check.specs.Scopes.{Env, cut, declare, opened, twice_faults}
+use Rattle.c_check.specs.Statements.{parts_faults}
+use Rattle.c_check.specs.declared.fault.Fault.{Fault}
+use Rattle.c_check.specs.declared.thing.Kind.TheVariants.{Int, Communicator}
+use Rattle.c_check.specs.declared.thing.Thing.{Thing}
+use Rattle.c_check.specs.declared.thing.Thing.TheVariants as d
+
+-- ---- main
+
+-- no parameters, or an int and a `char` parameter
+abbrev pub is_text : t.Parameter → Bool
+is_text (t.text_pointers word star second name) = true
+is_text (t.text_array word star name opening closing) = true
+is_text _ = false
+
+abbrev pub is_one_int : t.Parameter → Bool
+is_one_int (t.int word name) = true
+is_one_int _ = false
+
+abbrev pub are_main_parameters : List t.Parameter → Bool
+are_main_parameters [] = true
+are_main_parameters (count ∷ texts ∷ []) = is_one_int count && is_text texts
+are_main_parameters _ = false
+
+abbrev pub is_main : List ℕ → t.Head → Bool
+is_main text head = (is_int head.result && bytes_eq (cut text head.name) (codes "main")) && are_main_parameters (parameters_listed head.listed)
+
+-- ---- heads
+
+-- `main`: the head is that of main
+abbrev pub parameter_thing : Bool → t.Parameter → Thing
+parameter_thing true (t.int word name) = d.ArgumentCount
+parameter_thing false (t.int word name) = d.Variable Int
+parameter_thing main (t.array word name opening length closing) = d.ArrayParameter
+parameter_thing main (t.pointer word star name) = d.ArrayParameter
+parameter_thing main (t.communicator word name) = d.Variable Communicator
+parameter_thing main (t.text_pointers word star second name) = d.ArgumentTexts
+parameter_thing main (t.text_array word star name opening closing) = d.ArgumentTexts
+
+abbrev pub parameter_name : t.Parameter → Option Spot
+parameter_name (t.int word name) = name
+parameter_name (t.array word name opening length closing) = name
+parameter_name (t.pointer word star name) = name
+parameter_name (t.communicator word name) = name
+parameter_name (t.text_pointers word star second name) = name
+parameter_name (t.text_array word star name opening closing) = name
+
+abbrev pub optional_length_faults : Env → Option t.Expr → List Fault
+optional_length_faults env None = []
+optional_length_faults env (Some length) = length_faults env length
+
+-- a length that is none, and a `char` away from main
+abbrev pub parameter_faults : Env → Bool → t.Parameter → List Fault
+parameter_faults env main (t.array word name opening length closing) = optional_length_faults env length
+parameter_faults env main (t.text_pointers word star second name) = unless main word LeftOut
+parameter_faults env main (t.text_array word star name opening closing) = unless main word LeftOut
+parameter_faults env main _ = []
+
+-- a prototype declares nothing
+abbrev pub prototype_faults : Env → Bool → List t.Parameter → List Fault
+prototype_faults env main [] = []
+prototype_faults env main (one ∷ others) = parameter_faults env main one ++ prototype_faults env main others
+
+abbrev pub optional_twice_faults : Env → Option Spot → List Fault
+optional_twice_faults env None = []
+optional_twice_faults env (Some name) = twice_faults env name
+
+abbrev pub declare_optional : Env → Option Spot → Thing → Env
+declare_optional env None thing = env
+declare_optional env (Some name) thing = declare env name thing
+
+abbrev pub after_parameter : Env → Bool → t.Parameter → Env
+after_parameter env main one = declare_optional env (parameter_name one) (parameter_thing main one)
+
+abbrev pub parameters_faults : Env → Bool → List t.Parameter → List Fault
+parameters_faults env main [] = []
+parameters_faults env main (one ∷ others) =
+    (parameter_faults env main one ++ optional_twice_faults env (parameter_name one)) ++ parameters_faults (after_parameter env main one) main others
+
+abbrev pub after_parameters : Env → Bool → List t.Parameter → Env
+after_parameters env main [] = env
+after_parameters env main (one ∷ others) = after_parameters (after_parameter env main one) main others
+
+-- parameters share the scope of the function's block
+abbrev pub function_faults : Env → t.Head → t.Parts → List Fault
+function_faults env head parts =
+    parameters_faults (opened env) (is_main env.text head) (parameters_listed head.listed)
+    ++ parts_faults (after_parameters (opened env) (is_main env.text head) (parameters_listed head.listed)) (is_int head.result) false parts
+
+-- ---- the text
+
+-- a name that is predefined, or was declared before in the text
+abbrev pub top_twice_faults : List ℕ → List (List ℕ) → Spot → List Fault
+top_twice_faults text seen name =
+    unless (not (is_some (predefined (cut text name)) || list_any (bytes_eq (cut text name)) seen)) name Twice
+
+abbrev pub define_value : List ℕ → t.Value → ℤ
+define_value text value = if is_some value.minus then neg_ℤ (pos (number_at text value.number)) else pos (number_at text value.number)
+
+abbrev pub top_faults : Env → List (List ℕ) → t.Top → List Fault
+top_faults env seen (t.define word name value end) = top_twice_faults env.text seen name
+top_faults env seen (t.function head opening parts closing) = top_twice_faults env.text seen head.name ++ function_faults env head parts
+top_faults env seen (t.prototype head end) = prototype_faults env (is_main env.text head) (parameters_listed head.listed)
+
+-- a define is visible from where it stands
+abbrev pub after_top : Env → t.Top → Env
+after_top env (t.define word name value end) = declare env name (d.Define (define_value env.text value))
+after_top env _ = env
+
+abbrev pub seen_after : List ℕ → List (List ℕ) → t.Top → List (List ℕ)
+seen_after text seen (t.define word name value end) = seen ++ cut text name ∷ []
+seen_after text seen (t.function head opening parts closing) = seen ++ cut text head.name ∷ []
+seen_after text seen (t.prototype head end) = seen
+
+abbrev pub tops_faults : Env → List (List ℕ) → List t.Top → List Fault
+tops_faults env seen [] = []
+tops_faults env seen (top ∷ tops) = top_faults env seen top ++ tops_faults (after_top env top) (seen_after env.text seen top) tops
+
+abbrev pub with_head : t.Top → List t.Head → List t.Head
+with_head (t.function head opening parts closing) heads = head ∷ heads
+with_head _ heads = heads
+
+abbrev pub heads_of : t.Tree → List t.Head
+heads_of [] = []
+heads_of (top ∷ tops) = with_head top (heads_of tops)
+
+abbrev pub text_env : List ℕ → t.Tree → Env
+text_env text tree = record { text = text; functions = map signature_of (heads_of tree); entries = function_entries text 0 (heads_of tree) }
+
+-- no main, at the end of the text
+abbrev pub main_faults : List ℕ → t.Tree → List Fault
+main_faults text tree = if list_any (is_main text) (heads_of tree) then [] else record { at = length text; why = NoMain } ∷ []
+
+-- all faults of a program, in no order that matters
+abbrev pub faults : List ℕ → t.Tree → List Fault
+faults text tree = tops_faults (text_env text tree) [] tree ++ main_faults text tree

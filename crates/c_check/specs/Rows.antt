@@ -1,0 +1,6 @@
+-- Things with a comma between each two, as a list.
+use Rattle.std.specs.Prelude.{List, ◌∷◌, map}
+use Rattle.c_grammar.specs.declared.statement.Listed.{Listed}
+
+abbrev pub items_of : {A : Type 0} → Listed A → List A
+items_of list = list.first ∷ map (λ behind. behind.item) list.more.items

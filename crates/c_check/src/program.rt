@@ -1,0 +1,367 @@
+//! The faults of a whole program.
+ghost use Rattle.std.specs.Prelude.{◌≡◌, ◌≤◌, ◌++◌, ◌∷◌, [], IfOk, MatchOption, OnOk, length, map};
+ghost use Rattle.std.specs.List.{list_any};
+ghost use Rattle.std.specs.Str.{bytes_eq};
+ghost use Rattle.c_grammar.specs.StmtView.{head_view, parameter_view, parameters_view, parts_view, top_view, tree_view, value_view};
+ghost use Rattle.c_check.specs.Least.{IsFirst, least_from};
+ghost use Rattle.c_check.specs.Programs.{after_parameter, after_parameters, after_top, are_main_parameters, declare_optional, define_value, faults, function_faults, heads_of, is_main, is_one_int, is_text, main_faults, optional_twice_faults, parameter_faults, parameter_name, parameter_thing, parameters_faults, prototype_faults, seen_after, text_env, top_faults, top_twice_faults, tops_faults, with_head};
+ghost use Rattle.c_check.specs.Scopes.{cut};
+ghost use Rattle.c_check.specs.Signatures.{parameters_listed};
+
+use crate::call::{is_int, parameter_at, parameter_count};
+use crate::constant::want_length;
+use crate::fault::{Fault, note, note_unless};
+use crate::scope::{Scope, cut, is_same, number_at};
+use crate::statement::check_parts;
+use crate::thing::{Kind, Thing};
+use c_grammar::statement::{Head, Parameter, Parameters, Part, Top, Tree, Value};
+use c_grammar::word::Spot;
+use c_lex::Why;
+use c_names::predefined::meaning_of;
+use std::alloc::{AllocError, Global};
+
+// ---- main
+
+fn is_text(parameter: &Parameter) -> bool
+    ensures { result ≡ is_text (parameter_view parameter.now) }
+{
+    match parameter {
+        Parameter::TextPointers { .. } | Parameter::TextArray { .. } => true,
+        _ => false,
+    }
+}
+
+fn is_one_int(parameter: &Parameter) -> bool
+    ensures { result ≡ is_one_int (parameter_view parameter.now) }
+{
+    match parameter {
+        Parameter::Int { .. } => true,
+        _ => false,
+    }
+}
+
+fn are_main_parameters(parameters: &Parameters) -> bool
+    ensures { result ≡ are_main_parameters (parameters_listed (parameters_view parameters.now)) }
+{
+    match parameters {
+        Parameters::Nothing => true,
+        Parameters::Void(_) => true,
+        Parameters::Listed(list) => match list.more.as_slice() {
+            [texts] => is_one_int(&list.first) && is_text(&texts.item),
+            _ => false,
+        },
+    }
+}
+
+/// Whether a head is that of main.
+pub fn is_main(text: &[u8], head: &Head) -> bool
+    ensures { result ≡ is_main text.now (head_view head.now) }
+{
+    is_int(head.result)
+        && is_same(cut(text, head.name), b"main")
+        && are_main_parameters(&head.parameters)
+}
+
+// ---- heads
+
+/// What a parameter is, in a head that is that of main or in another.
+pub fn parameter_thing(main: bool, parameter: &Parameter) -> Thing
+    ensures { result ≡ parameter_thing main (parameter_view parameter.now) }
+{
+    match parameter {
+        Parameter::Int { .. } => {
+            if main {
+                Thing::ArgumentCount
+            } else {
+                Thing::Variable(Kind::Int)
+            }
+        }
+        Parameter::Array { .. } => Thing::ArrayParameter,
+        Parameter::Pointer { .. } => Thing::ArrayParameter,
+        Parameter::Communicator { .. } => Thing::Variable(Kind::Communicator),
+        Parameter::TextPointers { .. } => Thing::ArgumentTexts,
+        Parameter::TextArray { .. } => Thing::ArgumentTexts,
+    }
+}
+
+pub fn parameter_name(parameter: &Parameter) -> Option<Spot>
+    ensures { result ≡ parameter_name (parameter_view parameter.now) }
+{
+    match parameter {
+        Parameter::Int { name, .. } => *name,
+        Parameter::Array { name, .. } => *name,
+        Parameter::Pointer { name, .. } => *name,
+        Parameter::Communicator { name, .. } => *name,
+        Parameter::TextPointers { name, .. } => *name,
+        Parameter::TextArray { name, .. } => *name,
+    }
+}
+
+/// A length that is none, and a `char` away from main.
+fn check_parameter(best: &mut Option<Fault>, scope: &Scope, main: bool, parameter: &Parameter)
+    ensures { best.new ≡ least_from best.old (parameter_faults scope.now main (parameter_view parameter.now)) }
+{
+    match parameter {
+        Parameter::Array { length, .. } => {
+            if let Some(length) = length {
+                want_length(best, scope, length);
+            }
+        }
+        Parameter::TextPointers { word, .. } => note_unless(best, main, *word, Why::LeftOut),
+        Parameter::TextArray { word, .. } => note_unless(best, main, *word, Why::LeftOut),
+        _ => {}
+    }
+}
+
+/// A prototype declares nothing.
+fn check_prototype(best: &mut Option<Fault>, scope: &Scope, main: bool, head: &Head)
+    ensures { best.new ≡ least_from best.old (prototype_faults scope.now main (parameters_listed (parameters_view head.now.parameters))) }
+{
+    for place in 0..parameter_count(head) {
+        let Some(parameter) = parameter_at(head, place) else {
+            return;
+        };
+        check_parameter(best, scope, main, parameter);
+    }
+}
+
+fn want_free(best: &mut Option<Fault>, scope: &Scope, name: Option<Spot>)
+    ensures { best.new ≡ least_from best.old (optional_twice_faults scope.now name) }
+{
+    if let Some(name) = name {
+        scope.want_free(best, name);
+    }
+}
+
+fn declare(scope: &mut Scope, name: Option<Spot>, thing: Thing) -> Result<(), AllocError>
+    ensures { OnOk result (scope.new ≡ declare_optional scope.old name thing) }
+{
+    match name {
+        Some(name) => scope.declare(name, thing),
+        None => Ok(()),
+    }
+}
+
+/// A parameter, which is then declared.
+#[tactic(auto, using(crate::proofs::Least::least_from_append))]
+fn check_declared(
+    best: &mut Option<Fault>,
+    scope: &mut Scope,
+    main: bool,
+    parameter: &Parameter,
+) -> Result<(), AllocError>
+    ensures faults { OnOk result (best.new ≡ least_from best.old (parameter_faults scope.old main (parameter_view parameter.now) ++ optional_twice_faults scope.old (parameter_name (parameter_view parameter.now)))) }
+    ensures scope { OnOk result (scope.new ≡ after_parameter scope.old main (parameter_view parameter.now)) }
+{
+    check_parameter(best, scope, main, parameter);
+    let name = parameter_name(parameter);
+    want_free(best, scope, name);
+    declare(scope, name, parameter_thing(main, parameter))
+}
+
+fn check_parameters(
+    best: &mut Option<Fault>,
+    scope: &mut Scope,
+    main: bool,
+    head: &Head,
+) -> Result<(), AllocError>
+    ensures faults { OnOk result (best.new ≡ least_from best.old (parameters_faults scope.old main (parameters_listed (parameters_view head.now.parameters)))) }
+    ensures scope { OnOk result (scope.new ≡ after_parameters scope.old main (parameters_listed (parameters_view head.now.parameters))) }
+{
+    for place in 0..parameter_count(head) {
+        let Some(parameter) = parameter_at(head, place) else {
+            return Ok(());
+        };
+        check_declared(best, scope, main, parameter)?;
+    }
+    Ok(())
+}
+
+/// The faults of a function behind its name.
+#[tactic(auto, using(crate::proofs::Least::least_from_append, crate::proofs::Closed::closed_function))]
+fn check_function(
+    best: &mut Option<Fault>,
+    scope: &mut Scope,
+    head: &Head,
+    parts: &[Part],
+) -> Result<(), AllocError>
+    ensures faults { OnOk result (best.new ≡ least_from best.old (function_faults scope.old (head_view head.now) (parts_view parts.now))) }
+    ensures scope { OnOk result (scope.new ≡ scope.old) }
+{
+    let main = is_main(scope.text(), head);
+    scope.open()?;
+    check_parameters(best, scope, main, head)?;
+    check_parts(best, scope, is_int(head.result), false, parts)?;
+    scope.close();
+    Ok(())
+}
+
+// ---- the text
+
+fn is_seen(seen: &[&[u8]], name: &[u8]) -> bool
+    ensures { result ≡ list_any (bytes_eq name.now) (map (λ other. other.now) seen.now) }
+{
+    for other in seen {
+        if is_same(name, other) {
+            return true;
+        }
+    }
+    false
+}
+
+/// A name that is free in the text.
+fn want_new(best: &mut Option<Fault>, text: &[u8], seen: &[&[u8]], spot: Spot)
+    ensures { best.new ≡ least_from best.old (top_twice_faults text.now (map (λ other. other.now) seen.now) spot) }
+{
+    let name = cut(text, spot);
+    let taken = meaning_of(name).is_some() || is_seen(seen, name);
+    note_unless(best, !taken, spot, Why::Twice);
+}
+
+fn see<'a>(text: &'a [u8], seen: &mut Vec<&'a [u8]>, spot: Spot) -> Result<(), AllocError>
+    ensures { OnOk result (map (λ other. other.now) seen.new.items ≡ map (λ other. other.now) seen.old.items ++ cut text.now spot ∷ []) }
+{
+    seen.push(cut(text, spot))?;
+    Ok(())
+}
+
+/// The value of a define.
+pub fn define_value(text: &[u8], value: &Value) -> i32
+    ensures { result ≡ define_value text.now (value_view value.now) }
+{
+    let number = number_at(text, value.number).cast_signed();
+    if value.minus.is_some() {
+        number.wrapping_neg()
+    } else {
+        number
+    }
+}
+
+/// The faults of what stands in the text, which is then seen, and declared if it is a define.
+#[tactic(auto, using(crate::proofs::Least::least_from_append))]
+fn check_top<'a>(
+    best: &mut Option<Fault>,
+    scope: &mut Scope<'a>,
+    seen: &mut Vec<&'a [u8]>,
+    top: &Top,
+) -> Result<(), AllocError>
+    ensures faults { OnOk result (best.new ≡ least_from best.old (top_faults scope.old (map (λ other. other.now) seen.old.items) (top_view top.now))) }
+    ensures scope { OnOk result (scope.new ≡ after_top scope.old (top_view top.now)) }
+    ensures seen { OnOk result (map (λ other. other.now) seen.new.items ≡ seen_after scope.old.text (map (λ other. other.now) seen.old.items) (top_view top.now)) }
+{
+    let text = scope.text();
+    match top {
+        Top::Define { name, value, .. } => {
+            want_new(best, text, seen, *name);
+            see(text, seen, *name)?;
+            scope.declare(*name, Thing::Define(define_value(text, value)))
+        }
+        Top::Function { head, parts, .. } => {
+            want_new(best, text, seen, head.name);
+            see(text, seen, head.name)?;
+            check_function(best, scope, head, parts)
+        }
+        Top::Prototype { head, .. } => {
+            check_prototype(best, scope, is_main(text, head), head);
+            Ok(())
+        }
+    }
+}
+
+fn push_head<'a>(heads: &mut Vec<&'a Head>, top: &'a Top) -> Result<(), AllocError>
+    ensures { OnOk result (map (λ head. head_view head.now) heads.new.items ≡ map (λ head. head_view head.now) heads.old.items ++ with_head (top_view top.now) []) }
+{
+    if let Top::Function { head, .. } = top {
+        heads.push(head)?;
+    }
+    Ok(())
+}
+
+/// The heads of the text's functions, in order.
+fn heads_of(alloc: Global, tops: &[Top]) -> Result<Vec<&Head>, AllocError>
+    ensures { IfOk result (λ heads. map (λ head. head_view head.now) heads.items ≡ heads_of (map top_view tops.now)) }
+{
+    let mut heads = Vec::new(alloc);
+    for top in tops {
+        push_head(&mut heads, top)?;
+    }
+    Ok(heads)
+}
+
+/// The scope of the whole text: its functions.
+pub fn text_scope<'a>(
+    alloc: Global,
+    text: &'a [u8],
+    tree: &'a Tree,
+) -> Result<Scope<'a>, AllocError>
+    ensures { IfOk result (λ scope. scope ≡ text_env text.now (tree_view tree.now)) }
+{
+    let heads = heads_of(alloc, &tree.tops)?;
+    let scope = Scope::of_functions(alloc, text, heads)?;
+    Ok(scope)
+}
+
+fn is_main_top(text: &[u8], top: &Top) -> bool
+    ensures { result ≡ list_any (is_main text.now) (with_head (top_view top.now) []) }
+{
+    match top {
+        Top::Function { head, .. } => is_main(text, head),
+        Top::Define { .. } => false,
+        Top::Prototype { .. } => false,
+    }
+}
+
+fn has_main(text: &[u8], tops: &[Top]) -> bool
+    ensures { result ≡ list_any (is_main text.now) (heads_of (map top_view tops.now)) }
+{
+    for top in tops {
+        if is_main_top(text, top) {
+            return true;
+        }
+    }
+    false
+}
+
+/// A text without a main.
+fn want_main(best: &mut Option<Fault>, text: &[u8], tree: &Tree)
+    requires { length text.now ≤ 65536 }
+    ensures { best.new ≡ least_from best.old (main_faults text.now (tree_view tree.now)) }
+{
+    if !has_main(text, &tree.tops) {
+        note(
+            best,
+            Fault {
+                at: text.len() as u32,
+                why: Why::NoMain,
+            },
+        );
+    }
+}
+
+fn check_tops<'a>(
+    alloc: Global,
+    best: &mut Option<Fault>,
+    scope: &mut Scope<'a>,
+    tops: &[Top],
+) -> Result<(), AllocError>
+    ensures { OnOk result (best.new ≡ least_from best.old (tops_faults scope.old [] (map top_view tops.now))) }
+{
+    let mut seen = Vec::new(alloc);
+    for top in tops {
+        check_top(best, scope, &mut seen, top)?;
+    }
+    Ok(())
+}
+
+/// The first fault of a program in source order, or `None` where it has none.
+#[tactic(auto, using(crate::proofs::Least::least_from_append, crate::proofs::Least::first_of))]
+pub fn first_fault(alloc: Global, text: &[u8], tree: &Tree) -> Result<Option<Fault>, AllocError>
+    requires { length text.now ≤ 65536 }
+    ensures { IfOk result (λ first. MatchOption first (faults text.now (tree_view tree.now) ≡ []) (λ found. IsFirst (faults text.now (tree_view tree.now)) found)) }
+{
+    let mut best = None;
+    let mut scope = text_scope(alloc, text, tree)?;
+    check_tops(alloc, &mut best, &mut scope, &tree.tops)?;
+    want_main(&mut best, text, tree);
+    Ok(best)
+}

@@ -1,0 +1,417 @@
+//! The faults of statements and declarations.
+ghost use Rattle.std.specs.Prelude.{◌≡◌, OnOk, option_map};
+ghost use Rattle.c_grammar.specs.StmtView.{declaration_view, initial_view, item_view, part_view, parts_view, right_view, row_view, simple_view, start_view, stmt_view};
+ghost use Rattle.c_grammar.specs.View.{place_view, view};
+ghost use Rattle.c_check.specs.Least.{least_from};
+ghost use Rattle.c_check.specs.Signatures.{listed};
+ghost use Rattle.c_check.specs.Statements.{after_declaration, after_item, after_part, after_parts, after_start, array_length, begins_with, begun_takes, braces_faults, can_begin, declaration_faults, declared_thing, goal_kind, goal_takes, initial_faults, int_goal_faults, is_assign, is_goal, is_int_array, is_int_goal, item_faults, part_faults, parts_faults, place_length_faults, return_faults, simple_faults, start_faults, step_faults, stmt_faults, test_faults, values_faults};
+
+use crate::call::{check_call, right_start, want_right};
+use crate::constant::{length_of, want_length};
+use crate::expression::{check_place, want_int};
+use crate::fault::{Fault, note_at, note_unless};
+use crate::kind::{cell_kind, place_start, target_kind};
+use crate::row::item_count;
+use crate::scope::Scope;
+use crate::thing::{ExprKind, Kind, Thing, kind_of_word};
+use c_grammar::statement::{
+    Declaration, ForStart, Initial, Item, Listed, Part, Right, Simple, Stmt,
+};
+use c_grammar::tree::{Expr, Place};
+use c_grammar::word::{Spot, Word};
+use c_lex::Why;
+use std::alloc::AllocError;
+
+// ---- assignments
+
+/// What is assigned to.
+#[tactic(auto, using(c_grammar::proofs::Viewed::views))]
+pub fn goal_kind(scope: &Scope, place: &Place) -> ExprKind
+    ensures { result ≡ goal_kind scope.now (place_view place.now) }
+{
+    match place {
+        Place::Whole(name) => target_kind(scope.meaning(*name)),
+        Place::Cell { name, .. } => cell_kind(scope.meaning(*name)),
+    }
+}
+
+fn is_goal(kind: ExprKind) -> bool
+    ensures { result ≡ is_goal kind }
+{
+    match kind {
+        ExprKind::Of(Kind::Status) => false,
+        ExprKind::Of(_) => true,
+        ExprKind::Nothing => true,
+        _ => false,
+    }
+}
+
+fn is_int_goal(kind: ExprKind) -> bool
+    ensures { result ≡ is_int_goal kind }
+{
+    match kind {
+        ExprKind::Of(Kind::Int) => true,
+        ExprKind::Nothing => true,
+        _ => false,
+    }
+}
+
+fn goal_takes(kind: ExprKind) -> ExprKind
+    ensures { result ≡ goal_takes kind }
+{
+    match kind {
+        ExprKind::Of(Kind::Status) => ExprKind::Nothing,
+        ExprKind::Of(_) => kind,
+        _ => ExprKind::Nothing,
+    }
+}
+
+pub fn is_assign(word: Word) -> bool
+    ensures { result ≡ is_assign word }
+{
+    match word {
+        Word::Assign => true,
+        _ => false,
+    }
+}
+
+/// A place of an int.
+#[tactic(auto, using(crate::proofs::Least::least_from_append))]
+fn want_int_goal(best: &mut Option<Fault>, scope: &Scope, place: &Place)
+    ensures { best.new ≡ least_from best.old (int_goal_faults scope.now (place_view place.now)) }
+{
+    check_place(best, scope, place);
+    let well = is_int_goal(goal_kind(scope, place));
+    note_unless(best, well, place_start(place), Why::WrongType);
+}
+
+/// The faults of an assignment or a call.
+#[tactic(auto, using(crate::proofs::Least::least_from_append))]
+pub fn check_simple(best: &mut Option<Fault>, scope: &Scope, simple: &Simple)
+    ensures { best.new ≡ least_from best.old (simple_faults scope.now (simple_view simple.now)) }
+{
+    match simple {
+        Simple::Assign {
+            place,
+            operator,
+            right,
+            ..
+        } => {
+            if is_assign(*operator) {
+                check_place(best, scope, place);
+                let kind = goal_kind(scope, place);
+                note_unless(best, is_goal(kind), place_start(place), Why::WrongType);
+                want_right(best, scope, goal_takes(kind), right);
+            } else {
+                want_int_goal(best, scope, place);
+                want_right(best, scope, ExprKind::Of(Kind::Int), right);
+            }
+        }
+        Simple::After { place, .. } => want_int_goal(best, scope, place),
+        Simple::Before { place, .. } => want_int_goal(best, scope, place),
+        Simple::Call(call) => check_call(best, scope, call),
+    }
+}
+
+// ---- declarations
+
+#[tactic(auto, using(c_grammar::proofs::Viewed::views))]
+pub fn declared_thing(scope: &Scope, kind: Kind, place: &Place) -> Thing
+    ensures { result ≡ declared_thing scope.now kind (place_view place.now) }
+{
+    match place {
+        Place::Whole(_) => Thing::Variable(kind),
+        Place::Cell { index, .. } => Thing::Array(kind, length_of(scope, index)),
+    }
+}
+
+#[tactic(auto, using(c_grammar::proofs::Viewed::views))]
+fn want_place_length(best: &mut Option<Fault>, scope: &Scope, place: &Place)
+    ensures { best.new ≡ least_from best.old (place_length_faults scope.now (place_view place.now)) }
+{
+    match place {
+        Place::Whole(_) => {}
+        Place::Cell { index, .. } => want_length(best, scope, index),
+    }
+}
+
+fn begins_with(thing: Thing) -> ExprKind
+    ensures { result ≡ begins_with thing }
+{
+    match thing {
+        Thing::Variable(Kind::Status) => ExprKind::Other,
+        Thing::Variable(kind) => ExprKind::Of(kind),
+        _ => ExprKind::Other,
+    }
+}
+
+fn can_begin(kind: ExprKind) -> bool
+    ensures { result ≡ can_begin kind }
+{
+    match kind {
+        ExprKind::Other => false,
+        _ => true,
+    }
+}
+
+fn begun_takes(kind: ExprKind) -> ExprKind
+    ensures { result ≡ begun_takes kind }
+{
+    match kind {
+        ExprKind::Other => ExprKind::Nothing,
+        _ => kind,
+    }
+}
+
+fn is_int_array(thing: Thing) -> bool
+    ensures { result ≡ is_int_array thing }
+{
+    match thing {
+        Thing::Array(Kind::Int, _) => true,
+        _ => false,
+    }
+}
+
+fn array_length(thing: Thing) -> u32
+    ensures { result ≡ array_length thing }
+{
+    match thing {
+        Thing::Array(_, length) => length,
+        _ => 0,
+    }
+}
+
+/// Ints in braces.
+#[tactic(auto, using(crate::proofs::Least::least_from_append))]
+fn want_values(best: &mut Option<Fault>, scope: &Scope, values: &Listed<Expr>)
+    ensures { best.new ≡ least_from best.old (values_faults scope.now (listed (row_view view values.now))) }
+{
+    want_int(best, scope, &values.first);
+    for behind in &values.more {
+        want_int(best, scope, &behind.item);
+    }
+}
+
+/// Values in braces.
+fn want_braces(best: &mut Option<Fault>, name: Spot, thing: Thing, count: usize)
+    ensures { best.new ≡ least_from best.old (braces_faults name thing count) }
+{
+    if is_int_array(thing) {
+        let length = array_length(thing) as usize;
+        note_unless(best, !(0 < length && length < count), name, Why::WrongCount);
+    } else {
+        note_at(best, name, Why::WrongType);
+    }
+}
+
+#[tactic(auto, using(crate::proofs::Least::least_from_append))]
+fn check_initial(
+    best: &mut Option<Fault>,
+    scope: &Scope,
+    name: Spot,
+    thing: Thing,
+    initial: &Option<Initial>,
+)
+    ensures { best.new ≡ least_from best.old (initial_faults scope.now name thing (option_map initial_view initial.now)) }
+{
+    match initial {
+        None => {}
+        Some(Initial::Right { right, .. }) => {
+            let kind = begins_with(thing);
+            note_unless(best, can_begin(kind), name, Why::WrongType);
+            want_right(best, scope, begun_takes(kind), right);
+        }
+        Some(Initial::Braced { values, .. }) => {
+            want_braces(best, name, thing, item_count(values));
+            want_values(best, scope, values);
+        }
+    }
+}
+
+/// A declared name, which is then declared.
+#[tactic(auto, using(crate::proofs::Least::least_from_append))]
+fn check_item(
+    best: &mut Option<Fault>,
+    scope: &mut Scope,
+    kind: Kind,
+    item: &Item,
+) -> Result<(), AllocError>
+    ensures faults { OnOk result (best.new ≡ least_from best.old (item_faults scope.old kind (item_view item.now))) }
+    ensures scope { OnOk result (scope.new ≡ after_item scope.old kind (item_view item.now)) }
+{
+    let name = place_start(&item.place);
+    want_place_length(best, scope, &item.place);
+    scope.want_free(best, name);
+    let thing = declared_thing(scope, kind, &item.place);
+    scope.declare(name, thing)?;
+    check_initial(best, scope, name, thing, &item.initial);
+    Ok(())
+}
+
+/// The faults of a declaration, whose names are then declared.
+#[tactic(auto, using(crate::proofs::Least::least_from_append))]
+pub fn check_declaration(
+    best: &mut Option<Fault>,
+    scope: &mut Scope,
+    declaration: &Declaration,
+) -> Result<(), AllocError>
+    ensures faults { OnOk result (best.new ≡ least_from best.old (declaration_faults scope.old (declaration_view declaration.now))) }
+    ensures scope { OnOk result (scope.new ≡ after_declaration scope.old (declaration_view declaration.now)) }
+{
+    let kind = kind_of_word(declaration.kind);
+    check_item(best, scope, kind, &declaration.items.first)?;
+    for behind in &declaration.items.more {
+        check_item(best, scope, kind, &behind.item)?;
+    }
+    Ok(())
+}
+
+// ---- statements
+
+/// What a function gives back.
+#[tactic(auto, using(crate::proofs::Least::least_from_append))]
+fn check_return(best: &mut Option<Fault>, scope: &Scope, gives: bool, value: &Option<Right>)
+    ensures { best.new ≡ least_from best.old (return_faults scope.now gives (option_map right_view value.now)) }
+{
+    if let Some(right) = value {
+        if gives {
+            want_right(best, scope, ExprKind::Of(Kind::Int), right);
+        } else {
+            want_right(best, scope, ExprKind::Nothing, right);
+            note_at(best, right_start(right), Why::WrongType);
+        }
+    }
+}
+
+fn check_start(
+    best: &mut Option<Fault>,
+    scope: &mut Scope,
+    start: &ForStart,
+) -> Result<(), AllocError>
+    ensures faults { OnOk result (best.new ≡ least_from best.old (start_faults scope.old (start_view start.now))) }
+    ensures scope { OnOk result (scope.new ≡ after_start scope.old (start_view start.now)) }
+{
+    match start {
+        ForStart::Nothing => Ok(()),
+        ForStart::Declaration(declaration) => check_declaration(best, scope, declaration),
+        ForStart::Simple(simple) => {
+            check_simple(best, scope, simple);
+            Ok(())
+        }
+    }
+}
+
+fn check_test(best: &mut Option<Fault>, scope: &Scope, test: &Option<Expr>)
+    ensures { best.new ≡ least_from best.old (test_faults scope.now (option_map view test.now)) }
+{
+    if let Some(test) = test {
+        want_int(best, scope, test);
+    }
+}
+
+fn check_step(best: &mut Option<Fault>, scope: &Scope, step: &Option<Simple>)
+    ensures { best.new ≡ least_from best.old (step_faults scope.now (option_map simple_view step.now)) }
+{
+    if let Some(step) = step {
+        check_simple(best, scope, step);
+    }
+}
+
+/// The faults of a statement. `gives`: the function gives an int; `loops`: a loop stands around.
+#[cycle(statement)]
+#[tactic(auto, using(c_grammar::proofs::StmtViewed::stmt_views, crate::proofs::Least::least_from_append, crate::proofs::Closed::closed_parts, crate::proofs::Closed::closed_start))]
+pub fn check_stmt(
+    best: &mut Option<Fault>,
+    scope: &mut Scope,
+    gives: bool,
+    loops: bool,
+    stmt: &Stmt,
+) -> Result<(), AllocError>
+    ensures faults { OnOk result (best.new ≡ least_from best.old (stmt_faults scope.old gives loops (stmt_view stmt.now))) }
+    ensures scope { OnOk result (scope.new ≡ scope.old) }
+{
+    match stmt {
+        Stmt::Block { parts, .. } => {
+            scope.open()?;
+            check_parts(best, scope, gives, loops, parts)?;
+            scope.close();
+        }
+        Stmt::Empty(_) => {}
+        Stmt::Simple { simple, .. } => check_simple(best, scope, simple),
+        Stmt::Break { word, .. } => note_unless(best, loops, *word, Why::WrongType),
+        Stmt::Continue { word, .. } => note_unless(best, loops, *word, Why::WrongType),
+        Stmt::Return { value, .. } => check_return(best, scope, gives, value),
+        Stmt::If { test, then, .. } => {
+            want_int(best, scope, test);
+            check_stmt(best, scope, gives, loops, then)?;
+        }
+        Stmt::IfElse {
+            test,
+            then,
+            other,
+            ..
+        } => {
+            want_int(best, scope, test);
+            check_stmt(best, scope, gives, loops, then)?;
+            check_stmt(best, scope, gives, loops, other)?;
+        }
+        Stmt::While { test, body, .. } => {
+            want_int(best, scope, test);
+            check_stmt(best, scope, gives, true, body)?;
+        }
+        Stmt::Do { test, body, .. } => {
+            check_stmt(best, scope, gives, true, body)?;
+            want_int(best, scope, test);
+        }
+        Stmt::For {
+            start,
+            test,
+            step,
+            body,
+            ..
+        } => {
+            scope.open()?;
+            check_start(best, scope, start)?;
+            check_test(best, scope, test);
+            check_step(best, scope, step);
+            check_stmt(best, scope, gives, true, body)?;
+            scope.close();
+        }
+    }
+    Ok(())
+}
+
+#[cycle(statement)]
+#[tactic(auto, using(c_grammar::proofs::StmtViewed::stmt_views, crate::proofs::Least::least_from_append, crate::proofs::Closed::closed_parts, crate::proofs::Closed::closed_start))]
+fn check_part(
+    best: &mut Option<Fault>,
+    scope: &mut Scope,
+    gives: bool,
+    loops: bool,
+    part: &Part,
+) -> Result<(), AllocError>
+    ensures faults { OnOk result (best.new ≡ least_from best.old (part_faults scope.old gives loops (part_view part.now))) }
+    ensures scope { OnOk result (scope.new ≡ after_part scope.old (part_view part.now)) }
+{
+    match part {
+        Part::Declaration { declaration, .. } => check_declaration(best, scope, declaration),
+        Part::Stmt(stmt) => check_stmt(best, scope, gives, loops, stmt),
+    }
+}
+
+#[cycle(statement)]
+pub fn check_parts(
+    best: &mut Option<Fault>,
+    scope: &mut Scope,
+    gives: bool,
+    loops: bool,
+    parts: &[Part],
+) -> Result<(), AllocError>
+    ensures faults { OnOk result (best.new ≡ least_from best.old (parts_faults scope.old gives loops (parts_view parts.now))) }
+    ensures scope { OnOk result (scope.new ≡ after_parts scope.old (parts_view parts.now)) }
+{
+    for part in parts {
+        check_part(best, scope, gives, loops, part)?;
+    }
+    Ok(())
+}
