@@ -1,11 +1,4 @@
 pub mod CallTexts
-pub mod Courses
-pub mod CourseLaws
-pub mod FirstRow
-pub mod Reading
 pub mod Reports
-pub mod SmallTexts
-pub mod States
-pub mod Tokens
 pub mod TraceTexts
 pub mod Words

@@ -1,8 +1,8 @@
 //! Commands over files in memory: words, status and what is printed.
 use crate::gate::OpenGate;
 use crate::outcome::Outcome;
-use crate::small_rank::SmallRank;
-use crate::small_source::read_small;
+use small_c::small_rank::SmallRank;
+use small_c::small_source::read_small;
 use crate::tell::tell;
 use crate::top::wiz;
 use srr_log::read_log::read_log;
@@ -42,6 +42,9 @@ const NO_ENTRY: &[u8] =
 
 const NO_ENTRY_TRACE: &[u8] = b"rank 0\noutput 0\n\nlog ended\n";
 
+const REFUSED: &[u8] =
+    b"srr 1\nranks 1\ngroup 0\nprogram 25\nint main(void){return y;}\nrank 0 0\nend\n";
+
 const NOT_BUILT: &[u8] =
     b"srr 1\nranks 1\ngroup 0\nprogram 25\nint main(void){return 0;}\nrank 0 0\nend\n";
 
@@ -65,12 +68,13 @@ fn answers<R: Threads + Wait + Sync + AllocGlobal>(
 #[test]
 fn commands_have_their_status_and_output(rt: HostRuntime) {
     let replay: &[&str] = &["replay", "L", "--serial"];
-    let table: [(&[&str], &[u8], u8, &[u8]); 12] = [
+    let table: [(&[&str], &[u8], u8, &[u8]); 13] = [
         (replay, FIRST, 0, FIRST_TRACE),
         (replay, DIVERGED, 9, DIVERGED_TRACE),
         (replay, STARVED, 10, STARVED_TRACE),
         (replay, ALONE, 0, ALONE_TRACE),
         (replay, NO_ENTRY, 0, NO_ENTRY_TRACE),
+        (replay, REFUSED, 5, b"program 1:23 unknown\n"),
         (replay, NOT_BUILT, 5, b"program 1:1 not built\n"),
         (replay, &FIRST[..270], 8, b"log 270 short\n"),
         (replay, b"srr 2\n", 8, b"log 0 bad version\n"),

@@ -1,7 +1,7 @@
 use Rattle.std.proofs.Common.{◌≡◌, ◌<◌, ℕ, [], length, slice_index}
 use Rattle.std.specs.List.{slice_index_or}
 use Rattle.run_model.specs.Program.{IsAfter, Standing}
-use Rattle.wiz_cli.specs.declared.small_program.SmallProgram.{SmallProgram}
+use Rattle.small_c.specs.declared.small_program.SmallProgram.{SmallProgram}
 use Rattle.wiz_cli.proofs.replay_file.start_all.Given as goal
 
 abbrev pub invariant-loop-rank : goal.invariant-loop-rank

@@ -1,0 +1,4 @@
+pub mod FirstRowLaws
+pub mod ReadingLaws
+pub mod FirstText
+pub mod PieceLaws
