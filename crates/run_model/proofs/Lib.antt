@@ -17,3 +17,4 @@ pub mod TakeShapes
 pub mod Shapes
 pub mod RunLaws
 pub mod Orders
+pub mod ChosenExamples

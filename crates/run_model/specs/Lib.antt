@@ -11,3 +11,7 @@ pub mod Run
 pub mod Program
 pub mod Fits
 pub mod Forms
+pub mod Choice
+pub mod Numbers
+pub mod Chosen
+pub mod Serial
