@@ -17,4 +17,6 @@ pub mod TakeShapes
 pub mod Shapes
 pub mod RunLaws
 pub mod Orders
+pub mod ChosenLaws
+pub mod SerialLaws
 pub mod ChosenExamples

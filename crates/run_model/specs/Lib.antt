@@ -15,3 +15,4 @@ pub mod Choice
 pub mod Numbers
 pub mod Chosen
 pub mod Serial
+pub mod MachineLaws
