@@ -1,15 +1,18 @@
 -- What holds of the runs that a recording machine makes.
-use Rattle.std.specs.Prelude.{◌≡◌, ◌<◌, ℕ, List, Bool, true, false}
+use Rattle.std.specs.Prelude.{◌≡◌, ◌<◌, ◌⊎◌, ℕ, List, [], ◌∷◌, ◌++◌, Some, Bool, true, false}
 use Rattle.std.specs.List.{list_any}
+use Rattle.mpi_call.specs.declared.call.Call.{Call}
 use Rattle.mpi_call.specs.declared.call.Halt.TheVariants.{Stuck}
 use Rattle.mpi_call.specs.declared.reply.Reply.{Reply}
 use Rattle.mpi_call.specs.declared.reply.Reply.TheVariants.{Stopped}
 use Rattle.run_model.specs.declared.event.Event.{Event}
 use Rattle.run_model.specs.Lists.{IsPrefixOf}
 use Rattle.run_model.specs.Program.{ends}
+use Rattle.run_model.specs.Allowed.{IsStuck, can_go}
+use Rattle.run_model.specs.Pairs.{IsMatched}
 use Rattle.run_model.specs.Run.{IsRun}
-use Rattle.run_model.specs.Views.{Next, view_of}
-use Rattle.run_model.specs.Chosen.{IsChosen, order_of}
+use Rattle.run_model.specs.Views.{Next, replies_in, view_of}
+use Rattle.run_model.specs.Chosen.{IsChosen, chosen_event, order_of}
 use Rattle.run_model.specs.Serial.{IsSerial}
 
 abbrev pub is_stuck_reply : Reply → Bool
@@ -39,3 +42,13 @@ SerialEnds next n =
 abbrev pub OrderBeginsSerial : Next → ℕ → Type 0
 OrderBeginsSerial next n =
     (run events : List Event) → IsChosen next n run → has_stuck run ≡ false → IsSerial next n (order_of run) events → IsPrefixOf run events
+
+-- the machine's event for a rank's next call makes its run longer, where the call can go or no call can, if the pairs meet
+-- their conditions after it
+abbrev pub GoesOn : Next → ℕ → Type 0
+GoesOn next n =
+    (before : List Event) (rank : ℕ) (call : Call) → IsChosen next n before → rank < n
+    → next n rank (replies_in (view_of before rank)) ≡ Some call
+    → (can_go n before (view_of before rank) rank call ≡ true) ⊎ IsStuck next n before
+    → IsMatched (before ++ chosen_event n before rank call ∷ [])
+    → IsChosen next n (before ++ chosen_event n before rank call ∷ [])

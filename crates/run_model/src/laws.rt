@@ -1,5 +1,5 @@
 //! The laws of a recording machine's runs. Their bodies are empty; a caller's clause follows from theirs.
-ghost use Rattle.run_model.specs.MachineLaws.{OrderBeginsSerial, OrderFixesRun, SerialEnds, TurnsFixSerial};
+ghost use Rattle.run_model.specs.MachineLaws.{GoesOn, OrderBeginsSerial, OrderFixesRun, SerialEnds, TurnsFixSerial};
 
 use crate::program::Program;
 
@@ -17,4 +17,9 @@ pub fn turns_fix_serial<P: Program>(program: &P, n: u8)
 /// A run that the machine makes without a Stuck reply begins the serial run of its order as turns.
 pub fn order_begins_serial<P: Program>(program: &P, n: u8)
     ensures { OrderBeginsSerial (P.next program.now) n }
+{}
+
+/// The machine's event for a rank's next call goes on with its run.
+pub fn goes_on<P: Program>(program: &P, n: u8)
+    ensures { GoesOn (P.next program.now) n }
 {}
