@@ -1,13 +1,11 @@
 -- The machine's reply is allowed.
-use Rattle.std.proofs.Common.{◌≡◌, ◌⊎◌, if◌then◌else◌, ◌||◌, ◌<◌, ◌∙◌, Bool, List, None, Option, Some, false, inl, inr, is_some, not, refl, subst, sym, true, ℕ, map}
-use Rattle.std.proofs.lemmas.Bool.{or_cases}
+use Rattle.std.proofs.Common.{◌≡◌, ◌⊎◌, if◌then◌else◌, ◌||◌, ◌∙◌, Bool, List, None, Option, Some, false, inl, inr, is_some, not, refl, subst, sym, true, ℕ}
 use Rattle.mpi_call.specs.declared.call.Call.{Call}
 use Rattle.mpi_call.specs.declared.call.Call.TheVariants.{Abort, End, Enter, Peek, Post, Send, Take, Trap}
 use Rattle.mpi_call.specs.declared.call.Halt.{Halt}
 use Rattle.mpi_call.specs.declared.call.Source.{Source}
 use Rattle.mpi_call.specs.declared.call.Tag.{Tag}
 use Rattle.mpi_call.specs.declared.call.TakeMode.{TakeMode}
-use Rattle.mpi_call.specs.declared.reply.Item.{Item}
 use Rattle.run_model.specs.declared.event.Event.{Event}
 use Rattle.run_model.specs.Allowed.{AreChosen, IsAllowed, IsAllowedBy, IsAnswer, IsHeld, IsPeekAnswer, IsStuck, IsTakeAnswer, can_go, first_long, flags_of, has_open, holds, is_prompt, taken_reply}
 use Rattle.run_model.specs.Choice.{choice, chosen_places}
@@ -19,7 +17,6 @@ use Rattle.run_model.specs.Views.{Next, view_of}
 use Rattle.run_model.proofs.ChosenGots.{chosen_are, gots_are, items_at-indices}
 use Rattle.run_model.proofs.ChosenProbes.{peek_found, peek_missed, peek_there}
 use Rattle.run_model.proofs.Origins.{AllBelow}
-use Rattle.run_model.proofs.Views.{option_cases, test_cases}
 
 -- where the call cannot go, no other call can
 abbrev pub GoesOr : Bool → Type 0 → Type 0

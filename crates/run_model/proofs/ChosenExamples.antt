@@ -1,20 +1,19 @@
 -- The machine's choices on small runs: its order, wildcards, tests, the least index, new communicators, and no way on.
-use Rattle.std.proofs.Common.{◌≡◌, ◌∷◌, ℕ, zero, suc, ℤ, pos, negsuc, List, [], None, Some, Option, Bool, false, length, map, refl, slice_get}
+use Rattle.std.proofs.Common.{◌≡◌, ◌∷◌, ℕ, zero, suc, ℤ, pos, negsuc, List, [], None, false, length, map, refl, slice_get}
 use Rattle.mpi_call.specs.declared.call.Call.{Call}
 use Rattle.mpi_call.specs.declared.call.Call.TheVariants.{End, Enter, Peek, Post, Send, Take}
 use Rattle.mpi_call.specs.declared.call.Halt.TheVariants.{Stuck}
-use Rattle.mpi_call.specs.declared.call.Kind.TheVariants.{Barrier, Dup, Split}
+use Rattle.mpi_call.specs.declared.call.Kind.TheVariants.{Barrier, Split}
 use Rattle.mpi_call.specs.declared.call.Source.TheVariants.{Any, From}
 use Rattle.mpi_call.specs.declared.call.Tag.TheVariants.{Any as AnyTag, Is}
 use Rattle.mpi_call.specs.declared.call.TakeMode.TheVariants.{All, Any as AnyOne, TestAll}
 use Rattle.mpi_call.specs.declared.reply.Got.TheVariants.{Joined, Made, Message}
-use Rattle.mpi_call.specs.declared.reply.Item.{Item}
 use Rattle.mpi_call.specs.declared.reply.Got.{Got}
 use Rattle.mpi_call.specs.declared.reply.Reply.{Reply}
 use Rattle.mpi_call.specs.declared.reply.Reply.TheVariants.{Done, NotYet, Peeked, Stopped, Took}
 use Rattle.run_model.specs.declared.event.Event.{Event}
 use Rattle.run_model.specs.Chosen.{order_of}
-use Rattle.run_model.specs.Serial.{Stage, at_first, attempts, rounds}
+use Rattle.run_model.specs.Serial.{at_first, attempts, rounds}
 use Rattle.run_model.specs.Views.{Next, replies_in, view_of}
 
 -- programs whose ranks make these calls whatever the replies

@@ -1,5 +1,5 @@
 -- What the machine takes of ready starts is what they give.
-use Rattle.std.proofs.Common.{◌≡◌, ◌&&◌, ◌∙◌, ◌∷◌, ◌+◌, ◌==◌, Bool, Err, List, None, Ok, Option, Result, Some, [], ap, arith, false, inl, inr, is_some, map, refl, slice_get, slice_index, subst, suc, sym, take, true, zero, ℕ, ℤ}
+use Rattle.std.proofs.Common.{◌≡◌, ◌∙◌, ◌∷◌, ◌+◌, ◌==◌, Bool, Err, List, None, Ok, Option, Result, Some, [], ap, arith, false, inl, inr, is_some, map, refl, slice_get, slice_index, subst, suc, sym, take, true, zero, ℕ, ℤ}
 use Rattle.std.proofs.lemmas.Bool.{eqb-true, false_from_ne_true}
 use Rattle.std.specs.List.{list_any, position_or_len}
 use Rattle.mpi_call.specs.declared.call.Call.{Call}

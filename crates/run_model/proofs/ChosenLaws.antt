@@ -1,5 +1,5 @@
 -- The machine's event is fixed by the events before it and by whose turn it is, and so is its whole run by its order.
-use Rattle.std.proofs.Common.{◌++◌, ◌||◌, ◌∙◌, ◌∷◌, ◌≡◌, Bool, List, None, Option, Some, [], ap, false, inl, inr, is_some, not, refl, subst, sym, true, ℕ}
+use Rattle.std.proofs.Common.{◌++◌, ◌||◌, ◌∙◌, ◌∷◌, ◌≡◌, Bool, List, None, Option, Some, [], ap, false, is_some, not, refl, subst, sym, true, ℕ}
 use Rattle.std.proofs.lemmas.Bool.{or_parts}
 use Rattle.mpi_call.specs.declared.call.Call.{Call}
 use Rattle.mpi_call.specs.declared.call.Call.TheVariants.{Abort, End, Enter, Peek, Post, Send, Take, Trap}
@@ -9,14 +9,13 @@ use Rattle.mpi_call.specs.declared.reply.Reply.{Reply}
 use Rattle.mpi_call.specs.declared.reply.Reply.TheVariants.{Stopped}
 use Rattle.run_model.specs.declared.event.Event.{Event}
 use Rattle.run_model.specs.Allowed.{IsAllowed, IsAllowedBy, IsAnswer, IsHeld, IsPeekAnswer, IsStuck, IsTakeAnswer, can_go, flags_of, has_open, holds, is_prompt}
-use Rattle.run_model.specs.Chosen.{IsChosen, IsChosenEvent, chosen_event, order_of}
+use Rattle.run_model.specs.Chosen.{IsChosenEvent, chosen_event, order_of}
 use Rattle.run_model.specs.Due.{due}
 use Rattle.run_model.specs.Lists.{Along}
 use Rattle.run_model.specs.MachineLaws.{OrderFixesRun}
 use Rattle.run_model.specs.Run.{IsEvent}
 use Rattle.run_model.specs.Shape.{is_test}
 use Rattle.run_model.specs.Views.{Next, View, replies_in, view_of}
-use Rattle.run_model.proofs.Views.{test_cases}
 
 same_events : (next : Next) (n : ℕ) (before one other : List Event) → Along (IsEvent next n) before one → Along (IsChosenEvent n) before one
     → Along (IsEvent next n) before other → Along (IsChosenEvent n) before other → order_of one ≡ order_of other → one ≡ other

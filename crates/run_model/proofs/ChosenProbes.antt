@@ -1,6 +1,6 @@
 -- The message that the machine finds for a probe is one that it may find, and it finds one where there is one.
-use Rattle.std.proofs.Common.{◌≡◌, ◌≤◌, ◌<◌, ◌&&◌, ◌||◌, ◌∙◌, ◌∷◌, ◌+◌, ◌==◌, Bool, List, None, Option, Some, [], ap, arith, false, inl, inr, is_some, length, not, refl, slice_get, subst, suc, sym, true, zero, ℕ, ℤ}
-use Rattle.std.proofs.lemmas.Bool.{and_from, and_parts, cases_lt, cases_order, or_cases, or_parts}
+use Rattle.std.proofs.Common.{◌≡◌, ◌≤◌, ◌<◌, ◌&&◌, ◌∙◌, ◌∷◌, ◌+◌, Bool, List, None, Some, [], ap, arith, false, inl, inr, is_some, not, refl, slice_get, subst, suc, sym, true, zero, ℕ}
+use Rattle.std.proofs.lemmas.Bool.{and_parts, cases_lt, cases_order, or_cases, or_parts}
 use Rattle.std.specs.List.{list_any}
 use Rattle.mpi_call.specs.declared.call.Call.{Call}
 use Rattle.mpi_call.specs.declared.call.Call.TheVariants.{Peek, Send}
@@ -14,7 +14,7 @@ use Rattle.run_model.specs.Chosen.{peeked_at, peeked_in}
 use Rattle.run_model.specs.Lists.{world}
 use Rattle.run_model.specs.Pairs.{Name, name_at, named, pairs_of, partner_of}
 use Rattle.run_model.specs.Views.{starts_of, view_of}
-use Rattle.run_model.proofs.Choosing.{IsOpenAt, choice_none, choice_some}
+use Rattle.run_model.proofs.Choosing.{choice_none, choice_some}
 use Rattle.run_model.proofs.ChosenGots.{accepted_send}
 use Rattle.run_model.proofs.Origins.{AllBelow}
 use Rattle.run_model.proofs.Positions.{name_at-lower, name_position}

@@ -24,5 +24,8 @@ pub mod ChosenGots
 pub mod ChosenProbes
 pub mod ChosenAnswers
 pub mod SerialLaws
+pub mod OriginLists
+pub mod Numbered
+pub mod AllEntered
 pub mod GoingOn
 pub mod ChosenExamples

@@ -1,20 +1,15 @@
 -- Serial runs: they end, there is one for given turns, and the runs of an order begin it.
-use Rattle.std.proofs.Common.{◌+◌, ◌++◌, ◌<◌, ◌==◌, ◌∙◌, ◌∷◌, ◌≡◌, ◌≤◌, ◌⊎◌, ◌&&◌, Bool, List, None, Option, Some, [], ap, append-nil, append_assoc, arith, false, filter, inl, inr, not, refl, subst, suc, sym, true, zero, ℕ}
+use Rattle.std.proofs.Common.{◌+◌, ◌++◌, ◌<◌, ◌==◌, ◌∙◌, ◌∷◌, ◌≡◌, ◌≤◌, ◌&&◌, List, None, Option, Some, [], ap, append-nil, append_assoc, arith, false, filter, inl, inr, not, refl, suc, sym, true, zero, ℕ}
 use Rattle.std.proofs.lemmas.Bool.{or_parts}
-use Rattle.std.specs.List.{list_any}
 use Rattle.mpi_call.specs.declared.call.Call.{Call}
-use Rattle.mpi_call.specs.declared.call.Halt.TheVariants.{Stuck}
-use Rattle.mpi_call.specs.declared.reply.Reply.{Reply}
-use Rattle.mpi_call.specs.declared.reply.Reply.TheVariants.{Stopped}
 use Rattle.run_model.specs.declared.event.Event.{Event}
 use Rattle.run_model.specs.Allowed.{can_go}
-use Rattle.run_model.specs.Chosen.{IsChosen, IsChosenEvent, chosen_event, order_of}
+use Rattle.run_model.specs.Chosen.{IsChosenEvent, chosen_event, order_of}
 use Rattle.run_model.specs.Lists.{Along, IsPrefixOf, world}
 use Rattle.run_model.specs.MachineLaws.{OrderBeginsSerial, SerialEnds, TurnsFixSerial, has_stuck, is_stuck_reply}
-use Rattle.run_model.specs.Program.{IsRankOf, ends}
-use Rattle.run_model.specs.Run.{IsEvent, IsRun}
+use Rattle.run_model.specs.Run.{IsEvent}
 use Rattle.run_model.specs.Serial.{IsSerial, Stage, appended, at_first, attempt, attempt_with, attempts, call_after, is_stuck, others_wait, rounds}
-use Rattle.run_model.specs.Views.{Next, replies_in, view_of}
+use Rattle.run_model.specs.Views.{Next, view_of}
 use Rattle.run_model.proofs.ChosenLaws.{cannot_go}
 use Rattle.run_model.proofs.Prefixes.{prefix_append, prefix_refl, prefix_trans}
 use Rattle.run_model.proofs.RunLaws.{Lawful, kept_run}

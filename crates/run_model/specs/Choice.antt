@@ -1,6 +1,6 @@
 -- What a recording machine chooses where a run leaves a choice: the earliest partner and message, and the least index.
 -- (MPI 3.1, Point-to-Point Communication, "Semantics of Point-to-Point Communication".)
-use Rattle.std.specs.Prelude.{ℕ, zero, suc, List, [], ◌∷◌, Option, Some, None, Bool, true, false, not, ◌&&◌, ◌+◌, if◌then◌else◌, length, is_some, take}
+use Rattle.std.specs.Prelude.{ℕ, zero, suc, List, Option, Some, None, Bool, false, not, ◌&&◌, ◌+◌, if◌then◌else◌, length, is_some, take}
 use Rattle.mpi_call.specs.declared.call.Call.{Call}
 use Rattle.mpi_call.specs.declared.call.Call.TheVariants.{Send, Peek}
 use Rattle.mpi_call.specs.declared.call.TakeMode.{TakeMode}

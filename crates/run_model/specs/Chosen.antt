@@ -1,5 +1,5 @@
 -- The runs that a recording machine makes: each event is determined by those before it and by whose turn it is.
-use Rattle.std.specs.Prelude.{◌≡◌, ℕ, ℤ, List, [], ◌∷◌, ◌++◌, Option, Some, None, Bool, true, false, not, if◌then◌else◌, Result, Ok, Err, map, length, slice_index}
+use Rattle.std.specs.Prelude.{◌≡◌, ℕ, ℤ, List, [], ◌∷◌, Option, Some, None, Bool, true, false, not, if◌then◌else◌, Result, Ok, Err, map, length, slice_index}
 use Rattle.mpi_call.specs.declared.call.Call.{Call}
 use Rattle.mpi_call.specs.declared.call.Call.TheVariants.{Send, Post, Enter, Take, Peek}
 use Rattle.mpi_call.specs.declared.call.Halt.{Halt}

@@ -1,7 +1,7 @@
 -- The numbers that a recording machine gives to new communicators: 1, 2, 3 and so on, when the last member enters, rising
 -- by colour within one Split.
 -- (MPI 3.1, Groups, Contexts, Communicators, and Caching, "Communicator Constructors".)
-use Rattle.std.specs.Prelude.{ℕ, suc, ℤ, List, [], ◌∷◌, ◌++◌, Option, Bool, true, false, not, ◌&&◌, ◌==◌, if◌then◌else◌, Result, Ok, Err, map, filter, length}
+use Rattle.std.specs.Prelude.{ℕ, suc, ℤ, List, [], ◌∷◌, ◌++◌, Bool, true, false, not, ◌&&◌, ◌==◌, if◌then◌else◌, Result, Ok, Err, map, filter}
 use Rattle.std.specs.List.{dedup, position_or_len}
 use Rattle.std.specs.Ordering.{int_eq}
 use Rattle.mpi_call.specs.declared.call.Call.{Call}
