@@ -1,5 +1,5 @@
 -- The table of Enters after one more event.
-use Rattle.std.proofs.Common.{◌≡◌, ◌≢◌, ◌≤◌, ◌<◌, ◌+◌, ℕ, zero, suc, List, [], ◌∷◌, ◌++◌, ◌==◌, ◌&&◌, ◌⊎◌, Bool, inl, inr, Option, Some, None, true, false, refl, ap, sym, ◌∙◌, arith, append-nil, cond, get_or, get_or-set_other, get_or-set_same, length, length-set, map, nat_eq, option_map, replicate, set, slice_get, subst, unwrap_or, IsSome, if◌then◌else◌}
+use Rattle.std.proofs.Common.{◌≡◌, ◌≢◌, ◌<◌, ◌+◌, ℕ, zero, suc, List, [], ◌∷◌, ◌++◌, ◌==◌, inl, inr, Option, Some, None, true, false, refl, ap, sym, ◌∙◌, arith, append-nil, cond, get_or, get_or-set_other, get_or-set_same, length, length-set, nat_eq, replicate, set, slice_get, subst, unwrap_or, IsSome, if◌then◌else◌}
 use Rattle.std.specs.Map.{lookup}
 use Rattle.std.proofs.lemmas.Bool.{eqb-true, eq-eqb}
 use Rattle.std.proofs.lemmas.List.{length-replicate}

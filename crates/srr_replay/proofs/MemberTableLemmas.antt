@@ -1,9 +1,8 @@
 -- The table of communicators after one more event.
-use Rattle.std.proofs.Common.{if◌then◌else◌, ◌≡◌, ◌≢◌, ◌≤◌, ◌<◌, ℕ, zero, suc, List, [], ◌∷◌, ◌++◌, ◌==◌, inl, inr, Option, Some, None, Bool, true, false, refl, ap, sym, ◌∙◌, arith, append-nil, get_or, get_or-set_other, get_or-set_same, is_some, length, length-set, nat_eq, replicate, set, subst, take}
+use Rattle.std.proofs.Common.{if◌then◌else◌, ◌≡◌, ◌≢◌, ◌≤◌, ◌<◌, ℕ, List, [], ◌∷◌, ◌++◌, ◌==◌, inl, inr, Option, Some, None, true, refl, ap, sym, ◌∙◌, arith, append-nil, get_or, get_or-set_other, get_or-set_same, is_some, length, length-set, nat_eq, replicate, set, subst, take}
 use Rattle.std.specs.Map.{lookup}
 use Rattle.std.proofs.lemmas.Bool.{eqb-true, eq-eqb}
 use Rattle.std.proofs.lemmas.List.{length-replicate}
-use Rattle.mpi_call.specs.declared.call.Call.{Call}
 use Rattle.mpi_call.specs.declared.reply.Got.{Got}
 use Rattle.mpi_call.specs.declared.reply.Got.TheVariants.{Sent, Nothing, Message, Joined, Made}
 use Rattle.mpi_call.specs.declared.reply.Item.{Item}
@@ -12,7 +11,7 @@ use Rattle.mpi_call.specs.declared.reply.Reply.TheVariants.{Done, Took, NotYet, 
 use Rattle.indexmap.specs.IndexMap.{insert_entry}
 use Rattle.run_model.specs.declared.event.Event.{Event}
 use Rattle.run_model.specs.Communicators.{known_after, learned, made_in_got, made_in_items, or_members}
-use Rattle.run_model.specs.Views.{View, view_of}
+use Rattle.run_model.specs.Views.{view_of}
 use Rattle.run_model.proofs.Enters.{known_after-append}
 use Rattle.run_model.proofs.Views.{test_cases, view_of-other, view_of-own}
 use Rattle.srr_replay.specs.MemberTable.{IsMemberTable, members_after, with_all_got, with_got, with_made}

@@ -1,4 +1,4 @@
-use Rattle.std.proofs.Common.{ap, sym, ◌∙◌, unwrap_or, []}
+use Rattle.std.proofs.Common.{ap, ◌∙◌, unwrap_or, []}
 use Rattle.srr_replay.proofs.enter_table.Enters.get.Goals as goal
 
 pub returns-in-Some : goal.returns-in-Some

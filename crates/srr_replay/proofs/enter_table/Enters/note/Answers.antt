@@ -1,4 +1,4 @@
-use Rattle.std.proofs.Common.{ap, sym, ◌++◌, ◌∷◌, ◌∙◌, unwrap_or, [], nat_eq}
+use Rattle.std.proofs.Common.{ap, ◌++◌, ◌∷◌, ◌∙◌, unwrap_or, [], nat_eq}
 use Rattle.std.proofs.lemmas.Result.{on_ok_weaker, on_err_weaker}
 use Rattle.std.specs.Map.{lookup}
 use Rattle.srr_replay.proofs.EnterTableLemmas.{none_there, noted_as, same_as, some_there}
