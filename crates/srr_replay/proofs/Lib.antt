@@ -1,12 +1,14 @@
 pub mod CollectiveLemmas
 pub mod FillLemmas
-pub mod FindLemmas
 pub mod FormLemmas
 pub mod LogLemmas
 pub mod MemberLemmas
 pub mod MissingMarks
 pub mod ShapeLemmas
 pub mod StartTableLemmas
+pub mod EnterTableLemmas
+pub mod MemberTableLemmas
+pub mod InstanceLemmas
 pub mod ReplaysLemmas
 pub mod RoundsLemmas
 pub mod WorkedExamples

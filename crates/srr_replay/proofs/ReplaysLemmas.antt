@@ -15,6 +15,7 @@ use Rattle.srr_entry.specs.declared.log.Log.{Log}
 use Rattle.srr_replay.specs.declared.step.Step.TheVariants.{Replied}
 use Rattle.srr_replay.specs.Replays.{Stop, IsStep, Replays, answer_of, event_of}
 use Rattle.srr_replay.specs.Rounds.{AreCounts, IsReplayable}
+use Rattle.srr_replay.specs.EnterTable.{AreEntersKnown}
 use Rattle.srr_replay.specs.StartTable.{TakesMade}
 use Rattle.srr_replay.proofs.LogLemmas.{below_at}
 use Rattle.srr_replay.proofs.ShapeLemmas.{answer_shaped}
@@ -96,6 +97,19 @@ TakesMade-Replays next log stop events rank call reply laws fine all mine asked 
     let order = AreInOrder-Replays next log stop events laws fine all in
     takes_made log.ranks rank (view_of events rank) call reply
     (answer_shaped log stop events rank call reply (below_at log.ranks log.group rank fine.below mine) order mine answered)
+
+-- so each rank knew the communicators of its Enters
+pub EntersKnown-Replays : (next : Next) (log : Log) (stop : Stop) (events : List Event) → KeepsForm next → IsReplayable log → Replays next log stop events → AreEntersKnown log.ranks events
+EntersKnown-Replays next log stop events laws fine all rank comm instance one below at =
+    let order = AreInOrder-Replays next log stop events laws fine all in
+    let is = (order.ranks rank below).entered comm instance one at in
+    is.known ∙ sym is.stays
+
+pub EntersKnown-same : (n : ℕ) (events : List Event) (rank : ℕ) (call copied : Call) (reply also : Reply) → copied ≡ call → also ≡ reply → AreEntersKnown n (events ++ event_of rank call reply ∷ []) → AreEntersKnown n (events ++ event_of rank copied also ∷ [])
+EntersKnown-same n events rank call copied reply also e f known =
+    let P : Call → Type 0 = λ c. AreEntersKnown n (events ++ event_of rank c reply ∷ []) in
+    let Q : Reply → Type 0 = λ r. AreEntersKnown n (events ++ event_of rank copied r ∷ []) in
+    subst Q (sym f) (subst P (sym e) known)
 
 -- the counts after one more event of a rank
 pub AreCounts-after : (n : ℕ) (events : List Event) (counts : List ℕ) (event : Event) → event.rank < n → AreCounts n events counts → AreCounts n (events ++ event ∷ []) (set counts event.rank (slice_index counts event.rank + 1))

@@ -14,7 +14,7 @@ use Rattle.run_model.specs.declared.event.Event.{Event}
 use Rattle.run_model.specs.Shape.{can_take, gots_fit, has_count, has_shape, rises}
 use Rattle.run_model.specs.Views.{View, is_start, items_taken, start_at, starts_of, taken_of, view_of}
 use Rattle.run_model.proofs.StartLemmas.{slice_get-append, slice_get-below, slice_get-last, slice_get-push, starts_of-append}
-use Rattle.run_model.proofs.Views.{option_cases, test_cases, view_of-other, view_of-own}
+use Rattle.run_model.proofs.Views.{length-view_of, option_cases, test_cases, view_of-other, view_of-own}
 use Rattle.srr_replay.specs.declared.start_table.Start.{Start}
 use Rattle.srr_replay.specs.StartTable.{AreStarts, IsStart, IsStartTable, TakesMade, starts_after, with_all_taken, with_taken}
 
@@ -270,6 +270,22 @@ IsStartTable-after n events event table below made are =
             (AreStarts-kept events event (view_of events rank) (get_or table rank []) (are.each rank)))
       ];
     }
+
+-- a rank has no more starts than there are events
+pub length-starts_of : (own : View) → length (starts_of own) ≤ length own
+length-starts_of [] = omega arith
+length-starts_of (seen ∷ own) =
+    elim (test_cases (is_start seen)) [
+      | inl h ↦ rw h (let rest = length-starts_of own in omega (arith, rest))
+      | inr h ↦ rw h (let rest = length-starts_of own in omega (arith, rest))
+    ]
+
+pub few_starts : (n : ℕ) (events : List Event) (table : List (List Start)) (rank : ℕ) → IsStartTable n events table → length (get_or table rank []) ≤ length events
+few_starts n events table rank is =
+    let many = (is.each rank).as_many in
+    let own = length-starts_of (view_of events rank) in
+    let all = length-view_of events rank in
+    omega (arith, many, own, all)
 
 -- what the table tells of a start
 pub start_within : (events : List Event) (own : View) (starts : List Start) (k : ℕ) (start : Start) → AreStarts events own starts → Some start ≡ slice_get starts k → start.at < length events

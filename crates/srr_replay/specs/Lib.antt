@@ -5,6 +5,8 @@ pub mod Replays
 pub mod Collectives
 pub mod Seen
 pub mod StartTable
+pub mod EnterTable
+pub mod MemberTable
 pub mod Rounds
 pub mod Stands
 pub mod Rests

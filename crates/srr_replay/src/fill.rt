@@ -1,7 +1,7 @@
 //! The reply that an entry stands for, where it fits, and all that it rests on is there and agrees.
 ghost use Rattle.std.specs.Prelude.{◌≡◌, ◌<◌, ◌++◌, ◌∷◌, [], ℕ, List, None, Ok, Some, IfOk, OnOk, true, false};
 ghost use Rattle.mpi_call.specs.declared.call.Call.{Call};
-ghost use Rattle.mpi_call.specs.declared.reply.Got.TheVariants.{Joined, Made};
+ghost use Rattle.mpi_call.specs.declared.reply.Got.TheVariants.{Joined, Made, Message};
 ghost use Rattle.mpi_call.specs.Calls.{comm_of, ints_of, is_enter, makes};
 ghost use Rattle.mpi_call.specs.Collectives.{IsEnterOf, is_member, needs};
 ghost use Rattle.run_model.specs.Communicators.{enter_at};
@@ -140,36 +140,55 @@ fn got(alloc: Global, seen: &Seen, rank: u8, start: u32, mark: &Mark) -> Result<
             start: named,
             tag,
             ints,
-        } => {
-            let ints = ints.clone()?;
-            Ok(Got::Message {
-                source: *source,
-                start: *named,
-                tag: *tag,
-                ints,
-            })
-        }
+        } => copy_message(*source, *named, *tag, ints),
         Mark::Inner => result_of(alloc, seen, rank, start),
-        Mark::Outer { ints } => {
-            let ints = ints.clone()?;
-            Ok(Got::Joined { ints })
-        }
+        Mark::Outer { ints } => copy_result(ints),
         Mark::Made { comm } => {
             if *comm == 0 {
-                return Ok(Got::Made {
-                    comm: 0,
-                    members: Ranks::new(alloc),
-                });
+                return Ok(made_none(alloc));
             }
             made_of(alloc, seen, rank, start, *comm)
         }
-        Mark::MadeOutside { comm, members } => {
-            let members = members.clone()?;
-            Ok(Got::Made {
-                comm: *comm,
-                members,
-            })
-        }
+        Mark::MadeOutside { comm, members } => copy_made(*comm, members),
+    }
+}
+
+/// A message with these contents.
+fn copy_message(source: u8, start: u32, tag: u32, ints: &Ints) -> Result<Got, AllocError>
+    ensures { IfOk result (λ got. got ≡ Message source start tag ints.now) }
+{
+    let ints = ints.clone()?;
+    Ok(Got::Message {
+        source,
+        start,
+        tag,
+        ints,
+    })
+}
+
+/// A collective's result with these contents.
+fn copy_result(ints: &Ints) -> Result<Got, AllocError>
+    ensures { IfOk result (λ got. got ≡ Joined ints.now) }
+{
+    let ints = ints.clone()?;
+    Ok(Got::Joined { ints })
+}
+
+/// A communicator with these members.
+fn copy_made(comm: Comm, members: &Ranks) -> Result<Got, AllocError>
+    ensures { IfOk result (λ got. got ≡ Made comm members.now) }
+{
+    let members = members.clone()?;
+    Ok(Got::Made { comm, members })
+}
+
+/// What a rank without a colour gets.
+fn made_none(alloc: Global) -> Got
+    ensures { result ≡ Made 0 [] }
+{
+    Got::Made {
+        comm: 0,
+        members: Ranks::new(alloc),
     }
 }
 
@@ -179,15 +198,7 @@ fn message(seen: &Seen, source: u8, start: u32) -> Result<Got, AllocError>
     ensures { IfOk result (λ got. message_from source start (start_at (view_of seen.now.events source) start) ≡ Ok got) }
 {
     match seen.start(source, start) {
-        Some(Call::Send { tag, ints, .. }) => {
-            let ints = ints.clone()?;
-            Ok(Got::Message {
-                source,
-                start,
-                tag: *tag,
-                ints,
-            })
-        }
+        Some(Call::Send { tag, ints, .. }) => copy_message(source, start, *tag, ints),
         Some(_) => Ok(Got::Nothing),
         None => unreachable!(),
     }

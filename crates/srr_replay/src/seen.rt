@@ -2,14 +2,17 @@
 ghost use Rattle.std.specs.Prelude.{◌≡◌, ◌<◌, ◌++◌, ◌∷◌, [], IfOk, IfSome, OnOk, OnErr, true, length, option_map};
 ghost use Rattle.mpi_call.specs.Calls.{is_enter};
 ghost use Rattle.mpi_call.specs.Collectives.{is_member};
-ghost use Rattle.run_model.specs.Communicators.{enter_at, instance_of, is_on, members_in};
+ghost use Rattle.run_model.specs.Communicators.{enter_at, instance_of, is_on, known_in, members_in};
 ghost use Rattle.run_model.specs.Lists.{world};
 ghost use Rattle.run_model.specs.Views.{start_at, taken_of, view_of};
+ghost use Rattle.srr_replay.specs.EnterTable.{AreEntersKnown};
 ghost use Rattle.srr_replay.specs.Seen.{entered_of};
 ghost use Rattle.srr_replay.specs.StartTable.{TakesMade};
 
 use crate::counts::Counts;
-use crate::find::{count_enters, find_enter, find_made};
+use crate::enter_table::{EnterTable, count_below};
+use crate::member_table::MemberTable;
+use crate::note::note;
 use crate::start_table::StartTable;
 use mpi_call::call::{Call, Comm};
 use mpi_call::lists::Ranks;
@@ -35,6 +38,10 @@ pub struct Seen {
     counts: Counts,
     /// The starts of each rank.
     starts: StartTable,
+    /// The Enters of each rank.
+    enters: EnterTable,
+    /// The communicators that each rank knows by its replies.
+    members: MemberTable,
     /// All ranks.
     world: Ranks,
     /// The members of a communicator that a rank doesn't know.
@@ -45,6 +52,8 @@ impl Model for Seen {
     ghost use Rattle.std.specs.Prelude.{◌≡◌, []};
     ghost use Rattle.run_model.specs.Lists.{world as all_of};
     ghost use Rattle.srr_replay.specs.Rounds.{AreCounts};
+    ghost use Rattle.srr_replay.specs.EnterTable.{AreEntersKnown, IsEnterTable};
+    ghost use Rattle.srr_replay.specs.MemberTable.{IsMemberTable};
     ghost use Rattle.srr_replay.specs.Seen.{SeenSoFar};
     ghost use Rattle.srr_replay.specs.StartTable.{IsStartTable};
 
@@ -52,7 +61,7 @@ impl Model for Seen {
 
     ghost view = { λ s. record { ranks = s.ranks; events = s.events.events } };
 
-    ghost invariant = { λ s. AreCounts s.ranks s.events.events s.counts × IsStartTable s.ranks s.events.events s.starts × (s.world ≡ all_of s.ranks 0) × (s.nobody ≡ []) };
+    ghost invariant = { λ s. AreCounts s.ranks s.events.events s.counts × IsStartTable s.ranks s.events.events s.starts × (s.world ≡ all_of s.ranks 0) × (s.nobody ≡ []) × IsEnterTable s.ranks s.events.events s.enters × AreEntersKnown s.ranks s.events.events × IsMemberTable s.ranks s.events.events s.members };
 }
 
 impl Seen {
@@ -62,12 +71,16 @@ impl Seen {
     {
         let counts = Counts::new(alloc, ranks)?;
         let starts = StartTable::new(alloc, ranks)?;
+        let enters = EnterTable::new(alloc, ranks)?;
+        let members = MemberTable::new(alloc, ranks)?;
         let world = all_ranks(alloc, ranks)?;
         Ok(Seen {
             ranks,
             events: History::new(alloc),
             counts,
             starts,
+            enters,
+            members,
             world,
             nobody: Ranks::new(alloc),
         })
@@ -126,20 +139,30 @@ impl Seen {
     pub fn members(&self, rank: u8, comm: Comm) -> &Ranks
         ensures { result.now ≡ members_in self.now.ranks (view_of self.now.events rank) comm }
     {
-        if comm == 0 {
-            return &self.world;
-        }
-        match find_made(self.events.as_slice(), rank, comm) {
+        match self.known(rank, comm) {
             Some(members) => members,
             None => &self.nobody,
         }
+    }
+
+    /// The members of a communicator for a rank that knows it.
+    fn known(&self, rank: u8, comm: Comm) -> Option<&Ranks>
+        ensures { option_map (λ members. members.now) result ≡ known_in self.now.ranks (view_of self.now.events rank) comm }
+    {
+        if comm == 0 {
+            return Some(&self.world);
+        }
+        self.members.get(rank, comm)
     }
 
     /// How many of a rank's starts before this one are Enters on a communicator.
     pub fn instance(&self, rank: u8, number: u32, comm: Comm) -> u32
         ensures { result ≡ instance_of (view_of self.now.events rank) number comm }
     {
-        count_enters(self.events.as_slice(), rank, number, comm)
+        let most = self.events.len() as usize;
+        let count = count_below(self.enters.get(rank, comm), number);
+        prove!(count <= most);
+        count as u32
     }
 
     /// A rank's Enter of an instance.
@@ -147,14 +170,22 @@ impl Seen {
         ensures enter { IfSome result (λ found. is_enter found.call.now ≡ true) }
         ensures found { option_map entered_of result ≡ enter_at self.now.ranks (view_of self.now.events rank) comm instance }
     {
-        let known = if comm == 0 { Some(&self.world) } else { None };
-        find_enter(self.events.as_slice(), known, rank, comm, instance)
+        let number = *self.enters.get(rank, comm).get(instance as usize)?;
+        match self.start(rank, number) {
+            Some(call) => Some(Enter {
+                number,
+                call,
+                members: self.known(rank, comm),
+            }),
+            None => None,
+        }
     }
 
     /// Appends an event. For want of memory nothing has changed.
     pub fn add(&mut self, event: Event) -> Result<(), AllocError>
         requires rank { event.rank < self.old.ranks }
         requires takes { TakesMade (view_of self.old.events event.rank) event.call event.reply }
+        requires known { AreEntersKnown self.old.ranks (self.old.events ++ event ∷ []) }
         ensures ok { OnOk result (self.new ≡ record self.old { events = self.old.events ++ event ∷ [] }) }
         ensures err { OnErr result (self.new ≡ self.old) }
     {
@@ -164,7 +195,14 @@ impl Seen {
         }
         let rank = event.rank;
         self.events.reserve(1)?;
-        self.starts.note(self.events.len(), &event)?;
+        note(
+            &mut self.starts,
+            &mut self.enters,
+            &mut self.members,
+            self.ranks,
+            &self.events,
+            &event,
+        )?;
         self.events.push(event);
         self.counts.rise(rank);
         Ok(())

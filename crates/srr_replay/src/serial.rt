@@ -122,15 +122,16 @@ pub fn replay_serial<P: Program, R: RankRun<Of = P>>(
     ensures alike { IfOk result (λ replayed. (other : List Event) → IsWholeReplay (P.next program.now) log.now stop other → (rank : ℕ) → view_of replayed.events.events rank ≡ view_of other rank) }
 {
     let mut replay = Replay::new(alloc, program, log, stop)?;
+    let all = runs.as_mut_slice();
     let mut count = 0;
     loop {
-        let moved = round(&mut replay, log.group.as_slice(), runs.as_mut_slice())?;
+        let moved = round(&mut replay, log.group.as_slice(), all)?;
         if !moved {
             break;
         }
         count = replay.len();
     }
-    let replayed = finish(alloc, log, replay, runs.as_mut_slice())?;
+    let replayed = finish(alloc, log, replay, all)?;
     begins_every_run(program, log, &stop, &replayed.events);
     has_the_cut(program, log, &stop, &replayed.events);
     has_all_of_every_run(program, log, &stop, &replayed.events);

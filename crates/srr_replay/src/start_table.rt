@@ -1,5 +1,5 @@
 //! The starts of each rank.
-ghost use Rattle.std.specs.Prelude.{◌≡◌, ◌<◌, [], IfOk, OnErr, OnOk, length, replicate, slice_get, slice_index_or, slice_set};
+ghost use Rattle.std.specs.Prelude.{◌≡◌, ◌<◌, ◌-◌, ◌^◌, [], IfOk, OnErr, OnOk, length, replicate, slice_get, slice_index_or, slice_set, take};
 ghost use Rattle.run_model.specs.Views.{items_taken};
 ghost use Rattle.srr_replay.specs.StartTable.{starts_after, with_all_taken, with_taken};
 
@@ -52,6 +52,13 @@ impl Starts {
             }
         }
         Ok(())
+    }
+
+    /// Takes the last start back.
+    fn forget(&mut self)
+        ensures { self.new ≡ take (length self.old - 1) self.old }
+    {
+        self.values.pop();
     }
 
     /// Marks the starts that these items completed. An index past the list reads 0.
@@ -113,6 +120,25 @@ impl StartTable {
             Some(starts) => starts.values.get(number as usize).copied(),
             None => None,
         }
+    }
+
+    /// The number of a rank's starts.
+    pub fn count(&self, rank: u8) -> u32
+        requires { length (slice_index_or self.now rank []) < 2 ^ 32 }
+        ensures { result ≡ length (slice_index_or self.now rank []) }
+    {
+        match self.ranks.get(rank as usize) {
+            Some(starts) => starts.values.len() as u32,
+            None => 0,
+        }
+    }
+
+    /// Takes the rank's last start back.
+    pub fn forget(&mut self, rank: u8)
+        requires { rank < length self.old }
+        ensures { self.new ≡ slice_set self.old rank (take (length (slice_index_or self.old rank []) - 1) (slice_index_or self.old rank [])) }
+    {
+        self.ranks[rank as usize].forget();
     }
 
     /// Notes the event at a position. For want of memory nothing has changed.

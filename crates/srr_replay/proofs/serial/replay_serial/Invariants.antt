@@ -8,7 +8,7 @@ invariant-loop-replay g l =
       program : l.replay.program ≡ l.program;
       log : l.replay.log ≡ l.log;
       stop : l.replay.stop ≡ l.fn.stop;
-      runs : RunAll g.R.RankRun.standing l.replay.program l.replay.log l.replay.events l.runs.items;
+      runs : RunAll g.R.RankRun.standing l.replay.program l.replay.log l.replay.events l.all;
       counted : l.count ≡ length l.replay.events;
     }
 

@@ -2,7 +2,7 @@ use Rattle.std.proofs.Common.{◌≡◌, true}
 use Rattle.mpi_call.specs.Collectives.{is_member}
 use Rattle.run_model.specs.Views.{view_of}
 use Rattle.srr_replay.proofs.LogLemmas.{below_at}
-use Rattle.srr_replay.proofs.ReplaysLemmas.{Replays-after, TakesMade-Replays}
+use Rattle.srr_replay.proofs.ReplaysLemmas.{EntersKnown-Replays, EntersKnown-same, Replays-after, TakesMade-Replays}
 use Rattle.srr_replay.proofs.StartTableLemmas.{TakesMade-same}
 use Rattle.srr_replay.proofs.replay.Replay.append.Goals as goal
 
@@ -19,6 +19,17 @@ add-requires-clause-takes g c =
     (rw (← c.self.view_is) at c.requires.member)
     (rw (← c.self.view_is) at c.requires.next)
     (rw (← c.self.view_is) at c.requires.answer))
+
+pub add-requires-clause-known : goal.add-requires-clause-known
+add-requires-clause-known g c =
+    let member : is_member c.self.inside.log.now.group c.args.rank ≡ true = rw (← c.self.view_is) at c.requires.member in
+    rw c.self.invariant.2
+    (EntersKnown-same c.self.inside.log.now.ranks c.self.inside.seen.events c.args.rank c.args.call.now _ c.args.reply.now _ c.in_ok-call.ensures c.in_ok-reply.ensures
+    (EntersKnown-Replays _ _ _ _ (record { enters = g.P.Program.enters_in_form c.self.inside.program.now; bounds = g.P.Program.asks_in_bounds c.self.inside.program.now })
+    c.self.invariant.0
+    (Replays-after _ _ _ _ _ _ _ c.self.invariant.1 member
+    (rw (← c.self.view_is) at c.requires.next)
+    (rw (← c.self.view_is) at c.requires.answer))))
 
 pub invariant_of-self-2 : goal.invariant_of-self-2
 invariant_of-self-2 g c =

@@ -1,7 +1,6 @@
 use Rattle.std.proofs.Common.{arith}
 use Rattle.run_model.proofs.Views.{length-view_of}
 use Rattle.srr_replay.proofs.ReplaysLemmas.{AreCounts-after}
-use Rattle.srr_replay.proofs.StartTableLemmas.{IsStartTable-after}
 use Rattle.srr_replay.proofs.seen.Seen.add.Goals as goal
 
 pub rise-requires-clause-few : goal.rise-requires-clause-few
@@ -13,11 +12,14 @@ rise-requires-clause-few c =
 
 pub invariant_of-self-2 : goal.invariant_of-self-2
 invariant_of-self-2 c =
+    let known = rw (← c.self.view_is) at c.requires.known in
     let below = rw (← c.self.view_is) at c.requires.rank in
-    let made = rw (← c.self.view_is) at c.requires.takes in
-    rw (c.in_ok-note.ensures.ok, c.len-2.ensures, c.push.ensures.events, c.in_ok-reserve.ensures.events, c.rise.ensures) (
+    rw (c.push.ensures.events, c.in_ok-reserve.ensures.events, c.rise.ensures) (
       AreCounts-after _ _ _ _ below c.self.invariant.0,
-      IsStartTable-after c.self.inside.ranks c.self.inside.events.events c.args.event c.self.inside.starts below made c.self.invariant.1,
+      rw (← c.in_ok-reserve.ensures.events) c.in_ok-note.ensures.ok.0,
       c.self.invariant.2,
       c.self.invariant.3,
+      rw (← c.in_ok-reserve.ensures.events) c.in_ok-note.ensures.ok.1,
+      known,
+      rw (← c.in_ok-reserve.ensures.events) c.in_ok-note.ensures.ok.2,
     )
