@@ -103,7 +103,7 @@ reply_made n me own call (Peeked source start tag count) comm members real shape
 reply_made n me own call (Stopped halt) comm members real shape h = absurd (cc)
 
 -- no calls
-in_order_first : (n me : ℕ) → me < n → IsInOrder n me []
+pub in_order_first : (n me : ℕ) → me < n → IsInOrder n me []
 in_order_first n me low =
     record {
       starts = λ k call p. absurd (cc);
@@ -163,7 +163,7 @@ entered_kept n me view more comm one is =
     }
 
 -- one more call of the program, with a reply in its shape
-in_order_more : (n me : ℕ) (view : View) (call : Call) (reply : Reply) → IsInOrder n me view → IsInForm n view me call → has_shape n me view call reply ≡ true → IsInOrder n me (view ++ (call, reply) ∷ [])
+pub in_order_more : (n me : ℕ) (view : View) (call : Call) (reply : Reply) → IsInOrder n me view → IsInForm n view me call → has_shape n me view call reply ≡ true → IsInOrder n me (view ++ (call, reply) ∷ [])
 in_order_more n me view call reply order form shape =
     record {
       starts = λ k start p. elim (start_back view call reply k start p) [

@@ -1,1 +1,3 @@
 pub mod EntryPlaces
+pub mod MemberLemmas
+pub mod Making

@@ -3,6 +3,10 @@
 #![tactic(auto)]
 
 pub mod entry;
+mod inner;
 pub mod log;
+pub mod place;
+mod reply_entry;
+pub mod run_log;
 #[cfg(test)]
 mod tests;
