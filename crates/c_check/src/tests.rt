@@ -7,12 +7,12 @@ use std::process::Abort;
 use std::test::Fail;
 
 /// The place of `@` in a row, and the row without it.
-fn mark_of(alloc: Global, row: &str) -> Result<(Option<u32>, Vec<u8>), Fail> {
+fn mark_of(alloc: Global, row: &str) -> Result<(Option<usize>, Vec<u8>), Fail> {
     let mut place = None;
     let mut text = Vec::new(alloc);
     for byte in row.as_bytes() {
         if *byte == b'@' {
-            place = Some(text.len() as u32);
+            place = Some(text.len());
         } else {
             text.push(*byte)?;
         }
@@ -30,7 +30,7 @@ fn is_judged<R: AllocGlobal + Abort>(rt: &R, row: &str, why: Why) -> Result<bool
     let found = first_fault(alloc, text.as_slice(), &tree)?;
     Ok(match (found, place) {
         (None, None) => true,
-        (Some(fault), Some(at)) => fault.at == at && fault.why == why,
+        (Some(fault), Some(at)) => fault.at as usize == at && fault.why == why,
         _ => false,
     })
 }
