@@ -1,8 +1,9 @@
 #!/usr/bin/env bash
 # Replays that grow: rank 0 sends so many messages to rank 1, and both are replayed on one thread from their log. First
 # `wiz replay LOG --serial`, with programs in the small form, as long as a text may be; then `replay_bench`, which makes the
-# log and the program in memory. Needs `rt`. A row gives the median of five runs and their range in milliseconds, measured
-# from outside, from start to end; `growth` is the median against that of the row above.
+# log and the program in memory. Needs `rt`. A row gives processor time (user and system, from start to end) in milliseconds:
+# the median of five measurements and their range, each the mean of ten runs. `growth` is the median against that of the row
+# above.
 set -euo pipefail
 export LC_ALL=C
 top=$(cd "$(dirname "$0")/.." && pwd)
@@ -25,15 +26,18 @@ make_log() {
   }'
 }
 
-# Runs a command five times and prints the times in microseconds, the shortest first. Its last line is to be this one.
+ten_times() {
+  for _ in 1 2 3 4 5 6 7 8 9 10; do "$@" >"$work/printed" || exit 1; done
+}
+
+# Five measurements of a command in microseconds a run, the shortest first. Its last line is to be this one.
 times() {
-  local want=$1
+  local want=$1 TIMEFORMAT='%3U %3S'
   shift
   for _ in 1 2 3 4 5; do
-    local from=${EPOCHREALTIME/./}
-    "$@" >"$work/printed" || { echo "status $? of: $*" >&2; exit 1; }
-    echo $((${EPOCHREALTIME/./} - from))
+    { time ten_times "$@"; } 2>"$work/time" || { echo "failed: $*" >&2; exit 1; }
     [ "$(tail -n 1 "$work/printed")" = "$want" ] || { echo "wrong last line of: $*" >&2; exit 1; }
+    awk 'END { printf "%d\n", ($1 + $2) * 100000 }' "$work/time"
   done | sort -n | tr '\n' ' '
 }
 
