@@ -1,0 +1,4 @@
+pub mod Script
+pub mod ScriptLaws
+pub mod Logs
+pub mod Words
