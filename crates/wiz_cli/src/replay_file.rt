@@ -9,7 +9,7 @@ ghost use Rattle.wiz_cli.specs.Reports.{IsAccepted, IsBytesOutcome, IsFileOutcom
 
 use crate::outcome::{Outcome, Refusal};
 use c_lex::Why;
-use c_types::typing::read_program;
+use c_types::read_program;
 use small_c::small_fault::SmallFault;
 use small_c::small_program::SmallProgram;
 use small_c::small_rank::SmallRank;
