@@ -1,0 +1,2 @@
+pub mod ExprRules
+pub mod CallRules

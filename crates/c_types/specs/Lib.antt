@@ -1,0 +1,7 @@
+pub mod Shapes
+pub mod Checks
+pub mod Exprs
+pub mod Calls
+pub mod MpiCalls
+pub mod Statements
+pub mod Programs
