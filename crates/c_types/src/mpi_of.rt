@@ -1,6 +1,6 @@
 //! Typed calls of MPI functions.
 
-ghost use Rattle.std.specs.Prelude.{◌≡◌, ◌+◌, ◌<◌, IfOk, List, [], true};
+ghost use Rattle.std.specs.Prelude.{◌≡◌, IfOk, List, [], true};
 ghost use Rattle.c_grammar.specs.StmtView.{argument_view, call_view};
 ghost use Rattle.c_names.specs.declared.function.MpiFunction.TheVariants as f;
 ghost use Rattle.c_names.specs.declared.predefined.Predefined.TheVariants as p;
@@ -85,15 +85,14 @@ impl<'a> Given<'a> {
         }
     }
 
-    /// The cells of a message, how many they are, and `MPI_INT`.
-    fn buffer(&self, place: usize) -> Result<Buffer, AllocError>
-        requires small { place < 8 }
-        requires cells { is_reference self.now.scope.now (argument (given_of self.now.call.now) place) ≡ true }
-        requires count { is_value (argument (given_of self.now.call.now) (place + 1)) ≡ true }
-        ensures { IfOk result (λ typed. IsBuffer self.now.scope.now (argument (given_of self.now.call.now) place) (argument (given_of self.now.call.now) (place + 1)) typed) }
+    /// The ints of a message, by the places of its cells and of how many they are.
+    fn buffer(&self, cells: usize, count: usize) -> Result<Buffer, AllocError>
+        requires cells { is_reference self.now.scope.now (argument (given_of self.now.call.now) cells) ≡ true }
+        requires count { is_value (argument (given_of self.now.call.now) count) ≡ true }
+        ensures { IfOk result (λ typed. IsBuffer self.now.scope.now (argument (given_of self.now.call.now) cells) (argument (given_of self.now.call.now) count) typed) }
     {
-        let cells = self.reference(place)?;
-        let count = self.value(place + 1)?;
+        let cells = self.reference(cells)?;
+        let count = self.value(count)?;
         Ok(Buffer { cells, count })
     }
 
@@ -160,7 +159,7 @@ impl<'a> Given<'a> {
         requires { Fits self.now.scope.now f.Send (given_of self.now.call.now) }
         ensures { IfOk result (λ typed. IsMpiCall self.now.scope.now f.Send (given_of self.now.call.now) typed) }
     {
-        let buffer = self.buffer(0)?;
+        let buffer = self.buffer(0, 1)?;
         let dest = self.value(3)?;
         let tag = self.value(4)?;
         let comm = self.value(5)?;
@@ -171,7 +170,7 @@ impl<'a> Given<'a> {
         requires { Fits self.now.scope.now f.Recv (given_of self.now.call.now) }
         ensures { IfOk result (λ typed. IsMpiCall self.now.scope.now f.Recv (given_of self.now.call.now) typed) }
     {
-        let buffer = self.buffer(0)?;
+        let buffer = self.buffer(0, 1)?;
         let source = self.value(3)?;
         let tag = self.value(4)?;
         let comm = self.value(5)?;
@@ -183,10 +182,10 @@ impl<'a> Given<'a> {
         requires { Fits self.now.scope.now f.Sendrecv (given_of self.now.call.now) }
         ensures { IfOk result (λ typed. IsMpiCall self.now.scope.now f.Sendrecv (given_of self.now.call.now) typed) }
     {
-        let send = self.buffer(0)?;
+        let send = self.buffer(0, 1)?;
         let dest = self.value(3)?;
         let send_tag = self.value(4)?;
-        let receive = self.buffer(5)?;
+        let receive = self.buffer(5, 6)?;
         let source = self.value(8)?;
         let receive_tag = self.value(9)?;
         let comm = self.value(10)?;
@@ -198,7 +197,7 @@ impl<'a> Given<'a> {
         requires { Fits self.now.scope.now f.Isend (given_of self.now.call.now) }
         ensures { IfOk result (λ typed. IsMpiCall self.now.scope.now f.Isend (given_of self.now.call.now) typed) }
     {
-        let buffer = self.buffer(0)?;
+        let buffer = self.buffer(0, 1)?;
         let dest = self.value(3)?;
         let tag = self.value(4)?;
         let comm = self.value(5)?;
@@ -210,7 +209,7 @@ impl<'a> Given<'a> {
         requires { Fits self.now.scope.now f.Irecv (given_of self.now.call.now) }
         ensures { IfOk result (λ typed. IsMpiCall self.now.scope.now f.Irecv (given_of self.now.call.now) typed) }
     {
-        let buffer = self.buffer(0)?;
+        let buffer = self.buffer(0, 1)?;
         let source = self.value(3)?;
         let tag = self.value(4)?;
         let comm = self.value(5)?;
@@ -340,7 +339,7 @@ impl<'a> Given<'a> {
         requires { Fits self.now.scope.now f.Bcast (given_of self.now.call.now) }
         ensures { IfOk result (λ typed. IsMpiCall self.now.scope.now f.Bcast (given_of self.now.call.now) typed) }
     {
-        let buffer = self.buffer(0)?;
+        let buffer = self.buffer(0, 1)?;
         let root = self.value(3)?;
         let comm = self.value(4)?;
         Ok(MpiCall::Bcast { buffer, root, comm })
@@ -387,8 +386,8 @@ impl<'a> Given<'a> {
         requires { Fits self.now.scope.now f.Gather (given_of self.now.call.now) }
         ensures { IfOk result (λ typed. IsMpiCall self.now.scope.now f.Gather (given_of self.now.call.now) typed) }
     {
-        let send = self.buffer(0)?;
-        let receive = self.buffer(3)?;
+        let send = self.buffer(0, 1)?;
+        let receive = self.buffer(3, 4)?;
         let root = self.value(6)?;
         let comm = self.value(7)?;
         Ok(MpiCall::Gather { send, receive, root, comm })
@@ -398,8 +397,8 @@ impl<'a> Given<'a> {
         requires { Fits self.now.scope.now f.Scatter (given_of self.now.call.now) }
         ensures { IfOk result (λ typed. IsMpiCall self.now.scope.now f.Scatter (given_of self.now.call.now) typed) }
     {
-        let send = self.buffer(0)?;
-        let receive = self.buffer(3)?;
+        let send = self.buffer(0, 1)?;
+        let receive = self.buffer(3, 4)?;
         let root = self.value(6)?;
         let comm = self.value(7)?;
         Ok(MpiCall::Scatter { send, receive, root, comm })
@@ -409,8 +408,8 @@ impl<'a> Given<'a> {
         requires { Fits self.now.scope.now f.Allgather (given_of self.now.call.now) }
         ensures { IfOk result (λ typed. IsMpiCall self.now.scope.now f.Allgather (given_of self.now.call.now) typed) }
     {
-        let send = self.buffer(0)?;
-        let receive = self.buffer(3)?;
+        let send = self.buffer(0, 1)?;
+        let receive = self.buffer(3, 4)?;
         let comm = self.value(6)?;
         Ok(MpiCall::Allgather { send, receive, comm })
     }
@@ -419,8 +418,8 @@ impl<'a> Given<'a> {
         requires { Fits self.now.scope.now f.Alltoall (given_of self.now.call.now) }
         ensures { IfOk result (λ typed. IsMpiCall self.now.scope.now f.Alltoall (given_of self.now.call.now) typed) }
     {
-        let send = self.buffer(0)?;
-        let receive = self.buffer(3)?;
+        let send = self.buffer(0, 1)?;
+        let receive = self.buffer(3, 4)?;
         let comm = self.value(6)?;
         Ok(MpiCall::Alltoall { send, receive, comm })
     }
