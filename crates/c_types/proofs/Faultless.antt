@@ -298,9 +298,10 @@ pub shapes : (env : Env) (kinds : List ArgumentKind) (given : List t.Argument) �
     → AreShaped env kinds (argument given)
 shapes env [] given n h = tt
 shapes env (kind ∷ kinds) [] n h = absurd (omega arith)
-shapes env (kind ∷ kinds) (one ∷ more) n h =
-    (shape env kind one (none_before (argument_faults env kind one) (arguments_faults env kinds more) h),
-    shapes env kinds more (omega arith) (none_behind (argument_faults env kind one) (arguments_faults env kinds more) h))
+shapes env (kind ∷ kinds) (one ∷ more) n h = (
+  shape env kind one (none_before (argument_faults env kind one) (arguments_faults env kinds more) h),
+  shapes env kinds more (omega arith) (none_behind (argument_faults env kind one) (arguments_faults env kinds more) h),
+)
 
 pub record IsCounted (env : Env) (kinds : List ArgumentKind) (given : List t.Argument) : Type 0 where
   pub count : length given ≡ length kinds

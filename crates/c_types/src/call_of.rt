@@ -16,9 +16,7 @@ ghost use Rattle.c_types.specs.Shapes.{is_array, is_reference, is_value};
 
 use crate::expr::{Argument, Call, Expr, Reference, Right};
 use crate::expr_of::expr_of;
-use c_check::call::{
-    argument_at, argument_count, array_sum, name_alone, parameter_at, word_of,
-};
+use c_check::call::{argument_at, argument_count, array_sum, name_alone, parameter_at, word_of};
 use c_check::scope::Scope;
 use c_check::thing::{Meaning, Thing};
 use c_grammar::word::Spot;
@@ -199,11 +197,7 @@ pub fn call_of(
 }
 
 /// The typed right side of a right side without faults.
-pub fn right_of(
-    alloc: Global,
-    scope: &Scope,
-    right: &statement::Right,
-) -> Result<Right, AllocError>
+pub fn right_of(alloc: Global, scope: &Scope, right: &statement::Right) -> Result<Right, AllocError>
     requires { (wanted : ExprKind) × (right_faults scope.now wanted (right_view right.now) ≡ []) }
     ensures { IfOk result (λ typed. IsRight scope.now (right_view right.now) typed) }
 {

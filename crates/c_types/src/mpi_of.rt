@@ -163,7 +163,12 @@ impl<'a> Given<'a> {
         let dest = self.value(3)?;
         let tag = self.value(4)?;
         let comm = self.value(5)?;
-        Ok(MpiCall::Send { buffer, dest, tag, comm })
+        Ok(MpiCall::Send {
+            buffer,
+            dest,
+            tag,
+            comm,
+        })
     }
 
     fn recv(&self) -> Result<MpiCall, AllocError>
@@ -175,7 +180,13 @@ impl<'a> Given<'a> {
         let tag = self.value(4)?;
         let comm = self.value(5)?;
         let status = self.status(6)?;
-        Ok(MpiCall::Recv { buffer, source, tag, comm, status })
+        Ok(MpiCall::Recv {
+            buffer,
+            source,
+            tag,
+            comm,
+            status,
+        })
     }
 
     fn sendrecv(&self) -> Result<MpiCall, AllocError>
@@ -190,7 +201,16 @@ impl<'a> Given<'a> {
         let receive_tag = self.value(9)?;
         let comm = self.value(10)?;
         let status = self.status(11)?;
-        Ok(MpiCall::Sendrecv { send, dest, send_tag, receive, source, receive_tag, comm, status })
+        Ok(MpiCall::Sendrecv {
+            send,
+            dest,
+            send_tag,
+            receive,
+            source,
+            receive_tag,
+            comm,
+            status,
+        })
     }
 
     fn isend(&self) -> Result<MpiCall, AllocError>
@@ -202,7 +222,13 @@ impl<'a> Given<'a> {
         let tag = self.value(4)?;
         let comm = self.value(5)?;
         let request = self.reference(6)?;
-        Ok(MpiCall::Isend { buffer, dest, tag, comm, request })
+        Ok(MpiCall::Isend {
+            buffer,
+            dest,
+            tag,
+            comm,
+            request,
+        })
     }
 
     fn irecv(&self) -> Result<MpiCall, AllocError>
@@ -214,7 +240,13 @@ impl<'a> Given<'a> {
         let tag = self.value(4)?;
         let comm = self.value(5)?;
         let request = self.reference(6)?;
-        Ok(MpiCall::Irecv { buffer, source, tag, comm, request })
+        Ok(MpiCall::Irecv {
+            buffer,
+            source,
+            tag,
+            comm,
+            request,
+        })
     }
 
     fn wait(&self) -> Result<MpiCall, AllocError>
@@ -233,7 +265,11 @@ impl<'a> Given<'a> {
         let count = self.value(0)?;
         let requests = self.reference(1)?;
         let statuses = self.status(2)?;
-        Ok(MpiCall::Waitall { count, requests, statuses })
+        Ok(MpiCall::Waitall {
+            count,
+            requests,
+            statuses,
+        })
     }
 
     fn waitany(&self) -> Result<MpiCall, AllocError>
@@ -244,7 +280,12 @@ impl<'a> Given<'a> {
         let requests = self.reference(1)?;
         let index = self.reference(2)?;
         let status = self.status(3)?;
-        Ok(MpiCall::Waitany { count, requests, index, status })
+        Ok(MpiCall::Waitany {
+            count,
+            requests,
+            index,
+            status,
+        })
     }
 
     fn waitsome(&self) -> Result<MpiCall, AllocError>
@@ -256,7 +297,13 @@ impl<'a> Given<'a> {
         let outcount = self.reference(2)?;
         let indices = self.reference(3)?;
         let statuses = self.status(4)?;
-        Ok(MpiCall::Waitsome { count, requests, outcount, indices, statuses })
+        Ok(MpiCall::Waitsome {
+            count,
+            requests,
+            outcount,
+            indices,
+            statuses,
+        })
     }
 
     fn test(&self) -> Result<MpiCall, AllocError>
@@ -266,7 +313,11 @@ impl<'a> Given<'a> {
         let request = self.reference(0)?;
         let flag = self.reference(1)?;
         let status = self.status(2)?;
-        Ok(MpiCall::Test { request, flag, status })
+        Ok(MpiCall::Test {
+            request,
+            flag,
+            status,
+        })
     }
 
     fn testall(&self) -> Result<MpiCall, AllocError>
@@ -277,7 +328,12 @@ impl<'a> Given<'a> {
         let requests = self.reference(1)?;
         let flag = self.reference(2)?;
         let statuses = self.status(3)?;
-        Ok(MpiCall::Testall { count, requests, flag, statuses })
+        Ok(MpiCall::Testall {
+            count,
+            requests,
+            flag,
+            statuses,
+        })
     }
 
     fn testany(&self) -> Result<MpiCall, AllocError>
@@ -289,7 +345,13 @@ impl<'a> Given<'a> {
         let index = self.reference(2)?;
         let flag = self.reference(3)?;
         let status = self.status(4)?;
-        Ok(MpiCall::Testany { count, requests, index, flag, status })
+        Ok(MpiCall::Testany {
+            count,
+            requests,
+            index,
+            flag,
+            status,
+        })
     }
 
     fn testsome(&self) -> Result<MpiCall, AllocError>
@@ -301,7 +363,13 @@ impl<'a> Given<'a> {
         let outcount = self.reference(2)?;
         let indices = self.reference(3)?;
         let statuses = self.status(4)?;
-        Ok(MpiCall::Testsome { count, requests, outcount, indices, statuses })
+        Ok(MpiCall::Testsome {
+            count,
+            requests,
+            outcount,
+            indices,
+            statuses,
+        })
     }
 
     fn probe(&self) -> Result<MpiCall, AllocError>
@@ -312,7 +380,12 @@ impl<'a> Given<'a> {
         let tag = self.value(1)?;
         let comm = self.value(2)?;
         let status = self.status(3)?;
-        Ok(MpiCall::Probe { source, tag, comm, status })
+        Ok(MpiCall::Probe {
+            source,
+            tag,
+            comm,
+            status,
+        })
     }
 
     fn iprobe(&self) -> Result<MpiCall, AllocError>
@@ -324,7 +397,13 @@ impl<'a> Given<'a> {
         let comm = self.value(2)?;
         let flag = self.reference(3)?;
         let status = self.status(4)?;
-        Ok(MpiCall::Iprobe { source, tag, comm, flag, status })
+        Ok(MpiCall::Iprobe {
+            source,
+            tag,
+            comm,
+            flag,
+            status,
+        })
     }
 
     fn barrier(&self) -> Result<MpiCall, AllocError>
@@ -355,7 +434,14 @@ impl<'a> Given<'a> {
         let op = self.operation(4);
         let root = self.value(5)?;
         let comm = self.value(6)?;
-        Ok(MpiCall::Reduce { send, receive, count, op, root, comm })
+        Ok(MpiCall::Reduce {
+            send,
+            receive,
+            count,
+            op,
+            root,
+            comm,
+        })
     }
 
     fn allreduce(&self) -> Result<MpiCall, AllocError>
@@ -367,7 +453,13 @@ impl<'a> Given<'a> {
         let count = self.value(2)?;
         let op = self.operation(4);
         let comm = self.value(5)?;
-        Ok(MpiCall::Allreduce { send, receive, count, op, comm })
+        Ok(MpiCall::Allreduce {
+            send,
+            receive,
+            count,
+            op,
+            comm,
+        })
     }
 
     fn scan(&self) -> Result<MpiCall, AllocError>
@@ -379,7 +471,13 @@ impl<'a> Given<'a> {
         let count = self.value(2)?;
         let op = self.operation(4);
         let comm = self.value(5)?;
-        Ok(MpiCall::Scan { send, receive, count, op, comm })
+        Ok(MpiCall::Scan {
+            send,
+            receive,
+            count,
+            op,
+            comm,
+        })
     }
 
     fn gather(&self) -> Result<MpiCall, AllocError>
@@ -390,7 +488,12 @@ impl<'a> Given<'a> {
         let receive = self.buffer(3, 4)?;
         let root = self.value(6)?;
         let comm = self.value(7)?;
-        Ok(MpiCall::Gather { send, receive, root, comm })
+        Ok(MpiCall::Gather {
+            send,
+            receive,
+            root,
+            comm,
+        })
     }
 
     fn scatter(&self) -> Result<MpiCall, AllocError>
@@ -401,7 +504,12 @@ impl<'a> Given<'a> {
         let receive = self.buffer(3, 4)?;
         let root = self.value(6)?;
         let comm = self.value(7)?;
-        Ok(MpiCall::Scatter { send, receive, root, comm })
+        Ok(MpiCall::Scatter {
+            send,
+            receive,
+            root,
+            comm,
+        })
     }
 
     fn allgather(&self) -> Result<MpiCall, AllocError>
@@ -411,7 +519,11 @@ impl<'a> Given<'a> {
         let send = self.buffer(0, 1)?;
         let receive = self.buffer(3, 4)?;
         let comm = self.value(6)?;
-        Ok(MpiCall::Allgather { send, receive, comm })
+        Ok(MpiCall::Allgather {
+            send,
+            receive,
+            comm,
+        })
     }
 
     fn alltoall(&self) -> Result<MpiCall, AllocError>
@@ -421,7 +533,11 @@ impl<'a> Given<'a> {
         let send = self.buffer(0, 1)?;
         let receive = self.buffer(3, 4)?;
         let comm = self.value(6)?;
-        Ok(MpiCall::Alltoall { send, receive, comm })
+        Ok(MpiCall::Alltoall {
+            send,
+            receive,
+            comm,
+        })
     }
 
     fn comm_split(&self) -> Result<MpiCall, AllocError>
@@ -432,7 +548,12 @@ impl<'a> Given<'a> {
         let color = self.value(1)?;
         let key = self.value(2)?;
         let made = self.reference(3)?;
-        Ok(MpiCall::CommSplit { comm, color, key, made })
+        Ok(MpiCall::CommSplit {
+            comm,
+            color,
+            key,
+            made,
+        })
     }
 
     fn comm_dup(&self) -> Result<MpiCall, AllocError>
