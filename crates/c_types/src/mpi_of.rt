@@ -574,6 +574,7 @@ impl<'a> Given<'a> {
         Ok(MpiCall::Abort { comm, code })
     }
 
+    /// The call, by its function.
     fn typed(&self, function: MpiFunction) -> Result<MpiCall, AllocError>
         requires { Fits self.now.scope.now function (given_of self.now.call.now) }
         ensures { IfOk result (λ typed. IsMpiCall self.now.scope.now function (given_of self.now.call.now) typed) }
