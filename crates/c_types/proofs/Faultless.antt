@@ -1,9 +1,9 @@
 -- No faults, so this shape.
-use Rattle.std.proofs.Common.{◌≡◌, ◌⊎◌, inl, inr, ℕ, suc, ◌+◌, Bool, true, false, ◌||◌, ◌==◌, List, [], ◌∷◌, ◌++◌, length, Option, Some, None, refl, sym, ap, subst, arith, if◌then◌else◌, slice_get}
+use Rattle.std.proofs.Common.{◌≡◌, ◌⊎◌, inl, inr, ℕ, Bool, true, false, ◌==◌, List, [], ◌∷◌, ◌++◌, length, Option, Some, None, refl, arith, if◌then◌else◌, slice_get}
 use Rattle.std.specs.Option.{is_some}
 use Rattle.std.proofs.lemmas.Bool.{eqb-true}
 use Rattle.c_lex.specs.declared.fault.Why.{Why}
-use Rattle.c_lex.specs.declared.fault.Why.TheVariants.{WrongType, WrongCount}
+use Rattle.c_lex.specs.declared.fault.Why.TheVariants.{WrongType}
 use Rattle.c_grammar.specs.declared.word.Spot.{Spot}
 use Rattle.c_grammar.specs.Tree as t
 use Rattle.c_names.specs.Functions.{accepts, arguments}
@@ -16,7 +16,7 @@ use Rattle.c_names.specs.declared.predefined.Predefined.TheVariants as p
 use Rattle.c_check.specs.Calls.{accepts_own, accepts_word, argument_faults, arguments_faults, arguments_of, array_faults, array_sum, call_faults, counted_faults, first_is_null, is_array_of, is_own, misfit_faults, mpi_takes, reference_faults, signature_takes, sum_faults, unaccepted_faults, value_faults, word_meant, word_of}
 use Rattle.c_check.specs.Expressions.{expr_faults, takes_index, wanted_faults}
 use Rattle.c_check.specs.Kinds.{cell_kind, fits, kind_faults, kind_of, start_of, whole_kind}
-use Rattle.c_check.specs.Least.{fault, unless}
+use Rattle.c_check.specs.Least.{unless}
 use Rattle.c_check.specs.Scopes.{Env, meaning, name_faults}
 use Rattle.c_check.specs.declared.fault.Fault.{Fault}
 use Rattle.c_check.specs.declared.thing.ExprKind.{ExprKind}

@@ -1,4 +1,4 @@
-use Rattle.std.proofs.Common.{◌≡◌, inl, inr}
+use Rattle.std.proofs.Common.{inl, inr}
 use Rattle.c_grammar.specs.StmtView.{argument_view}
 use Rattle.c_names.specs.declared.function.ArgumentKind.TheVariants as a
 use Rattle.c_types.specs.Calls as y

@@ -1,4 +1,4 @@
-use Rattle.std.proofs.Common.{◌≡◌, sym}
+use Rattle.std.proofs.Common.{sym}
 use Rattle.c_grammar.specs.StmtView.{argument_view, call_view, head_view, parameter_view, parameters_view}
 use Rattle.c_check.specs.Calls.{arguments_of}
 use Rattle.c_check.specs.Signatures.{parameter_takes, parameters_listed, signature_of}

@@ -1,4 +1,4 @@
-use Rattle.std.proofs.Common.{◌≡◌, sym, ◌∙◌}
+use Rattle.std.proofs.Common.{sym, ◌∙◌}
 use Rattle.c_grammar.specs.StmtView.{argument_view}
 use Rattle.c_types.specs.MpiCalls as y
 use Rattle.c_types.proofs.MpiRules.{ignored_rule}

@@ -1,4 +1,3 @@
-use Rattle.std.proofs.Common.{◌≡◌}
 use Rattle.c_types.specs.MpiCalls as y
 use Rattle.c_types.proofs.MpiRules.{by_places}
 use Rattle.c_types.proofs.mpi_of.Given.typed.Goals as goal
