@@ -1,5 +1,5 @@
 -- Each rule of typed expressions at the variants of the tree.
-use Rattle.std.proofs.Common.{◌≡◌, ℕ, ℤ, pos, List, [], ◌∷◌, ◌++◌, ◌+◌, ◌<◌, length, drop, get_or, map, ◌≤◌, Option, Some, None, refl, sym, subst, ap, ◌∙◌, append_assoc}
+use Rattle.std.proofs.Common.{◌≡◌, ℕ, ℤ, pos, List, [], ◌∷◌, ◌++◌, ◌+◌, ◌<◌, length, drop, get_or, map, ◌≤◌, Some, None, sym, subst, ap, ◌∙◌, append_assoc}
 use Rattle.std.proofs.lemmas.List.{append-nil}
 use Rattle.c_check.proofs.Lists.{drop_at, drop_past}
 use Rattle.std.specs.declared.alloc.Global.{Global}

@@ -1,24 +1,26 @@
 //! Typed calls of functions of the text, and right sides.
 
-ghost use Rattle.std.specs.Prelude.{◌≡◌, IfOk, None, true};
+ghost use Rattle.std.specs.Prelude.{◌≡◌, IfOk, List, [], None, length, true};
 ghost use Rattle.std.specs.Option.{is_some};
-ghost use Rattle.c_grammar.specs.StmtView.{argument_view};
+ghost use Rattle.c_grammar.specs.StmtView.{argument_view, call_view, head_view, parameter_view, right_view};
 ghost use Rattle.c_grammar.specs.Tree as t;
 ghost use Rattle.c_grammar.specs.View.{place_view, view};
-ghost use Rattle.c_check.specs.Calls.{array_sum, word_of};
-ghost use Rattle.c_types.specs.Calls.{IsReference, IsValue};
+ghost use Rattle.c_check.specs.Calls.{argument_faults, arguments_faults, arguments_of, array_sum, call_faults, right_faults, word_of};
+ghost use Rattle.c_check.specs.Scopes.{meaning};
+ghost use Rattle.c_check.specs.Signatures.{parameter_takes, signature_of};
+ghost use Rattle.c_check.specs.declared.thing.ExprKind.{ExprKind};
+ghost use Rattle.c_check.specs.declared.thing.Meaning.TheVariants as m;
+ghost use Rattle.c_check.specs.declared.thing.Thing.TheVariants as d;
+ghost use Rattle.c_types.specs.Calls.{AreArguments, IsArgument, IsCall, IsReference, IsRight, IsValue};
 ghost use Rattle.c_types.specs.Shapes.{is_array, is_reference, is_value};
 
 use crate::expr::{Argument, Call, Expr, Reference, Right};
 use crate::expr_of::expr_of;
-use c_check::call::{
-    argument_at, argument_count, array_sum, kind_at, name_alone, takes_of, word_of,
-};
+use c_check::call::{argument_at, argument_count, array_sum, name_alone, parameter_at, word_of};
 use c_check::scope::Scope;
 use c_check::thing::{Meaning, Thing};
 use c_grammar::word::Spot;
 use c_grammar::{statement, tree};
-use c_names::function::ArgumentKind;
 use std::alloc::{AllocError, Global};
 
 /// What is added to the name of an array.
@@ -118,16 +120,54 @@ pub fn value_of(
     }
 }
 
+/// An argument of a function of the text, by its parameter.
 fn argument_of(
     alloc: Global,
     scope: &Scope,
-    kind: ArgumentKind,
+    parameter: &statement::Parameter,
     argument: &statement::Argument,
-) -> Result<Argument, AllocError> {
-    match kind {
-        ArgumentKind::Buffer => Ok(Argument::Reference(reference_of(alloc, scope, argument)?)),
-        _ => Ok(Argument::Value(value_of(alloc, scope, argument)?)),
+) -> Result<Argument, AllocError>
+    requires { argument_faults scope.now (parameter_takes (parameter_view parameter.now)) (argument_view argument.now) ≡ [] }
+    ensures { IfOk result (λ typed. IsArgument scope.now (parameter_takes (parameter_view parameter.now)) (argument_view argument.now) typed) }
+{
+    match parameter {
+        statement::Parameter::Int { .. } | statement::Parameter::Communicator { .. } => {
+            let typed = value_of(alloc, scope, argument)?;
+            Ok(Argument::Value(typed))
+        }
+        statement::Parameter::Array { .. } | statement::Parameter::Pointer { .. } => {
+            let typed = reference_of(alloc, scope, argument)?;
+            Ok(Argument::Reference(typed))
+        }
+        statement::Parameter::TextPointers { .. } | statement::Parameter::TextArray { .. } => {
+            unreachable!()
+        }
     }
+}
+
+/// All of them, in order.
+fn arguments_of(
+    alloc: Global,
+    scope: &Scope,
+    head: &statement::Head,
+    call: &statement::Call,
+) -> Result<Vec<Argument>, AllocError>
+    requires count { length (arguments_of (call_view call.now)) ≡ length (signature_of (head_view head.now)).takes }
+    requires faults { arguments_faults scope.now (signature_of (head_view head.now)).takes (arguments_of (call_view call.now)) ≡ [] }
+    ensures { IfOk result (λ typed. AreArguments scope.now (signature_of (head_view head.now)).takes (arguments_of (call_view call.now)) typed.items) }
+{
+    let mut typed = Vec::new(alloc);
+    for place in 0..argument_count(call) {
+        let Some(argument) = argument_at(call, place) else {
+            unreachable!()
+        };
+        let Some(parameter) = parameter_at(head, place) else {
+            unreachable!()
+        };
+        let one = argument_of(alloc, scope, parameter, argument)?;
+        typed.push(one)?;
+    }
+    Ok(typed)
 }
 
 /// A call of a function of the text.
@@ -136,37 +176,40 @@ pub fn call_of(
     scope: &Scope,
     number: usize,
     call: &statement::Call,
-) -> Result<Call, AllocError> {
-    let mut arguments = Vec::new(alloc);
-    let Some(takes) = takes_of(scope, Meaning::Declared(Thing::Function(number)), call) else {
-        unreachable!()
-    };
-    for place in 0..argument_count(call) {
-        let Some(kind) = kind_at(takes, place) else {
-            unreachable!()
-        };
-        let Some(argument) = argument_at(call, place) else {
-            unreachable!()
-        };
-        arguments.push(argument_of(alloc, scope, kind, argument)?)?;
+) -> Result<Call, AllocError>
+    requires function { meaning scope.now call.now.name ≡ m.Declared (d.Function number) }
+    requires faults { call_faults scope.now (call_view call.now) ≡ [] }
+    ensures { IfOk result (λ typed. IsCall scope.now (call_view call.now) typed) }
+{
+    match scope.head(number) {
+        Some(head) => {
+            let arguments = arguments_of(alloc, scope, head, call)?;
+            Ok(Call {
+                function: number,
+                arguments,
+            })
+        }
+        None => Ok(Call {
+            function: number,
+            arguments: Vec::new(alloc),
+        }),
     }
-    Ok(Call {
-        function: number,
-        arguments,
-    })
 }
 
 /// The typed right side of a right side without faults.
-pub fn right_of(
-    alloc: Global,
-    scope: &Scope,
-    right: &statement::Right,
-) -> Result<Right, AllocError> {
+pub fn right_of(alloc: Global, scope: &Scope, right: &statement::Right) -> Result<Right, AllocError>
+    requires { (wanted : ExprKind) × (right_faults scope.now wanted (right_view right.now) ≡ []) }
+    ensures { IfOk result (λ typed. IsRight scope.now (right_view right.now) typed) }
+{
     match right {
-        statement::Right::Value(e) => Ok(Right::Value(expr_of(alloc, scope, e)?)),
+        statement::Right::Value(e) => {
+            let typed = expr_of(alloc, scope, e)?;
+            Ok(Right::Value(typed))
+        }
         statement::Right::Call(call) => match scope.meaning(call.name) {
             Meaning::Declared(Thing::Function(number)) => {
-                Ok(Right::Call(call_of(alloc, scope, number, call)?))
+                let typed = call_of(alloc, scope, number, call)?;
+                Ok(Right::Call(typed))
             }
             _ => unreachable!(),
         },

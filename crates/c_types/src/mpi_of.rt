@@ -1,8 +1,19 @@
 //! Typed calls of MPI functions.
 
-use crate::call_of::reference_of;
+ghost use Rattle.std.specs.Prelude.{◌≡◌, IfOk, List, [], true};
+ghost use Rattle.c_grammar.specs.StmtView.{argument_view, call_view};
+ghost use Rattle.c_names.specs.declared.function.MpiFunction.TheVariants as f;
+ghost use Rattle.c_names.specs.declared.predefined.Predefined.TheVariants as p;
+ghost use Rattle.c_check.specs.Calls.{arguments_of, call_faults, word_of};
+ghost use Rattle.c_check.specs.Scopes.{meaning};
+ghost use Rattle.c_check.specs.declared.thing.Meaning.TheVariants as m;
+ghost use Rattle.c_types.specs.Calls.{IsReference, IsValue};
+ghost use Rattle.c_types.specs.Given.{Fits, argument, given_of, is_operation, is_status};
+ghost use Rattle.c_types.specs.MpiCalls.{IsBuffer, IsMpiCall, IsOperation, IsStatus};
+ghost use Rattle.c_types.specs.Shapes.{is_reference, is_value};
+
+use crate::call_of::{reference_of, value_of};
 use crate::expr::{Expr, Reference};
-use crate::expr_of::expr_of;
 use crate::mpi::{Buffer, MpiCall};
 use c_check::call::{argument_at, word_of};
 use c_check::scope::Scope;
@@ -11,6 +22,33 @@ use c_names::function::MpiFunction;
 use c_names::predefined::Predefined;
 use mpi_call::call::Op;
 use std::alloc::{AllocError, Global};
+
+/// The status of an argument that is one: `None` where it is ignored.
+fn status_of(
+    alloc: Global,
+    scope: &Scope,
+    argument: &Argument,
+) -> Result<Option<Reference>, AllocError>
+    requires { is_status scope.now (argument_view argument.now) ≡ true }
+    ensures { IfOk result (λ typed. IsStatus scope.now (argument_view argument.now) typed) }
+{
+    if word_of(scope, argument).is_some() {
+        return Ok(None);
+    }
+    let typed = reference_of(alloc, scope, argument)?;
+    Ok(Some(typed))
+}
+
+/// The operation of an argument that is one.
+fn operation_of(scope: &Scope, argument: &Argument) -> Op
+    requires { is_operation (word_of scope.now (argument_view argument.now)) ≡ true }
+    ensures { IsOperation scope.now (argument_view argument.now) result }
+{
+    match word_of(scope, argument) {
+        Some(Predefined::Operation(op)) => op,
+        _ => unreachable!(),
+    }
+}
 
 /// A call and what stands around it.
 #[derive(Clone, Copy)]
@@ -21,318 +59,561 @@ struct Given<'a> {
 }
 
 impl<'a> Given<'a> {
-    fn value(&self, place: usize) -> Result<Expr, AllocError> {
+    fn value(&self, place: usize) -> Result<Expr, AllocError>
+        requires { is_value (argument (given_of self.now.call.now) place) ≡ true }
+        ensures { IfOk result (λ typed. IsValue self.now.scope.now (argument (given_of self.now.call.now) place) typed) }
+    {
         match argument_at(self.call, place) {
-            Some(Argument::Value(e)) => expr_of(self.alloc, self.scope, e),
-            _ => unreachable!(),
-        }
-    }
-
-    fn reference(&self, place: usize) -> Result<Reference, AllocError> {
-        match argument_at(self.call, place) {
-            Some(argument) => reference_of(self.alloc, self.scope, argument),
+            Some(argument) => {
+                let typed = value_of(self.alloc, self.scope, argument)?;
+                Ok(typed)
+            }
             None => unreachable!(),
         }
     }
 
-    /// The cells of a message, how many they are, and `MPI_INT`.
-    fn buffer(&self, place: usize) -> Result<Buffer, AllocError> {
-        Ok(Buffer {
-            cells: self.reference(place)?,
-            count: self.value(place + 1)?,
-        })
+    fn reference(&self, place: usize) -> Result<Reference, AllocError>
+        requires { is_reference self.now.scope.now (argument (given_of self.now.call.now) place) ≡ true }
+        ensures { IfOk result (λ typed. IsReference self.now.scope.now (argument (given_of self.now.call.now) place) typed) }
+    {
+        match argument_at(self.call, place) {
+            Some(argument) => {
+                let typed = reference_of(self.alloc, self.scope, argument)?;
+                Ok(typed)
+            }
+            None => unreachable!(),
+        }
+    }
+
+    /// The ints of a message, by the places of its cells and of how many they are.
+    fn buffer(&self, cells: usize, count: usize) -> Result<Buffer, AllocError>
+        requires cells { is_reference self.now.scope.now (argument (given_of self.now.call.now) cells) ≡ true }
+        requires count { is_value (argument (given_of self.now.call.now) count) ≡ true }
+        ensures { IfOk result (λ typed. IsBuffer self.now.scope.now (argument (given_of self.now.call.now) cells) (argument (given_of self.now.call.now) count) typed) }
+    {
+        let cells = self.reference(cells)?;
+        let count = self.value(count)?;
+        Ok(Buffer { cells, count })
     }
 
     /// `None` where a status is ignored.
-    fn status(&self, place: usize) -> Result<Option<Reference>, AllocError> {
-        let Some(argument) = argument_at(self.call, place) else {
-            unreachable!()
-        };
-        match word_of(self.scope, argument) {
-            Some(_) => Ok(None),
-            None => Ok(Some(reference_of(self.alloc, self.scope, argument)?)),
+    fn status(&self, place: usize) -> Result<Option<Reference>, AllocError>
+        requires { is_status self.now.scope.now (argument (given_of self.now.call.now) place) ≡ true }
+        ensures { IfOk result (λ typed. IsStatus self.now.scope.now (argument (given_of self.now.call.now) place) typed) }
+    {
+        match argument_at(self.call, place) {
+            Some(argument) => {
+                let typed = status_of(self.alloc, self.scope, argument)?;
+                Ok(typed)
+            }
+            None => unreachable!(),
         }
     }
 
-    fn operation(&self, place: usize) -> Op {
-        let Some(argument) = argument_at(self.call, place) else {
-            unreachable!()
-        };
-        match word_of(self.scope, argument) {
-            Some(Predefined::Operation(op)) => op,
-            _ => unreachable!(),
+    fn operation(&self, place: usize) -> Op
+        requires { is_operation (word_of self.now.scope.now (argument (given_of self.now.call.now) place)) ≡ true }
+        ensures { IsOperation self.now.scope.now (argument (given_of self.now.call.now) place) result }
+    {
+        match argument_at(self.call, place) {
+            Some(argument) => operation_of(self.scope, argument),
+            None => unreachable!(),
         }
     }
 
-    fn comm_rank(&self) -> Result<MpiCall, AllocError> {
-        Ok(MpiCall::CommRank {
-            comm: self.value(0)?,
-            rank: self.reference(1)?,
-        })
+    fn comm_rank(&self) -> Result<MpiCall, AllocError>
+        requires { Fits self.now.scope.now f.CommRank (given_of self.now.call.now) }
+        ensures { IfOk result (λ typed. IsMpiCall self.now.scope.now f.CommRank (given_of self.now.call.now) typed) }
+    {
+        let comm = self.value(0)?;
+        let rank = self.reference(1)?;
+        Ok(MpiCall::CommRank { comm, rank })
     }
 
-    fn comm_size(&self) -> Result<MpiCall, AllocError> {
-        Ok(MpiCall::CommSize {
-            comm: self.value(0)?,
-            size: self.reference(1)?,
-        })
+    fn comm_size(&self) -> Result<MpiCall, AllocError>
+        requires { Fits self.now.scope.now f.CommSize (given_of self.now.call.now) }
+        ensures { IfOk result (λ typed. IsMpiCall self.now.scope.now f.CommSize (given_of self.now.call.now) typed) }
+    {
+        let comm = self.value(0)?;
+        let size = self.reference(1)?;
+        Ok(MpiCall::CommSize { comm, size })
     }
 
-    fn get_count(&self) -> Result<MpiCall, AllocError> {
-        Ok(MpiCall::GetCount {
-            status: self.status(0)?,
-            count: self.reference(2)?,
-        })
+    fn get_count(&self) -> Result<MpiCall, AllocError>
+        requires { Fits self.now.scope.now f.GetCount (given_of self.now.call.now) }
+        ensures { IfOk result (λ typed. IsMpiCall self.now.scope.now f.GetCount (given_of self.now.call.now) typed) }
+    {
+        let status = self.status(0)?;
+        let count = self.reference(2)?;
+        Ok(MpiCall::GetCount { status, count })
     }
 
-    fn comm_free(&self) -> Result<MpiCall, AllocError> {
-        Ok(MpiCall::CommFree {
-            comm: self.reference(0)?,
-        })
+    fn comm_free(&self) -> Result<MpiCall, AllocError>
+        requires { Fits self.now.scope.now f.CommFree (given_of self.now.call.now) }
+        ensures { IfOk result (λ typed. IsMpiCall self.now.scope.now f.CommFree (given_of self.now.call.now) typed) }
+    {
+        let comm = self.reference(0)?;
+        Ok(MpiCall::CommFree { comm })
     }
 
-    fn send(&self) -> Result<MpiCall, AllocError> {
+    fn send(&self) -> Result<MpiCall, AllocError>
+        requires { Fits self.now.scope.now f.Send (given_of self.now.call.now) }
+        ensures { IfOk result (λ typed. IsMpiCall self.now.scope.now f.Send (given_of self.now.call.now) typed) }
+    {
+        let buffer = self.buffer(0, 1)?;
+        let dest = self.value(3)?;
+        let tag = self.value(4)?;
+        let comm = self.value(5)?;
         Ok(MpiCall::Send {
-            buffer: self.buffer(0)?,
-            dest: self.value(3)?,
-            tag: self.value(4)?,
-            comm: self.value(5)?,
+            buffer,
+            dest,
+            tag,
+            comm,
         })
     }
 
-    fn recv(&self) -> Result<MpiCall, AllocError> {
+    fn recv(&self) -> Result<MpiCall, AllocError>
+        requires { Fits self.now.scope.now f.Recv (given_of self.now.call.now) }
+        ensures { IfOk result (λ typed. IsMpiCall self.now.scope.now f.Recv (given_of self.now.call.now) typed) }
+    {
+        let buffer = self.buffer(0, 1)?;
+        let source = self.value(3)?;
+        let tag = self.value(4)?;
+        let comm = self.value(5)?;
+        let status = self.status(6)?;
         Ok(MpiCall::Recv {
-            buffer: self.buffer(0)?,
-            source: self.value(3)?,
-            tag: self.value(4)?,
-            comm: self.value(5)?,
-            status: self.status(6)?,
+            buffer,
+            source,
+            tag,
+            comm,
+            status,
         })
     }
 
-    fn sendrecv(&self) -> Result<MpiCall, AllocError> {
+    fn sendrecv(&self) -> Result<MpiCall, AllocError>
+        requires { Fits self.now.scope.now f.Sendrecv (given_of self.now.call.now) }
+        ensures { IfOk result (λ typed. IsMpiCall self.now.scope.now f.Sendrecv (given_of self.now.call.now) typed) }
+    {
+        let send = self.buffer(0, 1)?;
+        let dest = self.value(3)?;
+        let send_tag = self.value(4)?;
+        let receive = self.buffer(5, 6)?;
+        let source = self.value(8)?;
+        let receive_tag = self.value(9)?;
+        let comm = self.value(10)?;
+        let status = self.status(11)?;
         Ok(MpiCall::Sendrecv {
-            send: self.buffer(0)?,
-            dest: self.value(3)?,
-            send_tag: self.value(4)?,
-            receive: self.buffer(5)?,
-            source: self.value(8)?,
-            receive_tag: self.value(9)?,
-            comm: self.value(10)?,
-            status: self.status(11)?,
+            send,
+            dest,
+            send_tag,
+            receive,
+            source,
+            receive_tag,
+            comm,
+            status,
         })
     }
 
-    fn isend(&self) -> Result<MpiCall, AllocError> {
+    fn isend(&self) -> Result<MpiCall, AllocError>
+        requires { Fits self.now.scope.now f.Isend (given_of self.now.call.now) }
+        ensures { IfOk result (λ typed. IsMpiCall self.now.scope.now f.Isend (given_of self.now.call.now) typed) }
+    {
+        let buffer = self.buffer(0, 1)?;
+        let dest = self.value(3)?;
+        let tag = self.value(4)?;
+        let comm = self.value(5)?;
+        let request = self.reference(6)?;
         Ok(MpiCall::Isend {
-            buffer: self.buffer(0)?,
-            dest: self.value(3)?,
-            tag: self.value(4)?,
-            comm: self.value(5)?,
-            request: self.reference(6)?,
+            buffer,
+            dest,
+            tag,
+            comm,
+            request,
         })
     }
 
-    fn irecv(&self) -> Result<MpiCall, AllocError> {
+    fn irecv(&self) -> Result<MpiCall, AllocError>
+        requires { Fits self.now.scope.now f.Irecv (given_of self.now.call.now) }
+        ensures { IfOk result (λ typed. IsMpiCall self.now.scope.now f.Irecv (given_of self.now.call.now) typed) }
+    {
+        let buffer = self.buffer(0, 1)?;
+        let source = self.value(3)?;
+        let tag = self.value(4)?;
+        let comm = self.value(5)?;
+        let request = self.reference(6)?;
         Ok(MpiCall::Irecv {
-            buffer: self.buffer(0)?,
-            source: self.value(3)?,
-            tag: self.value(4)?,
-            comm: self.value(5)?,
-            request: self.reference(6)?,
+            buffer,
+            source,
+            tag,
+            comm,
+            request,
         })
     }
 
-    fn wait(&self) -> Result<MpiCall, AllocError> {
-        Ok(MpiCall::Wait {
-            request: self.reference(0)?,
-            status: self.status(1)?,
-        })
+    fn wait(&self) -> Result<MpiCall, AllocError>
+        requires { Fits self.now.scope.now f.Wait (given_of self.now.call.now) }
+        ensures { IfOk result (λ typed. IsMpiCall self.now.scope.now f.Wait (given_of self.now.call.now) typed) }
+    {
+        let request = self.reference(0)?;
+        let status = self.status(1)?;
+        Ok(MpiCall::Wait { request, status })
     }
 
-    fn waitall(&self) -> Result<MpiCall, AllocError> {
+    fn waitall(&self) -> Result<MpiCall, AllocError>
+        requires { Fits self.now.scope.now f.Waitall (given_of self.now.call.now) }
+        ensures { IfOk result (λ typed. IsMpiCall self.now.scope.now f.Waitall (given_of self.now.call.now) typed) }
+    {
+        let count = self.value(0)?;
+        let requests = self.reference(1)?;
+        let statuses = self.status(2)?;
         Ok(MpiCall::Waitall {
-            count: self.value(0)?,
-            requests: self.reference(1)?,
-            statuses: self.status(2)?,
+            count,
+            requests,
+            statuses,
         })
     }
 
-    fn waitany(&self) -> Result<MpiCall, AllocError> {
+    fn waitany(&self) -> Result<MpiCall, AllocError>
+        requires { Fits self.now.scope.now f.Waitany (given_of self.now.call.now) }
+        ensures { IfOk result (λ typed. IsMpiCall self.now.scope.now f.Waitany (given_of self.now.call.now) typed) }
+    {
+        let count = self.value(0)?;
+        let requests = self.reference(1)?;
+        let index = self.reference(2)?;
+        let status = self.status(3)?;
         Ok(MpiCall::Waitany {
-            count: self.value(0)?,
-            requests: self.reference(1)?,
-            index: self.reference(2)?,
-            status: self.status(3)?,
+            count,
+            requests,
+            index,
+            status,
         })
     }
 
-    fn waitsome(&self) -> Result<MpiCall, AllocError> {
+    fn waitsome(&self) -> Result<MpiCall, AllocError>
+        requires { Fits self.now.scope.now f.Waitsome (given_of self.now.call.now) }
+        ensures { IfOk result (λ typed. IsMpiCall self.now.scope.now f.Waitsome (given_of self.now.call.now) typed) }
+    {
+        let count = self.value(0)?;
+        let requests = self.reference(1)?;
+        let outcount = self.reference(2)?;
+        let indices = self.reference(3)?;
+        let statuses = self.status(4)?;
         Ok(MpiCall::Waitsome {
-            count: self.value(0)?,
-            requests: self.reference(1)?,
-            outcount: self.reference(2)?,
-            indices: self.reference(3)?,
-            statuses: self.status(4)?,
+            count,
+            requests,
+            outcount,
+            indices,
+            statuses,
         })
     }
 
-    fn test(&self) -> Result<MpiCall, AllocError> {
+    fn test(&self) -> Result<MpiCall, AllocError>
+        requires { Fits self.now.scope.now f.Test (given_of self.now.call.now) }
+        ensures { IfOk result (λ typed. IsMpiCall self.now.scope.now f.Test (given_of self.now.call.now) typed) }
+    {
+        let request = self.reference(0)?;
+        let flag = self.reference(1)?;
+        let status = self.status(2)?;
         Ok(MpiCall::Test {
-            request: self.reference(0)?,
-            flag: self.reference(1)?,
-            status: self.status(2)?,
+            request,
+            flag,
+            status,
         })
     }
 
-    fn testall(&self) -> Result<MpiCall, AllocError> {
+    fn testall(&self) -> Result<MpiCall, AllocError>
+        requires { Fits self.now.scope.now f.Testall (given_of self.now.call.now) }
+        ensures { IfOk result (λ typed. IsMpiCall self.now.scope.now f.Testall (given_of self.now.call.now) typed) }
+    {
+        let count = self.value(0)?;
+        let requests = self.reference(1)?;
+        let flag = self.reference(2)?;
+        let statuses = self.status(3)?;
         Ok(MpiCall::Testall {
-            count: self.value(0)?,
-            requests: self.reference(1)?,
-            flag: self.reference(2)?,
-            statuses: self.status(3)?,
+            count,
+            requests,
+            flag,
+            statuses,
         })
     }
 
-    fn testany(&self) -> Result<MpiCall, AllocError> {
+    fn testany(&self) -> Result<MpiCall, AllocError>
+        requires { Fits self.now.scope.now f.Testany (given_of self.now.call.now) }
+        ensures { IfOk result (λ typed. IsMpiCall self.now.scope.now f.Testany (given_of self.now.call.now) typed) }
+    {
+        let count = self.value(0)?;
+        let requests = self.reference(1)?;
+        let index = self.reference(2)?;
+        let flag = self.reference(3)?;
+        let status = self.status(4)?;
         Ok(MpiCall::Testany {
-            count: self.value(0)?,
-            requests: self.reference(1)?,
-            index: self.reference(2)?,
-            flag: self.reference(3)?,
-            status: self.status(4)?,
+            count,
+            requests,
+            index,
+            flag,
+            status,
         })
     }
 
-    fn testsome(&self) -> Result<MpiCall, AllocError> {
+    fn testsome(&self) -> Result<MpiCall, AllocError>
+        requires { Fits self.now.scope.now f.Testsome (given_of self.now.call.now) }
+        ensures { IfOk result (λ typed. IsMpiCall self.now.scope.now f.Testsome (given_of self.now.call.now) typed) }
+    {
+        let count = self.value(0)?;
+        let requests = self.reference(1)?;
+        let outcount = self.reference(2)?;
+        let indices = self.reference(3)?;
+        let statuses = self.status(4)?;
         Ok(MpiCall::Testsome {
-            count: self.value(0)?,
-            requests: self.reference(1)?,
-            outcount: self.reference(2)?,
-            indices: self.reference(3)?,
-            statuses: self.status(4)?,
+            count,
+            requests,
+            outcount,
+            indices,
+            statuses,
         })
     }
 
-    fn probe(&self) -> Result<MpiCall, AllocError> {
+    fn probe(&self) -> Result<MpiCall, AllocError>
+        requires { Fits self.now.scope.now f.Probe (given_of self.now.call.now) }
+        ensures { IfOk result (λ typed. IsMpiCall self.now.scope.now f.Probe (given_of self.now.call.now) typed) }
+    {
+        let source = self.value(0)?;
+        let tag = self.value(1)?;
+        let comm = self.value(2)?;
+        let status = self.status(3)?;
         Ok(MpiCall::Probe {
-            source: self.value(0)?,
-            tag: self.value(1)?,
-            comm: self.value(2)?,
-            status: self.status(3)?,
+            source,
+            tag,
+            comm,
+            status,
         })
     }
 
-    fn iprobe(&self) -> Result<MpiCall, AllocError> {
+    fn iprobe(&self) -> Result<MpiCall, AllocError>
+        requires { Fits self.now.scope.now f.Iprobe (given_of self.now.call.now) }
+        ensures { IfOk result (λ typed. IsMpiCall self.now.scope.now f.Iprobe (given_of self.now.call.now) typed) }
+    {
+        let source = self.value(0)?;
+        let tag = self.value(1)?;
+        let comm = self.value(2)?;
+        let flag = self.reference(3)?;
+        let status = self.status(4)?;
         Ok(MpiCall::Iprobe {
-            source: self.value(0)?,
-            tag: self.value(1)?,
-            comm: self.value(2)?,
-            flag: self.reference(3)?,
-            status: self.status(4)?,
+            source,
+            tag,
+            comm,
+            flag,
+            status,
         })
     }
 
-    fn barrier(&self) -> Result<MpiCall, AllocError> {
-        Ok(MpiCall::Barrier {
-            comm: self.value(0)?,
-        })
+    fn barrier(&self) -> Result<MpiCall, AllocError>
+        requires { Fits self.now.scope.now f.Barrier (given_of self.now.call.now) }
+        ensures { IfOk result (λ typed. IsMpiCall self.now.scope.now f.Barrier (given_of self.now.call.now) typed) }
+    {
+        let comm = self.value(0)?;
+        Ok(MpiCall::Barrier { comm })
     }
 
-    fn bcast(&self) -> Result<MpiCall, AllocError> {
-        Ok(MpiCall::Bcast {
-            buffer: self.buffer(0)?,
-            root: self.value(3)?,
-            comm: self.value(4)?,
-        })
+    fn bcast(&self) -> Result<MpiCall, AllocError>
+        requires { Fits self.now.scope.now f.Bcast (given_of self.now.call.now) }
+        ensures { IfOk result (λ typed. IsMpiCall self.now.scope.now f.Bcast (given_of self.now.call.now) typed) }
+    {
+        let buffer = self.buffer(0, 1)?;
+        let root = self.value(3)?;
+        let comm = self.value(4)?;
+        Ok(MpiCall::Bcast { buffer, root, comm })
     }
 
-    fn reduce(&self) -> Result<MpiCall, AllocError> {
+    fn reduce(&self) -> Result<MpiCall, AllocError>
+        requires { Fits self.now.scope.now f.Reduce (given_of self.now.call.now) }
+        ensures { IfOk result (λ typed. IsMpiCall self.now.scope.now f.Reduce (given_of self.now.call.now) typed) }
+    {
+        let send = self.reference(0)?;
+        let receive = self.reference(1)?;
+        let count = self.value(2)?;
+        let op = self.operation(4);
+        let root = self.value(5)?;
+        let comm = self.value(6)?;
         Ok(MpiCall::Reduce {
-            send: self.reference(0)?,
-            receive: self.reference(1)?,
-            count: self.value(2)?,
-            op: self.operation(4),
-            root: self.value(5)?,
-            comm: self.value(6)?,
+            send,
+            receive,
+            count,
+            op,
+            root,
+            comm,
         })
     }
 
-    fn allreduce(&self) -> Result<MpiCall, AllocError> {
+    fn allreduce(&self) -> Result<MpiCall, AllocError>
+        requires { Fits self.now.scope.now f.Allreduce (given_of self.now.call.now) }
+        ensures { IfOk result (λ typed. IsMpiCall self.now.scope.now f.Allreduce (given_of self.now.call.now) typed) }
+    {
+        let send = self.reference(0)?;
+        let receive = self.reference(1)?;
+        let count = self.value(2)?;
+        let op = self.operation(4);
+        let comm = self.value(5)?;
         Ok(MpiCall::Allreduce {
-            send: self.reference(0)?,
-            receive: self.reference(1)?,
-            count: self.value(2)?,
-            op: self.operation(4),
-            comm: self.value(5)?,
+            send,
+            receive,
+            count,
+            op,
+            comm,
         })
     }
 
-    fn scan(&self) -> Result<MpiCall, AllocError> {
+    fn scan(&self) -> Result<MpiCall, AllocError>
+        requires { Fits self.now.scope.now f.Scan (given_of self.now.call.now) }
+        ensures { IfOk result (λ typed. IsMpiCall self.now.scope.now f.Scan (given_of self.now.call.now) typed) }
+    {
+        let send = self.reference(0)?;
+        let receive = self.reference(1)?;
+        let count = self.value(2)?;
+        let op = self.operation(4);
+        let comm = self.value(5)?;
         Ok(MpiCall::Scan {
-            send: self.reference(0)?,
-            receive: self.reference(1)?,
-            count: self.value(2)?,
-            op: self.operation(4),
-            comm: self.value(5)?,
+            send,
+            receive,
+            count,
+            op,
+            comm,
         })
     }
 
-    fn gather(&self) -> Result<MpiCall, AllocError> {
+    fn gather(&self) -> Result<MpiCall, AllocError>
+        requires { Fits self.now.scope.now f.Gather (given_of self.now.call.now) }
+        ensures { IfOk result (λ typed. IsMpiCall self.now.scope.now f.Gather (given_of self.now.call.now) typed) }
+    {
+        let send = self.buffer(0, 1)?;
+        let receive = self.buffer(3, 4)?;
+        let root = self.value(6)?;
+        let comm = self.value(7)?;
         Ok(MpiCall::Gather {
-            send: self.buffer(0)?,
-            receive: self.buffer(3)?,
-            root: self.value(6)?,
-            comm: self.value(7)?,
+            send,
+            receive,
+            root,
+            comm,
         })
     }
 
-    fn scatter(&self) -> Result<MpiCall, AllocError> {
+    fn scatter(&self) -> Result<MpiCall, AllocError>
+        requires { Fits self.now.scope.now f.Scatter (given_of self.now.call.now) }
+        ensures { IfOk result (λ typed. IsMpiCall self.now.scope.now f.Scatter (given_of self.now.call.now) typed) }
+    {
+        let send = self.buffer(0, 1)?;
+        let receive = self.buffer(3, 4)?;
+        let root = self.value(6)?;
+        let comm = self.value(7)?;
         Ok(MpiCall::Scatter {
-            send: self.buffer(0)?,
-            receive: self.buffer(3)?,
-            root: self.value(6)?,
-            comm: self.value(7)?,
+            send,
+            receive,
+            root,
+            comm,
         })
     }
 
-    fn allgather(&self) -> Result<MpiCall, AllocError> {
+    fn allgather(&self) -> Result<MpiCall, AllocError>
+        requires { Fits self.now.scope.now f.Allgather (given_of self.now.call.now) }
+        ensures { IfOk result (λ typed. IsMpiCall self.now.scope.now f.Allgather (given_of self.now.call.now) typed) }
+    {
+        let send = self.buffer(0, 1)?;
+        let receive = self.buffer(3, 4)?;
+        let comm = self.value(6)?;
         Ok(MpiCall::Allgather {
-            send: self.buffer(0)?,
-            receive: self.buffer(3)?,
-            comm: self.value(6)?,
+            send,
+            receive,
+            comm,
         })
     }
 
-    fn alltoall(&self) -> Result<MpiCall, AllocError> {
+    fn alltoall(&self) -> Result<MpiCall, AllocError>
+        requires { Fits self.now.scope.now f.Alltoall (given_of self.now.call.now) }
+        ensures { IfOk result (λ typed. IsMpiCall self.now.scope.now f.Alltoall (given_of self.now.call.now) typed) }
+    {
+        let send = self.buffer(0, 1)?;
+        let receive = self.buffer(3, 4)?;
+        let comm = self.value(6)?;
         Ok(MpiCall::Alltoall {
-            send: self.buffer(0)?,
-            receive: self.buffer(3)?,
-            comm: self.value(6)?,
+            send,
+            receive,
+            comm,
         })
     }
 
-    fn comm_split(&self) -> Result<MpiCall, AllocError> {
+    fn comm_split(&self) -> Result<MpiCall, AllocError>
+        requires { Fits self.now.scope.now f.CommSplit (given_of self.now.call.now) }
+        ensures { IfOk result (λ typed. IsMpiCall self.now.scope.now f.CommSplit (given_of self.now.call.now) typed) }
+    {
+        let comm = self.value(0)?;
+        let color = self.value(1)?;
+        let key = self.value(2)?;
+        let made = self.reference(3)?;
         Ok(MpiCall::CommSplit {
-            comm: self.value(0)?,
-            color: self.value(1)?,
-            key: self.value(2)?,
-            made: self.reference(3)?,
+            comm,
+            color,
+            key,
+            made,
         })
     }
 
-    fn comm_dup(&self) -> Result<MpiCall, AllocError> {
-        Ok(MpiCall::CommDup {
-            comm: self.value(0)?,
-            made: self.reference(1)?,
-        })
+    fn comm_dup(&self) -> Result<MpiCall, AllocError>
+        requires { Fits self.now.scope.now f.CommDup (given_of self.now.call.now) }
+        ensures { IfOk result (λ typed. IsMpiCall self.now.scope.now f.CommDup (given_of self.now.call.now) typed) }
+    {
+        let comm = self.value(0)?;
+        let made = self.reference(1)?;
+        Ok(MpiCall::CommDup { comm, made })
     }
 
-    fn abort(&self) -> Result<MpiCall, AllocError> {
-        Ok(MpiCall::Abort {
-            comm: self.value(0)?,
-            code: self.value(1)?,
-        })
+    fn abort(&self) -> Result<MpiCall, AllocError>
+        requires { Fits self.now.scope.now f.Abort (given_of self.now.call.now) }
+        ensures { IfOk result (λ typed. IsMpiCall self.now.scope.now f.Abort (given_of self.now.call.now) typed) }
+    {
+        let comm = self.value(0)?;
+        let code = self.value(1)?;
+        Ok(MpiCall::Abort { comm, code })
+    }
+
+    /// The call, by its function.
+    fn typed(&self, function: MpiFunction) -> Result<MpiCall, AllocError>
+        requires { Fits self.now.scope.now function (given_of self.now.call.now) }
+        ensures { IfOk result (λ typed. IsMpiCall self.now.scope.now function (given_of self.now.call.now) typed) }
+    {
+        match function {
+            MpiFunction::Init => Ok(MpiCall::Init),
+            MpiFunction::Finalize => Ok(MpiCall::Finalize),
+            MpiFunction::CommRank => self.comm_rank(),
+            MpiFunction::CommSize => self.comm_size(),
+            MpiFunction::GetCount => self.get_count(),
+            MpiFunction::CommFree => self.comm_free(),
+            MpiFunction::Send => self.send(),
+            MpiFunction::Recv => self.recv(),
+            MpiFunction::Sendrecv => self.sendrecv(),
+            MpiFunction::Isend => self.isend(),
+            MpiFunction::Irecv => self.irecv(),
+            MpiFunction::Wait => self.wait(),
+            MpiFunction::Waitall => self.waitall(),
+            MpiFunction::Waitany => self.waitany(),
+            MpiFunction::Waitsome => self.waitsome(),
+            MpiFunction::Test => self.test(),
+            MpiFunction::Testall => self.testall(),
+            MpiFunction::Testany => self.testany(),
+            MpiFunction::Testsome => self.testsome(),
+            MpiFunction::Probe => self.probe(),
+            MpiFunction::Iprobe => self.iprobe(),
+            MpiFunction::Barrier => self.barrier(),
+            MpiFunction::Bcast => self.bcast(),
+            MpiFunction::Reduce => self.reduce(),
+            MpiFunction::Allreduce => self.allreduce(),
+            MpiFunction::Scan => self.scan(),
+            MpiFunction::Gather => self.gather(),
+            MpiFunction::Scatter => self.scatter(),
+            MpiFunction::Allgather => self.allgather(),
+            MpiFunction::Alltoall => self.alltoall(),
+            MpiFunction::CommSplit => self.comm_split(),
+            MpiFunction::CommDup => self.comm_dup(),
+            MpiFunction::Abort => self.abort(),
+        }
     }
 }
 
@@ -342,41 +623,11 @@ pub fn mpi_call_of(
     scope: &Scope,
     function: MpiFunction,
     call: &Call,
-) -> Result<MpiCall, AllocError> {
+) -> Result<MpiCall, AllocError>
+    requires function { meaning scope.now call.now.name ≡ m.Known (p.Mpi function) }
+    requires faults { call_faults scope.now (call_view call.now) ≡ [] }
+    ensures { IfOk result (λ typed. IsMpiCall scope.now function (arguments_of (call_view call.now)) typed) }
+{
     let given = Given { alloc, scope, call };
-    match function {
-        MpiFunction::Init => Ok(MpiCall::Init),
-        MpiFunction::Finalize => Ok(MpiCall::Finalize),
-        MpiFunction::CommRank => given.comm_rank(),
-        MpiFunction::CommSize => given.comm_size(),
-        MpiFunction::GetCount => given.get_count(),
-        MpiFunction::CommFree => given.comm_free(),
-        MpiFunction::Send => given.send(),
-        MpiFunction::Recv => given.recv(),
-        MpiFunction::Sendrecv => given.sendrecv(),
-        MpiFunction::Isend => given.isend(),
-        MpiFunction::Irecv => given.irecv(),
-        MpiFunction::Wait => given.wait(),
-        MpiFunction::Waitall => given.waitall(),
-        MpiFunction::Waitany => given.waitany(),
-        MpiFunction::Waitsome => given.waitsome(),
-        MpiFunction::Test => given.test(),
-        MpiFunction::Testall => given.testall(),
-        MpiFunction::Testany => given.testany(),
-        MpiFunction::Testsome => given.testsome(),
-        MpiFunction::Probe => given.probe(),
-        MpiFunction::Iprobe => given.iprobe(),
-        MpiFunction::Barrier => given.barrier(),
-        MpiFunction::Bcast => given.bcast(),
-        MpiFunction::Reduce => given.reduce(),
-        MpiFunction::Allreduce => given.allreduce(),
-        MpiFunction::Scan => given.scan(),
-        MpiFunction::Gather => given.gather(),
-        MpiFunction::Scatter => given.scatter(),
-        MpiFunction::Allgather => given.allgather(),
-        MpiFunction::Alltoall => given.alltoall(),
-        MpiFunction::CommSplit => given.comm_split(),
-        MpiFunction::CommDup => given.comm_dup(),
-        MpiFunction::Abort => given.abort(),
-    }
+    given.typed(function)
 }

@@ -1,4 +1,3 @@
-use Rattle.std.proofs.Common.{◌≡◌}
 use Rattle.c_types.proofs.CallRules.{address_rule, address_from_rule}
 use Rattle.c_types.proofs.call_of.address_of.Goals as goal
 

@@ -1,4 +1,3 @@
-use Rattle.std.proofs.Common.{◌≡◌}
 use Rattle.c_grammar.specs.View.{view}
 use Rattle.c_types.proofs.CallRules.{array_rule}
 use Rattle.c_types.proofs.call_of.array_of.Goals as goal

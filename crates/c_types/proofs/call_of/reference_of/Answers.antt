@@ -1,4 +1,4 @@
-use Rattle.std.proofs.Common.{◌≡◌, sym, ◌∙◌}
+use Rattle.std.proofs.Common.{sym, ◌∙◌}
 use Rattle.c_grammar.specs.StmtView.{argument_view}
 use Rattle.c_types.proofs.CallRules.{null_rule}
 use Rattle.c_types.proofs.call_of.reference_of.Goals as goal

@@ -1,4 +1,3 @@
-use Rattle.std.proofs.Common.{◌≡◌}
 use Rattle.c_grammar.specs.View.{view}
 use Rattle.c_types.proofs.CallRules.{sum_rule}
 use Rattle.c_types.proofs.call_of.sum_of.Goals as goal

@@ -1,4 +1,3 @@
-use Rattle.std.proofs.Common.{◌≡◌}
 use Rattle.c_types.proofs.CallRules.{value_rule}
 use Rattle.c_types.proofs.call_of.value_of.Goals as goal
 

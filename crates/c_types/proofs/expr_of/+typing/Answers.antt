@@ -1,8 +1,7 @@
-use Rattle.std.proofs.Common.{rules, ◌≡◌, sym, ◌∙◌, ap, arith, subst, map}
+use Rattle.std.proofs.Common.{rules, ◌≡◌, ◌∙◌, ap, arith}
 use Rattle.std.proofs.lemmas.Grind.{common_steps}
-use Rattle.c_grammar.specs.View.{links_from, piece, view}
 use Rattle.c_check.specs.Scopes.{cut}
-use Rattle.c_types.specs.Exprs.{AreLinks, field_of}
+use Rattle.c_types.specs.Exprs.{field_of}
 use Rattle.c_types.proofs.ExprRules.{number_rule, value_rule, read_rule, field_rule, paren_rule, signed_rule, chain_rule, choice_rule, whole_rule, element_rule, links_more, links_end}
 use Rattle.c_types.proofs.expr_of.+typing.Goals as goal
 

@@ -1,4 +1,4 @@
-use Rattle.std.proofs.Common.{◌≡◌, ◌++◌, List, drop, map}
+use Rattle.std.proofs.Common.{◌++◌, List, drop, map}
 use Rattle.c_grammar.specs.View.{links_from, piece}
 use Rattle.c_types.specs.Exprs.{AreLinks}
 use Rattle.c_types.specs.declared.expr.Link.{Link}
