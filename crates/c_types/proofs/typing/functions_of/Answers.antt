@@ -1,4 +1,5 @@
-use Rattle.std.proofs.Common.{[]}
+use Rattle.std.proofs.Common.{rules, arith, []}
+use Rattle.std.proofs.lemmas.Grind.{common_steps}
 use Rattle.c_types.proofs.ProgramRules.{functions_end, functions_more, top_faultless, tops_faultless, tops_first, tops_rest}
 use Rattle.c_types.proofs.typing.functions_of.Goals as goal
 
@@ -14,7 +15,7 @@ pub loop-top-init : goal.loop-top-init
 loop-top-init c = record {
   tops = c.requires.tops;
   faults = ([], c.requires.faults);
-  typed = λ more rest. rest;
+  typed = first_of (search rules, grind (arith, common_steps));
 }
 
 pub loop-top-preserved : goal.loop-top-preserved
