@@ -1,2 +1,7 @@
 pub mod ExprRules
 pub mod CallRules
+pub mod Growing
+pub mod SimpleRules
+pub mod StatementRules
+pub mod ProgramRules
+pub mod CheckRules

@@ -1,6 +1,7 @@
 -- Which typed program is that of a tree without faults.
-use Rattle.std.specs.Prelude.{◌≡◌, ℕ, Bool, true, false, List, [], ◌∷◌, Option, Some, None}
+use Rattle.std.specs.Prelude.{◌≡◌, ◌++◌, ℕ, Bool, true, false, List, [], ◌∷◌, Option, Some, None}
 use Rattle.std.specs.List.{position}
+use Rattle.std.specs.Option.{option_to_list}
 use Rattle.c_grammar.specs.declared.word.Spot.{Spot}
 use Rattle.c_grammar.specs.Tree as t
 use Rattle.c_check.specs.Programs.{after_parameters, after_top, heads_of, is_main, parameter_name, text_env}
@@ -39,16 +40,18 @@ pub record IsFunction (env : Env) (head : t.Head) (parts : t.Parts) (typed : Fun
   pub parameters : AreParameters env.text (parameters_listed head.listed) typed.parameters.items
   pub body : AreParts (after_parameters (opened env) (is_main env.text head) (parameters_listed head.listed)) parts typed.body.items
 
+-- the function that stands at a place of the text, or nothing
+pub data IsFunctionOf (env : Env) : t.Top → Option Function → Type 0 where
+  define : {word name end : Spot} {value : t.Value} → IsFunctionOf env (t.define word name value end) None
+  prototype : {head : t.Head} {end : Spot} → IsFunctionOf env (t.prototype head end) None
+  function : {head : t.Head} {opening closing : Spot} {parts : t.Parts} {typed : Function} → IsFunction env head parts typed
+      → IsFunctionOf env (t.function head opening parts closing) (Some typed)
+
 -- defines are in their uses, and prototypes are gone
 pub data AreFunctions : Env → List t.Top → List Function → Type 0 where
   no_top : {env : Env} → AreFunctions env [] []
-  define : {env : Env} {word name end : Spot} {value : t.Value} {tops : List t.Top} {typed : List Function}
-      → AreFunctions (after_top env (t.define word name value end)) tops typed → AreFunctions env (t.define word name value end ∷ tops) typed
-  prototype : {env : Env} {head : t.Head} {end : Spot} {tops : List t.Top} {typed : List Function}
-      → AreFunctions env tops typed → AreFunctions env (t.prototype head end ∷ tops) typed
-  function : {env : Env} {head : t.Head} {opening closing : Spot} {parts : t.Parts} {tops : List t.Top} {typed : Function} {others : List Function}
-      → IsFunction env head parts typed → AreFunctions env tops others
-      → AreFunctions env (t.function head opening parts closing ∷ tops) (typed ∷ others)
+  top : {env : Env} {top : t.Top} {tops : List t.Top} {typed : Option Function} {others : List Function}
+      → IsFunctionOf env top typed → AreFunctions (after_top env top) tops others → AreFunctions env (top ∷ tops) (option_to_list typed ++ others)
 
 -- the typed program of a tree
 pub record IsProgram (text : List ℕ) (tree : t.Tree) (program : CProgram) : Type 0 where

@@ -1,12 +1,16 @@
 //! Typed calls of functions of the text, and right sides.
 
-ghost use Rattle.std.specs.Prelude.{◌≡◌, IfOk, None, true};
+ghost use Rattle.std.specs.Prelude.{◌≡◌, IfOk, [], None, true};
 ghost use Rattle.std.specs.Option.{is_some};
-ghost use Rattle.c_grammar.specs.StmtView.{argument_view};
+ghost use Rattle.c_grammar.specs.StmtView.{argument_view, call_view, right_view};
 ghost use Rattle.c_grammar.specs.Tree as t;
 ghost use Rattle.c_grammar.specs.View.{place_view, view};
-ghost use Rattle.c_check.specs.Calls.{array_sum, word_of};
-ghost use Rattle.c_types.specs.Calls.{IsReference, IsValue};
+ghost use Rattle.c_check.specs.Calls.{array_sum, call_faults, right_faults, word_of};
+ghost use Rattle.c_check.specs.Scopes.{meaning};
+ghost use Rattle.c_check.specs.declared.thing.ExprKind.{ExprKind};
+ghost use Rattle.c_check.specs.declared.thing.Meaning.TheVariants as m;
+ghost use Rattle.c_check.specs.declared.thing.Thing.TheVariants as d;
+ghost use Rattle.c_types.specs.Calls.{IsCall, IsReference, IsRight, IsValue};
 ghost use Rattle.c_types.specs.Shapes.{is_array, is_reference, is_value};
 
 use crate::expr::{Argument, Call, Expr, Reference, Right};
@@ -136,7 +140,11 @@ pub fn call_of(
     scope: &Scope,
     number: usize,
     call: &statement::Call,
-) -> Result<Call, AllocError> {
+) -> Result<Call, AllocError>
+    requires meaning { meaning scope.now call.now.name ≡ m.Declared (d.Function number) }
+    requires faults { call_faults scope.now (call_view call.now) ≡ [] }
+    ensures { IfOk result (λ typed. IsCall scope.now (call_view call.now) typed) }
+{
     let mut arguments = Vec::new(alloc);
     let Some(takes) = takes_of(scope, Meaning::Declared(Thing::Function(number)), call) else {
         unreachable!()
@@ -161,7 +169,10 @@ pub fn right_of(
     alloc: Global,
     scope: &Scope,
     right: &statement::Right,
-) -> Result<Right, AllocError> {
+) -> Result<Right, AllocError>
+    requires { (wanted : ExprKind) × (right_faults scope.now wanted (right_view right.now) ≡ []) }
+    ensures { IfOk result (λ typed. IsRight scope.now (right_view right.now) typed) }
+{
     match right {
         statement::Right::Value(e) => Ok(Right::Value(expr_of(alloc, scope, e)?)),
         statement::Right::Call(call) => match scope.meaning(call.name) {

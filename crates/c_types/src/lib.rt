@@ -12,7 +12,7 @@ mod statement_of;
 pub mod typing;
 
 pub use program::CProgram;
-pub use typing::{check, read_program};
+pub use typing::{check, one_program, read_program};
 
 #[cfg(test)]
 mod tests;

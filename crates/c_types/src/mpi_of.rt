@@ -1,5 +1,13 @@
 //! Typed calls of MPI functions.
 
+ghost use Rattle.std.specs.Prelude.{◌≡◌, IfOk, []};
+ghost use Rattle.c_grammar.specs.StmtView.{call_view};
+ghost use Rattle.c_names.specs.declared.predefined.Predefined.TheVariants as p;
+ghost use Rattle.c_check.specs.Calls.{arguments_of, call_faults};
+ghost use Rattle.c_check.specs.Scopes.{meaning};
+ghost use Rattle.c_check.specs.declared.thing.Meaning.TheVariants as m;
+ghost use Rattle.c_types.specs.MpiCalls.{IsMpiCall};
+
 use crate::call_of::reference_of;
 use crate::expr::{Expr, Reference};
 use crate::expr_of::expr_of;
@@ -342,7 +350,11 @@ pub fn mpi_call_of(
     scope: &Scope,
     function: MpiFunction,
     call: &Call,
-) -> Result<MpiCall, AllocError> {
+) -> Result<MpiCall, AllocError>
+    requires meaning { meaning scope.now call.now.name ≡ m.Known (p.Mpi function) }
+    requires faults { call_faults scope.now (call_view call.now) ≡ [] }
+    ensures { IfOk result (λ typed. IsMpiCall scope.now function (arguments_of (call_view call.now)) typed) }
+{
     let given = Given { alloc, scope, call };
     match function {
         MpiFunction::Init => Ok(MpiCall::Init),
