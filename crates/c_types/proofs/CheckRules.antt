@@ -1,6 +1,7 @@
 -- The first fault is one, and has one place.
-use Rattle.std.proofs.Common.{◌≡◌, ◌+◌, ◌-◌, ℕ, min, Bool, true, false, List, [], ◌∷◌, Ok, Err, length, refl, sym, subst, ap, ◌∙◌, arith}
+use Rattle.std.proofs.Common.{◌≡◌, ◌⊎◌, inl, inr, ◌+◌, ◌-◌, ℕ, min, Bool, true, false, List, [], ◌∷◌, Ok, Err, length, refl, sym, subst, ap, ◌∙◌, arith}
 use Rattle.std.proofs.lemmas.Bool.Decides.{nat_tests}
+use Rattle.c_lex.specs.NoMemory.{no_memory}
 use Rattle.c_lex.specs.Places.{IsPlaceOf}
 use Rattle.c_lex.specs.declared.fault.SourceFault.{SourceFault}
 use Rattle.c_lex.specs.declared.fault.Why.{Why}
@@ -141,3 +142,26 @@ never_both text program fault p (x.of_tree list l a) = tree_never text p.tokens 
 never_both text program fault p (x.of_types list tree l t a) =
     let same : tree ≡ p.tree = tree_one text list p.tokens tree p.tree (lists_one text list p.tokens l p.lexed) t p.parsed in
     first_is_one text (faults text tree) fault a (ap (faults text) same ∙ p.faultless)
+
+pub refusal_only : (text : List ℕ) (fault : SourceFault) → (fault ≡ no_memory) ⊎ IsFaultOf text fault → (program : CProgram) → IsProgramOf text program → fault ≡ no_memory
+refusal_only text fault (inl e) program p = e
+refusal_only text fault (inr f) program p = absurd (never_both text program fault p f)
+
+pub refusal_one : (text : List ℕ) (fault : SourceFault) → (fault ≡ no_memory) ⊎ IsFaultOf text fault → (first : SourceFault) → IsFaultOf text first
+    → (fault ≡ no_memory) ⊎ (fault ≡ first)
+refusal_one text fault (inl e) first f = inl e
+refusal_one text fault (inr g) first f = inr (fault_one text fault first g f)
+
+pub of_tokens : (text : List ℕ) (fault : SourceFault) → (fault ≡ no_memory) ⊎ lexed.IsFirstFault text fault → (fault ≡ no_memory) ⊎ IsFaultOf text fault
+of_tokens text fault (inl e) = inl e
+of_tokens text fault (inr f) = inr (x.of_tokens f)
+
+pub of_tree : (text : List ℕ) (tokens : List Token) (fault : SourceFault) → AreTokens text tokens → (fault ≡ no_memory) ⊎ parsed.IsFirstFault text tokens fault
+    → (fault ≡ no_memory) ⊎ IsFaultOf text fault
+of_tree text tokens fault l (inl e) = inl e
+of_tree text tokens fault l (inr f) = inr (x.of_tree tokens l f)
+
+pub of_types : (text : List ℕ) (tokens : List Token) (tree : Tree) (fault : SourceFault) → AreTokens text tokens → IsTree text tokens tree
+    → (fault ≡ no_memory) ⊎ IsFirstIn text (faults text tree) fault → (fault ≡ no_memory) ⊎ IsFaultOf text fault
+of_types text tokens tree fault l t (inl e) = inl e
+of_types text tokens tree fault l t (inr f) = inr (x.of_types tokens tree l t f)

@@ -31,6 +31,7 @@ use Rattle.c_check.specs.declared.thing.Kind.{Kind}
 use Rattle.c_check.specs.declared.thing.Kind.TheVariants.{Int}
 use Rattle.c_check.specs.declared.thing.Thing.{Thing}
 use Rattle.c_check.proofs.Lists.{drop_at, drop_past}
+use Rattle.c_check.proofs.More.{after_items_next, after_parts_next}
 use Rattle.c_check.proofs.Rows.{behind_viewed}
 use Rattle.c_lex.specs.declared.fault.Why.TheVariants.{WrongType}
 use Rattle.c_types.specs.Exprs.{IsExpr}
@@ -59,10 +60,10 @@ exprs_more env values i value whole before after typed e less is h =
     grown (P (drop i values)) (P (drop (i + 1) values)) (λ all. AreExprs env whole all) before after typed e
     (λ more rest. subst (λ left. P left (typed ∷ more)) (sym (drop_at values i value less is)) (x.expr h rest))
 
-pub exprs_begin : (env : Env) (first : t.Expr) (values all : List (Behind source_expr.Expr)) (before after : List Expr) (typed : Expr)
-    → values ≡ all → before ≡ [] → after ≡ before ++ typed ∷ [] → IsExpr env first typed
+pub exprs_begin : (env : Env) (first : t.Expr) (values all : List (Behind source_expr.Expr)) (after : List Expr) (typed : Expr)
+    → values ≡ all → IsExpr env first typed → after ≡ typed ∷ []
     → (more : List Expr) → AreExprs env (behind_viewed view values) more → AreExprs env (first ∷ behind_viewed view all) (after ++ more)
-exprs_begin env first values all before after typed v b e h more rest = rw (e, b) (x.expr h (rw v at rest))
+exprs_begin env first values all after typed v h e more rest = rw e (x.expr h (rw v at rest))
 
 pub exprs_end : (env : Env) (values : List (Behind source_expr.Expr)) (i : ℕ) (whole : List t.Expr) (typed : List Expr) → length values ≤ i
     → ((more : List Expr) → AreExprs env (behind_viewed view (drop i values)) more → AreExprs env whole (typed ++ more)) → AreExprs env whole typed
@@ -76,28 +77,35 @@ pub begun_right : (env : Env) (name mark : Spot) (thing : Thing) (right : t.Righ
     → (wanted : ExprKind) × (right_faults env wanted right ≡ [])
 begun_right env name mark thing right e = (begun_takes (begins_with thing), none_right (unless (can_begin (begins_with thing)) name WrongType) _ e)
 
-pub item_initial : (env : Env) (kind : Kind) (item : t.Item) → item_faults env kind item ≡ []
-    → (name : Spot) × (thing : Thing) × (initial_faults (after_item env kind item) name thing item.initial ≡ [])
-item_initial env kind item e =
-    (place_start item.place, declared_thing env kind item.place, none_right (place_length_faults env item.place ++ twice_faults env (place_start item.place)) _ e)
+pub item_initial : (env now : Env) (kind : Kind) (item : t.Item) → now ≡ after_item env kind item → item_faults env kind item ≡ []
+    → (name : Spot) × (thing : Thing) × (initial_faults now name thing item.initial ≡ [])
+item_initial env now kind item n e =
+    rw n (place_start item.place, declared_thing env kind item.place, none_right (place_length_faults env item.place ++ twice_faults env (place_start item.place)) _ e)
 
-pub items_first : (env : Env) (kind : Kind) (item : t.Item) (items : List t.Item) → items_faults env kind (item ∷ items) ≡ [] → item_faults env kind item ≡ []
-items_first env kind item items e = none_left (item_faults env kind item) _ e
+pub items_first : (env : Env) (kind meant : Kind) (item : t.Item) (items : List t.Item) → kind ≡ meant → items_faults env meant (item ∷ items) ≡ [] → item_faults env kind item ≡ []
+items_first env kind meant item items k e = rw k (none_left (item_faults env meant item) _ e)
 
-pub items_rest : (env : Env) (kind : Kind) (item : t.Item) (items : List t.Item) → items_faults env kind (item ∷ items) ≡ []
-    → items_faults (after_item env kind item) kind items ≡ []
-items_rest env kind item items e = none_right (item_faults env kind item) _ e
+pub items_start : (env now : Env) (kind meant : Kind) (first : t.Item) (items all : List (Behind source_item.Item)) → kind ≡ meant → items ≡ all → now ≡ after_item env kind first
+    → items_faults env meant (first ∷ behind_viewed item_view all) ≡ [] → items_faults now kind (behind_viewed item_view items) ≡ []
+items_start env now kind meant first items all k v n e = rw (n, v, k) (none_right (item_faults env meant first) _ e)
 
 pub item_next : (env : Env) (kind : Kind) (items : List (Behind source_item.Item)) (i : ℕ) (item : Behind source_item.Item) → i < length items → item ≡ get_or items i item
     → items_faults env kind (behind_viewed item_view (drop i items)) ≡ [] → item_faults env kind (item_view item.item) ≡ []
 item_next env kind items i item less is e =
-    items_first env kind (item_view item.item) (behind_viewed item_view (drop (i + 1) items)) (rw (drop_at items i item less is) at e)
+    let all : items_faults env kind (item_view item.item ∷ behind_viewed item_view (drop (i + 1) items)) ≡ [] = rw (drop_at items i item less is) at e in
+    none_left (item_faults env kind (item_view item.item)) _ all
 
-pub items_next : (env : Env) (kind : Kind) (items : List (Behind source_item.Item)) (i : ℕ) (item : Behind source_item.Item) → i < length items → item ≡ get_or items i item
-    → items_faults env kind (behind_viewed item_view (drop i items)) ≡ []
-    → items_faults (after_item env kind (item_view item.item)) kind (behind_viewed item_view (drop (i + 1) items)) ≡ []
-items_next env kind items i item less is e =
-    items_rest env kind (item_view item.item) (behind_viewed item_view (drop (i + 1) items)) (rw (drop_at items i item less is) at e)
+pub items_next : (env now : Env) (kind : Kind) (items : List (Behind source_item.Item)) (i : ℕ) (item : Behind source_item.Item) → i < length items → item ≡ get_or items i item
+    → now ≡ after_item env kind (item_view item.item) → items_faults env kind (behind_viewed item_view (drop i items)) ≡ []
+    → items_faults now kind (behind_viewed item_view (drop (i + 1) items)) ≡ []
+items_next env now kind items i item less is n e =
+    let all : items_faults env kind (item_view item.item ∷ behind_viewed item_view (drop (i + 1) items)) ≡ [] = rw (drop_at items i item less is) at e in
+    rw n (none_right (item_faults env kind (item_view item.item)) _ all)
+
+pub items_after : (env now last : Env) (kind : Kind) (items : List (Behind source_item.Item)) (i : ℕ) (item : Behind source_item.Item) → i < length items → item ≡ get_or items i item
+    → now ≡ after_item env kind (item_view item.item) → after_items env kind (behind_viewed item_view (drop i items)) ≡ last
+    → after_items now kind (behind_viewed item_view (drop (i + 1) items)) ≡ last
+items_after env now last kind items i item less is n e = rw n (sym (after_items_next env kind items i item less is) ∙ e)
 
 pub items_more : (env start now : Env) (kind : Kind) (items : List (Behind source_item.Item)) (i : ℕ) (item : Behind source_item.Item) (whole : List t.Item)
     (before after : List Item) (typed : Item) → after ≡ before ++ typed ∷ [] → i < length items → item ≡ get_or items i item
@@ -110,16 +118,17 @@ items_more env start now kind items i item whole before after typed e less is h 
     (λ more rest. subst (λ left. P env left (typed ∷ more)) (sym (drop_at items i item less is))
     (x.item h (subst (λ here. P here (drop (i + 1) items) more) n rest)))
 
-pub items_begin : (env now : Env) (kind : Kind) (first : t.Item) (items all : List (Behind source_item.Item)) (before after : List Item) (typed : Item)
-    → items ≡ all → before ≡ [] → after ≡ before ++ typed ∷ [] → IsItem env kind first typed → now ≡ after_item env kind first
+pub items_begin : (env now : Env) (kind : Kind) (first : t.Item) (items all : List (Behind source_item.Item)) (after : List Item) (typed : Item)
+    → items ≡ all → IsItem env kind first typed → now ≡ after_item env kind first → after ≡ typed ∷ []
     → (more : List Item) → AreItems kind now (behind_viewed item_view items) more → AreItems kind env (first ∷ behind_viewed item_view all) (after ++ more)
-items_begin env now kind first items all before after typed v b e h n more rest = rw (e, b) (x.item h (rw (v, n) at rest))
+items_begin env now kind first items all after typed v h n e more rest = rw e (x.item h (rw (v, n) at rest))
 
-pub items_end : (env start : Env) (kind : Kind) (items : List (Behind source_item.Item)) (i : ℕ) (whole : List t.Item) (typed : List Item) → length items ≤ i
-    → ((more : List Item) → AreItems kind env (behind_viewed item_view (drop i items)) more → AreItems kind start whole (typed ++ more)) → AreItems kind start whole typed
-items_end env start kind items i whole typed past so_far =
+pub items_end : (env start : Env) (kind meant : Kind) (items : List (Behind source_item.Item)) (i : ℕ) (whole : List t.Item) (typed : List Item) → kind ≡ meant → length items ≤ i
+    → ((more : List Item) → AreItems kind env (behind_viewed item_view (drop i items)) more → AreItems kind start whole (typed ++ more)) → AreItems meant start whole typed
+items_end env start kind meant items i whole typed k past so_far =
     let P : List (Behind source_item.Item) → List Item → Type 0 = λ left all. AreItems kind env (behind_viewed item_view left) all in
-    ended (P (drop i items)) (λ all. AreItems kind start whole all) typed (subst (λ left. P left []) (sym (drop_past items i past)) x.no_item) so_far
+    subst (λ (one : Kind). AreItems one start whole typed) k
+    (ended (P (drop i items)) (λ all. AreItems kind start whole all) typed (subst (λ left. P left []) (sym (drop_past items i past)) x.no_item) so_far)
 
 -- ---- what a function gives back
 
@@ -154,7 +163,7 @@ empty_rule env stmt at is = rw (is, view-empty) x.empty
 pub simple_faultless : (env : Env) (stmt : source.Stmt) (simple : source_simple.Simple) (end : Spot) → stmt ≡ ts.Simple simple end
     → IsFaultless env (stmt_view stmt) → simple_faults env (simple_view simple) ≡ []
 simple_faultless env stmt simple end is f =
-    let g : IsFaultless env (t.simple (simple_view simple) end) = rw (is, view-simple) at f in g.1.1
+    let g : IsFaultless env (t.simple (simple_view simple) end) = rw (is, view-simple) at f in g.2
 
 pub simple_rule : (env : Env) (stmt : source.Stmt) (simple : source_simple.Simple) (end : Spot) (typed : Simple) → stmt ≡ ts.Simple simple end
     → IsSimple env (simple_view simple) typed → IsStmt env (stmt_view stmt) (s.Simple typed)
@@ -169,7 +178,7 @@ continue_rule env stmt word end is = rw (is, view-continue) x.continue
 pub return_faultless : (env : Env) (stmt : source.Stmt) (word : Spot) (value : Option source_right.Right) (end : Spot) → stmt ≡ ts.Return word value end
     → IsFaultless env (stmt_view stmt) → (gives : Bool) × (return_faults env gives (option_map right_view value) ≡ [])
 return_faultless env stmt word value end is f =
-    let g : IsFaultless env (t.return word (option_map right_view value) end) = rw (is, view-return) at f in (g.0, g.1.1)
+    let g : IsFaultless env (t.return word (option_map right_view value) end) = rw (is, view-return) at f in (g.0, g.2)
 
 pub return_rule : (env : Env) (stmt : source.Stmt) (word : Spot) (value : Option source_right.Right) (end : Spot) (typed : Option Right) → stmt ≡ ts.Return word value end
     → IsReturn env (option_map right_view value) typed → IsStmt env (stmt_view stmt) (s.Return typed)
@@ -179,7 +188,7 @@ pub if_taken : (env : Env) (stmt : source.Stmt) (word opening : Spot) (test : so
     → stmt ≡ ts.If word opening test closing then → IsFaultless env (stmt_view stmt) → IsFaultless env (stmt_view then.value)
 if_taken env stmt word opening test closing then is f =
     let g : IsFaultless env (t.if_only word opening (view test) closing (stmt_view then.value)) = rw (is, view-if_only) at f in
-    (g.0, g.1.0, none_right (int_faults env (view test)) _ g.1.1)
+    (g.0, g.1, none_right (int_faults env (view test)) _ g.2)
 
 pub if_rule : (env : Env) (stmt : source.Stmt) (word opening : Spot) (test : source_expr.Expr) (closing : Spot) (then : Box source.Stmt Global) (e : Expr) (a : Box Stmt Global)
     → stmt ≡ ts.If word opening test closing then → IsExpr env (view test) e → IsStmt env (stmt_view then.value) a.value → IsStmt env (stmt_view stmt) (s.If e a)
@@ -189,13 +198,13 @@ pub both_taken : (env : Env) (stmt : source.Stmt) (word opening : Spot) (test : 
     → stmt ≡ ts.IfElse word opening test closing then other_word other → IsFaultless env (stmt_view stmt) → IsFaultless env (stmt_view then.value)
 both_taken env stmt word opening test closing then other_word other is f =
     let g : IsFaultless env (t.if_else word opening (view test) closing (stmt_view then.value) other_word (stmt_view other.value)) = rw (is, view-if_else) at f in
-    (g.0, g.1.0, none_right (int_faults env (view test)) _ (none_left _ _ g.1.1))
+    (g.0, g.1, none_right (int_faults env (view test)) _ (none_left _ _ g.2))
 
 pub both_spared : (env now : Env) (stmt : source.Stmt) (word opening : Spot) (test : source_expr.Expr) (closing : Spot) (then : Box source.Stmt Global) (other_word : Spot) (other : Box source.Stmt Global)
     → stmt ≡ ts.IfElse word opening test closing then other_word other → now ≡ env → IsFaultless env (stmt_view stmt) → IsFaultless now (stmt_view other.value)
 both_spared env now stmt word opening test closing then other_word other is n f =
     let g : IsFaultless env (t.if_else word opening (view test) closing (stmt_view then.value) other_word (stmt_view other.value)) = rw (is, view-if_else) at f in
-    rw n (g.0, g.1.0, none_right (int_faults env (view test) ++ stmt_faults env g.0 g.1.0 (stmt_view then.value)) _ g.1.1)
+    rw n (g.0, g.1, none_right (int_faults env (view test) ++ stmt_faults env g.0 g.1 (stmt_view then.value)) _ g.2)
 
 pub both_rule : (env now : Env) (stmt : source.Stmt) (word opening : Spot) (test : source_expr.Expr) (closing : Spot) (then : Box source.Stmt Global) (other_word : Spot) (other : Box source.Stmt Global)
     (e : Expr) (a b : Box Stmt Global) → stmt ≡ ts.IfElse word opening test closing then other_word other → now ≡ env
@@ -206,7 +215,7 @@ pub while_body : (env : Env) (stmt : source.Stmt) (word opening : Spot) (test : 
     → stmt ≡ ts.While word opening test closing body → IsFaultless env (stmt_view stmt) → IsFaultless env (stmt_view body.value)
 while_body env stmt word opening test closing body is f =
     let g : IsFaultless env (t.while word opening (view test) closing (stmt_view body.value)) = rw (is, view-while) at f in
-    (g.0, true, none_right (int_faults env (view test)) _ g.1.1)
+    (g.0, true, none_right (int_faults env (view test)) _ g.2)
 
 pub while_rule : (env : Env) (stmt : source.Stmt) (word opening : Spot) (test : source_expr.Expr) (closing : Spot) (body : Box source.Stmt Global) (e : Expr) (a : Box Stmt Global)
     → stmt ≡ ts.While word opening test closing body → IsExpr env (view test) e → IsStmt env (stmt_view body.value) a.value → IsStmt env (stmt_view stmt) (s.While e a)
@@ -216,7 +225,7 @@ pub do_body : (env : Env) (stmt : source.Stmt) (word : Spot) (body : Box source.
     → stmt ≡ ts.Do word body while_word opening test closing end → IsFaultless env (stmt_view stmt) → IsFaultless env (stmt_view body.value)
 do_body env stmt word body while_word opening test closing end is f =
     let g : IsFaultless env (t.do_while word (stmt_view body.value) while_word opening (view test) closing end) = rw (is, view-do_while) at f in
-    (g.0, true, none_left _ _ g.1.1)
+    (g.0, true, none_left _ _ g.2)
 
 pub do_rule : (env now : Env) (stmt : source.Stmt) (word : Spot) (body : Box source.Stmt Global) (while_word opening : Spot) (test : source_expr.Expr) (closing end : Spot) (e : Expr) (a : Box Stmt Global)
     → stmt ≡ ts.Do word body while_word opening test closing end → now ≡ env → IsStmt env (stmt_view body.value) a.value → IsExpr now (view test) e
@@ -232,19 +241,19 @@ module _ (env : Env) (stmt : source.Stmt) (word opening : Spot) (start : source_
   pub for_start : (now : Env) → now ≡ opened env → IsFaultless env (stmt_view stmt) → start_faults now (start_view start) ≡ []
   for_start now n f =
       let g : IsFaultless env (t.for word opening (start_view start) start_end (option_map view test) test_end (option_map simple_view step) closing (stmt_view body.value)) = rw (is, view-for) at f in
-      rw n (none_left _ _ (none_left _ _ (none_left _ _ g.1.1)))
+      rw n (none_left _ _ (none_left _ _ (none_left _ _ g.2)))
 
   pub for_step : (first now : Env) → first ≡ opened env → now ≡ after_start first (start_view start) → IsFaultless env (stmt_view stmt)
       → step_faults now (option_map simple_view step) ≡ []
   for_step first now o n f =
       let g : IsFaultless env (t.for word opening (start_view start) start_end (option_map view test) test_end (option_map simple_view step) closing (stmt_view body.value)) = rw (is, view-for) at f in
-      rw (n, o) (none_right (start_faults (opened env) (start_view start) ++ test_faults inside (option_map view test)) _ (none_left _ _ g.1.1))
+      rw (n, o) (none_right (start_faults (opened env) (start_view start) ++ test_faults inside (option_map view test)) _ (none_left _ _ g.2))
 
   pub for_body : (first now : Env) → first ≡ opened env → now ≡ after_start first (start_view start) → IsFaultless env (stmt_view stmt) → IsFaultless now (stmt_view body.value)
   for_body first now o n f =
       let g : IsFaultless env (t.for word opening (start_view start) start_end (option_map view test) test_end (option_map simple_view step) closing (stmt_view body.value)) = rw (is, view-for) at f in
       rw (n, o)
-      (g.0, true, none_right ((start_faults (opened env) (start_view start) ++ test_faults inside (option_map view test)) ++ step_faults inside (option_map simple_view step)) _ g.1.1)
+      (g.0, true, none_right ((start_faults (opened env) (start_view start) ++ test_faults inside (option_map view test)) ++ step_faults inside (option_map simple_view step)) _ g.2)
 
   pub for_rule : (first now : Env) (typed_start : ForStart) (typed_test : Option Expr) (typed_step : Option Simple) (a : Box Stmt Global)
       → first ≡ opened env → now ≡ after_start first (start_view start)
@@ -259,7 +268,7 @@ module _ (env : Env) (stmt : source.Stmt) (word opening : Spot) (start : source_
 pub declare_faultless : (env : Env) (part : source_part.Part) (declaration : source_declaration.Declaration) (end : Spot) → part ≡ tp.Declaration declaration end
     → IsFaultlessPart env (part_view part) → declaration_faults env (declaration_view declaration) ≡ []
 declare_faultless env part declaration end is f =
-    let g : IsFaultlessPart env (t.declare (declaration_view declaration) end) = rw (is, view-declare) at f in g.1.1
+    let g : IsFaultlessPart env (t.declare (declaration_view declaration) end) = rw (is, view-declare) at f in g.2
 
 pub declare_rule : (env : Env) (part : source_part.Part) (declaration : source_declaration.Declaration) (end : Spot) (typed : Declaration) → part ≡ tp.Declaration declaration end
     → IsDeclaration env (declaration_view declaration) typed → IsPart env (part_view part) (q.Declaration typed)
@@ -267,7 +276,7 @@ declare_rule env part declaration end typed is h = rw (is, view-declare) (x.decl
 
 pub stmt_faultless : (env : Env) (part : source_part.Part) (inner : source.Stmt) → part ≡ tp.Stmt inner → IsFaultlessPart env (part_view part) → IsFaultless env (stmt_view inner)
 stmt_faultless env part inner is f =
-    let g : IsFaultlessPart env (t.stmt (stmt_view inner)) = rw (is, view-stmt) at f in (g.0, g.1.0, g.1.1)
+    let g : IsFaultlessPart env (t.stmt (stmt_view inner)) = rw (is, view-stmt) at f in (g.0, g.1, g.2)
 
 pub stmt_rule : (env : Env) (part : source_part.Part) (inner : source.Stmt) (typed : Stmt) → part ≡ tp.Stmt inner
     → IsStmt env (stmt_view inner) typed → IsPart env (part_view part) (q.Stmt typed)
@@ -277,13 +286,17 @@ pub part_next : (env : Env) (parts : List source_part.Part) (i : ℕ) (part : so
     → AreFaultless env (parts_view (drop i parts)) → IsFaultlessPart env (part_view part)
 part_next env parts i part less is f =
     let g : AreFaultless env (t.part (part_view part) (parts_view (drop (i + 1) parts))) = rw (drop_at parts i part less is) at f in
-    (g.0, g.1.0, none_left _ _ g.1.1)
+    (g.0, g.1, none_left _ _ g.2)
 
 pub parts_next : (env now : Env) (parts : List source_part.Part) (i : ℕ) (part : source_part.Part) → i < length parts → part ≡ get_or parts i part
     → now ≡ after_part env (part_view part) → AreFaultless env (parts_view (drop i parts)) → AreFaultless now (parts_view (drop (i + 1) parts))
 parts_next env now parts i part less is n f =
     let g : AreFaultless env (t.part (part_view part) (parts_view (drop (i + 1) parts))) = rw (drop_at parts i part less is) at f in
-    rw n (g.0, g.1.0, none_right (part_faults env g.0 g.1.0 (part_view part)) _ g.1.1)
+    rw n (g.0, g.1, none_right (part_faults env g.0 g.1 (part_view part)) _ g.2)
+
+pub parts_after : (env now last : Env) (parts : List source_part.Part) (i : ℕ) (part : source_part.Part) → i < length parts → part ≡ get_or parts i part
+    → now ≡ after_part env (part_view part) → after_parts env (parts_view (drop i parts)) ≡ last → after_parts now (parts_view (drop (i + 1) parts)) ≡ last
+parts_after env now last parts i part less is n e = rw n (sym (after_parts_next env parts i part less is) ∙ e)
 
 pub parts_more : (env start now : Env) (parts : List source_part.Part) (i : ℕ) (part : source_part.Part) (before after : List Part) (typed : Part)
     → after ≡ before ++ typed ∷ [] → i < length parts → part ≡ get_or parts i part → IsPart env (part_view part) typed → now ≡ after_part env (part_view part)

@@ -73,7 +73,7 @@ fn step_of(
 
 /// The text that an argument is.
 fn text_at(argument: &statement::Argument) -> Spot
-    requires { (at : Spot) × (argument_view argument.now ≡ t.text at) }
+    requires { argument_view argument.now ≡ t.text (checked.argument_start (argument_view argument.now)) }
     ensures { argument_view argument.now ≡ t.text result }
 {
     match argument {
@@ -213,6 +213,24 @@ fn values_of(
     Ok(typed)
 }
 
+fn begun_of(
+    alloc: Global,
+    scope: &Scope,
+    initial: &statement::Initial,
+) -> Result<Initial, AllocError>
+    requires { (name : Spot) × (thing : Thing) × (initial_faults scope.now name thing (Some (initial_view initial.now)) ≡ []) }
+    ensures { IfOk result (λ typed. IsInitial scope.now (Some (initial_view initial.now)) typed) }
+{
+    match initial {
+        statement::Initial::Right { right, .. } => {
+            Ok(Initial::Right(right_of(alloc, scope, right)?))
+        }
+        statement::Initial::Braced { values, .. } => {
+            Ok(Initial::Values(values_of(alloc, scope, values)?))
+        }
+    }
+}
+
 fn initial_of(
     alloc: Global,
     scope: &Scope,
@@ -223,11 +241,9 @@ fn initial_of(
 {
     match initial {
         None => Ok(Initial::Nothing),
-        Some(statement::Initial::Right { right, .. }) => {
-            Ok(Initial::Right(right_of(alloc, scope, right)?))
-        }
-        Some(statement::Initial::Braced { values, .. }) => {
-            Ok(Initial::Values(values_of(alloc, scope, values)?))
+        Some(initial) => {
+            let typed = begun_of(alloc, scope, initial)?;
+            Ok(typed)
         }
     }
 }

@@ -1,10 +1,11 @@
 //! Checking a tree, and reading a program.
-ghost use Rattle.std.specs.Prelude.{◌≡◌, ◌≤◌, ◌⊎◌, ◌++◌, ℕ, List, IfErr, IfOk, MatchResult, OnOk, Some, [], length, map, true};
+ghost use Rattle.std.specs.Prelude.{◌≡◌, ◌≤◌, ◌⊎◌, ◌++◌, ℕ, List, IfErr, IfOk, MatchResult, OnOk, Some, [], length, map, min, true};
 ghost use Rattle.std.specs.List.{list_any, position};
 ghost use Rattle.std.specs.Option.{is_some, option_to_list};
 ghost use Rattle.c_grammar.specs.StmtGrammar.{AreTops, IsTop, is_named};
 ghost use Rattle.c_grammar.specs.StmtView.{head_view, parameter_view, parameters_view, parts_view, top_view, tree_view};
 ghost use Rattle.c_lex.specs.NoMemory.{no_memory};
+ghost use Rattle.c_lex.specs.Places.{IsPlaceOf};
 ghost use Rattle.c_lex.specs.declared.fault.SourceFault.{SourceFault};
 ghost use Rattle.c_check.specs.Programs.{after_parameter, after_parameters, after_top, faults, function_faults, heads_of, is_main, parameter_name, top_faults, tops_faults, with_head};
 ghost use Rattle.c_check.specs.Signatures.{parameters_listed};
@@ -14,6 +15,7 @@ ghost use Rattle.c_types.specs.declared.program.CProgram.{CProgram};
 
 use crate::program::{CProgram, Function, Parameter, ParameterKind};
 use crate::statement_of::parts_of;
+use c_check::fault::Fault;
 use c_check::call::{is_int, parameter_at, parameter_count};
 use c_check::program::{
     define_value, first_fault, is_main, parameter_name, parameter_thing, text_scope,
@@ -83,6 +85,7 @@ fn parameters_of(
 }
 
 /// A function; the scope is then as before.
+#[tactic(auto, using(c_check::proofs::Closed::closed_function))]
 fn function_of(
     alloc: Global,
     scope: &mut Scope,
@@ -129,10 +132,13 @@ fn top_of(alloc: Global, scope: &mut Scope, top: &Top) -> Result<Option<Function
 fn push(functions: &mut Vec<Function>, function: Option<Function>) -> Result<(), AllocError>
     ensures { OnOk result (functions.new.items ≡ functions.old.items ++ option_to_list function) }
 {
-    if let Some(function) = function {
-        functions.push(function)?;
+    match function {
+        Some(function) => {
+            functions.push(function)?;
+            Ok(())
+        }
+        None => Ok(()),
     }
-    Ok(())
 }
 
 /// The functions of a text, in order.
@@ -165,7 +171,8 @@ fn is_main_top(text: &[u8], top: &Top) -> bool
 
 /// How many functions stand there, 1 or 0.
 fn function_count(top: &Top) -> usize
-    ensures { result ≡ length (with_head (top_view top.now) []) }
+    ensures count { result ≡ length (with_head (top_view top.now) []) }
+    ensures most { result ≤ 1 }
 {
     match top {
         Top::Function { .. } => 1,
@@ -201,6 +208,16 @@ fn program_of(alloc: Global, text: &[u8], tree: &Tree) -> Result<CProgram, Alloc
     Ok(CProgram { functions, main })
 }
 
+/// A fault with its line and column.
+fn refused(text: &[u8], fault: Fault) -> SourceFault
+    requires { length text.now ≤ 65536 }
+    ensures place { IsPlaceOf text.now (min (length text.now) fault.at) result.line result.column }
+    ensures why { result.why ≡ fault.why }
+{
+    let place = text.len().min(fault.at as usize);
+    fault_at(text, place, fault.why)
+}
+
 /// The typed program of a tree, or its first fault in source order; on one place the reason that is listed first.
 pub fn check(alloc: Global, text: &[u8], tree: Tree) -> Result<CProgram, SourceFault>
     requires fits { length text.now ≤ 65536 }
@@ -212,11 +229,14 @@ pub fn check(alloc: Global, text: &[u8], tree: Tree) -> Result<CProgram, SourceF
     ensures only_fault { (first : SourceFault) → IsFirstIn text.now (faults text.now (tree_view tree)) first
         → MatchResult result (λ _. ⊥) (λ fault. (fault ≡ no_memory) ⊎ (fault ≡ first)) }
 {
-    if let Some(fault) = first_fault(alloc, text, &tree)? {
-        let place = text.len().min(fault.at as usize);
-        return Err(fault_at(text, place, fault.why));
+    let first = first_fault(alloc, text, &tree)?;
+    match first {
+        Some(fault) => Err(refused(text, fault)),
+        None => {
+            let program = program_of(alloc, text, &tree)?;
+            Ok(program)
+        }
     }
-    Ok(program_of(alloc, text, &tree)?)
 }
 
 /// The program of a text: its tokens, its tree and its types, in this order.
