@@ -1,5 +1,5 @@
 -- The first fault is one, and has one place.
-use Rattle.std.proofs.Common.{◌≡◌, ◌⊎◌, inl, inr, ◌+◌, ◌-◌, ℕ, min, Bool, true, false, List, [], ◌∷◌, Ok, Err, length, refl, sym, subst, ap, ◌∙◌, arith}
+use Rattle.std.proofs.Common.{◌≡◌, ◌⊎◌, inl, inr, ◌+◌, ◌-◌, ℕ, min, Bool, true, false, List, [], ◌∷◌, Ok, Err, length, get_or, refl, sym, subst, ap, ◌∙◌, arith}
 use Rattle.std.proofs.lemmas.Bool.Decides.{nat_tests}
 use Rattle.c_lex.specs.NoMemory.{no_memory}
 use Rattle.c_lex.specs.Places.{IsPlaceOf}
@@ -26,20 +26,10 @@ use Rattle.c_types.specs.Checks.{IsFaultOf, IsFirstIn, IsProgramOf}
 use Rattle.c_types.specs.declared.program.CProgram.{CProgram}
 
 why_at : ℕ → Why
-why_at 1 = w.BadByte
-why_at 2 = w.OpenComment
-why_at 3 = w.OpenText
-why_at 4 = w.BadLiteral
-why_at 5 = w.Unexpected
-why_at 6 = w.TooDeep
-why_at 7 = w.Unknown
-why_at 8 = w.Twice
-why_at 9 = w.WrongType
-why_at 10 = w.WrongCount
-why_at 11 = w.NoMain
-why_at 12 = w.BadFormat
-why_at 13 = w.LeftOut
-why_at _ = w.NoMemory
+why_at n =
+    get_or
+    (w.BadByte ∷ w.BadByte ∷ w.OpenComment ∷ w.OpenText ∷ w.BadLiteral ∷ w.Unexpected ∷ w.TooDeep ∷ w.Unknown ∷ w.Twice ∷ w.WrongType ∷ w.WrongCount ∷ w.NoMain
+    ∷ w.BadFormat ∷ w.LeftOut ∷ []) n w.NoMemory
 
 why_rank : (why : Why) → why_at (rank why) ≡ why
 unfolding why_at

@@ -23,9 +23,9 @@ returns-in-Some-clause-only_fault c = λ first is.
 pub program_of-requires-clause-faults : goal.program_of-requires-clause-faults
 program_of-requires-clause-faults c = rw c.in-None.is at c.in_ok-first.ensures
 
-pub returns-in_ok-program-in-None-clause-none : goal.returns-in_ok-program-in-None-clause-none
-returns-in_ok-program-in-None-clause-none c = rw c.in-None.is at c.in_ok-first.ensures
+pub returns-clause-none : goal.returns-clause-none
+returns-clause-none c = rw c.in-None.is at c.in_ok-first.ensures
 
-pub returns-in_ok-program-in-None-clause-only_fault : goal.returns-in_ok-program-in-None-clause-only_fault
-returns-in_ok-program-in-None-clause-only_fault c = λ first is.
+pub returns-clause-only_fault : goal.returns-clause-only_fault
+returns-clause-only_fault c = λ first is.
     first_is_one c.args.text.now (faults c.args.text.now (tree_view c.args.tree)) first is (rw c.in-None.is at c.in_ok-first.ensures)
