@@ -1,5 +1,5 @@
 use Rattle.std.proofs.Common.{rules, arith, ap, ◌∙◌}
-use Rattle.std.proofs.lemmas.Grind.{common_steps}
+use Rattle.c_grammar.specs.declared.statement.Part.{the_lemmas}
 use Rattle.c_grammar.specs.StmtView.{parts_view, start_view}
 use Rattle.c_grammar.proofs.StmtViewed.{view-declare, view-stmt}
 use Rattle.c_check.specs.Statements.{after_parts, after_start}
@@ -9,7 +9,7 @@ use Rattle.c_types.proofs.statement_of.+statements.Goals as goal
 
 pub stmt_of-parts_of-requires : goal.stmt_of-parts_of-requires
 stmt_of-parts_of-requires t c =
-    (first_of (search rules, grind (arith, common_steps)), rw c.deref.ensures.value (block_parts c.args.scope.now c.open.new.self c.args.stmt.now c.in-Block.opening c.in-Block.parts c.in-Block.closing c.in-Block.is c.in_ok-open-in-Block.ensures c.requires))
+    (first_of (search (rules, the_lemmas), search (rules, arith, the_lemmas)), rw c.deref.ensures.value (block_parts c.args.scope.now c.open.new.self c.args.stmt.now c.in-Block.opening c.in-Block.parts c.in-Block.closing c.in-Block.is c.in_ok-open-in-Block.ensures c.requires))
 
 pub stmt_of-returns-in_ok-typed-in-Block-clause-typed : goal.stmt_of-returns-in_ok-typed-in-Block-clause-typed
 stmt_of-returns-in_ok-typed-in-Block-clause-typed t c =
@@ -44,7 +44,7 @@ stmt_of-returns-in_ok-returned_of-in-Return-clause-typed t c = return_rule c.arg
 
 pub stmt_of-boxed_of-requires : goal.stmt_of-boxed_of-requires
 stmt_of-boxed_of-requires t c =
-    (first_of (search rules, grind (arith, common_steps)), rw c.deref-in-If.ensures (if_taken c.args.scope.now c.args.stmt.now c.in-If.word c.in-If.opening c.in-If.test c.in-If.closing c.in-If.then c.in-If.is c.requires))
+    (first_of (search (rules, the_lemmas), search (rules, arith, the_lemmas)), rw c.deref-in-If.ensures (if_taken c.args.scope.now c.args.stmt.now c.in-If.word c.in-If.opening c.in-If.test c.in-If.closing c.in-If.then c.in-If.is c.requires))
 
 pub stmt_of-returns-in_ok-boxed_of-in-If-clause-typed : goal.stmt_of-returns-in_ok-boxed_of-in-If-clause-typed
 stmt_of-returns-in_ok-boxed_of-in-If-clause-typed t c =
@@ -52,11 +52,11 @@ stmt_of-returns-in_ok-boxed_of-in-If-clause-typed t c =
 
 pub stmt_of-boxed_of-requires-in-IfElse : goal.stmt_of-boxed_of-requires-in-IfElse
 stmt_of-boxed_of-requires-in-IfElse t c =
-    (first_of (search rules, grind (arith, common_steps)), rw c.deref-in-IfElse.ensures (both_taken c.args.scope.now c.args.stmt.now c.in-IfElse.word c.in-IfElse.opening c.in-IfElse.test c.in-IfElse.closing c.in-IfElse.then c.in-IfElse.other_word c.in-IfElse.other c.in-IfElse.is c.requires))
+    (first_of (search (rules, the_lemmas), search (rules, arith, the_lemmas)), rw c.deref-in-IfElse.ensures (both_taken c.args.scope.now c.args.stmt.now c.in-IfElse.word c.in-IfElse.opening c.in-IfElse.test c.in-IfElse.closing c.in-IfElse.then c.in-IfElse.other_word c.in-IfElse.other c.in-IfElse.is c.requires))
 
 pub stmt_of-boxed_of-requires-in-IfElse-2 : goal.stmt_of-boxed_of-requires-in-IfElse-2
 stmt_of-boxed_of-requires-in-IfElse-2 t c = (
-  first_of (search rules, grind (arith, common_steps)),
+  first_of (search (rules, the_lemmas), search (rules, arith, the_lemmas)),
   rw c.deref-in-IfElse-2.ensures
       (both_spared c.args.scope.now _ c.args.stmt.now c.in-IfElse.word c.in-IfElse.opening c.in-IfElse.test c.in-IfElse.closing c.in-IfElse.then c.in-IfElse.other_word c.in-IfElse.other c.in-IfElse.is c.in_ok-boxed_of-in-IfElse.ensures.scope c.requires),
 )
@@ -68,7 +68,7 @@ stmt_of-returns-in_ok-boxed_of-in-IfElse-2-clause-typed t c =
 
 pub stmt_of-boxed_of-requires-in-While : goal.stmt_of-boxed_of-requires-in-While
 stmt_of-boxed_of-requires-in-While t c =
-    (first_of (search rules, grind (arith, common_steps)), rw c.deref-in-While.ensures (while_body c.args.scope.now c.args.stmt.now c.in-While.word c.in-While.opening c.in-While.test c.in-While.closing c.in-While.body c.in-While.is c.requires))
+    (first_of (search (rules, the_lemmas), search (rules, arith, the_lemmas)), rw c.deref-in-While.ensures (while_body c.args.scope.now c.args.stmt.now c.in-While.word c.in-While.opening c.in-While.test c.in-While.closing c.in-While.body c.in-While.is c.requires))
 
 pub stmt_of-returns-in_ok-boxed_of-in-While-clause-typed : goal.stmt_of-returns-in_ok-boxed_of-in-While-clause-typed
 stmt_of-returns-in_ok-boxed_of-in-While-clause-typed t c =
@@ -76,7 +76,7 @@ stmt_of-returns-in_ok-boxed_of-in-While-clause-typed t c =
 
 pub stmt_of-boxed_of-requires-in-Do : goal.stmt_of-boxed_of-requires-in-Do
 stmt_of-boxed_of-requires-in-Do t c =
-    (first_of (search rules, grind (arith, common_steps)), rw c.deref-in-Do.ensures (do_body c.args.scope.now c.args.stmt.now c.in-Do.word c.in-Do.body c.in-Do.while_word c.in-Do.opening c.in-Do.test c.in-Do.closing c.in-Do.end c.in-Do.is c.requires))
+    (first_of (search (rules, the_lemmas), search (rules, arith, the_lemmas)), rw c.deref-in-Do.ensures (do_body c.args.scope.now c.args.stmt.now c.in-Do.word c.in-Do.body c.in-Do.while_word c.in-Do.opening c.in-Do.test c.in-Do.closing c.in-Do.end c.in-Do.is c.requires))
 
 pub stmt_of-returns-in_ok-expr_of-in-Do-clause-typed : goal.stmt_of-returns-in_ok-expr_of-in-Do-clause-typed
 stmt_of-returns-in_ok-expr_of-in-Do-clause-typed t c =
@@ -95,7 +95,7 @@ stmt_of-turn_of-requires t c =
 
 pub stmt_of-boxed_of-requires-in-For : goal.stmt_of-boxed_of-requires-in-For
 stmt_of-boxed_of-requires-in-For t c = (
-  first_of (search rules, grind (arith, common_steps)),
+  first_of (search (rules, the_lemmas), search (rules, arith, the_lemmas)),
   rw c.deref-in-For.ensures
       (for_body c.args.scope.now c.args.stmt.now c.in-For.word c.in-For.opening c.in-For.start c.in-For.start_end c.in-For.test c.in-For.test_end c.in-For.step c.in-For.closing c.in-For.body c.in-For.is
       _ _ c.in_ok-open-in-For.ensures c.in_ok-start-in-For.ensures.scope c.requires),
@@ -125,7 +125,7 @@ part_of-returns-in_ok-declaration_of-in-Declaration-clause-scope t c = rw (c.in-
 
 pub part_of-stmt_of-requires : goal.part_of-stmt_of-requires
 part_of-stmt_of-requires t c =
-    (first_of (search rules, grind (arith, common_steps)), stmt_faultless c.args.scope.now c.args.part.now c.in-Stmt.stmt c.in-Stmt.is c.requires)
+    (first_of (search (rules, the_lemmas), search (rules, arith, the_lemmas)), stmt_faultless c.args.scope.now c.args.part.now c.in-Stmt.stmt c.in-Stmt.is c.requires)
 
 pub part_of-returns-in_ok-stmt_of-in-Stmt-clause-typed : goal.part_of-returns-in_ok-stmt_of-in-Stmt-clause-typed
 part_of-returns-in_ok-stmt_of-in-Stmt-clause-typed t c = stmt_rule c.args.scope.now c.args.part.now c.in-Stmt.stmt _ c.in-Stmt.is c.in_ok-stmt_of-in-Stmt.ensures.typed
@@ -135,7 +135,7 @@ part_of-returns-in_ok-stmt_of-in-Stmt-clause-scope t c = rw (c.in-Stmt.is, view-
 
 pub parts_of-part_of-requires : goal.parts_of-part_of-requires
 parts_of-part_of-requires t c = (
-  first_of (search rules, grind (arith, common_steps)),
+  first_of (search (rules, the_lemmas), search (rules, arith, the_lemmas)),
   part_next c.loop-part.scope c.args.parts.now c.loop-part.part-index c.part-item.result c.loop-part-test.true c.part-item.is c.loop-part.invariant.faults,
 )
 
