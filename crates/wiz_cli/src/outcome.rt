@@ -1,5 +1,4 @@
 //! What a command comes to, before it is told.
-use c_lex::SourceFault;
 use srr_log::fault::LogFault;
 use srr_replay::replayed::Replayed;
 
@@ -12,10 +11,8 @@ pub enum Refusal {
     Missing,
     /// The input file could not be read.
     ReadFault,
-    /// The log's program is refused.
-    Program(SourceFault),
-    /// The log's program is accepted, but not of the form that is run.
-    NotBuilt,
+    /// The log's program is not of the form that is read.
+    Program,
     /// The file's bytes are no log.
     Log(LogFault),
     /// The input file is longer than such a file may be.
