@@ -1,0 +1,157 @@
+-- The first fault is one, and has one place.
+use Rattle.std.proofs.Common.{◌≡◌, ◌⊎◌, inl, inr, ◌+◌, ◌-◌, ℕ, min, Bool, true, false, List, [], ◌∷◌, Ok, Err, length, get_or, refl, sym, subst, ap, ◌∙◌, arith}
+use Rattle.std.proofs.lemmas.Bool.Decides.{nat_tests}
+use Rattle.c_lex.specs.NoMemory.{no_memory}
+use Rattle.c_lex.specs.Places.{IsPlaceOf}
+use Rattle.c_lex.specs.declared.fault.SourceFault.{SourceFault}
+use Rattle.c_lex.specs.declared.fault.Why.{Why}
+use Rattle.c_lex.specs.declared.fault.Why.TheVariants as w
+use Rattle.c_lex.specs.Readings as lexed
+use Rattle.c_lex.specs.Readings.{AreTokens}
+use Rattle.c_lex.specs.declared.token.Token.{Token}
+use Rattle.c_lex.proofs.Laws.{begin_one, one_reading}
+use Rattle.c_lex.proofs.Laws.{fault_one as lexer_one}
+use Rattle.c_grammar.specs.Tree.{Tree}
+use Rattle.c_grammar.specs.Reading.{Answer}
+use Rattle.c_grammar.specs.Reading.{Fault as Refusal}
+use Rattle.c_grammar.proofs.Firsts.{fault_read}
+use Rattle.c_grammar.proofs.Programs.{one_tree, tree_no_fault}
+use Rattle.c_parse.specs.Parsing as parsed
+use Rattle.c_parse.specs.Parsing.{IsTree, place_of, signs_of}
+use Rattle.c_check.specs.Programs.{faults}
+use Rattle.c_check.specs.Least.{IsFirst, IsIn, is_less, rank}
+use Rattle.c_check.specs.declared.fault.Fault.{Fault}
+use Rattle.c_types.specs.Checks as x
+use Rattle.c_types.specs.Checks.{IsFaultOf, IsFirstIn, IsProgramOf}
+use Rattle.c_types.specs.declared.program.CProgram.{CProgram}
+
+why_at : ℕ → Why
+why_at n =
+    get_or
+    (w.BadByte ∷ w.BadByte ∷ w.OpenComment ∷ w.OpenText ∷ w.BadLiteral ∷ w.Unexpected ∷ w.TooDeep ∷ w.Unknown ∷ w.Twice ∷ w.WrongType ∷ w.WrongCount ∷ w.NoMain
+    ∷ w.BadFormat ∷ w.LeftOut ∷ []) n w.NoMemory
+
+why_rank : (why : Why) → why_at (rank why) ≡ why
+unfolding why_at
+why_rank w.BadByte = refl
+why_rank w.OpenComment = refl
+why_rank w.OpenText = refl
+why_rank w.BadLiteral = refl
+why_rank w.Unexpected = refl
+why_rank w.TooDeep = refl
+why_rank w.Unknown = refl
+why_rank w.Twice = refl
+why_rank w.WrongType = refl
+why_rank w.WrongCount = refl
+why_rank w.NoMain = refl
+why_rank w.BadFormat = refl
+why_rank w.LeftOut = refl
+why_rank w.NoMemory = refl
+
+same_place : (a b : Fault) → is_less a b ≡ false → is_less b a ≡ false → a.at ≡ b.at
+same_place a b h k = grind (arith, nat_tests)
+
+same_rank : (a b : Fault) → is_less a b ≡ false → is_less b a ≡ false → rank a.why ≡ rank b.why
+same_rank a b h k = grind (arith, nat_tests)
+
+one_fault : (a b : Fault) → is_less a b ≡ false → is_less b a ≡ false → a ≡ b
+one_fault a b h k =
+    let why : a.why ≡ b.why = sym (why_rank a.why) ∙ ap why_at (same_rank a b h k) ∙ why_rank b.why in
+    let fault_of : ℕ → Why → Fault = λ at one. record { at = at; why = one } in
+    ap (λ at. fault_of at a.why) (same_place a b h k) ∙ ap (fault_of b.at) why
+
+pub first_one : (fs : List Fault) (a b : Fault) → IsFirst fs a → IsFirst fs b → a ≡ b
+first_one fs a b g h = one_fault a b (h.first a g.one) (g.first b h.one)
+
+-- two refusals for one reason at one place are one
+one_refusal : (text : List ℕ) (place : ℕ) (first other : SourceFault) → first.why ≡ other.why
+    → IsPlaceOf text place first.line first.column → IsPlaceOf text place other.line other.column → first ≡ other
+one_refusal text place first other why u v =
+    let line : first.line ≡ other.line = u.line_is ∙ sym v.line_is in
+    let column : first.column ≡ other.column = u.column_is ∙ ap (λ begin. place - begin + 1) (begin_one u.begins v.begins) ∙ sym v.column_is in
+    let fault_of : ℕ → ℕ → Why → SourceFault = λ l c z. record { line = l; column = c; why = z } in
+    ap (λ l. fault_of l first.column first.why) line ∙ ap (λ c. fault_of other.line c first.why) column ∙ ap (fault_of other.line other.column) why
+
+pub one_first : (text : List ℕ) (fs : List Fault) (found other : SourceFault) → IsFirstIn text fs found → IsFirstIn text fs other → found ≡ other
+one_first text fs found other g h =
+    let same : g.fault ≡ h.fault = first_one fs g.fault h.fault g.first h.first in
+    let place : IsPlaceOf text (min (length text) h.fault.at) found.line found.column =
+    subst (λ (one : Fault). IsPlaceOf text (min (length text) one.at) found.line found.column) same g.place in
+    one_refusal text (min (length text) h.fault.at) found other (g.why ∙ ap (λ (one : Fault). one.why) same ∙ sym h.why) place h.place
+
+-- where there is a first fault, there is one
+pub first_is_one : (text : List ℕ) (fs : List Fault) (found : SourceFault) → IsFirstIn text fs found → fs ≡ [] → ⊥
+first_is_one text fs found g e = none_in fs g.fault g.first.one e
+  where
+    none_in : (fs : List Fault) (f : Fault) → IsIn f fs → fs ≡ [] → ⊥
+    none_in [] f i e = i
+    none_in (g ∷ gs) f i e = cc
+
+-- ---- a text has a program or a first fault
+
+lists_one : (text : List ℕ) (list other : List Token) → AreTokens text list → AreTokens text other → list ≡ other
+lists_one text list other a b = let e = one_reading text a b in cc
+
+list_no_fault : (text : List ℕ) (list : List Token) (fault : SourceFault) → AreTokens text list → lexed.IsFirstFault text fault → ⊥
+list_no_fault text list fault a b = let e = one_reading text a b.1 in cc
+
+tree_one : (text : List ℕ) (list other : List Token) (tree another : Tree) → list ≡ other → IsTree text list tree → IsTree text other another → tree ≡ another
+tree_one text list other tree another e a b = one_tree (signs_of text other) tree another (subst (λ tokens. IsTree text tokens tree) e a) b
+
+tree_never : (text : List ℕ) (list other : List Token) (tree : Tree) (fault : SourceFault) → list ≡ other → IsTree text list tree → parsed.IsFirstFault text other fault → ⊥
+tree_never text list other tree fault e a b =
+    tree_no_fault (signs_of text other) tree fault.why b.0 (subst (λ tokens. IsTree text tokens tree) e a) (fault_read _ fault.why b.0 b.1)
+
+parse_one : (text : List ℕ) (list other : List Token) (fault another : SourceFault) → list ≡ other → parsed.IsFirstFault text list fault → parsed.IsFirstFault text other another
+    → fault ≡ another
+parse_one text list other fault another e a b =
+    let here : parsed.IsFirstFault text other fault = subst (λ tokens. parsed.IsFirstFault text tokens fault) e a in
+    let p : Refusal = record { why = fault.why; rest = here.0 } in let q : Refusal = record { why = another.why; rest = b.0 } in
+    let m : ◌≡◌ {A = Answer Tree} (Err p) (Err q) = sym (fault_read _ fault.why here.0 here.1) ∙ fault_read _ another.why b.0 b.1 in
+    let same : p ≡ q = cc in
+    let rests : here.0 ≡ b.0 = ap (λ (f : Refusal). f.rest) same in
+    one_refusal text (place_of text b.0) fault another (ap (λ (f : Refusal). f.why) same)
+    (subst (λ z. IsPlaceOf text (place_of text z) fault.line fault.column) rests here.2) b.2
+
+pub fault_one : (text : List ℕ) (fault other : SourceFault) → IsFaultOf text fault → IsFaultOf text other → fault ≡ other
+fault_one text fault other (x.of_tokens a) (x.of_tokens b) = lexer_one text fault other a b
+fault_one text fault other (x.of_tokens a) (x.of_tree list l b) = absurd (list_no_fault text list fault l a)
+fault_one text fault other (x.of_tokens a) (x.of_types list tree l t b) = absurd (list_no_fault text list fault l a)
+fault_one text fault other (x.of_tree list l a) (x.of_tokens b) = absurd (list_no_fault text list other l b)
+fault_one text fault other (x.of_tree list l a) (x.of_tree list' l' b) = parse_one text list list' fault other (lists_one text list list' l l') a b
+fault_one text fault other (x.of_tree list l a) (x.of_types list' tree l' t b) = absurd (tree_never text list' list tree fault (lists_one text list' list l' l) t a)
+fault_one text fault other (x.of_types list tree l t a) (x.of_tokens b) = absurd (list_no_fault text list other l b)
+fault_one text fault other (x.of_types list tree l t a) (x.of_tree list' l' b) = absurd (tree_never text list list' tree other (lists_one text list list' l l') t b)
+fault_one text fault other (x.of_types list tree l t a) (x.of_types list' tree' l' t' b) =
+    let same : tree ≡ tree' = tree_one text list list' tree tree' (lists_one text list list' l l') t t' in
+    one_first text (faults text tree') fault other (subst (λ one. IsFirstIn text (faults text one) fault) same a) b
+
+pub never_both : (text : List ℕ) (program : CProgram) (fault : SourceFault) → IsProgramOf text program → IsFaultOf text fault → ⊥
+never_both text program fault p (x.of_tokens a) = list_no_fault text p.tokens fault p.lexed a
+never_both text program fault p (x.of_tree list l a) = tree_never text p.tokens list p.tree fault (lists_one text p.tokens list p.lexed l) p.parsed a
+never_both text program fault p (x.of_types list tree l t a) =
+    let same : tree ≡ p.tree = tree_one text list p.tokens tree p.tree (lists_one text list p.tokens l p.lexed) t p.parsed in
+    first_is_one text (faults text tree) fault a (ap (faults text) same ∙ p.faultless)
+
+pub refusal_only : (text : List ℕ) (fault : SourceFault) → (fault ≡ no_memory) ⊎ IsFaultOf text fault → (program : CProgram) → IsProgramOf text program → fault ≡ no_memory
+refusal_only text fault (inl e) program p = e
+refusal_only text fault (inr f) program p = absurd (never_both text program fault p f)
+
+pub refusal_one : (text : List ℕ) (fault : SourceFault) → (fault ≡ no_memory) ⊎ IsFaultOf text fault → (first : SourceFault) → IsFaultOf text first
+    → (fault ≡ no_memory) ⊎ (fault ≡ first)
+refusal_one text fault (inl e) first f = inl e
+refusal_one text fault (inr g) first f = inr (fault_one text fault first g f)
+
+pub of_tokens : (text : List ℕ) (fault : SourceFault) → (fault ≡ no_memory) ⊎ lexed.IsFirstFault text fault → (fault ≡ no_memory) ⊎ IsFaultOf text fault
+of_tokens text fault (inl e) = inl e
+of_tokens text fault (inr f) = inr (x.of_tokens f)
+
+pub of_tree : (text : List ℕ) (tokens : List Token) (fault : SourceFault) → AreTokens text tokens → (fault ≡ no_memory) ⊎ parsed.IsFirstFault text tokens fault
+    → (fault ≡ no_memory) ⊎ IsFaultOf text fault
+of_tree text tokens fault l (inl e) = inl e
+of_tree text tokens fault l (inr f) = inr (x.of_tree tokens l f)
+
+pub of_types : (text : List ℕ) (tokens : List Token) (tree : Tree) (fault : SourceFault) → AreTokens text tokens → IsTree text tokens tree
+    → (fault ≡ no_memory) ⊎ IsFirstIn text (faults text tree) fault → (fault ≡ no_memory) ⊎ IsFaultOf text fault
+of_types text tokens tree fault l t (inl e) = inl e
+of_types text tokens tree fault l t (inr f) = inr (x.of_types tokens tree l t f)

@@ -1,0 +1,10 @@
+pub mod ExprRules
+pub mod CallRules
+pub mod Faultless
+pub mod MpiRules
+pub mod ArgumentRules
+pub mod Growing
+pub mod SimpleRules
+pub mod StatementRules
+pub mod ProgramRules
+pub mod CheckRules

@@ -1,0 +1,219 @@
+-- Parameters, functions and main, one more at a time.
+use Rattle.std.proofs.Common.{◌≡◌, ◌++◌, ◌+◌, ◌≤◌, ◌<◌, ℕ, zero, suc, cond, if◌then◌else◌, ◌||◌, Bool, true, false, List, [], ◌∷◌, length, map, drop, get_or, slice_get, Option, Some, None, refl, sym, subst, ap, ◌∙◌, append_assoc, arith}
+use Rattle.std.specs.List.{list_any, position_from}
+use Rattle.std.specs.Option.{is_some, option_to_list}
+use Rattle.c_grammar.specs.declared.word.Spot.{Spot}
+use Rattle.c_grammar.specs.declared.statement.Top as source_top
+use Rattle.c_grammar.specs.StmtGrammar.{AreTops, IsTop, are_named, has, is_named, name_of}
+use Rattle.c_grammar.specs.StmtView.{top_view}
+use Rattle.c_grammar.specs.Tree as t
+use Rattle.c_check.specs.Programs.{after_parameter, after_parameters, after_top, declare_optional, function_faults, heads_of, is_main, main_faults, parameter_name, parameter_thing, parameters_faults, text_env, top_faults, top_twice_faults, tops_faults, with_head}
+use Rattle.c_check.specs.Scopes.{Env, cut, opened}
+use Rattle.c_check.specs.declared.fault.Fault.{Fault}
+use Rattle.c_check.specs.declared.thing.Thing.{Thing}
+use Rattle.c_lex.specs.declared.fault.Why.TheVariants.{NoMain}
+use Rattle.c_check.proofs.Parameters.{after_parameters_next}
+use Rattle.c_check.specs.Signatures.{is_int, parameters_listed}
+use Rattle.c_check.specs.Statements.{parts_faults}
+use Rattle.c_check.proofs.Lists.{drop_at, drop_got, drop_past}
+use Rattle.c_types.specs.Programs as x
+use Rattle.c_types.specs.Programs.{AreFunctions, AreParameters, IsFunction, IsFunctionOf, IsParameter}
+use Rattle.c_types.specs.Statements.{AreParts}
+use Rattle.c_types.specs.declared.program.Function.{Function}
+use Rattle.c_types.specs.declared.program.Parameter.{Parameter}
+use Rattle.c_types.proofs.Growing.{ended, grown, none_left, none_right}
+
+-- ---- parameters
+
+has_name : (one : t.Parameter) → has (name_of one) ≡ true → is_some (parameter_name one) ≡ true
+has_name (t.int word (Some name)) e = refl
+has_name (t.int word None) e = cc
+has_name (t.array word (Some name) opening length closing) e = refl
+has_name (t.array word None opening length closing) e = cc
+has_name (t.pointer word star (Some name)) e = refl
+has_name (t.pointer word star None) e = cc
+has_name (t.communicator word (Some name)) e = refl
+has_name (t.communicator word None) e = cc
+has_name (t.text_pointers word star second (Some name)) e = refl
+has_name (t.text_pointers word star second None) e = cc
+has_name (t.text_array word star (Some name) opening closing) e = refl
+has_name (t.text_array word star None opening closing) e = cc
+
+both : (b c : Bool) → (if b then c else false) ≡ true → (b ≡ true) × (c ≡ true)
+both true c e = (refl, e)
+both false c e = absurd (cc)
+
+more_named : (more : List (Spot × t.Parameter)) (i : ℕ) (one : t.Parameter) → are_named more ≡ true → slice_get (map (λ behind. behind.1) more) i ≡ Some one
+    → is_some (parameter_name one) ≡ true
+more_named [] i one n e = absurd (cc)
+more_named (first ∷ more) zero one n e =
+    let b = both (has (name_of first.1)) (are_named more) n in let q : first.1 ≡ one = cc in
+    subst (λ z. is_some (parameter_name z) ≡ true) q (has_name first.1 b.0)
+more_named (first ∷ more) (suc i) one n e = more_named more i one (both (has (name_of first.1)) (are_named more) n).1 e
+
+pub each_named : (parameters : t.Parameters) (i : ℕ) (one : t.Parameter) → is_named parameters ≡ true → slice_get (parameters_listed parameters) i ≡ Some one
+    → is_some (parameter_name one) ≡ true
+each_named t.no_parameter i one n e = absurd (cc)
+each_named (t.void at) i one n e = absurd (cc)
+each_named (t.parameters (t.row first more)) zero one n e =
+    let b = both (has (name_of first)) (are_named more) n in let q : first ≡ one = cc in
+    subst (λ z. is_some (parameter_name z) ≡ true) q (has_name first b.0)
+each_named (t.parameters (t.row first more)) (suc i) one n e = more_named more i one (both (has (name_of first)) (are_named more) n).1 e
+
+after_text : (env : Env) (main : Bool) (one : t.Parameter) → (after_parameter env main one).text ≡ env.text
+after_text env main one = by_name (parameter_name one) (parameter_thing main one)
+  where
+    by_name : (name : Option Spot) (thing : Thing) → (declare_optional env name thing).text ≡ env.text
+    by_name None thing = refl
+    by_name (Some name) thing = refl
+
+pub parameter_text : (env now : Env) (text : List ℕ) (main : Bool) (one : t.Parameter) → now ≡ after_parameter env main one → env.text ≡ text → now.text ≡ text
+parameter_text env now text main one n e = ap (λ (here : Env). here.text) n ∙ after_text env main one ∙ e
+
+pub parameters_after : (env now last : Env) (main : Bool) (all : List t.Parameter) (i : ℕ) (one : t.Parameter) → slice_get all i ≡ Some one
+    → now ≡ after_parameter env main one → after_parameters env main (drop i all) ≡ last → after_parameters now main (drop (i + 1) all) ≡ last
+parameters_after env now last main all i one g n e = rw n (sym (after_parameters_next env main all i one g) ∙ e)
+
+pub parameters_more : (here text : List ℕ) (all : List t.Parameter) (i : ℕ) (one : t.Parameter) (before after : List Parameter) (typed : Parameter)
+    → after ≡ before ++ typed ∷ [] → slice_get all i ≡ Some one → here ≡ text → IsParameter here one typed
+    → ((more : List Parameter) → AreParameters text (drop i all) more → AreParameters text all (before ++ more))
+    → (more : List Parameter) → AreParameters text (drop (i + 1) all) more → AreParameters text all (after ++ more)
+parameters_more here text all i one before after typed e g same h =
+    let P : List t.Parameter → List Parameter → Type 0 = λ left typed. AreParameters text left typed in
+    grown (P (drop i all)) (P (drop (i + 1) all)) (P all) before after typed e
+    (λ more rest. subst (λ left. P left (typed ∷ more)) (sym (drop_got all i one g)) (x.parameter (subst (λ z. IsParameter z one typed) same h) rest))
+
+pub parameters_end : (text : List ℕ) (all : List t.Parameter) (i : ℕ) (typed : List Parameter) → length all ≤ i
+    → ((more : List Parameter) → AreParameters text (drop i all) more → AreParameters text all (typed ++ more)) → AreParameters text all typed
+parameters_end text all i typed past so_far =
+    let P : List t.Parameter → List Parameter → Type 0 = λ left typed. AreParameters text left typed in
+    ended (P (drop i all)) (P all) typed (subst (λ left. P left []) (sym (drop_past all i past)) x.no_parameter) so_far
+
+-- ---- functions
+
+pub body_faultless : (env first now : Env) (main : Bool) (head : t.Head) (parts : t.Parts) → first ≡ opened env → main ≡ is_main env.text head
+    → now ≡ after_parameters first main (parameters_listed head.listed) → function_faults env head parts ≡ []
+    → (gives : Bool) × (loops : Bool) × (parts_faults now gives loops parts ≡ [])
+body_faultless env first now main head parts o m n e =
+    rw (n, o, m) (is_int head.result, false, none_right (parameters_faults (opened env) (is_main env.text head) (parameters_listed head.listed)) _ e)
+
+pub function_rule : (env first now : Env) (main : Bool) (head : t.Head) (parts : t.Parts) (typed : Function) → first ≡ opened env → main ≡ is_main env.text head
+    → now ≡ after_parameters first main (parameters_listed head.listed) → typed.name ≡ cut env.text head.name → typed.gives ≡ is_int head.result
+    → AreParameters first.text (parameters_listed head.listed) typed.parameters.items → AreParts now parts typed.body.items → IsFunction env head parts typed
+function_rule env first now main head parts typed o m n name gives parameters body = record {
+  name = name;
+  gives = gives;
+  parameters = rw o at parameters;
+  body = rw (n, o, m) at body;
+}
+
+pub function_faultless : (env : Env) (seen : List (List ℕ)) (head : t.Head) (opening : Spot) (parts : t.Parts) (closing : Spot)
+    → top_faults env seen (t.function head opening parts closing) ≡ [] → function_faults env head parts ≡ []
+function_faultless env seen head opening parts closing e = none_right (top_twice_faults env.text seen head.name) _ e
+
+pub tops_first : (tops : List source_top.Top) (i : ℕ) (one : source_top.Top) → i < length tops → one ≡ get_or tops i one
+    → AreTops (map top_view (drop i tops)) → IsTop (top_view one)
+tops_first tops i one less is g =
+    let h : AreTops (top_view one ∷ map top_view (drop (i + 1) tops)) = rw (drop_at tops i one less is) at g in h.0
+
+pub tops_rest : (tops : List source_top.Top) (i : ℕ) (one : source_top.Top) → i < length tops → one ≡ get_or tops i one
+    → AreTops (map top_view (drop i tops)) → AreTops (map top_view (drop (i + 1) tops))
+tops_rest tops i one less is g =
+    let h : AreTops (top_view one ∷ map top_view (drop (i + 1) tops)) = rw (drop_at tops i one less is) at g in h.1
+
+pub top_faultless : (env : Env) (tops : List source_top.Top) (i : ℕ) (one : source_top.Top) → i < length tops → one ≡ get_or tops i one
+    → (seen : List (List ℕ)) × (tops_faults env seen (map top_view (drop i tops)) ≡ []) → (seen : List (List ℕ)) × (top_faults env seen (top_view one) ≡ [])
+top_faultless env tops i one less is f =
+    let e : tops_faults env f.0 (top_view one ∷ map top_view (drop (i + 1) tops)) ≡ [] = rw (drop_at tops i one less is) at f.1 in
+    (f.0, none_left _ _ e)
+
+pub tops_faultless : (env now : Env) (tops : List source_top.Top) (i : ℕ) (one : source_top.Top) → i < length tops → one ≡ get_or tops i one
+    → now ≡ after_top env (top_view one)
+    → (seen : List (List ℕ)) × (tops_faults env seen (map top_view (drop i tops)) ≡ []) → (seen : List (List ℕ)) × (tops_faults now seen (map top_view (drop (i + 1) tops)) ≡ [])
+tops_faultless env now tops i one less is n f =
+    let e : tops_faults env f.0 (top_view one ∷ map top_view (drop (i + 1) tops)) ≡ [] = rw (drop_at tops i one less is) at f.1 in
+    rw n (_, none_right (top_faults env f.0 (top_view one)) _ e)
+
+pub functions_more : (env start now : Env) (tops : List source_top.Top) (i : ℕ) (one : source_top.Top) (before after : List Function) (typed : Option Function)
+    → after ≡ before ++ option_to_list typed → i < length tops → one ≡ get_or tops i one
+    → IsFunctionOf env (top_view one) typed → now ≡ after_top env (top_view one)
+    → ((more : List Function) → AreFunctions env (map top_view (drop i tops)) more → AreFunctions start (map top_view tops) (before ++ more))
+    → (more : List Function) → AreFunctions now (map top_view (drop (i + 1) tops)) more → AreFunctions start (map top_view tops) (after ++ more)
+functions_more env start now tops i one before after typed e less is h n so_far more rest =
+    let P : Env → List source_top.Top → List Function → Type 0 = λ here left all. AreFunctions here (map top_view left) all in
+    let joined : before ++ (option_to_list typed ++ more) ≡ after ++ more =
+    sym (append_assoc before (option_to_list typed) more) ∙ ap (λ all. all ++ more) (sym e) in
+    subst (P start tops) joined
+    (so_far (option_to_list typed ++ more)
+    (subst (λ left. P env left (option_to_list typed ++ more)) (sym (drop_at tops i one less is))
+    (x.top h (subst (λ here. P here (drop (i + 1) tops) more) n rest))))
+
+pub functions_end : (env start : Env) (tops : List source_top.Top) (i : ℕ) (typed : List Function) → length tops ≤ i
+    → ((more : List Function) → AreFunctions env (map top_view (drop i tops)) more → AreFunctions start (map top_view tops) (typed ++ more))
+    → AreFunctions start (map top_view tops) typed
+functions_end env start tops i typed past so_far =
+    let P : List source_top.Top → List Function → Type 0 = λ left all. AreFunctions env (map top_view left) all in
+    ended (P (drop i tops)) (λ all. AreFunctions start (map top_view tops) all) typed (subst (λ left. P left []) (sym (drop_past tops i past)) x.no_top) so_far
+
+-- ---- main
+
+pub main_here : (text : List ℕ) (n : ℕ) (top : t.Top) (heads : List t.Head) → list_any (is_main text) (with_head top []) ≡ true
+    → position_from (is_main text) n (with_head top heads) ≡ Some n
+main_here text n (t.define word name value end) heads e = absurd (cc)
+main_here text n (t.prototype head end) heads e = absurd (cc)
+main_here text n (t.function head opening parts closing) heads e = by_test (is_main text head) (position_from (is_main text) (n + 1) heads) e
+  where
+    by_test : (b : Bool) (behind : Option ℕ) → (b || false) ≡ true → cond b (Some n) behind ≡ Some n
+    by_test true behind e = refl
+    by_test false behind e = absurd (cc)
+
+pub main_next : (text : List ℕ) (n : ℕ) (top : t.Top) (heads : List t.Head) → list_any (is_main text) (with_head top []) ≡ false
+    → position_from (is_main text) n (with_head top heads) ≡ position_from (is_main text) (n + length (with_head top [])) heads
+main_next text n (t.define word name value end) heads e = let z : n ≡ n + 0 = omega arith in ap (λ k. position_from (is_main text) k heads) z
+main_next text n (t.prototype head end) heads e = let z : n ≡ n + 0 = omega arith in ap (λ k. position_from (is_main text) k heads) z
+main_next text n (t.function head opening parts closing) heads e =
+    by_test (is_main text head) (position_from (is_main text) (n + 1) heads) e
+  where
+    by_test : (b : Bool) (behind : Option ℕ) → (b || false) ≡ false → cond b (Some n) behind ≡ behind
+    by_test true behind e = absurd (cc)
+    by_test false behind e = refl
+
+pub main_behind : (text : List ℕ) (top : t.Top) (heads : List t.Head) → list_any (is_main text) (with_head top []) ≡ false
+    → list_any (is_main text) (with_head top heads) ≡ true → list_any (is_main text) heads ≡ true
+main_behind text (t.define word name value end) heads e h = h
+main_behind text (t.prototype head end) heads e h = h
+main_behind text (t.function head opening parts closing) heads e h = by_test (is_main text head) (list_any (is_main text) heads) e h
+  where
+    by_test : (b rest : Bool) → (b || false) ≡ false → (b || rest) ≡ true → rest ≡ true
+    by_test true rest e h = absurd (cc)
+    by_test false rest e h = h
+
+pub main_first : (text : List ℕ) (n : ℕ) (tops : List source_top.Top) (i : ℕ) (one : source_top.Top) (found : Option ℕ) → i < length tops → one ≡ get_or tops i one
+    → list_any (is_main text) (with_head (top_view one) []) ≡ true → position_from (is_main text) n (heads_of (map top_view (drop i tops))) ≡ found → found ≡ Some n
+main_first text n tops i one found less is m e =
+    let here : position_from (is_main text) n (with_head (top_view one) (heads_of (map top_view (drop (i + 1) tops)))) ≡ found = rw (drop_at tops i one less is) at e in
+    sym here ∙ main_here text n (top_view one) (heads_of (map top_view (drop (i + 1) tops))) m
+
+pub main_later : (text : List ℕ) (n : ℕ) (tops : List source_top.Top) (i : ℕ) (one : source_top.Top) (found : Option ℕ) → i < length tops → one ≡ get_or tops i one
+    → list_any (is_main text) (with_head (top_view one) []) ≡ false → position_from (is_main text) n (heads_of (map top_view (drop i tops))) ≡ found
+    → position_from (is_main text) (n + length (with_head (top_view one) [])) (heads_of (map top_view (drop (i + 1) tops))) ≡ found
+main_later text n tops i one found less is m e =
+    let here : position_from (is_main text) n (with_head (top_view one) (heads_of (map top_view (drop (i + 1) tops)))) ≡ found = rw (drop_at tops i one less is) at e in
+    sym (main_next text n (top_view one) (heads_of (map top_view (drop (i + 1) tops))) m) ∙ here
+
+pub main_left : (text : List ℕ) (tops : List source_top.Top) (i : ℕ) (one : source_top.Top) → i < length tops → one ≡ get_or tops i one
+    → list_any (is_main text) (with_head (top_view one) []) ≡ false → list_any (is_main text) (heads_of (map top_view (drop i tops))) ≡ true
+    → list_any (is_main text) (heads_of (map top_view (drop (i + 1) tops))) ≡ true
+main_left text tops i one less is m e =
+    let here : list_any (is_main text) (with_head (top_view one) (heads_of (map top_view (drop (i + 1) tops)))) ≡ true = rw (drop_at tops i one less is) at e in
+    main_behind text (top_view one) (heads_of (map top_view (drop (i + 1) tops))) m here
+
+pub main_none : (text : List ℕ) (tops : List source_top.Top) (i : ℕ) → length tops ≤ i → list_any (is_main text) (heads_of (map top_view (drop i tops))) ≡ true → ⊥
+main_none text tops i past e = let none : list_any (is_main text) [] ≡ true = rw (drop_past tops i past) at e in cc
+
+pub has_main : (text : List ℕ) (tree : t.Tree) (others : List Fault) → others ++ main_faults text tree ≡ [] → list_any (is_main text) (heads_of tree) ≡ true
+has_main text tree others e = by_test (list_any (is_main text) (heads_of tree)) (record { at = length text; why = NoMain }) (none_right others _ e)
+  where
+    by_test : (b : Bool) (none : Fault) → (if b then [] else none ∷ []) ≡ [] → b ≡ true
+    by_test true none e = refl
+    by_test false none e = absurd (cc)

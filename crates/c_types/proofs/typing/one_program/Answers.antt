@@ -1,0 +1,8 @@
+use Rattle.c_types.proofs.CheckRules.{fault_one, never_both}
+use Rattle.c_types.proofs.typing.one_program.Goals as goal
+
+pub returns-clause-one_fault : goal.returns-clause-one_fault
+returns-clause-one_fault c = fault_one
+
+pub returns-clause-never_both : goal.returns-clause-never_both
+returns-clause-never_both c = never_both

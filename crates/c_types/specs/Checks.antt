@@ -1,0 +1,38 @@
+-- The program of a text, or its first fault, with its line and column.
+use Rattle.std.specs.Prelude.{◌≡◌, ℕ, List, [], min, length}
+use Rattle.c_lex.specs.Places.{IsPlaceOf}
+use Rattle.c_lex.specs.declared.fault.SourceFault.{SourceFault}
+use Rattle.c_lex.specs.Readings as lexed
+use Rattle.c_lex.specs.Readings.{AreTokens}
+use Rattle.c_lex.specs.declared.token.Token.{Token}
+use Rattle.c_grammar.specs.Tree as t
+use Rattle.c_parse.specs.Parsing as parsed
+use Rattle.c_parse.specs.Parsing.{IsTree}
+use Rattle.c_types.specs.Programs.{IsProgram}
+use Rattle.c_types.specs.declared.program.CProgram.{CProgram}
+use Rattle.c_check.specs.Programs.{faults}
+use Rattle.c_check.specs.Least.{IsFirst}
+use Rattle.c_check.specs.declared.fault.Fault.{Fault}
+
+-- a token lies in its text, so the least of the two is its place
+pub record IsFirstIn (text : List ℕ) (faults : List Fault) (found : SourceFault) : Type 0 where
+  pub fault : Fault
+  pub first : IsFirst faults fault
+  pub place : IsPlaceOf text (min (length text) fault.at) found.line found.column
+  pub why : found.why ≡ fault.why
+
+-- a text's tree has no faults, and this is its typed program
+pub record IsProgramOf (text : List ℕ) (program : CProgram) : Type 0 where
+  pub tokens : List Token
+  pub tree : t.Tree
+  pub lexed : AreTokens text tokens
+  pub parsed : IsTree text tokens tree
+  pub faultless : faults text tree ≡ []
+  pub typed : IsProgram text tree program
+
+-- the first fault of the first stage that has one
+pub data IsFaultOf (text : List ℕ) (found : SourceFault) : Type 0 where
+  of_tokens : lexed.IsFirstFault text found → IsFaultOf text found
+  of_tree : (tokens : List Token) → AreTokens text tokens → parsed.IsFirstFault text tokens found → IsFaultOf text found
+  of_types : (tokens : List Token) (tree : t.Tree) → AreTokens text tokens → IsTree text tokens tree → IsFirstIn text (faults text tree) found
+      → IsFaultOf text found

@@ -1,0 +1,15 @@
+//! The typed program of a C text, or the first fault that it has.
+#![tactic(auto)]
+
+mod call_of;
+pub mod expr;
+mod expr_of;
+pub mod mpi;
+mod mpi_of;
+pub mod program;
+pub mod statement;
+mod statement_of;
+pub mod typing;
+
+pub use program::CProgram;
+pub use typing::{check, one_program, read_program};

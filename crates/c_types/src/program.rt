@@ -1,0 +1,38 @@
+//! Typed programs.
+
+use crate::statement::Part;
+use wiz_base::Bytes;
+
+/// What a parameter takes.
+#[derive(Clone, Copy)]
+pub enum ParameterKind {
+    Int,
+    Communicator,
+    /// A reference to ints.
+    Array,
+    /// The texts that main is started with; no cells.
+    Texts,
+}
+
+#[derive(Drop)]
+pub struct Parameter {
+    pub name: Bytes,
+    pub kind: ParameterKind,
+}
+
+/// A function. Its parameters are its first variables.
+#[derive(Drop)]
+pub struct Function {
+    pub name: Bytes,
+    /// Whether it gives an int; where it ends without a value, that is 0.
+    pub gives: bool,
+    pub parameters: Vec<Parameter>,
+    pub body: Vec<Part>,
+}
+
+/// A program without faults: its functions in the order of the text, and the number of main.
+#[derive(Drop)]
+pub struct CProgram {
+    pub functions: Vec<Function>,
+    pub main: usize,
+}

@@ -1,0 +1,104 @@
+//! Typed statements.
+
+use crate::expr::{Call, Expr, Place, Right};
+use crate::mpi::MpiCall;
+use c_check::thing::Kind;
+use c_names::format::Piece;
+use c_names::operator::Operator;
+use wiz_base::Bytes;
+
+/// A statement that stands before a `;`.
+#[derive(Drop)]
+pub enum Simple {
+    /// `place = right`.
+    Set {
+        place: Place,
+        right: Right,
+    },
+    /// `place operator= right`, and `++` and `--`, which are by 1.
+    Update {
+        place: Place,
+        operator: Operator,
+        right: Right,
+    },
+    Call(Call),
+    Mpi(MpiCall),
+    Print {
+        format: Vec<Piece>,
+        arguments: Vec<Expr>,
+    },
+    /// `fflush(stdout)`, which does nothing.
+    Flush,
+}
+
+/// How a variable begins: as nothing of its kind, as a right side, or with some ints and then 0.
+#[derive(Drop)]
+pub enum Initial {
+    Nothing,
+    Right(Right),
+    Values(Vec<Expr>),
+}
+
+/// A variable that is declared; `length` is that of an array.
+#[derive(Drop)]
+pub struct Item {
+    pub name: Bytes,
+    pub kind: Kind,
+    pub length: Option<u32>,
+    pub initial: Initial,
+}
+
+#[derive(Drop)]
+pub struct Declaration {
+    pub items: Vec<Item>,
+}
+
+#[derive(Drop)]
+pub enum ForStart {
+    Nothing,
+    Declaration(Declaration),
+    Simple(Simple),
+}
+
+#[cycle(statement)]
+#[derive(Drop)]
+pub enum Stmt {
+    Block(Vec<Part>),
+    Empty,
+    Simple(Simple),
+    Break,
+    Continue,
+    Return(Option<Right>),
+    If {
+        test: Expr,
+        then: Box<Stmt>,
+    },
+    IfElse {
+        test: Expr,
+        then: Box<Stmt>,
+        other: Box<Stmt>,
+    },
+    While {
+        test: Expr,
+        body: Box<Stmt>,
+    },
+    Do {
+        body: Box<Stmt>,
+        test: Expr,
+    },
+    /// A block of its own.
+    For {
+        start: ForStart,
+        test: Option<Expr>,
+        step: Option<Simple>,
+        body: Box<Stmt>,
+    },
+}
+
+/// What stands in a block.
+#[cycle(statement)]
+#[derive(Drop)]
+pub enum Part {
+    Declaration(Declaration),
+    Stmt(Stmt),
+}

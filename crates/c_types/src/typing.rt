@@ -1,0 +1,259 @@
+//! Checking a tree, and reading a program.
+ghost use Rattle.std.specs.Prelude.{◌≡◌, ◌≤◌, ◌⊎◌, ◌++◌, ℕ, List, IfErr, IfOk, MatchResult, OnOk, Some, [], length, map, min, true};
+ghost use Rattle.std.specs.List.{list_any, position};
+ghost use Rattle.std.specs.Option.{is_some, option_to_list};
+ghost use Rattle.c_grammar.specs.StmtGrammar.{AreTops, IsTop, is_named};
+ghost use Rattle.c_grammar.specs.StmtView.{head_view, parameter_view, parameters_view, parts_view, top_view, tree_view};
+ghost use Rattle.c_lex.specs.NoMemory.{no_memory};
+ghost use Rattle.c_lex.specs.Places.{IsPlaceOf};
+ghost use Rattle.c_lex.specs.declared.fault.SourceFault.{SourceFault};
+ghost use Rattle.c_check.specs.Programs.{after_parameter, after_parameters, after_top, faults, function_faults, heads_of, is_main, parameter_name, top_faults, tops_faults, with_head};
+ghost use Rattle.c_check.specs.Signatures.{parameters_listed};
+ghost use Rattle.c_types.specs.Checks.{IsFaultOf, IsFirstIn, IsProgramOf};
+ghost use Rattle.c_types.specs.Programs.{AreFunctions, AreParameters, IsFunction, IsFunctionOf, IsParameter, IsProgram, parameter_kind};
+ghost use Rattle.c_types.specs.declared.program.CProgram.{CProgram};
+
+use crate::program::{CProgram, Function, Parameter, ParameterKind};
+use crate::statement_of::parts_of;
+use c_check::call::{is_int, parameter_at, parameter_count};
+use c_check::fault::Fault;
+use c_check::program::{
+    define_value, first_fault, is_main, parameter_name, parameter_thing, text_scope,
+};
+use c_check::scope::{Scope, cut};
+use c_check::thing::Thing;
+use c_grammar::statement;
+use c_grammar::statement::{Head, Top, Tree};
+use c_lex::{SourceFault, fault_at, tokens};
+use c_parse::parse;
+use std::alloc::{AllocError, Global};
+use wiz_base::Bytes;
+
+fn parameter_kind(parameter: &statement::Parameter) -> ParameterKind
+    ensures { result ≡ parameter_kind (parameter_view parameter.now) }
+{
+    match parameter {
+        statement::Parameter::Int { .. } => ParameterKind::Int,
+        statement::Parameter::Array { .. } => ParameterKind::Array,
+        statement::Parameter::Pointer { .. } => ParameterKind::Array,
+        statement::Parameter::Communicator { .. } => ParameterKind::Communicator,
+        statement::Parameter::TextPointers { .. } => ParameterKind::Texts,
+        statement::Parameter::TextArray { .. } => ParameterKind::Texts,
+    }
+}
+
+/// A parameter with its name, which is then declared.
+fn parameter_of(
+    alloc: Global,
+    scope: &mut Scope,
+    main: bool,
+    parameter: &statement::Parameter,
+) -> Result<Parameter, AllocError>
+    requires { is_some (parameter_name (parameter_view parameter.now)) ≡ true }
+    ensures typed { IfOk result (λ typed. IsParameter scope.old.text (parameter_view parameter.now) typed) }
+    ensures scope { OnOk result (scope.new ≡ after_parameter scope.old main (parameter_view parameter.now)) }
+{
+    let Some(spot) = parameter_name(parameter) else {
+        unreachable!()
+    };
+    let name = Bytes::from_slice(alloc, cut(scope.text(), spot))?;
+    scope.declare(spot, parameter_thing(main, parameter))?;
+    Ok(Parameter {
+        name,
+        kind: parameter_kind(parameter),
+    })
+}
+
+fn parameters_of(
+    alloc: Global,
+    scope: &mut Scope,
+    main: bool,
+    head: &Head,
+) -> Result<Vec<Parameter>, AllocError>
+    requires { is_named (parameters_view head.now.parameters) ≡ true }
+    ensures typed { IfOk result (λ typed. AreParameters scope.old.text (parameters_listed (parameters_view head.now.parameters)) typed.items) }
+    ensures scope { OnOk result (scope.new ≡ after_parameters scope.old main (parameters_listed (parameters_view head.now.parameters))) }
+{
+    let mut parameters = Vec::new(alloc);
+    for place in 0..parameter_count(head) {
+        let Some(parameter) = parameter_at(head, place) else {
+            unreachable!()
+        };
+        parameters.push(parameter_of(alloc, scope, main, parameter)?)?;
+    }
+    Ok(parameters)
+}
+
+/// A function; the scope is then as before.
+#[tactic(auto, using(c_check::proofs::Closed::closed_function))]
+fn function_of(
+    alloc: Global,
+    scope: &mut Scope,
+    head: &Head,
+    parts: &[statement::Part],
+) -> Result<Function, AllocError>
+    requires named { is_named (parameters_view head.now.parameters) ≡ true }
+    requires faults { function_faults scope.old (head_view head.now) (parts_view parts.now) ≡ [] }
+    ensures typed { IfOk result (λ typed. IsFunction scope.old (head_view head.now) (parts_view parts.now) typed) }
+    ensures scope { OnOk result (scope.new ≡ scope.old) }
+{
+    let name = Bytes::from_slice(alloc, cut(scope.text(), head.name))?;
+    let main = is_main(scope.text(), head);
+    scope.open()?;
+    let parameters = parameters_of(alloc, scope, main, head)?;
+    let body = parts_of(alloc, scope, parts)?;
+    scope.close();
+    Ok(Function {
+        name,
+        gives: is_int(head.result),
+        parameters,
+        body,
+    })
+}
+
+/// The function that stands there, or nothing; a define is then declared.
+fn top_of(alloc: Global, scope: &mut Scope, top: &Top) -> Result<Option<Function>, AllocError>
+    requires top { IsTop (top_view top.now) }
+    requires faults { (seen : List (List ℕ)) × (top_faults scope.old seen (top_view top.now) ≡ []) }
+    ensures typed { IfOk result (λ typed. IsFunctionOf scope.old (top_view top.now) typed) }
+    ensures scope { OnOk result (scope.new ≡ after_top scope.old (top_view top.now)) }
+{
+    match top {
+        Top::Define { name, value, .. } => {
+            let text = scope.text();
+            scope.declare(*name, Thing::Define(define_value(text, value)))?;
+            Ok(None)
+        }
+        Top::Function { head, parts, .. } => Ok(Some(function_of(alloc, scope, head, parts)?)),
+        Top::Prototype { .. } => Ok(None),
+    }
+}
+
+fn push(functions: &mut Vec<Function>, function: Option<Function>) -> Result<(), AllocError>
+    ensures { OnOk result (functions.new.items ≡ functions.old.items ++ option_to_list function) }
+{
+    match function {
+        Some(function) => {
+            functions.push(function)?;
+            Ok(())
+        }
+        None => Ok(()),
+    }
+}
+
+/// The functions of a text, in order.
+fn functions_of(alloc: Global, scope: &mut Scope, tops: &[Top]) -> Result<Vec<Function>, AllocError>
+    requires tops { AreTops (map top_view tops.now) }
+    requires faults { tops_faults scope.old [] (map top_view tops.now) ≡ [] }
+    ensures { IfOk result (λ typed. AreFunctions scope.old (map top_view tops.now) typed.items) }
+{
+    let mut functions = Vec::new(alloc);
+    for top in tops {
+        let function = top_of(alloc, scope, top)?;
+        push(&mut functions, function)?;
+    }
+    Ok(functions)
+}
+
+fn is_main_top(text: &[u8], top: &Top) -> bool
+    ensures { result ≡ list_any (is_main text.now) (with_head (top_view top.now) []) }
+{
+    match top {
+        Top::Function { head, .. } => is_main(text, head),
+        Top::Define { .. } => false,
+        Top::Prototype { .. } => false,
+    }
+}
+
+/// How many functions stand there, 1 or 0.
+fn function_count(top: &Top) -> usize
+    ensures count { result ≡ length (with_head (top_view top.now) []) }
+    ensures most { result ≤ 1 }
+{
+    match top {
+        Top::Function { .. } => 1,
+        Top::Define { .. } => 0,
+        Top::Prototype { .. } => 0,
+    }
+}
+
+/// The number of main among the functions.
+fn main_of(text: &[u8], tops: &[Top]) -> usize
+    requires { list_any (is_main text.now) (heads_of (map top_view tops.now)) ≡ true }
+    ensures { position (is_main text.now) (heads_of (map top_view tops.now)) ≡ Some result }
+{
+    let mut number = 0;
+    for top in tops {
+        if is_main_top(text, top) {
+            return number;
+        }
+        number += function_count(top);
+    }
+    unreachable!()
+}
+
+/// The typed program of a tree without faults.
+fn program_of(alloc: Global, text: &[u8], tree: &Tree) -> Result<CProgram, AllocError>
+    requires tops { AreTops (tree_view tree.now) }
+    requires faults { faults text.now (tree_view tree.now) ≡ [] }
+    ensures { IfOk result (λ program. IsProgram text.now (tree_view tree.now) program) }
+{
+    let main = main_of(text, &tree.tops);
+    let mut scope = text_scope(alloc, text, tree)?;
+    let functions = functions_of(alloc, &mut scope, &tree.tops)?;
+    Ok(CProgram { functions, main })
+}
+
+/// A fault with its line and column.
+fn refused(text: &[u8], fault: Fault) -> SourceFault
+    requires { length text.now ≤ 65536 }
+    ensures place { IsPlaceOf text.now (min (length text.now) fault.at) result.line result.column }
+    ensures why { result.why ≡ fault.why }
+{
+    let place = text.len().min(fault.at as usize);
+    fault_at(text, place, fault.why)
+}
+
+/// The typed program of a tree, or its first fault in source order; on one place the reason that is listed first.
+pub fn check(alloc: Global, text: &[u8], tree: Tree) -> Result<CProgram, SourceFault>
+    requires fits { length text.now ≤ 65536 }
+    requires tops { AreTops (tree_view tree) }
+    ensures program { IfOk result (λ program. IsProgram text.now (tree_view tree) program) }
+    ensures none { IfOk result (λ program. faults text.now (tree_view tree) ≡ []) }
+    ensures fault { IfErr result (λ found. (found ≡ no_memory) ⊎ IsFirstIn text.now (faults text.now (tree_view tree)) found) }
+    ensures only { faults text.now (tree_view tree) ≡ [] → IfErr result (λ fault. fault ≡ no_memory) }
+    ensures only_fault { (first : SourceFault) → IsFirstIn text.now (faults text.now (tree_view tree)) first
+        → MatchResult result (λ _. ⊥) (λ fault. (fault ≡ no_memory) ⊎ (fault ≡ first)) }
+{
+    let first = first_fault(alloc, text, &tree)?;
+    match first {
+        Some(fault) => Err(refused(text, fault)),
+        None => {
+            let program = program_of(alloc, text, &tree)?;
+            Ok(program)
+        }
+    }
+}
+
+/// The program of a text: its tokens, its tree and its types, in this order.
+pub fn read_program(alloc: Global, text: &[u8]) -> Result<CProgram, SourceFault>
+    requires { length text.now ≤ 65536 }
+    ensures program { IfOk result (λ program. IsProgramOf text.now program) }
+    ensures fault { IfErr result (λ fault. (fault ≡ no_memory) ⊎ IsFaultOf text.now fault) }
+    ensures only { (program : CProgram) → IsProgramOf text.now program → IfErr result (λ fault. fault ≡ no_memory) }
+    ensures only_fault { (first : SourceFault) → IsFaultOf text.now first
+        → MatchResult result (λ _. ⊥) (λ fault. (fault ≡ no_memory) ⊎ (fault ≡ first)) }
+{
+    let tokens = tokens(alloc, text)?;
+    let tree = parse(alloc, text, &tokens)?;
+    let program = check(alloc, text, tree)?;
+    Ok(program)
+}
+
+/// A text has a program or one first fault, and never both.
+pub fn one_program()
+    ensures one_fault { (text : List ℕ) (fault other : SourceFault)
+        → IsFaultOf text fault → IsFaultOf text other → fault ≡ other }
+    ensures never_both { (text : List ℕ) (program : CProgram) (fault : SourceFault)
+        → IsProgramOf text program → IsFaultOf text fault → ⊥ }
+{}
