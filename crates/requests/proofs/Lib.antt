@@ -1,0 +1,6 @@
+pub mod Found
+pub mod Steps
+pub mod Gathered
+pub mod Pairing
+pub mod Starting
+pub mod Answering
