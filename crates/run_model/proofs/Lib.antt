@@ -17,3 +17,15 @@ pub mod TakeShapes
 pub mod Shapes
 pub mod RunLaws
 pub mod Orders
+pub mod Positions
+pub mod Choosing
+pub mod ChosenLaws
+pub mod ChosenGots
+pub mod ChosenProbes
+pub mod ChosenAnswers
+pub mod SerialLaws
+pub mod OriginLists
+pub mod Numbered
+pub mod AllEntered
+pub mod GoingOn
+pub mod ChosenExamples

@@ -11,3 +11,8 @@ pub mod Run
 pub mod Program
 pub mod Fits
 pub mod Forms
+pub mod Choice
+pub mod Numbers
+pub mod Chosen
+pub mod Serial
+pub mod MachineLaws

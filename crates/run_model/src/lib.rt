@@ -9,6 +9,7 @@
 pub mod communicators;
 pub mod event;
 pub mod history;
+pub mod laws;
 pub mod lists;
 pub mod program;
 pub mod shape;

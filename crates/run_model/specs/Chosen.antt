@@ -1,0 +1,119 @@
+-- The runs that a recording machine makes: each event is determined by those before it and by whose turn it is.
+use Rattle.std.specs.Prelude.{◌≡◌, ℕ, ℤ, List, [], ◌∷◌, Option, Some, None, Bool, true, false, not, if◌then◌else◌, Result, Ok, Err, map, length, slice_index}
+use Rattle.mpi_call.specs.declared.call.Call.{Call}
+use Rattle.mpi_call.specs.declared.call.Call.TheVariants.{Send, Post, Enter, Take, Peek}
+use Rattle.mpi_call.specs.declared.call.Halt.{Halt}
+use Rattle.mpi_call.specs.declared.call.Halt.TheVariants.{Stuck}
+use Rattle.mpi_call.specs.declared.call.Source.TheVariants.{Null}
+use Rattle.mpi_call.specs.declared.call.TakeMode.{TakeMode}
+use Rattle.mpi_call.specs.declared.reply.Got.{Got}
+use Rattle.mpi_call.specs.declared.reply.Got.TheVariants.{Sent, Nothing, Message, Joined, Made}
+use Rattle.mpi_call.specs.declared.reply.Item.{Item}
+use Rattle.mpi_call.specs.declared.reply.Reply.{Reply}
+use Rattle.mpi_call.specs.declared.reply.Reply.TheVariants.{Done, NotYet, Peeked, Stopped}
+use Rattle.mpi_call.specs.Calls.{comm_of, makes}
+use Rattle.mpi_call.specs.Collectives.{is_uncoloured, members_made, result_of}
+use Rattle.run_model.specs.declared.event.Event.{Event}
+use Rattle.run_model.specs.Lists.{Along}
+use Rattle.run_model.specs.Views.{View, Next, view_of, start_at}
+use Rattle.run_model.specs.Communicators.{members_in}
+use Rattle.run_model.specs.Inputs.{inputs_of}
+use Rattle.run_model.specs.Pairs.{Name, name_at, named, pairs_of, partner_of}
+use Rattle.run_model.specs.Shape.{is_test}
+use Rattle.run_model.specs.Allowed.{first_long, flags_of, holds, taken_reply}
+use Rattle.run_model.specs.Due.{due}
+use Rattle.run_model.specs.Run.{IsRun}
+use Rattle.run_model.specs.Choice.{choice, chosen_places, mate_of}
+use Rattle.run_model.specs.Numbers.{communicators_of, number_among, origin_of}
+
+-- the message of the Send that a receive is paired with
+abbrev pub message_in : Name → Option Call → Got
+message_in send (Some (Send comm dest tag ints)) = Message send.0 send.1 tag ints
+message_in send other = Nothing
+
+abbrev pub message_of : List Event → Option Name → Got
+message_of before None = Nothing
+message_of before (Some send) = message_in send (named before send)
+
+-- by whether the collective makes a communicator, and whether its colour is undefined
+abbrev pub collected_by : Bool → Bool → ℕ → List Event → View → ℕ → ℕ → Call → List (List ℤ) → Got
+collected_by true true n before own me k enter inputs = Made 0 []
+collected_by true false n before own me k enter inputs =
+    Made (number_among (communicators_of n before) (origin_of own k enter)) (members_made enter (members_in n own (comm_of enter)) inputs me)
+collected_by false uncoloured n before own me k enter inputs =
+    Joined (result_of enter (members_in n own (comm_of enter)) inputs me)
+
+abbrev pub collected : ℕ → List Event → View → ℕ → ℕ → Call → Result (List (List ℤ)) ℕ → Got
+collected n before own me k enter (Err missing) = Nothing
+collected n before own me k enter (Ok inputs) = collected_by (makes enter) (is_uncoloured enter) n before own me k enter inputs
+
+-- what the ready start k of rank `me` gives
+abbrev pub got_of : ℕ → List Event → View → ℕ → ℕ → Option Call → Got
+got_of n before own me k (Some (Send comm dest tag ints)) = Sent
+got_of n before own me k (Some (Post comm Null tag room)) = Nothing
+got_of n before own me k (Some (Post comm source tag room)) = message_of before (partner_of (pairs_of before) (me, k))
+got_of n before own me k (Some (Enter comm kind root op count ints)) =
+    collected n before own me k (Enter comm kind root op count ints) (inputs_of n (view_of before) own me k (Enter comm kind root op count ints))
+got_of n before own me k other = Nothing
+
+-- the items of these listed starts, by their places
+abbrev pub items_at : ℕ → List Event → View → ℕ → List ℕ → List ℕ → List Item
+items_at n before own me starts [] = []
+items_at n before own me starts (index ∷ indices) =
+    (record { index = index; got = got_of n before own me (slice_index starts index) (start_at own (slice_index starts index)) })
+    ∷ items_at n before own me starts indices
+
+abbrev pub items_of : ℕ → List Event → View → ℕ → List ℕ → TakeMode → List Item
+items_of n before own me starts mode = items_at n before own me starts (chosen_places mode (flags_of n before own me starts))
+
+-- a test or probe that finds nothing is told so, and a call that waits is stuck
+abbrev pub held_reply : Bool → Reply
+held_reply true = NotYet
+held_reply false = Stopped Stuck
+
+abbrev pub peeked_in : Name → Option Call → Reply
+peeked_in send (Some (Send comm dest tag ints)) = Peeked send.0 send.1 tag (length ints)
+peeked_in send other = NotYet
+
+abbrev pub peeked_at : List Event → Option Name → Reply
+peeked_at before None = NotYet
+peeked_at before (Some send) = peeked_in send (named before send)
+
+-- the reply to a probe that finds the message at a position
+abbrev pub peek_reply : List Event → Bool → Option ℕ → Reply
+peek_reply before wait (Some at) = peeked_at before (name_at before at)
+peek_reply before wait None = held_reply (not wait)
+
+-- the reply where no halt is due
+abbrev pub chosen_answer : ℕ → List Event → View → ℕ → Call → Reply
+chosen_answer n before own me (Take starts mode) =
+    if holds mode (flags_of n before own me starts)
+    then taken_reply me (first_long own starts (items_of n before own me starts mode)) (items_of n before own me starts mode)
+    else held_reply (is_test mode)
+chosen_answer n before own me (Peek comm source tag wait) = peek_reply before wait (choice before me (Peek comm source tag wait))
+chosen_answer n before own me call = Done
+
+abbrev pub halt_or : Option Halt → Reply → Reply
+halt_or (Some halt) reply = Stopped halt
+halt_or None reply = reply
+
+-- the machine's reply to the call of rank `me`; where the call cannot go it is Stuck
+abbrev pub chosen_reply : ℕ → List Event → ℕ → Call → Reply
+chosen_reply n before me call = halt_or (due n before (view_of before me) me call) (chosen_answer n before (view_of before me) me call)
+
+-- the event that the machine appends for a rank's call
+abbrev pub chosen_event : ℕ → List Event → ℕ → Call → Event
+chosen_event n before rank call =
+    record { rank = rank; call = call; reply = chosen_reply n before rank call; mate = mate_of before rank call (chosen_reply n before rank call) }
+
+abbrev pub IsChosenEvent : ℕ → List Event → Event → Type 0
+IsChosenEvent n before event = event ≡ chosen_event n before event.rank event.call
+
+-- a run each of whose events is the machine's
+pub record IsChosen (next : Next) (n : ℕ) (events : List Event) : Type 0 where
+  pub run : IsRun next n events
+  pub along : Along (IsChosenEvent n) [] events
+
+-- the order of a history: whose event each is
+abbrev pub order_of : List Event → List ℕ
+order_of events = map (λ (event : Event). event.rank) events
