@@ -150,7 +150,7 @@ can_is : (found : Option Start) (at : Option Call) (taken fresh : Bool) → opti
 can_is None at taken fresh e t = rw (← e) refl
 can_is (Some start) at taken fresh e t = rw (← e, ← t) refl
 
-among-append : (xs ys : List ℕ) (k : ℕ) → is_member (xs ++ ys) k ≡ (is_member xs k || is_member ys k)
+pub among-append : (xs ys : List ℕ) (k : ℕ) → is_member (xs ++ ys) k ≡ (is_member xs k || is_member ys k)
 among-append [] ys k = refl
 among-append (x ∷ xs) ys k =
     elim (test_cases (x == k)) [

@@ -1,5 +1,6 @@
 -- Starts that are found after a change.
-use Rattle.std.proofs.Common.{◌≡◌, ◌≢◌, ◌<◌, ◌≤◌, ◌&&◌, ◌==◌, ◌||◌, ℕ, zero, suc, List, [], ◌∷◌, ◌++◌, Option, Some, None, Bool, true, false, cond, get_or, set, length, slice_get, ◌⊎◌, inl, inr, refl, ap, sym, ◌∙◌, subst, arith, get_or-set_same, get_or-set_other, append_assoc}
+use Rattle.std.proofs.Common.{◌≡◌, ◌≢◌, ◌+◌, ◌<◌, ◌≤◌, ◌&&◌, ◌==◌, ◌||◌, ℕ, zero, suc, List, [], ◌∷◌, ◌++◌, Option, Some, None, Bool, true, false, cond, get_or, set, length, slice_get, ◌⊎◌, inl, inr, refl, ap, sym, ◌∙◌, subst, arith, get_or-set_same, get_or-set_other, append_assoc}
+use Rattle.std.proofs.lemmas.List.{set-get_or}
 use Rattle.std.specs.Prelude.{option_map, replicate}
 use Rattle.std.proofs.lemmas.Bool.{cases_eq, cases_lt, eqb-true, eq-eqb}
 use Rattle.mpi_call.specs.Members.{is_member}
@@ -138,3 +139,17 @@ length-row zero row [] = refl
 length-row (suc rank) row [] = refl
 length-row zero row (first ∷ rows) = refl
 length-row (suc rank) row (first ∷ rows) = ap suc (length-row rank row rows)
+
+-- a start that was added and taken out again
+set_set : (rows : Rows) (rank : ℕ) (one other : List Start) → set (set rows rank one) rank other ≡ set rows rank other
+set_set [] rank one other = refl
+set_set (row ∷ rows) zero one other = refl
+set_set (row ∷ rows) (suc rank) one other = ap (λ (l : Rows). row ∷ l) (set_set rows rank one other)
+
+pub drop_back : (items before : Rows) (rank : ℕ) (start : Start) (here popped : List Start) → rank < length before → items ≡ with_start rank start before → here ≡ get_or items rank here
+    → ((row : List Start) (last : Start) → here ≡ row ++ last ∷ [] → popped ≡ row) → set items rank popped ≡ before
+drop_back items before rank start here popped within is at pops =
+    let row : List Start = row_of before rank in
+    let here_is : here ≡ row ++ start ∷ [] = at ∙ (ap (λ (l : Rows). get_or l rank here) is ∙ get_or-set_same before rank (row ++ start ∷ []) here within) in
+    let popped_is : popped ≡ row = pops row start here_is in
+    ap (λ (l : Rows). set l rank popped) is ∙ (set_set before rank (row ++ start ∷ []) popped ∙ (ap (λ (r : List Start). set before rank r) popped_is ∙ set-get_or before rank []))

@@ -5,7 +5,7 @@ use Rattle.std.specs.List.{list_any}
 use Rattle.std.proofs.lemmas.Bool.{cases_eq, cases_lt, eqb-true, eq-eqb, and_parts}
 use Rattle.std.proofs.lemmas.List.Folds.{list_any-append}
 use Rattle.mpi_call.specs.declared.call.Call.{Call}
-use Rattle.mpi_call.specs.declared.call.Call.TheVariants.{Send, Post}
+use Rattle.mpi_call.specs.declared.call.Call.TheVariants.{Send, Post, Enter, Take, Peek, Abort, Trap, End}
 use Rattle.mpi_call.specs.declared.reply.Item.{Item}
 use Rattle.mpi_call.specs.declared.reply.Reply.{Reply}
 use Rattle.mpi_call.specs.declared.reply.Reply.TheVariants.{Done, Took, NotYet, Peeked, Stopped}
@@ -13,18 +13,20 @@ use Rattle.mpi_call.specs.Calls.{is_starting, listed_by}
 use Rattle.mpi_call.specs.Members.{is_member}
 use Rattle.run_model.specs.declared.event.Event.{Event}
 use Rattle.run_model.specs.Pairs.{Name, name_at, named, pairs_of, partner_of, same_name}
-use Rattle.run_model.specs.Run.{HasMate}
+use Rattle.run_model.specs.Choice.{choice, suits}
+use Rattle.run_model.proofs.Choosing.{IsOpenAt, choice_is, choice_is_none}
 use Rattle.run_model.specs.Views.{View, is_done, is_start, items_taken, starts_of, taken_of, view_of}
 use Rattle.run_model.proofs.StartLemmas.{slice_get-below}
 use Rattle.run_model.proofs.Views.{option_cases, test_cases, view_of-mine, view_of-other}
-use Rattle.match_core.specs.Starts.{is_message, left_by, start_of}
+use Rattle.match_core.specs.Starts.{fits, is_message, left_by, start_of}
+use Rattle.match_core.specs.declared.start.Start.{Start as Unpaired}
 use Rattle.match_core.specs.Histories.{FitsAt, IsChoice, IsOther, Knows as MatcherKnows, KnowsMore, event_of}
 use Rattle.match_core.proofs.Grown.{Grows-event, named-new, named-other, new_name}
-use Rattle.match_core.proofs.Knowing.{knows_others}
+use Rattle.match_core.proofs.Knowing.{knows_below, knows_others}
 use Rattle.match_core.proofs.Pairing.{same_name-refl, same_name-true}
 use Rattle.requests.specs.declared.start.Start.{Start}
 use Rattle.requests.specs.Starts.{Names, Rows, call_in, found_in, fresh, is_gone, mate_named, mate_of, name_in, paired_with, row_of, with_mate, with_name, with_pair, with_row, with_start}
-use Rattle.requests.specs.States.{State, next_name, with_message}
+use Rattle.requests.specs.States.{IsAbove, State, next_name, with_message}
 use Rattle.requests.specs.Histories.{IsIdle, Knows, KnowsStart}
 use Rattle.requests.proofs.Found.{found-change, found-start, length-row, not_same}
 use Rattle.requests.proofs.Pairing.{different, length-names, name_at-push, name_in-push, named-push, pairs-alone, pairs-paired, one_more, partner_of-push, same_length}
@@ -56,10 +58,10 @@ gone_kept true mate (Some start) = refl
 gone_kept false mate o = refl
 
 -- what is found once two starts have each other
-abbrev with_one : Name → Name → Name → Option Start → Option Start
+abbrev pub with_one : Name → Name → Name → Option Start → Option Start
 with_one other name mate o = cond (same_name other name) (option_map (paired_with mate) o) o
 
-found-pair : (rows : Rows) (new old other : Name) → found_in (with_pair new (Some old) rows) other ≡ with_one other old new (with_one other new old (found_in rows other))
+pub found-pair : (rows : Rows) (new old other : Name) → found_in (with_pair new (Some old) rows) other ≡ with_one other old new (with_one other new old (found_in rows other))
 found-pair rows new old other =
     found-change (paired_with new) (with_mate new old rows) old other
     ∙ ap (λ (o : Option Start). with_one other old new o) (found-change (paired_with old) rows new other)
@@ -144,6 +146,30 @@ call_start rows rank call other within =
     ap (λ (o : Option Start). option_map (λ (start : Start). start.call) o) (found-start rows rank (fresh call 0) other within)
     ∙ elim (test_cases (same_name other (rank, length (row_of rows rank)))) [ inl h ↦ rw h refl | inr h ↦ rw h refl ]
 
+-- the matcher's choice is the machine's
+fits_suits : (rank : ℕ) (call : Call) (owner : ℕ) (start : Call) → fits rank call owner start ≡ suits rank call owner start
+fits_suits rank (Send comm dest tag ints) owner start = refl
+fits_suits rank (Post comm source tag room) owner start = refl
+fits_suits rank (Enter comm kind root op count ints) owner start = refl
+fits_suits rank (Take starts mode) owner start = refl
+fits_suits rank (Peek comm source tag wait) owner start = refl
+fits_suits rank (Abort code) owner start = refl
+fits_suits rank (Trap fault) owner start = refl
+fits_suits rank End owner start = refl
+
+fits_open : (events : List Event) (rank : ℕ) (call : Call) (at : ℕ) → FitsAt events rank call at → IsOpenAt events rank call at
+fits_open events rank call at f =
+    record { name = f.name; start = f.start; there = f.unpaired.there; made = f.unpaired.made; free = f.unpaired.free; suited = sym (fits_suits rank call f.name.0 f.start) ∙ f.fit }
+
+open_fits : (events : List Event) (rank : ℕ) (call : Call) (at : ℕ) → IsOpenAt events rank call at → FitsAt events rank call at
+open_fits events rank call at o =
+    record { name = o.name; start = o.start; unpaired = record { there = o.there; made = o.made; free = o.free }; fit = fits_suits rank call o.name.0 o.start ∙ o.suited }
+
+pub choice_same : (events : List Event) (rank : ℕ) (call : Call) (mate : Option ℕ) → IsChoice events rank call mate → choice events rank call ≡ mate
+choice_same events rank call None none = choice_is_none events rank call (λ at o. none at (open_fits events rank call at o))
+choice_same events rank call (Some at) one =
+    choice_is events rank call at (record { chosen = fits_open events rank call at one.0; first = λ other o. one.1 other (open_fits events rank call other o) })
+
 -- a start that is named is found
 pub found_there : (n : ℕ) (events : List Event) (state : State) (name : Name) (call : Call) → Knows n events state → named events name ≡ Some call
     → (start : Start) × (found_in state.table.rows name ≡ Some start) × (start.call ≡ call)
@@ -160,16 +186,16 @@ found_there n events state name call k h =
 mates_after : (n : ℕ) (events : List Event) (state : State) (rank : ℕ) (call : Call) (mate : Option ℕ) (other : Name) → Knows n events state → rank < n
     → IsChoice events rank call mate → next_name state rank ≡ new_name events (event_of rank call mate)
     → mate_of (found_in (with_message state (length events) rank call mate).table.rows other) ≡ partner_of (pairs_of (events ++ event_of rank call mate ∷ [])) other
-mates_after n events state rank call None other k less choice next_is =
+mates_after n events state rank call None other k less chosen next_is =
     let within : rank < length state.table.rows = let e = k.ranks in omega (arith, e) in
     mates_alone state.table.rows rank call other within
     ∙ (k.mates other ∙ sym (ap (λ (P : List (Name × Name)). partner_of P other) (pairs-alone events (event_of rank call None) refl)))
-mates_after n events state rank call (Some at) other k less choice next_is =
+mates_after n events state rank call (Some at) other k less chosen next_is =
     let within : rank < length state.table.rows = let e = k.ranks in omega (arith, e) in
     let rows : Rows = state.table.rows in
     let event : Event = event_of rank call (Some at) in
     let pairs : List (Name × Name) = pairs_of events in
-    let f = choice.0 in
+    let f = chosen.0 in
     let old : Name = f.name in
     let next : Name = next_name state rank in
     let new : Name = new_name events event in
@@ -177,7 +203,7 @@ mates_after n events state rank call (Some at) other k less choice next_is =
     let there = found_there n events state old f.start k f.unpaired.made in
     let fresh_free : partner_of pairs new ≡ None = sym (k.mates new) ∙ (ap (λ (m : Name). mate_of (found_in rows m)) (sym next_is) ∙ ap mate_of (next_free rows rank)) in
     ap (λ (m : Option Name). mate_of (found_in (with_pair next m (with_start rank (fresh call 0) rows)) other)) mate_is
-    ∙ (mates_pair rows rank call old other there.0 within there.1.0
+    ∙ (mates_pair rows rank call old other there.0 within there.1
     ∙ (ap (λ (x : Option Name). cond (same_name other old) (Some next) (cond (same_name other next) (Some old) x)) (k.mates other)
     ∙ (ap (λ (m : Name). cond (same_name other old) (Some m) (cond (same_name other m) (Some old) (partner_of pairs other))) next_is
     ∙ (sym (partner_of-push pairs old new other f.unpaired.free fresh_free)
@@ -198,8 +224,7 @@ knows_message n events state rank call mate k less message more =
     let next_is : next ≡ new = (let pair : ℕ → Name = λ l. (rank, l) in ap pair many) in
     record {
       number_is = many;
-      choice = more.choice;
-      mate_fits = more.mate;
+      choice_is = sym (choice_same events rank call mate more.choice);
       knows = record {
         ranks = length-pair started next (mate_named state.names mate) ∙ (length-row rank (row_of rows rank ++ fresh call 0 ∷ []) rows ∙ k.ranks);
         matcher = more.knows;
@@ -258,3 +283,22 @@ knows_idle n events event state k idle =
       below = (let f = one_more events event in let b = k.below in omega (arith, f, b));
       messages = λ name c h. k.messages name c (sym (named-other events event t name) ∙ h);
     }
+
+pub knows_above : (n : ℕ) (events : List Event) (state : State) → Knows n events state → IsAbove (length events) state
+knows_above n events state k = record { names = k.below; unpaired = knows_below events state.unpaired k.matcher }
+
+-- the same for a state that was come to
+pub knows_started : (n : ℕ) (events : List Event) (old new : State) (at rank : ℕ) (call : Call) (number : ℕ) (mate : Option ℕ) (after : List Unpaired) → Knows n events old
+    → rank < length old.table.rows → is_message call ≡ true → at ≡ length events → number ≡ length (row_of old.table.rows rank)
+    → KnowsMore events (event_of rank call mate) after → after ≡ left_by old.unpaired (start_of at rank call) mate → new ≡ with_message old at rank call mate
+    → KnowsStart n events rank call number mate new
+knows_started n events old new at rank call number mate after k within message here number_is more after_is new_is =
+    let ranks : length old.table.rows ≡ n = k.ranks in
+    let less : rank < n = omega (arith, ranks) in
+    let F : ℕ → Type 0 = λ p. KnowsMore events (event_of rank call mate) (left_by old.unpaired (start_of p rank call) mate) in
+    let G : List Unpaired → Type 0 = λ u. KnowsMore events (event_of rank call mate) u in
+    let H : ℕ → Type 0 = λ p. KnowsStart n events rank call (length (row_of old.table.rows rank)) mate (with_message old p rank call mate) in
+    let I : ℕ → Type 0 = λ m. KnowsStart n events rank call m mate new in
+    let J : State → Type 0 = λ s. KnowsStart n events rank call (length (row_of old.table.rows rank)) mate s in
+    let base = knows_message n events old rank call mate k less message (subst F here (subst G after_is more)) in
+    subst I (sym number_is) (subst J (sym new_is) (subst H (sym here) base))

@@ -1,5 +1,5 @@
 -- What is known of a history.
-use Rattle.std.specs.Prelude.{◌≡◌, ◌+◌, ◌<◌, ◌≤◌, ◌⊎◌, ℕ, List, [], ◌∷◌, ◌++◌, Option, Some, None, Bool, true, false, length}
+use Rattle.std.specs.Prelude.{◌≡◌, ◌≤◌, ℕ, List, [], ◌∷◌, ◌++◌, Option, Some, None, true, false, length}
 use Rattle.mpi_call.specs.declared.call.Call.{Call}
 use Rattle.mpi_call.specs.declared.call.Call.TheVariants.{Take}
 use Rattle.mpi_call.specs.declared.call.Halt.TheVariants.{Truncated}
@@ -9,15 +9,15 @@ use Rattle.mpi_call.specs.declared.reply.Reply.{Reply}
 use Rattle.mpi_call.specs.declared.reply.Reply.TheVariants.{Took as TookReply, Stopped}
 use Rattle.mpi_call.specs.Members.{is_member}
 use Rattle.run_model.specs.declared.event.Event.{Event}
-use Rattle.run_model.specs.Allowed.{IsTaken, first_long, flags_of, holds}
-use Rattle.run_model.specs.Chosen.{items_of}
+use Rattle.run_model.specs.Allowed.{flags_of, holds}
+use Rattle.run_model.specs.Choice.{choice}
+use Rattle.run_model.specs.Chosen.{chosen_answer}
 use Rattle.run_model.specs.Due.{bad_request}
 use Rattle.run_model.specs.Pairs.{Name, name_at, named, pairs_of, partner_of}
 use Rattle.run_model.specs.Readiness.{is_ready}
-use Rattle.run_model.specs.Run.{HasMate}
-use Rattle.run_model.specs.Views.{View, is_start, items_taken, start_at, starts_of, taken_of, view_of}
+use Rattle.run_model.specs.Views.{is_start, start_at, starts_of, taken_of, view_of}
 use Rattle.match_core.specs.Starts.{is_message}
-use Rattle.match_core.specs.Histories.{IsChoice, Knows as MatcherKnows, event_of}
+use Rattle.match_core.specs.Histories.{Knows as MatcherKnows, event_of}
 use Rattle.requests.specs.declared.requests.Readiness.{Readiness}
 use Rattle.requests.specs.declared.requests.Readiness.TheVariants.{Ready, NotReady, NoSuch, Taken}
 use Rattle.requests.specs.declared.requests.Started.{Started}
@@ -40,11 +40,10 @@ pub record Knows (n : ℕ) (events : List Event) (state : State) : Type 0 where
   -- there is no collective among the starts
   pub messages : (name : Name) (call : Call) → named events name ≡ Some call → is_message call ≡ true
 
--- a start made the machine's choice, which a run may make; its number is its rank's next, and it is known of the longer history
+-- a start has the number of its rank's next and the machine's choice for a partner, and it is known of the longer history
 pub record KnowsStart (n : ℕ) (events : List Event) (rank : ℕ) (call : Call) (number : ℕ) (mate : Option ℕ) (state : State) : Type 0 where
   pub number_is : number ≡ length (starts_of (view_of events rank))
-  pub choice : IsChoice events rank call mate
-  pub mate_fits : HasMate events (event_of rank call mate)
+  pub choice_is : mate ≡ choice events rank call
   pub knows : Knows n (events ++ event_of rank call mate ∷ []) state
 
 abbrev pub KnowsStarted : ℕ → List Event → ℕ → Call → Started → State → Type 0
@@ -68,7 +67,7 @@ IsReadiness n events rank number NotReady =
     (is_member (taken_of (view_of events rank)) number ≡ false)
     × (is_ready n events (view_of events rank) rank number (start_at (view_of events rank) number) ≡ false)
 
--- what the answer to a completion says of the history: the tests in their order, and the items that a recording machine hands out
+-- what the answer to a completion says of the history: the tests in their order, and the machine's reply
 abbrev pub Answers : ℕ → List Event → ℕ → List ℕ → TakeMode → TakeAnswer → Type 0
 Answers n events rank starts mode (BadStart number) = bad_request (view_of events rank) [] starts ≡ Some number
 Answers n events rank starts mode NotYetReady =
@@ -77,14 +76,11 @@ Answers n events rank starts mode NotYetReady =
 Answers n events rank starts mode (TooLong number) =
     (bad_request (view_of events rank) [] starts ≡ None)
     × (holds mode (flags_of n events (view_of events rank) rank starts) ≡ true)
-    × (first_long (view_of events rank) starts (items_of n events (view_of events rank) rank starts mode) ≡ Some number)
-    × IsTaken n events (view_of events rank) rank starts mode (Stopped (Truncated rank number))
+    × (chosen_answer n events (view_of events rank) rank (Take starts mode) ≡ Stopped (Truncated rank number))
 Answers n events rank starts mode (Took items) =
     (bad_request (view_of events rank) [] starts ≡ None)
     × (holds mode (flags_of n events (view_of events rank) rank starts) ≡ true)
-    × (items ≡ items_of n events (view_of events rank) rank starts mode)
-    × (first_long (view_of events rank) starts items ≡ None)
-    × IsTaken n events (view_of events rank) rank starts mode (TookReply items)
+    × (chosen_answer n events (view_of events rank) rank (Take starts mode) ≡ TookReply items)
 
 -- the event of a completion that handed out these items
 abbrev pub took_event : ℕ → List ℕ → TakeMode → List Item → Event

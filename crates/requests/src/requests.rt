@@ -2,18 +2,19 @@
 ghost use Rattle.std.specs.Prelude.{◌≡◌, ◌<◌, ◌++◌, ◌∷◌, [], ℕ, List, Some, false, length, replicate, IfOk, IsOk, IsTrue, OnErr, OnOk};
 ghost use Rattle.mpi_call.specs.declared.call.TakeMode.{TakeMode};
 ghost use Rattle.run_model.specs.declared.event.Event.{Event};
+ghost use Rattle.run_model.specs.Choice.{choice};
 ghost use Rattle.run_model.specs.Pairs.{Name, name_at};
 ghost use Rattle.run_model.specs.Views.{items_taken};
 ghost use Rattle.match_core.specs.Starts.{is_message, is_peek, left_by, start_of, AreBelow, IsEarliest};
-ghost use Rattle.match_core.specs.Histories.{event_of, IsChoice, KnowsMore, Knows as MatcherKnows};
+ghost use Rattle.match_core.specs.Histories.{event_of, KnowsMore, Knows as MatcherKnows};
 ghost use Rattle.requests.specs.declared.requests.TakeAnswer.TheVariants.{Took};
 ghost use Rattle.requests.specs.Starts.{all_marked, found_in, name_in, row_of, with_row};
 ghost use Rattle.requests.specs.States.{at_first, with_rows, IsAbove, IsStarted, State};
-ghost use Rattle.requests.specs.Taking.{answer_in, hands_out, readiness_of, rows_after, takes_one};
+ghost use Rattle.requests.specs.Taking.{answer_in, hands_out, readiness_of, rows_after};
 ghost use Rattle.requests.specs.Histories.{Answers, IsIdle, IsReadiness, Knows, KnowsStarted, KnowsTaken};
 
-use crate::collected::items;
-use crate::complete::{first_bad, first_long, holds, readiness};
+use crate::answer::answer;
+use crate::complete::readiness;
 use crate::rows::{add_start, drop_start, mark_in, name_in, pair, put_name, reserve_to};
 use crate::start::{Name, Row};
 use collectives::board::Board;
@@ -145,19 +146,20 @@ impl Requests {
         ensures knows_on { IfOk result (λ answer. (n : ℕ) (events : List Event) → Knows n events self.old → KnowsTaken n events rank starts.now mode answer self.new) }
     {
         let listed = starts.as_slice();
-        if let Some(start) = first_bad(&self.rows, rank, listed) {
-            return Ok(TakeAnswer::BadStart { start });
-        }
-        if !holds(&self.rows, &self.board, &self.comms, rank, listed, mode) {
-            return Ok(TakeAnswer::NotReady);
-        }
-        let one = takes_one(mode);
-        if let Some(start) = first_long(&self.rows, &self.board, &self.comms, rank, listed, one) {
-            return Ok(TakeAnswer::TooLong { start });
-        }
-        let taken = items(self.alloc, &self.rows, &self.board, &self.comms, rank, listed, one)?;
+        let answer = answer(
+            self.alloc,
+            &self.rows,
+            &self.board,
+            &self.comms,
+            rank,
+            listed,
+            mode,
+        )?;
+        let TakeAnswer::Took(taken) = &answer else {
+            return Ok(answer);
+        };
         mark_in(&mut self.rows, rank, listed, taken.as_slice(), true);
-        Ok(TakeAnswer::Took(taken))
+        Ok(answer)
     }
 
     /// Makes the starts at these items' indices such as were not taken. Right after a `take` that handed out the items, all
@@ -175,7 +177,7 @@ impl Requests {
     pub fn peek(&self, rank: u8, call: &Call) -> Option<u32>
         requires kind { IsTrue (is_peek call.now) }
         ensures earliest { IsEarliest rank call.now self.now.unpaired result }
-        ensures choice { (n : ℕ) (events : List Event) → Knows n events self.now → IsChoice events rank call.now result }
+        ensures knows { (n : ℕ) (events : List Event) → Knows n events self.now → result ≡ choice events rank call.now }
     {
         self.matcher.peek(rank, call)
     }
@@ -228,10 +230,4 @@ fn matched(
         Call::Send { .. } => matcher.send(at, rank, call),
         _ => matcher.post(at, rank, call),
     }
-}
-
-fn takes_one(mode: TakeMode) -> bool
-    ensures { result ≡ takes_one mode }
-{
-    matches!(mode, TakeMode::Any | TakeMode::TestAny)
 }
