@@ -7,5 +7,3 @@ mod complete;
 pub mod requests;
 mod rows;
 pub mod start;
-#[cfg(test)]
-mod tests;
