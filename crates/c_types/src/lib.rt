@@ -13,6 +13,3 @@ pub mod typing;
 
 pub use program::CProgram;
 pub use typing::{check, one_program, read_program};
-
-#[cfg(test)]
-mod tests;
