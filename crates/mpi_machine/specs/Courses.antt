@@ -1,6 +1,6 @@
 -- What is counted of the events so far.
-use Rattle.std.specs.Prelude.{◌≡◌, ◌+◌, ◌-◌, ◌^◌, ◌<◌, ◌≤◌, ℕ, suc, List, [], ◌∷◌, Option, Some, None, Bool, false, if◌then◌else◌, length, min, slice_get}
-use Rattle.std.specs.List.{list_any}
+use Rattle.std.specs.Prelude.{◌≡◌, ◌+◌, ◌-◌, ◌^◌, ◌<◌, ◌≤◌, ℕ, suc, List, [], ◌∷◌, Option, Some, None, Bool, false, if◌then◌else◌, length, min}
+use Rattle.std.specs.List.{list_any, slice_index_or}
 use Rattle.mpi_call.specs.declared.call.Call.{Call}
 use Rattle.mpi_call.specs.declared.call.Halt.{Halt}
 use Rattle.mpi_call.specs.declared.call.Halt.TheVariants.{Limit}
@@ -35,7 +35,7 @@ pub record IsCounted (history : Kept) (halt : Option Halt) (size : ℕ) (ended :
   pub as_many : length kept ≡ length ended
   pub halt_is : halt ≡ halted history.events
   pub size_is : size ≡ capped (total_size history.events)
-  pub ended_are : (rank : ℕ) → rank < length ended → slice_get ended rank ≡ Some (has_ended history.events rank)
+  pub ended_are : (rank : ℕ) → rank < length ended → slice_index_or ended rank false ≡ has_ended history.events rank
   pub room : count_live ended ≤ history.spare
   pub bound : length history.events + count_live ended ≤ 999000 + length ended
 

@@ -1,5 +1,5 @@
-pub mod Turns
 pub mod Courses
-pub mod Waits
-pub mod Scripts
 pub mod ScriptLaws
+pub mod Scripts
+pub mod Turns
+pub mod Waits

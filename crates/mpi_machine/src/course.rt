@@ -1,9 +1,10 @@
 //! The events so far, with what is counted of them.
-ghost use Rattle.std.specs.Prelude.{◌≡◌, ◌<◌, ◌≤◌, ◌++◌, ◌∷◌, [], false, length, replicate, slice_get, IfOk, None, OnErr, OnOk, Some, true};
+ghost use Rattle.std.specs.Prelude.{◌≡◌, ◌<◌, ◌≤◌, ◌++◌, ◌∷◌, [], false, length, replicate, IfOk, None, OnErr, OnOk, Some, true};
 ghost use Rattle.std.specs.List.{slice_set};
-ghost use Rattle.run_model.specs.Due.{halt_in, halted, is_full};
+ghost use Rattle.run_model.specs.Due.{halt_in, halted, is_full, or_else};
 ghost use Rattle.run_model.specs.Program.{ends};
-ghost use Rattle.mpi_machine.specs.Courses.{bound_of, has_ended, CourseState, HasRoom};
+ghost use Rattle.mpi_machine.specs.Courses.{bound_of, has_ended, HasRoom};
+ghost use Rattle.mpi_machine.specs.Turns.{kept_of};
 
 use crate::size::size_of;
 use mpi_call::call::{Call, Halt};
@@ -101,13 +102,9 @@ impl Course {
         ensures kept { self.new.kept ≡ slice_set self.old.kept event.rank None }
     {
         let rank = event.rank as usize;
-        if self.halt.is_none() {
-            self.halt = halt_in(&event.reply);
-        }
+        self.halt = first_halt(self.halt, &event.reply);
         self.size = self.size.saturating_add(size_of(&event));
-        if ends(&event) {
-            self.ended[rank] = true;
-        }
+        self.ended[rank] = ends(&event);
         self.kept[rank] = None;
         self.history.push(event);
     }
@@ -125,7 +122,7 @@ impl Course {
     /// The call that a rank waits with, if it does. Takes no memory.
     pub fn kept(&self, rank: u8) -> &Option<Call>
         requires rank { rank < self.now.ranks }
-        ensures { slice_get self.now.kept rank ≡ Some result.now }
+        ensures { result.now ≡ kept_of self.now.kept rank }
     {
         &self.kept[rank as usize]
     }
@@ -135,7 +132,10 @@ impl Course {
         requires rank { rank < self.now.ranks }
         ensures { result ≡ has_ended self.now.events rank }
     {
-        self.ended[rank as usize]
+        match self.ended.get(rank as usize) {
+            Some(ended) => *ended,
+            None => false,
+        }
     }
 
     /// The number of ranks. Takes no memory.
@@ -167,13 +167,16 @@ impl Course {
     }
 }
 
-/// The halt in a reply.
-fn halt_in(reply: &Reply) -> Option<Halt>
-    ensures { result ≡ halt_in reply.now }
+/// The halt that stands, or else the one in a reply.
+fn first_halt(halt: Option<Halt>, reply: &Reply) -> Option<Halt>
+    ensures { result ≡ or_else halt (halt_in reply.now) }
 {
-    match reply {
-        Reply::Stopped(halt) => Some(*halt),
-        _ => None,
+    match halt {
+        Some(halt) => Some(halt),
+        None => match reply {
+            Reply::Stopped(halt) => Some(*halt),
+            _ => None,
+        },
     }
 }
 

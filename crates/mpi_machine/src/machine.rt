@@ -1,15 +1,26 @@
 //! A recording machine, one event at a time.
-ghost use Rattle.std.specs.Prelude.{◌≡◌, ◌<◌, ◌≤◌, ◌++◌, ◌∷◌, [], false, is_some, not, replicate, true, IfOk, IsOk, None, OnErr, OnOk, Some};
-ghost use Rattle.std.specs.List.{list_all};
+ghost use Rattle.std.specs.Prelude.{◌≡◌, ◌<◌, ◌≤◌, ◌++◌, ◌∷◌, ◌&&◌, [], false, is_some, length, not, replicate, true, IfOk, IsOk, None, OnErr, OnOk, Some};
+ghost use Rattle.std.specs.List.{slice_set};
 ghost use Rattle.mpi_call.specs.Calls.{is_enter};
+ghost use Rattle.mpi_call.specs.declared.call.Call.{Call};
+ghost use Rattle.mpi_call.specs.declared.call.Call.TheVariants.{Peek, Take};
 ghost use Rattle.mpi_call.specs.declared.reply.Reply.{Reply};
-ghost use Rattle.run_model.specs.Chosen.{chosen_reply, IsChosen};
+ghost use Rattle.mpi_call.specs.declared.reply.Reply.TheVariants.{Took as TookReply};
+ghost use Rattle.run_model.specs.Allowed.{can_go};
+ghost use Rattle.run_model.specs.Chosen.{chosen_reply, peeked_at, IsChosen};
 ghost use Rattle.run_model.specs.Due.{halted};
-ghost use Rattle.run_model.specs.Program.{MayGive};
-ghost use Rattle.run_model.specs.Serial.{attempt, call_after, Stage};
-ghost use Rattle.run_model.specs.Views.{replies_in, view_of};
-ghost use Rattle.mpi_machine.specs.Courses.{has_ended};
-ghost use Rattle.mpi_machine.specs.Turns.{after_turn, takes_none, turn_of, StandsAt};
+ghost use Rattle.run_model.specs.Pairs.{name_at};
+ghost use Rattle.run_model.specs.Program.{ends, MayGive};
+ghost use Rattle.run_model.specs.Serial.{attempt, call_after, is_stuck, Stage};
+ghost use Rattle.run_model.specs.Shape.{is_test};
+ghost use Rattle.run_model.specs.Views.{is_start, replies_in, taken_of, view_of};
+ghost use Rattle.match_core.specs.Starts.{is_message};
+ghost use Rattle.requests.specs.Histories.{took_event, Knows};
+ghost use Rattle.requests.specs.States.{with_rows, State};
+ghost use Rattle.requests.specs.Taking.{answer_in, rows_after};
+ghost use Rattle.requests.specs.declared.requests.TakeAnswer.TheVariants.{Took as TookItems};
+ghost use Rattle.mpi_machine.specs.Courses.{bound_of, has_ended, HasRoom};
+ghost use Rattle.mpi_machine.specs.Turns.{after_turn, last_reply, others_wait, stands, takes_none, turn_of, HasReply, IsAsked, IsHeldBack, IsStartAt, StandsAt};
 ghost use Rattle.mpi_machine.specs.declared.turn.Turn.TheVariants.{Replied};
 
 use crate::course::Course;
@@ -82,6 +93,25 @@ impl<'a, P: Program> Machine<'a, P> {
         // Attempts one after the other make the run that the order of ranks fixes.
         ensures serial { OnOk result ((stage : Stage) → StandsAt self.old stage → StandsAt self.new (attempt (P.next self.old.program) self.old.ranks stage rank)) }
     {
+        let turn = self.turn(rank, call)?;
+        self.is_run();
+        Ok(turn)
+    }
+
+    /// The events so far are a run, each event of which is the machine's.
+    fn is_run(&self)
+        ensures { IsChosen (P.next self.now.program) self.now.ranks self.now.events }
+    {}
+
+    /// The attempt.
+    fn turn(&mut self, rank: u8, call: Call) -> Result<Turn, AllocError>
+        requires asked { IsAsked (P.next self.old.program) self.old.ranks self.old.events rank call }
+        requires built { is_enter call ≡ false }
+        ensures turn { IfOk result (λ turn. turn ≡ turn_of (P.next self.old.program) self.old.ranks self.old.events self.old.kept rank call) }
+        ensures after { IfOk result (λ turn. self.new ≡ after_turn self.old rank call turn) }
+        ensures err { OnErr result (self.new ≡ self.old) }
+        ensures sure { takes_none self.old.events call (chosen_reply self.old.ranks self.old.events rank call) ≡ true → IsOk result }
+    {
         if let Some(halt) = self.course.bound() {
             return Ok(self.last(rank, call, Some(halt)));
         }
@@ -105,7 +135,13 @@ impl<'a, P: Program> Machine<'a, P> {
     }
 
     /// The last reply to a rank: a halt, or Done to its End. Takes no memory.
-    fn last(&mut self, rank: u8, call: Call, halt: Option<Halt>) -> Turn {
+    fn last(&mut self, rank: u8, call: Call, halt: Option<Halt>) -> Turn
+        requires reply { HasReply (P.next self.old.program) self.old.ranks self.old.events self.old.kept rank call (last_reply halt) }
+        requires last { ends (call, last_reply halt) ≡ true }
+        ensures turn { result ≡ turn_of (P.next self.old.program) self.old.ranks self.old.events self.old.kept rank call }
+        ensures after { self.new ≡ after_turn self.old rank call result }
+    {
+        self.requests.knows_on();
         self.course.append(Event {
             rank,
             call,
@@ -116,7 +152,17 @@ impl<'a, P: Program> Machine<'a, P> {
     }
 
     /// A reply that is not the rank's last, and changes nothing that is known of starts.
-    fn answer(&mut self, rank: u8, call: Call, reply: Reply) -> Result<Turn, AllocError> {
+    fn answer(&mut self, rank: u8, call: Call, reply: Reply) -> Result<Turn, AllocError>
+        requires reply { HasReply (P.next self.old.program) self.old.ranks self.old.events self.old.kept rank call reply }
+        requires bound { bound_of self.old.events ≡ None }
+        requires more { ends (call, reply) ≡ false }
+        requires no_start { is_start (call, reply) ≡ false }
+        requires none_taken { taken_of ((call, reply) ∷ []) ≡ [] }
+        ensures turn { IfOk result (λ turn. turn ≡ turn_of (P.next self.old.program) self.old.ranks self.old.events self.old.kept rank call) }
+        ensures after { IfOk result (λ turn. self.new ≡ after_turn self.old rank call turn) }
+        ensures err { OnErr result (self.new ≡ self.old) }
+    {
+        self.requests.knows_on();
         self.course.reserve()?;
         let copied = reply::copy_of(&reply)?;
         self.course.append(Event {
@@ -129,7 +175,15 @@ impl<'a, P: Program> Machine<'a, P> {
     }
 
     /// A new start.
-    fn start(&mut self, rank: u8, call: Call) -> Result<Turn, AllocError> {
+    fn start(&mut self, rank: u8, call: Call) -> Result<Turn, AllocError>
+        requires asked { IsAsked (P.next self.old.program) self.old.ranks self.old.events rank call }
+        requires bound { bound_of self.old.events ≡ None }
+        requires kind { is_message call ≡ true }
+        ensures turn { IfOk result (λ turn. turn ≡ turn_of (P.next self.old.program) self.old.ranks self.old.events self.old.kept rank call) }
+        ensures after { IfOk result (λ turn. self.new ≡ after_turn self.old rank call turn) }
+        ensures err { OnErr result (self.new ≡ self.old) }
+    {
+        self.requests.knows_on();
         self.course.reserve()?;
         let at = self.course.history().len();
         match self.requests.start(at, rank, &call)? {
@@ -149,7 +203,14 @@ impl<'a, P: Program> Machine<'a, P> {
     }
 
     /// A completion.
-    fn take(&mut self, rank: u8, starts: Starts, mode: TakeMode) -> Result<Turn, AllocError> {
+    fn take(&mut self, rank: u8, starts: Starts, mode: TakeMode) -> Result<Turn, AllocError>
+        requires asked { IsAsked (P.next self.old.program) self.old.ranks self.old.events rank (Take starts mode) }
+        requires bound { bound_of self.old.events ≡ None }
+        ensures turn { IfOk result (λ turn. turn ≡ turn_of (P.next self.old.program) self.old.ranks self.old.events self.old.kept rank (Take starts mode)) }
+        ensures after { IfOk result (λ turn. self.new ≡ after_turn self.old rank (Take starts mode) turn) }
+        ensures err { OnErr result (self.new ≡ self.old) }
+        ensures sure { takes_none self.old.events (Take starts mode) (chosen_reply self.old.ranks self.old.events rank (Take starts mode)) ≡ true → IsOk result }
+    {
         match self.requests.take(rank, &starts, mode)? {
             TakeAnswer::Took(items) => took(
                 &mut self.course,
@@ -181,7 +242,14 @@ impl<'a, P: Program> Machine<'a, P> {
         source: Source,
         tag: Tag,
         wait: bool,
-    ) -> Result<Turn, AllocError> {
+    ) -> Result<Turn, AllocError>
+        requires asked { IsAsked (P.next self.old.program) self.old.ranks self.old.events rank (Peek comm source tag wait) }
+        requires bound { bound_of self.old.events ≡ None }
+        ensures turn { IfOk result (λ turn. turn ≡ turn_of (P.next self.old.program) self.old.ranks self.old.events self.old.kept rank (Peek comm source tag wait)) }
+        ensures after { IfOk result (λ turn. self.new ≡ after_turn self.old rank (Peek comm source tag wait) turn) }
+        ensures err { OnErr result (self.new ≡ self.old) }
+        ensures sure { takes_none self.old.events (Peek comm source tag wait) (chosen_reply self.old.ranks self.old.events rank (Peek comm source tag wait)) ≡ true → IsOk result }
+    {
         let call = Call::Peek {
             comm,
             source,
@@ -198,7 +266,10 @@ impl<'a, P: Program> Machine<'a, P> {
     }
 
     /// The reply to a probe that finds the message at a position.
-    fn peeked(&self, at: u32) -> Result<Reply, AllocError> {
+    fn peeked(&self, at: u32) -> Result<Reply, AllocError>
+        requires { IsStartAt self.now.events at }
+        ensures { IfOk result (λ reply. reply ≡ peeked_at self.now.events (name_at self.now.events at)) }
+    {
         let event = self.course.history().get(at);
         match &event.call {
             Call::Send { tag, ints, .. } => {
@@ -217,7 +288,15 @@ impl<'a, P: Program> Machine<'a, P> {
     }
 
     /// A call whose condition fails: a test is told so; where no rank can go on the run is stuck; else the rank waits.
-    fn held(&mut self, rank: u8, call: Call, test: bool) -> Result<Turn, AllocError> {
+    fn held(&mut self, rank: u8, call: Call, test: bool) -> Result<Turn, AllocError>
+        requires asked { IsAsked (P.next self.old.program) self.old.ranks self.old.events rank call }
+        requires bound { bound_of self.old.events ≡ None }
+        requires held { IsHeldBack self.old.ranks self.old.events rank call test }
+        ensures turn { IfOk result (λ turn. turn ≡ turn_of (P.next self.old.program) self.old.ranks self.old.events self.old.kept rank call) }
+        ensures after { IfOk result (λ turn. self.new ≡ after_turn self.old rank call turn) }
+        ensures err { OnErr result (self.new ≡ self.old) }
+        ensures sure { takes_none self.old.events call (chosen_reply self.old.ranks self.old.events rank call) ≡ true → IsOk result }
+    {
         if test {
             return self.answer(rank, call, Reply::NotYet);
         }
@@ -229,7 +308,10 @@ impl<'a, P: Program> Machine<'a, P> {
     }
 
     /// Whether no other rank can go on. Takes no memory.
-    fn others_stand(&self, rank: u8) -> bool {
+    fn others_stand(&self, rank: u8) -> bool
+        requires bound { bound_of self.now.events ≡ None }
+        ensures { (call : Call) → IsAsked (P.next self.now.program) self.now.ranks self.now.events rank call → can_go self.now.ranks self.now.events (view_of self.now.events rank) rank call ≡ false → result ≡ (is_stuck (P.next self.now.program) self.now.ranks self.now.events && others_wait (P.next self.now.program) self.now.ranks self.now.events self.now.kept rank) }
+    {
         for other in 0..self.course.ranks() {
             if other != rank && !self.stands(other) {
                 return false;
@@ -239,7 +321,11 @@ impl<'a, P: Program> Machine<'a, P> {
     }
 
     /// Whether a rank has ended, or waits for what is not there. Takes no memory.
-    fn stands(&self, rank: u8) -> bool {
+    fn stands(&self, rank: u8) -> bool
+        requires rank { rank < self.now.ranks }
+        requires bound { bound_of self.now.events ≡ None }
+        ensures { result ≡ stands (P.next self.now.program) self.now.ranks self.now.events self.now.kept rank }
+    {
         if self.course.ended(rank) {
             return true;
         }
@@ -282,7 +368,10 @@ impl<'a, P: Program> Machine<'a, P> {
     }
 }
 
-fn last_reply(halt: Option<Halt>) -> Reply {
+/// The last reply to a rank.
+fn last_reply(halt: Option<Halt>) -> Reply
+    ensures { result ≡ last_reply halt }
+{
     match halt {
         Some(halt) => Reply::Stopped(halt),
         None => Reply::Done,
@@ -290,7 +379,9 @@ fn last_reply(halt: Option<Halt>) -> Reply {
 }
 
 /// Whether a completion that takes nothing is told so.
-fn is_test(mode: TakeMode) -> bool {
+fn is_test(mode: TakeMode) -> bool
+    ensures { result ≡ is_test mode }
+{
     matches!(
         mode,
         TakeMode::TestAll | TakeMode::TestAny | TakeMode::TestSeveral
@@ -298,7 +389,13 @@ fn is_test(mode: TakeMode) -> bool {
 }
 
 /// Room for an event, and a copy of its items.
-fn prepare(course: &mut Course, items: &Items) -> Result<Items, AllocError> {
+fn prepare(course: &mut Course, items: &Items) -> Result<Items, AllocError>
+    ensures ranks { course.new.ranks ≡ course.old.ranks }
+    ensures events { course.new.events ≡ course.old.events }
+    ensures kept { course.new.kept ≡ course.old.kept }
+    ensures room { OnOk result (0 < course.new.spare) }
+    ensures copied { IfOk result (λ copied. copied ≡ items.now) }
+{
     course.reserve()?;
     items.clone()
 }
@@ -311,7 +408,20 @@ fn took(
     starts: Starts,
     mode: TakeMode,
     items: Items,
-) -> Result<Turn, AllocError> {
+) -> Result<Turn, AllocError>
+    requires rank { rank < course.old.ranks }
+    requires row { rank < length requests.old.table.rows }
+    requires live { has_ended course.old.events rank ≡ false }
+    requires bound { bound_of course.old.events ≡ None }
+    ensures ranks { course.new.ranks ≡ course.old.ranks }
+    ensures turn { IfOk result (λ turn. turn ≡ Replied (TookReply items)) }
+    ensures events { OnOk result (course.new.events ≡ course.old.events ++ took_event rank starts mode items ∷ []) }
+    ensures kept { OnOk result (course.new.kept ≡ slice_set course.old.kept rank None) }
+    ensures known { OnOk result (requests.new ≡ requests.old) }
+    ensures same_events { OnErr result (course.new.events ≡ course.old.events) }
+    ensures same_kept { OnErr result (course.new.kept ≡ course.old.kept) }
+    ensures back { OnErr result ((before : State) → answer_in before.table rank starts mode ≡ TookItems items → requests.old ≡ with_rows (rows_after before.table.rows rank starts (TookItems items)) before → requests.new ≡ before) }
+{
     let Ok(copied) = prepare(course, &items) else {
         requests.untake(rank, &starts, &items);
         return Err(AllocError);

@@ -1,21 +1,27 @@
 //! Whether what a waiting call waits for is there.
-ghost use Rattle.std.specs.Prelude.{◌≡◌, [], None, ℕ, List, map, true};
+ghost use Rattle.std.specs.Prelude.{◌≡◌, ℕ, List, true};
 ghost use Rattle.std.specs.List.{list_all, list_any};
 ghost use Rattle.run_model.specs.declared.event.Event.{Event};
-ghost use Rattle.run_model.specs.Allowed.{flags_of};
 ghost use Rattle.run_model.specs.Views.{view_of};
 ghost use Rattle.requests.specs.Histories.{Knows};
-ghost use Rattle.mpi_machine.specs.Waits.{is_there, waits};
+ghost use Rattle.mpi_machine.specs.Waits.{is_there, ready_in, waits};
 
 use mpi_call::call::{Call, TakeMode};
 use requests::requests::{Readiness, Requests};
 
 /// Whether a start of a rank is ready. Takes no memory.
-fn is_ready(requests: &Requests, rank: u8, start: u32) -> bool {
-    matches!(requests.ready(rank, start), Readiness::Ready)
+fn is_ready(requests: &Requests, rank: u8, start: u32) -> bool
+    ensures { result ≡ ready_in requests.now rank start }
+{
+    match requests.ready(rank, start) {
+        Readiness::Ready => true,
+        Readiness::NotReady | Readiness::NoSuch | Readiness::Taken => false,
+    }
 }
 
-fn all_ready(requests: &Requests, rank: u8, starts: &[u32]) -> bool {
+fn all_ready(requests: &Requests, rank: u8, starts: &[u32]) -> bool
+    ensures { result ≡ list_all (λ start. ready_in requests.now rank start) starts.now }
+{
     let mut rest = starts;
     while let [start, after @ ..] = rest {
         if !is_ready(requests, rank, *start) {
@@ -26,7 +32,9 @@ fn all_ready(requests: &Requests, rank: u8, starts: &[u32]) -> bool {
     true
 }
 
-fn any_ready(requests: &Requests, rank: u8, starts: &[u32]) -> bool {
+fn any_ready(requests: &Requests, rank: u8, starts: &[u32]) -> bool
+    ensures { result ≡ list_any (λ start. ready_in requests.now rank start) starts.now }
+{
     let mut rest = starts;
     while let [start, after @ ..] = rest {
         if is_ready(requests, rank, *start) {
