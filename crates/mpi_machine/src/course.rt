@@ -172,7 +172,7 @@ fn first_halt(halt: Option<Halt>, reply: &Reply) -> Option<Halt>
     ensures { result ≡ or_else halt (halt_in reply.now) }
 {
     match halt {
-        Some(halt) => Some(halt),
+        Some(standing) => Some(standing),
         None => match reply {
             Reply::Stopped(halt) => Some(*halt),
             _ => None,

@@ -7,4 +7,6 @@ pub mod size;
 pub mod turn;
 mod waits;
 #[cfg(test)]
+mod scripts;
+#[cfg(test)]
 mod tests;

@@ -1,5 +1,5 @@
 //! A recording machine, one event at a time.
-ghost use Rattle.std.specs.Prelude.{◌≡◌, ◌<◌, ◌≤◌, ◌++◌, ◌∷◌, ◌&&◌, [], false, is_some, length, not, replicate, true, IfOk, IsOk, None, OnErr, OnOk, Some};
+ghost use Rattle.std.specs.Prelude.{◌≡◌, ◌<◌, ◌≤◌, ◌++◌, ◌∷◌, ◌==◌, ◌&&◌, ◌||◌, [], false, is_some, length, not, replicate, true, IfOk, IsOk, None, OnErr, OnOk, Some};
 ghost use Rattle.std.specs.List.{slice_set};
 ghost use Rattle.mpi_call.specs.Calls.{is_enter};
 ghost use Rattle.mpi_call.specs.declared.call.Call.{Call};
@@ -313,11 +313,20 @@ impl<'a, P: Program> Machine<'a, P> {
         ensures { (call : Call) → IsAsked (P.next self.now.program) self.now.ranks self.now.events rank call → can_go self.now.ranks self.now.events (view_of self.now.events rank) rank call ≡ false → result ≡ (is_stuck (P.next self.now.program) self.now.ranks self.now.events && others_wait (P.next self.now.program) self.now.ranks self.now.events self.now.kept rank) }
     {
         for other in 0..self.course.ranks() {
-            if other != rank && !self.stands(other) {
+            if !self.is_still(other, rank) {
                 return false;
             }
         }
         true
+    }
+
+    /// Whether a rank is this one, or stands. Takes no memory.
+    fn is_still(&self, other: u8, rank: u8) -> bool
+        requires rank { other < self.now.ranks }
+        requires bound { bound_of self.now.events ≡ None }
+        ensures { result ≡ ((other == rank) || stands (P.next self.now.program) self.now.ranks self.now.events self.now.kept other) }
+    {
+        other == rank || self.stands(other)
     }
 
     /// Whether a rank has ended, or waits for what is not there. Takes no memory.
