@@ -19,7 +19,7 @@ all_same f g [] h = refl
 all_same f g (x ∷ xs) h = rw (h x, all_same f g xs h) refl
 
 apart_eqb : (a b : ℕ) → a ≢ b → (a == b) ≡ false
-apart_eqb a b apart = elim (test_cases (a == b)) [ | inl h ↦ absurd (apart (eqb-true a b h)) | inr h ↦ h ]
+apart_eqb a b apart = elim (test_cases (a == b)) [ inl h ↦ absurd (apart (eqb-true a b h)) | inr h ↦ h ]
 
 -- a rank among those that are left
 left_same : (rank : ℕ) (xs : List ℕ) → is_member (filter (λ other. not (other == rank)) xs) rank ≡ false

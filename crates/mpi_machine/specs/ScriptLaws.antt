@@ -179,11 +179,12 @@ pub ends_exactly : (zeroth first : List Call) → EndsExactly (next_of zeroth fi
 ends_exactly zeroth first n me view rank came =
     elim (comes zeroth first n me view came) [
       | inl go ↦ (
-          (λ none. (
-              let over : call_at n (calls_of zeroth first me) (length (replies_in view)) ≡ None = rw go.free at none in
-              let no = within n (calls_of zeroth first me) (length (replies_in view)) go.short over in
-              absurd (cc))),
-          (λ ended. (let no : false ≡ true = sym go.more ∙ ended in absurd (cc))))
+        (λ none. (
+            let over : call_at n (calls_of zeroth first me) (length (replies_in view)) ≡ None = rw go.free at none in
+            let no = within n (calls_of zeroth first me) (length (replies_in view)) go.short over in
+            absurd (cc))),
+        (λ ended. (let no : false ≡ true = sym go.more ∙ ended in absurd (cc))),
+      )
       | inr over ↦ ((λ none. over.over), (λ ended. over.none))
     ]
 

@@ -3,10 +3,10 @@
 
 pub mod course;
 pub mod machine;
-pub mod size;
-pub mod turn;
-mod waits;
 #[cfg(test)]
 mod scripts;
+pub mod size;
 #[cfg(test)]
 mod tests;
+pub mod turn;
+mod waits;

@@ -220,9 +220,7 @@ impl<'a, P: Program> Machine<'a, P> {
                 mode,
                 items,
             ),
-            TakeAnswer::NotReady => {
-                self.held(rank, Call::Take { starts, mode }, is_test(mode))
-            }
+            TakeAnswer::NotReady => { self.held(rank, Call::Take { starts, mode }, is_test(mode)) }
             TakeAnswer::TooLong { start } => {
                 let halt = Halt::Truncated { rank, start };
                 Ok(self.last(rank, Call::Take { starts, mode }, Some(halt)))

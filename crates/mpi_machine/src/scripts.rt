@@ -95,7 +95,10 @@ fn is_fine(ranks: u8, call: &Call) -> bool
 {
     match call {
         Call::Send {
-            dest, tag, ints, ..
+            dest,
+            tag,
+            ints,
+            ..
         } => *dest < ranks && (*tag < 2_147_483_648 && ints.as_slice().len() <= 65_536),
         Call::Post { source, tag, .. } => is_open_source(source) && is_fine_tag(tag),
         Call::Peek { source, tag, .. } => is_open_source(source) && is_fine_tag(tag),

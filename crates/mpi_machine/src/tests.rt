@@ -80,12 +80,22 @@ fn in_short(event: &Event) -> Short {
     match &event.reply {
         Reply::Done => Short::Done(event.rank, event.mate),
         Reply::Took(items) => match items.as_slice() {
-            [Item { index, got: Got::Message { start, .. } }] => {
-                Short::Took(event.rank, *index, *start)
-            }
-            [Item { got: Got::Message { start: one, .. }, .. }, Item { got: Got::Message { start: two, .. }, .. }] => {
-                Short::Both(event.rank, *one, *two)
-            }
+            [
+                Item {
+                    index,
+                    got: Got::Message { start, .. },
+                },
+            ] => { Short::Took(event.rank, *index, *start) }
+            [
+                Item {
+                    got: Got::Message { start: one, .. },
+                    ..
+                },
+                Item {
+                    got: Got::Message { start: two, .. },
+                    ..
+                },
+            ] => { Short::Both(event.rank, *one, *two) }
             _ => Short::NotYet(event.rank),
         },
         Reply::NotYet => Short::NotYet(event.rank),
@@ -105,11 +115,7 @@ enum Short {
 }
 
 /// One attempt of a rank, where it has a call.
-fn attempt(
-    machine: &mut Machine<Script>,
-    script: &Script,
-    rank: u8,
-) -> Result<(), AllocError>
+fn attempt(machine: &mut Machine<Script>, script: &Script, rank: u8) -> Result<(), AllocError>
     requires program { machine.old.program ≡ script.now }
     requires ranks { machine.old.ranks ≡ 2 }
     requires rank { rank < 2 }
@@ -152,48 +158,103 @@ fn runs_are_made(rt: HostRuntime) -> Result<(), Fail> {
     let long = Halt::Truncated { rank: 1, start: 0 };
     let bad = Halt::BadRequest { rank: 0, start: 0 };
     let aborted = Halt::Aborted { rank: 0, code: 3 };
-    let trapped = Halt::Trapped { rank: 0, fault: Fault::DivideByZero };
+    let trapped = Halt::Trapped {
+        rank: 0,
+        fault: Fault::DivideByZero,
+    };
     // What the ranks do, in whose turns, and the events.
     let rows: [(&[Step], &[Step], &[bool], &[Short]); 8] = [
         // The message with tag 5 goes to the first of two receives that accept it.
         (
             &[Step::Send(5), Step::Send(6)],
-            &[Step::Post(Tag::Is(5), 1), Step::Post(Tag::Any, 1), Step::TakeBoth(0, 1)],
+            &[
+                Step::Post(Tag::Is(5), 1),
+                Step::Post(Tag::Any, 1),
+                Step::TakeBoth(0, 1),
+            ],
             &[true, true, false, true, false, true, false, true],
-            &[Done(1, None), Done(1, None), Done(0, Some(0)), Done(0, Some(1)), Both(1, 0, 1), Done(0, None), Done(1, None)],
+            &[
+                Done(1, None),
+                Done(1, None),
+                Done(0, Some(0)),
+                Done(0, Some(1)),
+                Both(1, 0, 1),
+                Done(0, None),
+                Done(1, None),
+            ],
         ),
         // A message of two ints is too long for one; then the other rank stops too.
         (
             &[Step::SendTwo(5)],
             &[Step::Post(Tag::Is(5), 1), Step::Take(all, 0)],
             &[false, true, true, false, true],
-            &[Done(0, None), Done(1, Some(0)), Stopped(1, long), Stopped(0, long)],
+            &[
+                Done(0, None),
+                Done(1, Some(0)),
+                Stopped(1, long),
+                Stopped(0, long),
+            ],
         ),
         // Both receive before anything is sent: the second that waits is stuck.
         (
             &[Step::Post(Tag::Any, 1), Step::Take(all, 0)],
             &[Step::Post(Tag::Any, 1), Step::Peek(true)],
             &[false, true, false, true, false],
-            &[Done(0, None), Done(1, None), Stopped(1, Halt::Stuck), Stopped(0, Halt::Stuck)],
+            &[
+                Done(0, None),
+                Done(1, None),
+                Stopped(1, Halt::Stuck),
+                Stopped(0, Halt::Stuck),
+            ],
         ),
         // A test is told that there is nothing yet.
         (
             &[Step::Send(5)],
-            &[Step::Post(Tag::Is(5), 1), Step::Take(TakeMode::TestAll, 0), Step::Take(TakeMode::TestAny, 0)],
+            &[
+                Step::Post(Tag::Is(5), 1),
+                Step::Take(TakeMode::TestAll, 0),
+                Step::Take(TakeMode::TestAny, 0),
+            ],
             &[true, true, false, true],
             &[Done(1, None), NotYet(1), Done(0, Some(0)), Took(1, 0, 0)],
         ),
         // A probe finds a message and leaves it; one that waits is answered once the message is there.
         (
             &[Step::Send(3)],
-            &[Step::Peek(false), Step::Peek(true), Step::Post(Tag::Is(3), 1), Step::Take(TakeMode::Any, 0)],
+            &[
+                Step::Peek(false),
+                Step::Peek(true),
+                Step::Post(Tag::Is(3), 1),
+                Step::Take(TakeMode::Any, 0),
+            ],
             &[true, true, false, true, true, true],
-            &[NotYet(1), Done(0, None), Peeked(1, 0, 0), Done(1, Some(1)), Took(1, 0, 0)],
+            &[
+                NotYet(1),
+                Done(0, None),
+                Peeked(1, 0, 0),
+                Done(1, Some(1)),
+                Took(1, 0, 0),
+            ],
         ),
         // A start that was never made, an abort and a trap.
-        (&[Step::Take(all, 0)], &[], &[false, true], &[Stopped(0, bad), Stopped(1, bad)]),
-        (&[Step::Abort(3)], &[], &[true, false], &[Done(1, None), Stopped(0, aborted)]),
-        (&[Step::Trap(Fault::DivideByZero)], &[], &[false], &[Stopped(0, trapped)]),
+        (
+            &[Step::Take(all, 0)],
+            &[],
+            &[false, true],
+            &[Stopped(0, bad), Stopped(1, bad)],
+        ),
+        (
+            &[Step::Abort(3)],
+            &[],
+            &[true, false],
+            &[Done(1, None), Stopped(0, aborted)],
+        ),
+        (
+            &[Step::Trap(Fault::DivideByZero)],
+            &[],
+            &[false],
+            &[Stopped(0, trapped)],
+        ),
     ];
     for at in 0..rows.len() {
         let (zero, one, turns, want) = rows[at];
