@@ -24,14 +24,7 @@ use mpi_call::lists::Ranks;
 use mpi_call::needs::needs;
 
 /// Whether each member that the Enter of `me` needs has entered. Takes no memory.
-fn has_all(
-    board: &Board,
-    members: &Ranks,
-    me: u8,
-    enter: &Call,
-    comm: Comm,
-    instance: u32,
-) -> bool
+fn has_all(board: &Board, members: &Ranks, me: u8, enter: &Call, comm: Comm, instance: u32) -> bool
     requires { IsSoundEnter (enters_of board.now comm instance) members.now me enter.now }
     ensures { result ≡ has_needed (enters_of board.now comm instance) members.now me enter.now }
 {

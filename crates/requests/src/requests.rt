@@ -213,12 +213,7 @@ fn empty_rows(alloc: Global, ranks: u8) -> Result<Vec<Row>, AllocError>
 }
 
 /// Adds a Send or Post to the matcher.
-fn matched(
-    matcher: &mut Matcher,
-    at: u32,
-    rank: u8,
-    call: &Call,
-) -> Result<Option<u32>, AllocError>
+fn matched(matcher: &mut Matcher, at: u32, rank: u8, call: &Call) -> Result<Option<u32>, AllocError>
     requires kind { IsTrue (is_message call.now) }
     requires position { AreBelow at matcher.old }
     ensures mate { IfOk result (λ mate. IsEarliest rank call.now matcher.old mate) }
