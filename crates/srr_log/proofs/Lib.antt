@@ -10,3 +10,8 @@ pub mod ReadLaws
 pub mod FaultLaws
 pub mod WriteLaws
 pub mod WorkedExamples
+pub mod FewRanks
+pub mod RunLengths
+pub mod RunHalts
+pub mod RunMarks
+pub mod RunEntries

@@ -8,3 +8,4 @@ pub mod EntryReading
 pub mod LineReading
 pub mod Reading
 pub mod Refused
+pub mod RunBounds

@@ -4,6 +4,7 @@
 mod entry_line;
 pub mod entry_text;
 pub mod fault;
+pub mod laws;
 mod line;
 mod lists;
 mod mark;
