@@ -6,3 +6,4 @@ pub mod Starting
 pub mod Sounding
 pub mod Answering
 pub mod Taking
+mod WorkedExamples

@@ -37,6 +37,11 @@ pub record IsAbove (at : ℕ) (state : State) : Type 0 where
   pub names : length state.names ≤ at
   pub unpaired : AreBelow at state.unpaired
 
+-- a start of one of so many ranks may stand at this position
+pub record MayStart (ranks at : ℕ) (state : State) : Type 0 where
+  pub above : IsAbove at state
+  pub many : length state.table.rows ≡ ranks
+
 -- the starts are others
 abbrev pub with_rows : Rows → State → State
 with_rows rows state = record state { table = record state.table { rows = rows } }

@@ -7,3 +7,5 @@ mod complete;
 pub mod requests;
 mod rows;
 pub mod start;
+#[cfg(test)]
+mod tests;
