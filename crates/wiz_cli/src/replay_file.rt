@@ -5,9 +5,11 @@ ghost use Rattle.srr_replay.specs.Laws.{IsReplayOfEveryRun};
 ghost use Rattle.srr_replay.specs.Rounds.{IsReplayable, RunAll};
 ghost use Rattle.srr_replay.specs.Stands.{IsReplayed};
 ghost use Rattle.small_c.specs.Courses.{next_of, output_of, variables_of};
-ghost use Rattle.wiz_cli.specs.Reports.{IsBytesOutcome, IsFileOutcome, IsLogOutcome};
+ghost use Rattle.wiz_cli.specs.Reports.{IsAccepted, IsBytesOutcome, IsFileOutcome, IsLogOutcome};
 
 use crate::outcome::{Outcome, Refusal};
+use c_lex::Why;
+use c_types::read_program;
 use small_c::small_fault::SmallFault;
 use small_c::small_program::SmallProgram;
 use small_c::small_rank::SmallRank;
@@ -65,9 +67,25 @@ fn replay_log(alloc: Global, log: &Log) -> Result<Outcome, AllocError>
     requires program { length log.now.program ≤ 65536 }
     ensures { IfOk result (λ outcome. IsLogOutcome log.now outcome) }
 {
+    match read_program(alloc, log.program.as_slice()) {
+        Ok(_) => replay_accepted(alloc, log),
+        Err(fault) => match fault.why {
+            Why::NoMemory => Err(AllocError),
+            _ => Ok(Outcome::Refused(Refusal::Program(fault))),
+        },
+    }
+}
+
+/// Replays a log whose program is accepted.
+fn replay_accepted(alloc: Global, log: &Log) -> Result<Outcome, AllocError>
+    requires log { IsReplayable log.now }
+    requires program { length log.now.program ≤ 65536 }
+    requires accepted { IsAccepted log.now.program }
+    ensures { IfOk result (λ outcome. IsLogOutcome log.now outcome) }
+{
     match read_small(alloc, log.program.as_slice()) {
         Ok(program) => Ok(Outcome::Replayed(replay_group(alloc, &program, log)?)),
-        Err(SmallFault::NotBuilt) => Ok(Outcome::Refused(Refusal::Program)),
+        Err(SmallFault::NotBuilt) => Ok(Outcome::Refused(Refusal::NotBuilt)),
         Err(SmallFault::NoMemory) => Err(AllocError),
     }
 }

@@ -36,6 +36,24 @@ const NO_ENTRY: &[u8] =
 
 const NO_ENTRY_TRACE: &[u8] = b"rank 0\noutput 0\n\nlog ended\n";
 
+const REFUSED: &[u8] =
+    b"srr 1\nranks 1\ngroup 0\nprogram 25\nint main(void){return y;}\nrank 0 0\nend\n";
+
+const UNEXPECTED: &[u8] = b"srr 1\nranks 1\ngroup 0\nprogram 6\nint x;\nrank 0 0\nend\n";
+
+const LEFT_OUT: &[u8] = b"srr 1\nranks 1\ngroup 0\nprogram 8\nfloat f;\nrank 0 0\nend\n";
+
+const BAD_LITERAL: &[u8] =
+    b"srr 1\nranks 1\ngroup 0\nprogram 34\nint main(void){return 2147483648;}\nrank 0 0\nend\n";
+
+const NO_MAIN: &[u8] = b"srr 1\nranks 1\ngroup 0\nprogram 0\n\nrank 0 0\nend\n";
+
+const TWICE: &[u8] =
+    b"srr 1\nranks 1\ngroup 0\nprogram 37\nint main(void){int x;int x;return 0;}\nrank 0 0\nend\n";
+
+const CUT_OFF: &[u8] =
+    b"srr 1\nranks 1\ngroup 0\nprogram 23\nint main(void){return 0\nrank 0 0\nend\n";
+
 const NOT_BUILT: &[u8] =
     b"srr 1\nranks 1\ngroup 0\nprogram 25\nint main(void){return 0;}\nrank 0 0\nend\n";
 
@@ -59,12 +77,19 @@ fn answers<R: Threads + Wait + Sync + AllocGlobal>(
 #[test]
 fn commands_have_their_status_and_output(rt: HostRuntime) {
     let replay: &[&str] = &["replay", "L", "--serial"];
-    let table: [(&[&str], &[u8], u8, &[u8]); 12] = [
+    let table: [(&[&str], &[u8], u8, &[u8]); 19] = [
         (replay, FIRST, 0, FIRST_TRACE),
         (replay, DIVERGED, 9, DIVERGED_TRACE),
         (replay, STARVED, 10, STARVED_TRACE),
         (replay, ALONE, 0, ALONE_TRACE),
         (replay, NO_ENTRY, 0, NO_ENTRY_TRACE),
+        (replay, REFUSED, 5, b"program 1:23 unknown\n"),
+        (replay, UNEXPECTED, 5, b"program 1:6 unexpected\n"),
+        (replay, LEFT_OUT, 5, b"program 1:1 left out\n"),
+        (replay, BAD_LITERAL, 5, b"program 1:23 bad literal\n"),
+        (replay, NO_MAIN, 5, b"program 1:1 no main\n"),
+        (replay, TWICE, 5, b"program 1:26 twice\n"),
+        (replay, CUT_OFF, 5, b"program 1:24 unexpected\n"),
         (replay, NOT_BUILT, 5, b"program 1:1 not built\n"),
         (replay, &FIRST[..270], 8, b"log 270 short\n"),
         (replay, b"srr 2\n", 8, b"log 0 bad version\n"),
