@@ -1,5 +1,5 @@
 //! The replay of a log file.
-ghost use Rattle.std.specs.Prelude.{◌≡◌, [], IfOk, Err, None, length, ◌≤◌};
+ghost use Rattle.std.specs.Prelude.{◌≡◌, [], IfOk, Err, length, ◌≤◌};
 ghost use Rattle.srr_entry.specs.declared.log.Log.{Log};
 ghost use Rattle.srr_replay.specs.Laws.{IsReplayOfEveryRun};
 ghost use Rattle.srr_replay.specs.Rounds.{IsReplayable, RunAll};
@@ -84,20 +84,25 @@ fn replay_accepted(alloc: Global, log: &Log) -> Result<Outcome, AllocError>
     ensures { IfOk result (λ outcome. IsLogOutcome log.now outcome) }
 {
     match read_small(alloc, log.program.as_slice()) {
-        Ok(program) => Ok(Outcome::Replayed(replay_group(alloc, &program, log)?)),
+        Ok(program) => Ok(Outcome::Replayed(replay_group(alloc, &program, log, None)?)),
         Err(SmallFault::NotBuilt) => Ok(Outcome::Refused(Refusal::NotBuilt)),
         Err(SmallFault::NoMemory) => Err(AllocError),
     }
 }
 
-/// The replay of a log's group with a program.
-fn replay_group(alloc: Global, program: &SmallProgram, log: &Log) -> Result<Replayed, AllocError>
+/// The replay of a log's group with a program; a rank stops before the call that `stop` names.
+pub fn replay_group(
+    alloc: Global,
+    program: &SmallProgram,
+    log: &Log,
+    stop: Option<(u8, u32)>,
+) -> Result<Replayed, AllocError>
     requires { IsReplayable log.now }
-    ensures replay { IfOk result (λ replayed. IsReplayed (next_of program.now) (output_of program.now) (variables_of program.now) log.now None replayed) }
-    ensures runs { IfOk result (λ replayed. IsReplayOfEveryRun (next_of program.now) (output_of program.now) log.now None replayed) }
+    ensures replay { IfOk result (λ replayed. IsReplayed (next_of program.now) (output_of program.now) (variables_of program.now) log.now stop replayed) }
+    ensures runs { IfOk result (λ replayed. IsReplayOfEveryRun (next_of program.now) (output_of program.now) log.now stop replayed) }
 {
     let runs = start_all(alloc, program, log)?;
-    replay_serial(alloc, program, log, runs, None)
+    replay_serial(alloc, program, log, runs, stop)
 }
 
 /// One run for each rank of the group, before its first call. No other rank is run.

@@ -1,6 +1,11 @@
 //! Commands over files in memory: words, status and what is printed.
 use crate::gate::OpenGate;
+use crate::outcome::Outcome;
+use crate::replay_file::replay_group;
+use crate::tell::tell;
 use crate::top::wiz;
+use small_c::small_source::read_small;
+use srr_log::read_log::read_log;
 use std::alloc::{AllocError, Global};
 use std::sync::Wait;
 use std::thread::Threads;
@@ -182,4 +187,40 @@ fn a_failing_read_or_put_is_told(rt: HostRuntime) {
     full.fail(0).expect(&rt, "number");
     let unwritten = wiz(&rt, rt.alloc(), words, &mut store, &mut full, &OpenGate);
     assert!(&rt; unwritten.status == 4 && full.bytes().is_empty());
+}
+
+/// Whether a replay of the first log with this breakpoint has status 0 and this trace.
+fn stops_with(alloc: Global, stop: (u8, u32), trace: &[u8]) -> bool {
+    let Ok(log) = read_log(alloc, FIRST) else {
+        return false;
+    };
+    let Ok(program) = read_small(alloc, log.program.as_slice()) else {
+        return false;
+    };
+    let Ok(replayed) = replay_group(alloc, &program, &log, Some(stop)) else {
+        return false;
+    };
+    let mut out = MemorySink::new(alloc);
+    let Ok(report) = tell(alloc, Outcome::Replayed(replayed), "L", &mut out) else {
+        return false;
+    };
+    report.status == 0 && out.bytes() == trace
+}
+
+#[test]
+fn a_rank_stops_at_its_breakpoint(rt: HostRuntime) {
+    let table: [((u8, u32), &[u8]); 3] = [
+        (
+            (0, 0),
+            b"rank 0\noutput 0\n\nbreak\nvar 0 r 0\nvar 0 x 7\nrank 1\n0 post comm=0 from=0 tag=5 room=1 -> done\noutput 0\n\nstarved 0.0\n",
+        ),
+        (
+            (1, 1),
+            b"rank 0\n0 send comm=0 to=1 tag=5 data=7 -> done\n1 end -> done\noutput 0\n\nended\nrank 1\n0 post comm=0 from=0 tag=5 room=1 -> done\noutput 0\n\nbreak\nvar 0 r 1\nvar 0 x 0\n",
+        ),
+        ((7, 0), FIRST_TRACE),
+    ];
+    for (stop, trace) in table {
+        assert!(&rt; stops_with(rt.alloc(), stop, trace));
+    }
 }
