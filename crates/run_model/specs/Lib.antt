@@ -16,3 +16,4 @@ pub mod Numbers
 pub mod Chosen
 pub mod Serial
 pub mod MachineLaws
+pub mod Endings
