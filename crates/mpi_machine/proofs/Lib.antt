@@ -1,0 +1,11 @@
+pub mod Answering
+pub mod Beginning
+pub mod Completing
+pub mod Counting
+pub mod Growing
+pub mod Moving
+pub mod Probing
+pub mod Roomy
+pub mod Serially
+pub mod Standing
+pub mod Waiting

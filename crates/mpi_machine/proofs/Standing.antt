@@ -1,0 +1,98 @@
+-- When no rank can go on.
+use Rattle.std.proofs.Common.{◌≡◌, ◌||◌, ◌&&◌, ◌==◌, ◌∙◌, ◌<◌, ◌≤◌, ◌+◌, Bool, List, None, Option, Some, [], ap, arith, false, inl, inr, is_some, not, refl, subst, sym, true, ℕ}
+use Rattle.std.proofs.lemmas.Bool.{and_parts, eqb-true}
+use Rattle.std.specs.List.{list_all, slice_index_or}
+use Rattle.mpi_call.specs.declared.call.Call.{Call}
+use Rattle.run_model.specs.declared.event.Event.{Event}
+use Rattle.run_model.specs.Allowed.{can_go}
+use Rattle.run_model.specs.Chosen.{IsChosen}
+use Rattle.run_model.specs.Serial.{call_after, goes, is_stuck}
+use Rattle.run_model.specs.Views.{Next, view_of}
+use Rattle.run_model.proofs.Origins.{AllBelow}
+use Rattle.run_model.proofs.RunLaws.{Lawful, kept_run}
+use Rattle.run_model.proofs.Views.{option_cases, test_cases}
+use Rattle.mpi_machine.specs.Courses.{bound_of, has_ended}
+use Rattle.mpi_machine.specs.Turns.{IsAsked, kept_of, others_wait, stands}
+use Rattle.mpi_machine.specs.Waits.{AreKept, is_there}
+use Rattle.mpi_machine.proofs.Answering.{waits_go}
+use Rattle.mpi_machine.proofs.Growing.{ended_is, not_true, over, world_all, world_at}
+
+-- whether a rank stands, by whether it has a call, whether it waits, and whether its call can go
+parts_of : (called waits go : Bool) → (called ≡ false → go ≡ false) → (not called || (waits && not go)) ≡ true → (not go ≡ true) × ((not called || waits) ≡ true)
+parts_of true true true none h = absurd (cc)
+parts_of true true false none h = (refl, refl)
+parts_of true false true none h = absurd (cc)
+parts_of true false false none h = absurd (cc)
+parts_of false waits true none h = (let no = none refl in absurd (cc))
+parts_of false waits false none h = (refl, refl)
+
+from_parts : (called waits go : Bool) → not go ≡ true → (not called || waits) ≡ true → (not called || (waits && not go)) ≡ true
+from_parts true true go g w = g
+from_parts true false go g w = absurd (cc)
+from_parts false waits go g w = refl
+
+none_goes : (n : ℕ) (events : List Event) (rank : ℕ) (asked : Option Call) → is_some asked ≡ false → goes n events rank asked ≡ false
+none_goes n events rank None h = refl
+none_goes n events rank (Some call) h = absurd (cc)
+
+both : (x y : Bool) → x ≡ true → y ≡ true → (x && y) ≡ true
+both x y h k = rw h k
+
+abbrev pub Stands : Next → ℕ → List Event → List (Option Call) → ℕ → ℕ → Type 0
+Stands next n events kept rank m = ((m == rank) || stands next n events kept m) ≡ true
+
+pub all_stand : (next : Next) (n : ℕ) (events : List Event) (kept : List (Option Call)) (rank : ℕ) (call : Call) → IsAsked next n events rank call
+    → can_go n events (view_of events rank) rank call ≡ false → ((m : ℕ) → m < n → Stands next n events kept rank m)
+    → (is_stuck next n events && others_wait next n events kept rank) ≡ true
+all_stand next n events kept rank call asked held all =
+    let at : (m : ℕ) → m < n → (not (goes n events m (call_after next n events m)) ≡ true) × (((m == rank) || (not (is_some (call_after next n events m)) || is_some (kept_of kept m))) ≡ true) =
+    λ m below. elim (test_cases (m == rank)) [
+      | inl h ↦ (
+          let same : m ≡ rank = eqb-true m rank h in
+          let F : ℕ → Type 0 = λ r. not (goes n events r (call_after next n events r)) ≡ true in
+          let G : Option Call → Type 0 = λ c. not (goes n events rank c) ≡ true in
+          let own : F rank = subst G (sym asked.asked) (rw held refl) in
+          (subst F (sym same) own, rw h refl))
+      | inr h ↦ (
+          let s : stands next n events kept m ≡ true = rw h at (all m below) in
+          let p = parts_of (is_some (call_after next n events m)) (is_some (kept_of kept m)) (goes n events m (call_after next n events m)) (none_goes n events m (call_after next n events m)) s in
+          (p.0, rw h p.1))
+    ] in
+    both (is_stuck next n events) (others_wait next n events kept rank)
+    (world_all (λ m. not (goes n events m (call_after next n events m))) n 0 (λ m above below. (at m (omega arith)).0))
+    (world_all (λ m. (m == rank) || (not (is_some (call_after next n events m)) || is_some (kept_of kept m))) n 0 (λ m above below. (at m (omega arith)).1))
+
+pub one_moves : (next : Next) (n : ℕ) (events : List Event) (kept : List (Option Call)) (rank m : ℕ) → m < n → (m == rank) ≡ false
+    → stands next n events kept m ≡ false → (is_stuck next n events && others_wait next n events kept rank) ≡ false
+one_moves next n events kept rank m below apart moves =
+    elim (test_cases (is_stuck next n events && others_wait next n events kept rank)) [
+      | inl t ↦ (
+          let parts = and_parts (is_stuck next n events) (others_wait next n events kept rank) t in
+          let held = world_at (λ r. not (goes n events r (call_after next n events r))) n 0 m parts.0 (omega arith) (omega arith) in
+          let waits : ((m == rank) || (not (is_some (call_after next n events m)) || is_some (kept_of kept m))) ≡ true =
+          world_at (λ r. (r == rank) || (not (is_some (call_after next n events r)) || is_some (kept_of kept r))) n 0 m parts.1 (omega arith) (omega arith) in
+          let waited : (not (is_some (call_after next n events m)) || is_some (kept_of kept m)) ≡ true = rw apart at waits in
+          let s = from_parts (is_some (call_after next n events m)) (is_some (kept_of kept m)) (goes n events m (call_after next n events m)) held waited in
+          let no : true ≡ false = sym s ∙ moves in
+          absurd (cc))
+      | inr t ↦ t
+    ]
+
+pub ended_stands : (next : Next) (n : ℕ) (events : List Event) (kept : List (Option Call)) (rank : ℕ) → Lawful next → IsChosen next n events → rank < n
+    → has_ended events rank ≡ true → stands next n events kept rank ≡ true
+ended_stands next n events kept rank lawful chosen below t = rw (over next n events rank lawful chosen below t) refl
+
+pub free_moves : (next : Next) (n : ℕ) (events : List Event) (kept : List (Option Call)) (rank : ℕ) → Lawful next → IsChosen next n events → rank < n
+    → has_ended events rank ≡ false → kept_of kept rank ≡ None → stands next n events kept rank ≡ false
+free_moves next n events kept rank lawful chosen below t none =
+    let e = ended_is next n events rank lawful chosen below in
+    let has : not (is_some (call_after next n events rank)) ≡ false = sym e ∙ t in
+    rw (has, none) refl
+
+pub kept_stands : (next : Next) (n : ℕ) (events : List Event) (kept : List (Option Call)) (rank : ℕ) (call : Call) → Lawful next → IsChosen next n events → rank < n
+    → AreKept next n events kept → bound_of events ≡ None → kept_of kept rank ≡ Some call
+    → stands next n events kept rank ≡ not (is_there n events rank call)
+kept_stands next n events kept rank call lawful chosen below are free here =
+    let is = are.each rank call below here in
+    let all = (kept_run next n events lawful chosen.run).below in
+    rw (is.asked, here) (ap (λ b. not b) (waits_go n events rank call all free is.waiting))

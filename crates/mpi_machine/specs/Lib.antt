@@ -1,0 +1,5 @@
+pub mod Courses
+pub mod ScriptLaws
+pub mod Scripts
+pub mod Turns
+pub mod Waits

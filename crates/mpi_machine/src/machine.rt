@@ -1,0 +1,443 @@
+//! A recording machine, one event at a time.
+ghost use Rattle.std.specs.Prelude.{◌≡◌, ◌<◌, ◌≤◌, ◌++◌, ◌∷◌, ◌==◌, ◌&&◌, ◌||◌, [], false, is_some, length, not, replicate, true, IfOk, IsOk, None, OnErr, OnOk, Some};
+ghost use Rattle.std.specs.List.{slice_set};
+ghost use Rattle.mpi_call.specs.Calls.{is_enter};
+ghost use Rattle.mpi_call.specs.declared.call.Call.{Call};
+ghost use Rattle.mpi_call.specs.declared.call.Call.TheVariants.{Peek, Take};
+ghost use Rattle.mpi_call.specs.declared.reply.Reply.{Reply};
+ghost use Rattle.mpi_call.specs.declared.reply.Reply.TheVariants.{Took as TookReply};
+ghost use Rattle.run_model.specs.Allowed.{can_go};
+ghost use Rattle.run_model.specs.Chosen.{chosen_reply, peeked_at, IsChosen};
+ghost use Rattle.run_model.specs.Due.{halted};
+ghost use Rattle.run_model.specs.Pairs.{name_at};
+ghost use Rattle.run_model.specs.Program.{ends, MayGive};
+ghost use Rattle.run_model.specs.Serial.{attempt, call_after, is_stuck, Stage};
+ghost use Rattle.run_model.specs.Shape.{is_test};
+ghost use Rattle.run_model.specs.Views.{is_start, replies_in, taken_of, view_of};
+ghost use Rattle.match_core.specs.Starts.{is_message};
+ghost use Rattle.requests.specs.Histories.{took_event, Knows};
+ghost use Rattle.requests.specs.States.{with_rows, State};
+ghost use Rattle.requests.specs.Taking.{answer_in, rows_after};
+ghost use Rattle.requests.specs.declared.requests.TakeAnswer.TheVariants.{Took as TookItems};
+ghost use Rattle.mpi_machine.specs.Courses.{bound_of, has_ended, HasRoom};
+ghost use Rattle.mpi_machine.specs.Turns.{after_turn, last_reply, others_wait, stands, takes_none, turn_of, HasReply, IsAsked, IsHeldBack, IsStartAt, StandsAt};
+ghost use Rattle.mpi_machine.specs.declared.turn.Turn.TheVariants.{Replied};
+
+use crate::course::Course;
+use crate::turn::Turn;
+use crate::waits::is_there;
+use mpi_call::call::{Call, Comm, Halt, Source, Tag, TakeMode};
+use mpi_call::lists::Starts;
+use mpi_call::reply;
+use mpi_call::reply::{Items, Reply};
+use requests::requests::{Requests, Started, TakeAnswer};
+use run_model::event::Event;
+use run_model::history::History;
+use run_model::program::Program;
+use std::alloc::{AllocError, Global};
+use std::marker::Model;
+
+/// A run of a program in the making. Contracts see the program, the number of ranks, the events so far, and the calls that ranks
+/// wait with.
+#[derive(Drop)]
+pub struct Machine<'a, P: Program> {
+    program: &'a P,
+    course: Course,
+    requests: Requests,
+}
+
+impl<'a, P: Program> Model for Machine<'a, P> {
+    ghost use Rattle.std.specs.Prelude.{◌≡◌};
+    ghost use Rattle.run_model.specs.Chosen.{IsChosen};
+    ghost use Rattle.requests.specs.Histories.{Knows};
+    ghost use Rattle.mpi_machine.specs.Turns.{MachineState};
+    ghost use Rattle.mpi_machine.specs.Waits.{AreKept};
+
+    ghost Value = { MachineState P };
+
+    ghost view = { λ m. record { program = m.program.now; ranks = m.course.ranks; events = m.course.events; kept = m.course.kept } };
+
+    ghost invariant = { λ m. IsChosen (P.next m.program.now) m.course.ranks m.course.events × Knows m.course.ranks m.course.events m.requests × AreKept (P.next m.program.now) m.course.ranks m.course.events m.course.kept };
+}
+
+impl<'a, P: Program> Machine<'a, P> {
+    /// No events of the program on `ranks` ranks, of which none waits.
+    pub fn new(alloc: Global, program: &'a P, ranks: u8) -> Result<Self, AllocError>
+        requires { (0 < ranks) × (ranks ≤ 64) }
+        ensures { IfOk result (λ machine. machine ≡ record { program = program.now; ranks = ranks; events = []; kept = replicate ranks None }) }
+    {
+        Ok(Machine {
+            program,
+            course: Course::new(alloc, ranks)?,
+            requests: Requests::new(alloc, ranks)?,
+        })
+    }
+
+    /// One attempt of a rank with its next call.
+    pub fn attempt(&mut self, rank: u8, call: Call) -> Result<Turn, AllocError>
+        requires rank { rank < self.old.ranks }
+        requires next { P.next self.old.program self.old.ranks rank (replies_in (view_of self.old.events rank)) ≡ Some call }
+
+        // Collectives are not answered yet.
+        requires built { is_enter call ≡ false }
+        ensures turn { IfOk result (λ turn. turn ≡ turn_of (P.next self.old.program) self.old.ranks self.old.events self.old.kept rank call) }
+        ensures after { IfOk result (λ turn. self.new ≡ after_turn self.old rank call turn) }
+        ensures err { OnErr result (self.new ≡ self.old) }
+
+        // A rank's last reply takes no memory.
+        ensures sure { takes_none self.old.events call (chosen_reply self.old.ranks self.old.events rank call) ≡ true → IsOk result }
+
+        // The reply may be given to the rank.
+        ensures shape { IfOk result (λ turn. (reply : Reply) → turn ≡ Replied reply → MayGive (P.next self.old.program) self.old.ranks rank (replies_in (view_of self.old.events rank)) reply) }
+
+        // Attempts one after the other make the run that the order of ranks fixes.
+        ensures serial { OnOk result ((stage : Stage) → StandsAt self.old stage → StandsAt self.new (attempt (P.next self.old.program) self.old.ranks stage rank)) }
+    {
+        let turn = self.turn(rank, call)?;
+        self.is_run();
+        Ok(turn)
+    }
+
+    /// The events so far are a run, each event of which is the machine's.
+    fn is_run(&self)
+        ensures { IsChosen (P.next self.now.program) self.now.ranks self.now.events }
+    {}
+
+    /// The attempt.
+    fn turn(&mut self, rank: u8, call: Call) -> Result<Turn, AllocError>
+        requires asked { IsAsked (P.next self.old.program) self.old.ranks self.old.events rank call }
+        requires built { is_enter call ≡ false }
+        ensures turn { IfOk result (λ turn. turn ≡ turn_of (P.next self.old.program) self.old.ranks self.old.events self.old.kept rank call) }
+        ensures after { IfOk result (λ turn. self.new ≡ after_turn self.old rank call turn) }
+        ensures err { OnErr result (self.new ≡ self.old) }
+        ensures sure { takes_none self.old.events call (chosen_reply self.old.ranks self.old.events rank call) ≡ true → IsOk result }
+    {
+        if let Some(halt) = self.course.bound() {
+            return Ok(self.last(rank, call, Some(halt)));
+        }
+        match call {
+            Call::Send { .. } | Call::Post { .. } | Call::Enter { .. } => self.start(rank, call),
+            Call::Take { starts, mode } => self.take(rank, starts, mode),
+            Call::Peek {
+                comm,
+                source,
+                tag,
+                wait,
+            } => self.peek(rank, comm, source, tag, wait),
+            Call::Abort { code } => {
+                Ok(self.last(rank, call, Some(Halt::Aborted { rank, code })))
+            }
+            Call::Trap { fault } => {
+                Ok(self.last(rank, call, Some(Halt::Trapped { rank, fault })))
+            }
+            Call::End => Ok(self.last(rank, call, None)),
+        }
+    }
+
+    /// The last reply to a rank: a halt, or Done to its End. Takes no memory.
+    fn last(&mut self, rank: u8, call: Call, halt: Option<Halt>) -> Turn
+        requires reply { HasReply (P.next self.old.program) self.old.ranks self.old.events self.old.kept rank call (last_reply halt) }
+        requires last { ends (call, last_reply halt) ≡ true }
+        ensures turn { result ≡ turn_of (P.next self.old.program) self.old.ranks self.old.events self.old.kept rank call }
+        ensures after { self.new ≡ after_turn self.old rank call result }
+    {
+        self.requests.knows_on();
+        self.course.append(Event {
+            rank,
+            call,
+            reply: last_reply(halt),
+            mate: None,
+        });
+        Turn::Replied(last_reply(halt))
+    }
+
+    /// A reply that is not the rank's last, and changes nothing that is known of starts.
+    fn answer(&mut self, rank: u8, call: Call, reply: Reply) -> Result<Turn, AllocError>
+        requires reply { HasReply (P.next self.old.program) self.old.ranks self.old.events self.old.kept rank call reply }
+        requires bound { bound_of self.old.events ≡ None }
+        requires more { ends (call, reply) ≡ false }
+        requires no_start { is_start (call, reply) ≡ false }
+        requires none_taken { taken_of ((call, reply) ∷ []) ≡ [] }
+        ensures turn { IfOk result (λ turn. turn ≡ turn_of (P.next self.old.program) self.old.ranks self.old.events self.old.kept rank call) }
+        ensures after { IfOk result (λ turn. self.new ≡ after_turn self.old rank call turn) }
+        ensures err { OnErr result (self.new ≡ self.old) }
+    {
+        self.requests.knows_on();
+        self.course.reserve()?;
+        let copied = reply::copy_of(&reply)?;
+        self.course.append(Event {
+            rank,
+            call,
+            reply,
+            mate: None,
+        });
+        Ok(Turn::Replied(copied))
+    }
+
+    /// A new start.
+    fn start(&mut self, rank: u8, call: Call) -> Result<Turn, AllocError>
+        requires asked { IsAsked (P.next self.old.program) self.old.ranks self.old.events rank call }
+        requires bound { bound_of self.old.events ≡ None }
+        requires kind { is_message call ≡ true }
+        ensures turn { IfOk result (λ turn. turn ≡ turn_of (P.next self.old.program) self.old.ranks self.old.events self.old.kept rank call) }
+        ensures after { IfOk result (λ turn. self.new ≡ after_turn self.old rank call turn) }
+        ensures err { OnErr result (self.new ≡ self.old) }
+    {
+        self.requests.knows_on();
+        self.course.reserve()?;
+        let at = self.course.history().len();
+        match self.requests.start(at, rank, &call)? {
+            Started::Made { mate, .. } => {
+                self.course.append(Event {
+                    rank,
+                    call,
+                    reply: Reply::Done,
+                    mate,
+                });
+                Ok(Turn::Replied(Reply::Done))
+            }
+            Started::Disagrees { .. } => {
+                Ok(self.last(rank, call, Some(Halt::Mismatched { rank })))
+            }
+        }
+    }
+
+    /// A completion.
+    fn take(&mut self, rank: u8, starts: Starts, mode: TakeMode) -> Result<Turn, AllocError>
+        requires asked { IsAsked (P.next self.old.program) self.old.ranks self.old.events rank (Take starts mode) }
+        requires bound { bound_of self.old.events ≡ None }
+        ensures turn { IfOk result (λ turn. turn ≡ turn_of (P.next self.old.program) self.old.ranks self.old.events self.old.kept rank (Take starts mode)) }
+        ensures after { IfOk result (λ turn. self.new ≡ after_turn self.old rank (Take starts mode) turn) }
+        ensures err { OnErr result (self.new ≡ self.old) }
+        ensures sure { takes_none self.old.events (Take starts mode) (chosen_reply self.old.ranks self.old.events rank (Take starts mode)) ≡ true → IsOk result }
+    {
+        match self.requests.take(rank, &starts, mode)? {
+            TakeAnswer::Took(items) => took(
+                &mut self.course,
+                &mut self.requests,
+                rank,
+                starts,
+                mode,
+                items,
+            ),
+            TakeAnswer::NotReady => { self.held(rank, Call::Take { starts, mode }, is_test(mode)) }
+            TakeAnswer::TooLong { start } => {
+                let halt = Halt::Truncated { rank, start };
+                Ok(self.last(rank, Call::Take { starts, mode }, Some(halt)))
+            }
+            TakeAnswer::BadStart { start } => {
+                let halt = Halt::BadRequest { rank, start };
+                Ok(self.last(rank, Call::Take { starts, mode }, Some(halt)))
+            }
+        }
+    }
+
+    /// A probe.
+    fn peek(
+        &mut self,
+        rank: u8,
+        comm: Comm,
+        source: Source,
+        tag: Tag,
+        wait: bool,
+    ) -> Result<Turn, AllocError>
+        requires asked { IsAsked (P.next self.old.program) self.old.ranks self.old.events rank (Peek comm source tag wait) }
+        requires bound { bound_of self.old.events ≡ None }
+        ensures turn { IfOk result (λ turn. turn ≡ turn_of (P.next self.old.program) self.old.ranks self.old.events self.old.kept rank (Peek comm source tag wait)) }
+        ensures after { IfOk result (λ turn. self.new ≡ after_turn self.old rank (Peek comm source tag wait) turn) }
+        ensures err { OnErr result (self.new ≡ self.old) }
+        ensures sure { takes_none self.old.events (Peek comm source tag wait) (chosen_reply self.old.ranks self.old.events rank (Peek comm source tag wait)) ≡ true → IsOk result }
+    {
+        let call = Call::Peek {
+            comm,
+            source,
+            tag,
+            wait,
+        };
+        match self.requests.peek(rank, &call) {
+            Some(at) => {
+                let reply = self.peeked(at)?;
+                self.answer(rank, call, reply)
+            }
+            None => self.held(rank, call, !wait),
+        }
+    }
+
+    /// The reply to a probe that finds the message at a position.
+    fn peeked(&self, at: u32) -> Result<Reply, AllocError>
+        requires { IsStartAt self.now.events at }
+        ensures { IfOk result (λ reply. reply ≡ peeked_at self.now.events (name_at self.now.events at)) }
+    {
+        let event = self.course.history().get(at);
+        match &event.call {
+            Call::Send { tag, ints, .. } => {
+                let Ok(count) = u32::try_from(ints.as_slice().len()) else {
+                    return Err(AllocError);
+                };
+                Ok(Reply::Peeked {
+                    source: event.rank,
+                    start: self.requests.name_at(at),
+                    tag: *tag,
+                    count,
+                })
+            }
+            _ => Ok(Reply::NotYet),
+        }
+    }
+
+    /// A call whose condition fails: a test is told so; where no rank can go on the run is stuck; else the rank waits.
+    fn held(&mut self, rank: u8, call: Call, test: bool) -> Result<Turn, AllocError>
+        requires asked { IsAsked (P.next self.old.program) self.old.ranks self.old.events rank call }
+        requires bound { bound_of self.old.events ≡ None }
+        requires held { IsHeldBack self.old.ranks self.old.events rank call test }
+        ensures turn { IfOk result (λ turn. turn ≡ turn_of (P.next self.old.program) self.old.ranks self.old.events self.old.kept rank call) }
+        ensures after { IfOk result (λ turn. self.new ≡ after_turn self.old rank call turn) }
+        ensures err { OnErr result (self.new ≡ self.old) }
+        ensures sure { takes_none self.old.events call (chosen_reply self.old.ranks self.old.events rank call) ≡ true → IsOk result }
+    {
+        if test {
+            return self.answer(rank, call, Reply::NotYet);
+        }
+        if self.others_stand(rank) {
+            return Ok(self.last(rank, call, Some(Halt::Stuck)));
+        }
+        self.course.keep(rank, call);
+        Ok(Turn::Wait)
+    }
+
+    /// Whether no other rank can go on. Takes no memory.
+    fn others_stand(&self, rank: u8) -> bool
+        requires bound { bound_of self.now.events ≡ None }
+        ensures { (call : Call) → IsAsked (P.next self.now.program) self.now.ranks self.now.events rank call → can_go self.now.ranks self.now.events (view_of self.now.events rank) rank call ≡ false → result ≡ (is_stuck (P.next self.now.program) self.now.ranks self.now.events && others_wait (P.next self.now.program) self.now.ranks self.now.events self.now.kept rank) }
+    {
+        for other in 0..self.course.ranks() {
+            if !self.is_still(other, rank) {
+                return false;
+            }
+        }
+        true
+    }
+
+    /// Whether a rank is this one, or stands. Takes no memory.
+    fn is_still(&self, other: u8, rank: u8) -> bool
+        requires rank { other < self.now.ranks }
+        requires bound { bound_of self.now.events ≡ None }
+        ensures { result ≡ ((other == rank) || stands (P.next self.now.program) self.now.ranks self.now.events self.now.kept other) }
+    {
+        other == rank || self.stands(other)
+    }
+
+    /// Whether a rank has ended, or waits for what is not there. Takes no memory.
+    fn stands(&self, rank: u8) -> bool
+        requires rank { rank < self.now.ranks }
+        requires bound { bound_of self.now.events ≡ None }
+        ensures { result ≡ stands (P.next self.now.program) self.now.ranks self.now.events self.now.kept rank }
+    {
+        if self.course.ended(rank) {
+            return true;
+        }
+        match self.course.kept(rank) {
+            Some(call) => !is_there(&self.requests, rank, call),
+            None => false,
+        }
+    }
+
+    /// The events so far: a run of the program, each event of which is the machine's. Takes no memory.
+    pub fn history(&self) -> &History
+        ensures events { result.now.events ≡ self.now.events }
+        ensures chosen { IsChosen (P.next self.now.program) self.now.ranks self.now.events }
+    {
+        self.course.history()
+    }
+
+    /// The events so far, handed out. Takes no memory.
+    pub fn into_history(self) -> History
+        ensures events { result.events ≡ self.entry.events }
+        ensures chosen { IsChosen (P.next self.entry.program) self.entry.ranks result.events }
+    {
+        self.course.into_history()
+    }
+
+    /// Whether a rank has ended: it makes no further call. Takes no memory.
+    pub fn ended(&self, rank: u8) -> bool
+        requires rank { rank < self.now.ranks }
+        ensures value { result ≡ has_ended self.now.events rank }
+        ensures next { result ≡ not (is_some (call_after (P.next self.now.program) self.now.ranks self.now.events rank)) }
+    {
+        self.course.ended(rank)
+    }
+
+    /// The halt, once there is a Stopped reply. Takes no memory.
+    pub fn halt(&self) -> Option<Halt>
+        ensures { result ≡ halted self.now.events }
+    {
+        self.course.halt()
+    }
+}
+
+/// The last reply to a rank.
+fn last_reply(halt: Option<Halt>) -> Reply
+    ensures { result ≡ last_reply halt }
+{
+    match halt {
+        Some(halt) => Reply::Stopped(halt),
+        None => Reply::Done,
+    }
+}
+
+/// Whether a completion that takes nothing is told so.
+fn is_test(mode: TakeMode) -> bool
+    ensures { result ≡ is_test mode }
+{
+    matches!(
+        mode,
+        TakeMode::TestAll | TakeMode::TestAny | TakeMode::TestSeveral
+    )
+}
+
+/// Room for an event, and a copy of its items.
+fn prepare(course: &mut Course, items: &Items) -> Result<Items, AllocError>
+    ensures ranks { course.new.ranks ≡ course.old.ranks }
+    ensures events { course.new.events ≡ course.old.events }
+    ensures kept { course.new.kept ≡ course.old.kept }
+    ensures room { OnOk result (0 < course.new.spare) }
+    ensures copied { IfOk result (λ copied. copied ≡ items.now) }
+{
+    course.reserve()?;
+    items.clone()
+}
+
+/// The event of a completion that took these items. After the want of memory they are not taken.
+fn took(
+    course: &mut Course,
+    requests: &mut Requests,
+    rank: u8,
+    starts: Starts,
+    mode: TakeMode,
+    items: Items,
+) -> Result<Turn, AllocError>
+    requires rank { rank < course.old.ranks }
+    requires row { rank < length requests.old.table.rows }
+    requires live { has_ended course.old.events rank ≡ false }
+    requires bound { bound_of course.old.events ≡ None }
+    ensures ranks { course.new.ranks ≡ course.old.ranks }
+    ensures turn { IfOk result (λ turn. turn ≡ Replied (TookReply items)) }
+    ensures events { OnOk result (course.new.events ≡ course.old.events ++ took_event rank starts mode items ∷ []) }
+    ensures kept { OnOk result (course.new.kept ≡ slice_set course.old.kept rank None) }
+    ensures known { OnOk result (requests.new ≡ requests.old) }
+    ensures same_events { OnErr result (course.new.events ≡ course.old.events) }
+    ensures same_kept { OnErr result (course.new.kept ≡ course.old.kept) }
+    ensures back { OnErr result ((before : State) → answer_in before.table rank starts mode ≡ TookItems items → requests.old ≡ with_rows (rows_after before.table.rows rank starts (TookItems items)) before → requests.new ≡ before) }
+{
+    let Ok(copied) = prepare(course, &items) else {
+        requests.untake(rank, &starts, &items);
+        return Err(AllocError);
+    };
+    course.append(Event {
+        rank,
+        call: Call::Take { starts, mode },
+        reply: Reply::Took(items),
+        mate: None,
+    });
+    Ok(Turn::Replied(Reply::Took(copied)))
+}

@@ -1,0 +1,337 @@
+-- What a completion answers and leaves, by the history.
+use Rattle.std.proofs.Common.{◌≡◌, ◌<◌, ◌≤◌, ◌+◌, ◌&&◌, ◌||◌, ◌==◌, ℕ, zero, suc, List, [], ◌∷◌, ◌++◌, Option, Some, None, Bool, true, false, not, cond, drop, get_or, set, length, map, slice_get, slice_index, take, ◌⊎◌, inl, inr, refl, ap, sym, ◌∙◌, subst, arith, append-nil, get_or-set_same}
+use Rattle.std.specs.Prelude.{option_map, is_some}
+use Rattle.std.proofs.lemmas.Bool.{cases_eq, eqb-true, eq-eqb, and_parts}
+use Rattle.std.proofs.lemmas.List.{set-get_or}
+use Rattle.mpi_call.specs.declared.call.Call.{Call}
+use Rattle.mpi_call.specs.declared.call.Call.TheVariants.{Take}
+use Rattle.mpi_call.specs.declared.call.TakeMode.{TakeMode}
+use Rattle.mpi_call.specs.declared.call.TakeMode.TheVariants.{All, Any as AnyOne, Several, TestAll, TestAny, TestSeveral}
+use Rattle.mpi_call.specs.declared.reply.Item.{Item}
+use Rattle.mpi_call.specs.Members.{is_member}
+use Rattle.run_model.specs.declared.event.Event.{Event}
+use Rattle.run_model.specs.Allowed.{first_long, flags_of, holds, taken_reply, true_places}
+use Rattle.run_model.specs.Choice.{chosen_places}
+use Rattle.run_model.specs.Chosen.{chosen_answer, held_reply, items_of}
+use Rattle.run_model.specs.Due.{bad_request}
+use Rattle.run_model.specs.Pairs.{Name, name_at, named, pairs_of, partner_of}
+use Rattle.run_model.specs.Shape.{is_test}
+use Rattle.run_model.specs.Views.{View, is_done, items_taken, taken_of, view_of}
+use Rattle.run_model.proofs.ChosenGots.{AllOf}
+use Rattle.run_model.proofs.Views.{option_cases, test_cases, view_of-mine, view_of-other}
+use Rattle.match_core.proofs.Grown.{named-other}
+use Rattle.match_core.proofs.Knowing.{knows_others}
+use Rattle.requests.specs.declared.start.Start.{Start}
+use Rattle.requests.specs.declared.requests.TakeAnswer.{TakeAnswer}
+use Rattle.requests.specs.declared.requests.TakeAnswer.TheVariants.{Took, NotReady, TooLong, BadStart}
+use Rattle.requests.specs.Starts.{Rows, all_marked, call_in, found_in, is_gone, marked, mate_of, name_in, row_of, with_row}
+use Rattle.requests.specs.States.{State, Table, with_rows}
+use Rattle.requests.specs.Taking.{answer_in, bad_or, held_or, places_from, takes_one, can_take_in, first_bad, first_long_in, flags_in, is_complete, item_in, items_in, long_or, rows_after}
+use Rattle.requests.specs.Histories.{Answers, Knows, KnowsTaken, took_event}
+use Rattle.requests.proofs.Found.{get-marked, length-row, not_same}
+use Rattle.requests.proofs.Steps.{steps}
+use Rattle.requests.proofs.Pairing.{name_at-push, one_more, pairs-alone}
+use Rattle.requests.proofs.Starting.{name_past, taken_of-append}
+use Rattle.requests.proofs.Sounding.{found-marked}
+use Rattle.requests.proofs.Answering.{among-append, bad_same, flags_are, items_same, long_same}
+
+-- the answer
+chosen_is : (n : ℕ) (events : List Event) (own : View) (me : ℕ) (starts : List ℕ) (mode : TakeMode) (long : Option ℕ) (items : List Item)
+    → holds mode (flags_of n events own me starts) ≡ true → items_of n events own me starts mode ≡ items → first_long own starts items ≡ long
+    → chosen_answer n events own me (Take starts mode) ≡ taken_reply me long items
+chosen_is n events own me starts mode long items h i l =
+    let all : List Item = items_of n events own me starts mode in
+    ap (λ (b : Bool). cond b (taken_reply me (first_long own starts all) all) (held_reply (is_test mode))) h
+    ∙ (ap (λ (x : List Item). taken_reply me (first_long own starts x) x) i ∙ ap (λ (o : Option ℕ). taken_reply me o items) l)
+
+answers_by : (n : ℕ) (events : List Event) (me : ℕ) (starts : List ℕ) (mode : TakeMode) (bad : Option ℕ) (ready : Bool) (long : Option ℕ) (items : List Item)
+    → bad_request (view_of events me) [] starts ≡ bad → holds mode (flags_of n events (view_of events me) me starts) ≡ ready
+    → items_of n events (view_of events me) me starts mode ≡ items → first_long (view_of events me) starts items ≡ long
+    → Answers n events me starts mode (bad_or bad ready long items)
+answers_by n events me starts mode (Some k) ready long items b h i l = b
+answers_by n events me starts mode None false long items b h i l = (b, h)
+answers_by n events me starts mode None true (Some k) items b h i l = (b, h, chosen_is n events (view_of events me) me starts mode (Some k) items h i l)
+answers_by n events me starts mode None true None items b h i l = (b, h, chosen_is n events (view_of events me) me starts mode None items h i l)
+
+pub answers_are : (n : ℕ) (events : List Event) (state : State) (me : ℕ) (starts : List ℕ) (mode : TakeMode) → Knows n events state
+    → Answers n events me starts mode (answer_in state.table me starts mode)
+answers_are n events state me starts mode knows =
+    answers_by n events me starts mode (first_bad state.table.rows me [] starts) (holds mode (flags_in state.table me starts))
+    (first_long_in state.table.rows me starts (items_in state.table me starts mode)) (items_in state.table me starts mode)
+    (bad_same n events state me [] [] starts knows (λ j. refl)) (ap (holds mode) (flags_are n events state me starts knows))
+    (items_same n events state me starts mode knows) (long_same n events state me starts (items_in state.table me starts mode) knows)
+
+-- what an answer with items says
+pub record HandsOut (table : Table) (me : ℕ) (starts : List ℕ) (mode : TakeMode) (items : List Item) : Type 0 where
+  pub none_bad : first_bad table.rows me [] starts ≡ None
+  pub items_are : items_in table me starts mode ≡ items
+
+took_by : (bad : Option ℕ) (ready : Bool) (long : Option ℕ) (all items : List Item) → bad_or bad ready long all ≡ Took items → (bad ≡ None) × (all ≡ items)
+took_by (Some k) ready long all items h = absurd (cc)
+took_by None false long all items h = absurd (cc)
+took_by None true (Some k) all items h = absurd (cc)
+took_by None true None all items h = (refl, cc)
+
+pub hands_them : (table : Table) (me : ℕ) (starts : List ℕ) (mode : TakeMode) (items : List Item) → answer_in table me starts mode ≡ Took items → HandsOut table me starts mode items
+hands_them table me starts mode items h =
+    let both = took_by (first_bad table.rows me [] starts) (holds mode (flags_in table me starts)) (first_long_in table.rows me starts (items_in table me starts mode)) (items_in table me starts mode) items h in
+    record { none_bad = both.0; items_are = both.1 }
+
+-- the chosen places are in the list, and what is listed there is complete
+abbrev IsPlace : (ℕ → Bool) → List ℕ → ℕ → Type 0
+IsPlace test starts i = (i < length starts) × (test (slice_index starts i) ≡ true)
+
+places_true : (test : ℕ → Bool) (starts rest : List ℕ) (at : ℕ) → rest ≡ drop at starts → AllOf (IsPlace test starts) (true_places at (map test rest))
+places_true test starts [] at h = tt
+places_true test starts (k ∷ rest) at h =
+    let s = steps starts rest k at h in
+    elim (test_cases (test k)) [
+      | inl t ↦ rw t ((s.below, ap test (s.here 0) ∙ t), places_true test starts rest (at + 1) s.rest)
+      | inr t ↦ rw t (places_true test starts rest (at + 1) s.rest)
+    ]
+
+first_of_all : (P : ℕ → Type 0) (xs : List ℕ) → AllOf P xs → AllOf P (take 1 xs)
+first_of_all P [] all = tt
+first_of_all P (x ∷ xs) all = (all.0, tt)
+
+by_mode : (P : ℕ → Type 0) (mode : TakeMode) (flags : List Bool) → AllOf P (true_places 0 flags) → AllOf P (chosen_places mode flags)
+by_mode P All flags all = all
+by_mode P TestAll flags all = all
+by_mode P AnyOne flags all = first_of_all P (true_places 0 flags) all
+by_mode P TestAny flags all = first_of_all P (true_places 0 flags) all
+by_mode P Several flags all = all
+by_mode P TestSeveral flags all = all
+
+-- a start that is handed out is listed at a place, and complete
+record IsHanded (test : ℕ → Bool) (starts : List ℕ) (k : ℕ) : Type 0 where
+  place : ℕ
+  below : place < length starts
+  here : slice_index starts place ≡ k
+  complete : test k ≡ true
+
+handed_at : (table : Table) (me : ℕ) (test : ℕ → Bool) (starts indices : List ℕ) (k : ℕ) → AllOf (IsPlace test starts) indices
+    → is_member (items_taken starts (map (item_in table me starts) indices)) k ≡ true → IsHanded test starts k
+handed_at table me test starts [] k all h = absurd (cc)
+handed_at table me test starts (i ∷ indices) k all h =
+    elim (test_cases (slice_index starts i == k)) [
+      | inl t ↦ (
+          let e : slice_index starts i ≡ k = eqb-true (slice_index starts i) k t in
+          record { place = i; below = all.0.0; here = e; complete = ap test (sym e) ∙ all.0.1 })
+      | inr t ↦ handed_at table me test starts indices k all.1 (rw t at h)
+    ]
+
+handed : (table : Table) (me : ℕ) (starts : List ℕ) (mode : TakeMode) (items : List Item) (k : ℕ) → HandsOut table me starts mode items → is_member (items_taken starts items) k ≡ true
+    → IsHanded (λ number. is_complete table me (found_in table.rows (me, number))) starts k
+handed table me starts mode items k out h =
+    let test : ℕ → Bool = λ number. is_complete table me (found_in table.rows (me, number)) in
+    let F : List Item → Type 0 = λ l. is_member (items_taken starts l) k ≡ true in
+    handed_at table me test starts (chosen_places mode (flags_in table me starts)) k
+    (by_mode (IsPlace test starts) mode (flags_in table me starts) (places_true test starts starts 0 refl)) (subst F (sym out.items_are) h)
+
+complete_there : (table : Table) (me : ℕ) (o : Option Start) → is_complete table me o ≡ true → (start : Start) × (o ≡ Some start)
+complete_there table me None h = absurd (cc)
+complete_there table me (Some start) h = (start, refl)
+
+-- no listed start was taken
+listed_open : (rows : Rows) (me : ℕ) (earlier starts : List ℕ) (i : ℕ) → first_bad rows me earlier starts ≡ None → i < length starts
+    → can_take_in (found_in rows (me, slice_index starts i)) ≡ true
+listed_open rows me earlier [] i h less = absurd (omega arith)
+listed_open rows me earlier (k ∷ starts) zero h less =
+    elim (test_cases (can_take_in (found_in rows (me, k)) && not (is_member earlier k))) [
+      | inl t ↦ (and_parts (can_take_in (found_in rows (me, k))) (not (is_member earlier k)) t).0
+      | inr t ↦ (let no : Some k ≡ None = rw t at h in absurd (cc))
+    ]
+listed_open rows me earlier (k ∷ starts) (suc i) h less =
+    elim (test_cases (can_take_in (found_in rows (me, k)) && not (is_member earlier k))) [
+      | inl t ↦ listed_open rows me (earlier ++ k ∷ []) starts i (rw t at h) (omega arith)
+      | inr t ↦ (let no : Some k ≡ None = rw t at h in absurd (cc))
+    ]
+
+-- what marks do not touch
+pub kept-marked : {A : Type 0} (g : Option Start → A) (rows : Rows) (rank : ℕ) (taken : Bool) (numbers : List ℕ) (other : Name) → rank < length rows
+    → ((o : Option Start) → g (option_map (marked taken) o) ≡ g o)
+    → g (found_in (with_row rank (all_marked taken numbers (row_of rows rank)) rows) other) ≡ g (found_in rows other)
+kept-marked g rows rank taken numbers other within same =
+    ap g (found-marked rows rank taken numbers other within) ∙ elim (test_cases (other.0 == rank)) [
+      | inl h ↦ elim (test_cases (is_member numbers other.1)) [
+        | inl t ↦ rw (h, t) (same (found_in rows other))
+        | inr t ↦ rw (h, t) refl
+      ]
+      | inr h ↦ rw h refl
+    ]
+
+same_call : (taken : Bool) (o : Option Start) → option_map (λ (s : Start). s.call) (option_map (marked taken) o) ≡ option_map (λ (s : Start). s.call) o
+same_call taken None = refl
+same_call taken (Some start) = refl
+
+same_mate : (taken : Bool) (o : Option Start) → mate_of (option_map (marked taken) o) ≡ mate_of o
+same_mate taken None = refl
+same_mate taken (Some start) = refl
+
+gone_marked : (o : Option Start) (start : Start) → o ≡ Some start → is_gone (option_map (marked true) o) ≡ true
+gone_marked None start h = absurd (cc)
+gone_marked (Some other) start h = refl
+
+or-false : (b : Bool) → (b || false) ≡ b
+or-false true = refl
+or-false false = refl
+
+or-true : (b : Bool) → (b || true) ≡ true
+or-true true = refl
+or-true false = refl
+
+-- what was taken, after one more completion
+taken_after : (n : ℕ) (events : List Event) (state : State) (me : ℕ) (starts : List ℕ) (mode : TakeMode) (items : List Item) (r k : ℕ) → Knows n events state → me < length state.table.rows
+    → HandsOut state.table me starts mode items
+    → is_gone (found_in (with_row me (all_marked true (items_taken starts items) (row_of state.table.rows me)) state.table.rows) (r, k))
+    ≡ is_member (taken_of (view_of (events ++ took_event me starts mode items ∷ []) r)) k
+taken_after n events state me starts mode items r k knows within out =
+    let event : Event = took_event me starts mode items in
+    let rows : Rows = state.table.rows in
+    let numbers : List ℕ = items_taken starts items in
+    ap is_gone (found-marked rows me true numbers (r, k) within) ∙ elim (test_cases (r == me)) [
+      | inl h ↦ (
+          let e : r ≡ me = eqb-true r me h in
+          let longer : taken_of (view_of (events ++ event ∷ []) r) ≡ taken_of (view_of events r) ++ (numbers ++ []) =
+          ap taken_of (view_of-mine events event r (sym e)) ∙ taken_of-append (view_of events r) ((event.call, event.reply) ∷ []) in
+          let more : is_member (taken_of (view_of (events ++ event ∷ []) r)) k ≡ (is_member (taken_of (view_of events r)) k || is_member numbers k) =
+          ap (λ (l : List ℕ). is_member l k) longer ∙ (ap (λ (l : List ℕ). is_member (taken_of (view_of events r) ++ l) k) (append-nil numbers) ∙ among-append (taken_of (view_of events r)) numbers k) in
+          elim (test_cases (is_member numbers k)) [
+            | inl t ↦ (
+                let there = handed state.table me starts mode items k out t in
+                let found = complete_there state.table me (found_in rows (me, k)) there.complete in
+                let here : found_in rows (r, k) ≡ Some found.0 = ap (λ (x : ℕ). found_in rows (x, k)) e ∙ found.1 in
+                rw (h, t) (gone_marked (found_in rows (r, k)) found.0 here ∙ sym (more ∙ (ap (λ (b : Bool). is_member (taken_of (view_of events r)) k || b) t ∙ or-true (is_member (taken_of (view_of events r)) k)))))
+            | inr t ↦ rw (h, t) (knows.taken r k ∙ sym (more ∙ (ap (λ (b : Bool). is_member (taken_of (view_of events r)) k || b) t ∙ or-false (is_member (taken_of (view_of events r)) k))))
+          ])
+      | inr h ↦ rw h (knows.taken r k ∙ ap (λ (v : View). is_member (taken_of v) k) (sym (view_of-other events event r (not_same me r (λ e. (let no : true ≡ false = sym (eq-eqb r me (sym e)) ∙ h in cc))))))
+    ]
+
+pub knows_took : (n : ℕ) (events : List Event) (state : State) (me : ℕ) (starts : List ℕ) (mode : TakeMode) (items : List Item) → Knows n events state → me < length state.table.rows
+    → HandsOut state.table me starts mode items
+    → Knows n (events ++ took_event me starts mode items ∷ []) (with_rows (with_row me (all_marked true (items_taken starts items) (row_of state.table.rows me)) state.table.rows) state)
+knows_took n events state me starts mode items k within out =
+    let event : Event = took_event me starts mode items in
+    let rows : Rows = state.table.rows in
+    let numbers : List ℕ = items_taken starts items in
+    let none : name_at events (length events) ≡ None = sym (k.names (length events)) ∙ name_past state.names (length events) k.below in
+    record {
+      ranks = length-row me (all_marked true numbers (row_of rows me)) rows ∙ k.ranks;
+      matcher = knows_others events state.unpaired event k.matcher (record { other = refl; alone = refl });
+      calls = λ other. kept-marked (λ (o : Option Start). option_map (λ (s : Start). s.call) o) rows me true numbers other within (same_call true) ∙ (k.calls other ∙ sym (named-other events event refl other));
+      mates = λ other. kept-marked mate_of rows me true numbers other within (same_mate true) ∙ (k.mates other ∙ sym (ap (λ (P : List (Name × Name)). partner_of P other) (pairs-alone events event refl)));
+      taken = λ r number. taken_after n events state me starts mode items r number k within out;
+      names = λ at. k.names at ∙ sym (name_at-push events event at ∙ elim (cases_eq at (length events)) [
+        | inl e ↦ rw (eq-eqb at (length events) e) (sym (ap (name_at events) e ∙ none))
+        | inr apart ↦ rw (not_same at (length events) apart) refl
+      ]);
+      below = (let f = one_more events event in let b = k.below in omega (arith, f, b));
+      messages = λ name c h. k.messages name c (sym (named-other events event refl name) ∙ h);
+    }
+
+-- marks that are taken back
+same_places : (xs ys : List Start) → ((j : ℕ) → slice_get xs j ≡ slice_get ys j) → xs ≡ ys
+same_places [] [] h = refl
+same_places [] (y ∷ ys) h = absurd (let no : None ≡ Some y = h zero in cc)
+same_places (x ∷ xs) [] h = absurd (let no : Some x ≡ None = h zero in cc)
+same_places (x ∷ xs) (y ∷ ys) h =
+    let first : Some x ≡ Some y = h zero in
+    let one : x ≡ y = cc in
+    ap (λ (s : Start). s ∷ xs) one ∙ ap (λ (l : List Start). y ∷ l) (same_places xs ys (λ j. h (suc j)))
+
+unmarked : (o : Option Start) → can_take_in o ≡ true → option_map (marked false) (option_map (marked true) o) ≡ o
+unmarked None h = refl
+unmarked (Some start) h =
+    elim (test_cases start.taken) [
+      | inl t ↦ absurd (let no : false ≡ true = sym (ap not t) ∙ h in cc)
+      | inr t ↦ ap (λ (b : Bool). Some (marked b start)) (sym t)
+    ]
+
+pub marks_back : (table : Table) (me : ℕ) (starts : List ℕ) (mode : TakeMode) (items : List Item) → HandsOut table me starts mode items
+    → all_marked false (items_taken starts items) (all_marked true (items_taken starts items) (row_of table.rows me)) ≡ row_of table.rows me
+marks_back table me starts mode items out =
+    let row : List Start = row_of table.rows me in
+    let numbers : List ℕ = items_taken starts items in
+    same_places (all_marked false numbers (all_marked true numbers row)) row (λ j.
+    get-marked false numbers (all_marked true numbers row) j
+    ∙ (ap (λ (o : Option Start). cond (is_member numbers j) (option_map (marked false) o) o) (get-marked true numbers row j)
+    ∙ elim (test_cases (is_member numbers j)) [
+      | inl t ↦ (
+          let there = handed table me starts mode items j out t in
+          let open_ : can_take_in (found_in table.rows (me, j)) ≡ true =
+          ap (λ (k : ℕ). can_take_in (found_in table.rows (me, k))) (sym there.here) ∙ listed_open table.rows me [] starts there.place out.none_bad there.below in
+          rw t (unmarked (slice_get row j) open_))
+      | inr t ↦ rw t refl
+    ]))
+
+twice_set : (rows : Rows) (rank : ℕ) (one other : List Start) → set (set rows rank one) rank other ≡ set rows rank other
+twice_set [] rank one other = refl
+twice_set (row ∷ rows) zero one other = refl
+twice_set (row ∷ rows) (suc rank) one other = ap (λ (l : Rows). row ∷ l) (twice_set rows rank one other)
+
+pub rows_back : (table : Table) (me : ℕ) (starts : List ℕ) (mode : TakeMode) (items : List Item) (rows : Rows) → HandsOut table me starts mode items → me < length rows
+    → rows ≡ with_row me (all_marked true (items_taken starts items) (row_of table.rows me)) table.rows
+    → with_row me (all_marked false (items_taken starts items) (row_of rows me)) rows ≡ table.rows
+rows_back table me starts mode items rows out within is =
+    let numbers : List ℕ = items_taken starts items in
+    let marks : List Start = all_marked true numbers (row_of table.rows me) in
+    let long : length rows ≡ length table.rows = ap (λ (l : Rows). length l) is ∙ length-row me marks table.rows in
+    let inside : me < length table.rows = omega (arith, long) in
+    let here : row_of rows me ≡ marks = ap (λ (l : Rows). row_of l me) is ∙ get_or-set_same table.rows me marks [] inside in
+    ap (λ (r : List Start). with_row me (all_marked false numbers r) rows) here
+    ∙ (ap (λ (l : Rows). with_row me (all_marked false numbers marks) l) is
+    ∙ (twice_set table.rows me marks (all_marked false numbers marks)
+    ∙ (ap (λ (r : List Start). with_row me r table.rows) (marks_back table me starts mode items out)
+    ∙ set-get_or table.rows me [])))
+
+pub untaken : (before old : State) (me : ℕ) (starts : List ℕ) (mode : TakeMode) (items : List Item) → answer_in before.table me starts mode ≡ Took items → me < length old.table.rows
+    → old ≡ with_rows (rows_after before.table.rows me starts (Took items)) before
+    → with_rows (with_row me (all_marked false (items_taken starts items) (row_of old.table.rows me)) old.table.rows) old ≡ before
+untaken before old me starts mode items answer within is =
+    let back = rows_back before.table me starts mode items old.table.rows (hands_them before.table me starts mode items answer) within (ap (λ (s : State). s.table.rows) is) in
+    ap (λ (rows : Rows). with_rows rows old) back ∙ ap (λ (s : State). with_rows before.table.rows s) is
+
+-- the answer's state
+pub knows_taken : (n : ℕ) (events : List Event) (state : State) (me : ℕ) (starts : List ℕ) (mode : TakeMode) (answer : TakeAnswer) → Knows n events state → me < length state.table.rows
+    → answer ≡ answer_in state.table me starts mode → KnowsTaken n events me starts mode answer (with_rows (rows_after state.table.rows me starts answer) state)
+knows_taken n events state me starts mode (Took items) knows within is = knows_took n events state me starts mode items knows within (hands_them state.table me starts mode items (sym is))
+knows_taken n events state me starts mode NotReady knows within is = knows
+knows_taken n events state me starts mode (TooLong start) knows within is = knows
+knows_taken n events state me starts mode (BadStart start) knows within is = knows
+
+-- the places that a loop from place to place chooses are the mode's
+from_all : (at : ℕ) (flags : List Bool) → places_from false at flags ≡ true_places at flags
+from_all at [] = refl
+from_all at (true ∷ flags) = ap (λ (l : List ℕ). at ∷ l) (from_all (at + 1) flags)
+from_all at (false ∷ flags) = from_all (at + 1) flags
+
+from_one : (at : ℕ) (flags : List Bool) → places_from true at flags ≡ take 1 (true_places at flags)
+from_one at [] = refl
+from_one at (true ∷ flags) = refl
+from_one at (false ∷ flags) = from_one (at + 1) flags
+
+pub places_are : (mode : TakeMode) (flags : List Bool) → places_from (takes_one mode) 0 flags ≡ chosen_places mode flags
+places_are All flags = from_all 0 flags
+places_are TestAll flags = from_all 0 flags
+places_are AnyOne flags = from_one 0 flags
+places_are TestAny flags = from_one 0 flags
+places_are Several flags = from_all 0 flags
+places_are TestSeveral flags = from_all 0 flags
+
+-- the answers of the tests in their order
+pub answer_long : (table : Table) (me : ℕ) (starts : List ℕ) (mode : TakeMode) (long : Option ℕ) → first_bad table.rows me [] starts ≡ None → holds mode (flags_in table me starts) ≡ true
+    → long ≡ first_long_in table.rows me starts (map (item_in table me starts) (places_from (takes_one mode) 0 (flags_in table me starts)))
+    → answer_in table me starts mode ≡ long_or long (items_in table me starts mode)
+answer_long table me starts mode long bad ready is =
+    let all : List Item = items_in table me starts mode in
+    let long_is : first_long_in table.rows me starts all ≡ long =
+    ap (λ (l : List ℕ). first_long_in table.rows me starts (map (item_in table me starts) l)) (sym (places_are mode (flags_in table me starts))) ∙ sym is in
+    ap (λ (o : Option ℕ). bad_or o (holds mode (flags_in table me starts)) (first_long_in table.rows me starts all) all) bad
+    ∙ (ap (λ (b : Bool). held_or b (first_long_in table.rows me starts all) all) ready ∙ ap (λ (o : Option ℕ). long_or o all) long_is)
+
+-- an answer that hands out nothing leaves the starts
+pub rows_kept : (rows : Rows) (me : ℕ) (starts : List ℕ) (answer : TakeAnswer) → ((items : List Item) → answer ≡ Took items → ⊥) → rows_after rows me starts answer ≡ rows
+rows_kept rows me starts (Took items) none = absurd (none items refl)
+rows_kept rows me starts NotReady none = refl
+rows_kept rows me starts (TooLong start) none = refl
+rows_kept rows me starts (BadStart start) none = refl

@@ -1,0 +1,11 @@
+//! The starts of ranks: which of them are complete, and what their completion gives.
+#![tactic(auto)]
+
+mod answer;
+mod collected;
+mod complete;
+pub mod requests;
+mod rows;
+pub mod start;
+#[cfg(test)]
+mod tests;

@@ -1,0 +1,228 @@
+//! What ranks started and what of it was taken.
+ghost use Rattle.std.specs.Prelude.{◌≡◌, ◌<◌, ◌++◌, ◌∷◌, [], ℕ, List, Some, false, length, replicate, IfOk, IsOk, IsTrue, OnErr, OnOk};
+ghost use Rattle.mpi_call.specs.declared.call.TakeMode.{TakeMode};
+ghost use Rattle.run_model.specs.declared.event.Event.{Event};
+ghost use Rattle.run_model.specs.Choice.{choice};
+ghost use Rattle.run_model.specs.Pairs.{Name, name_at};
+ghost use Rattle.run_model.specs.Views.{items_taken};
+ghost use Rattle.match_core.specs.Starts.{is_message, is_peek, left_by, start_of, AreBelow, IsEarliest};
+ghost use Rattle.match_core.specs.Histories.{event_of, KnowsMore, Knows as MatcherKnows};
+ghost use Rattle.requests.specs.declared.requests.TakeAnswer.TheVariants.{Took};
+ghost use Rattle.requests.specs.Starts.{all_marked, found_in, name_in, row_of, with_row};
+ghost use Rattle.requests.specs.States.{at_first, with_rows, IsAbove, IsStarted, State};
+ghost use Rattle.requests.specs.Taking.{answer_in, hands_out, readiness_of, rows_after};
+ghost use Rattle.requests.specs.Histories.{Answers, IsIdle, IsReadiness, Knows, KnowsStarted, KnowsTaken};
+
+use crate::answer::answer;
+use crate::complete::readiness;
+use crate::rows::{add_start, drop_start, mark_in, name_in, pair, put_name, reserve_to};
+use crate::start::{Name, Row};
+use collectives::board::Board;
+use comms::communicators::Comms;
+use match_core::matcher::Matcher;
+use mpi_call::call::{Call, TakeMode, copy_of};
+use mpi_call::lists::Starts;
+use mpi_call::reply::Items;
+use std::alloc::{AllocError, Global};
+use std::marker::Model;
+
+/// The answer to a Send, Post or Enter.
+#[derive(Clone, Copy, Debug, PartialEq, Eq)]
+pub enum Started {
+    /// It has this number among its rank's starts, and a partner at this position of the history.
+    Made { start: u32, mate: Option<u32> },
+    /// An earlier Enter of the instance, by this rank, does not agree; nothing has changed.
+    Disagrees { other: u8 },
+}
+
+/// Whether a start can be taken.
+#[derive(Clone, Copy, Debug, PartialEq, Eq)]
+pub enum Readiness {
+    Ready,
+    NotReady,
+    /// It was never made.
+    NoSuch,
+    /// It was taken before.
+    Taken,
+}
+
+/// The answer to a Take.
+#[derive(Drop)]
+pub enum TakeAnswer {
+    /// What the chosen starts give.
+    Took(Items),
+    /// The mode's condition fails.
+    NotReady,
+    /// The message of this receive is longer than its room.
+    TooLong { start: u32 },
+    /// This start was never made, was taken before, or stands twice in the list.
+    BadStart { start: u32 },
+}
+
+/// The starts of all ranks; contracts see each rank's starts, who has entered what, the communicators, the names of starts by
+/// position, and the Sends and Posts without a partner.
+#[derive(Drop)]
+pub struct Requests {
+    rows: Vec<Row>,
+    names: Vec<Option<Name>>,
+    matcher: Matcher,
+    board: Board,
+    comms: Comms,
+    alloc: Global,
+}
+
+impl Model for Requests {
+    ghost use Rattle.requests.specs.States.{IsSound, State, table_of};
+
+    ghost Value = { State };
+
+    ghost view = { λ s. record { table = table_of s.rows.items s.board s.comms; names = s.names.items; unpaired = s.matcher } };
+
+    ghost invariant = { λ s. IsSound (table_of s.rows.items s.board s.comms) };
+}
+
+impl Requests {
+    /// No starts of `ranks` ranks.
+    pub fn new(alloc: Global, ranks: u8) -> Result<Self, AllocError>
+        ensures value { IfOk result (λ requests. requests ≡ at_first ranks) }
+        ensures knows { IfOk result (λ requests. Knows ranks [] requests) }
+    {
+        Ok(Requests {
+            rows: empty_rows(alloc, ranks)?,
+            names: Vec::new(alloc),
+            matcher: Matcher::new(alloc),
+            board: Board::new(alloc),
+            comms: Comms::new(alloc, ranks)?,
+            alloc,
+        })
+    }
+
+    /// Adds the Send or Post of a rank that stands at position `at` of the history, and gives it the earliest partner that fits.
+    /// After the want of memory nothing has changed.
+    pub fn start(&mut self, at: u32, rank: u8, call: &Call) -> Result<Started, AllocError>
+        requires kind { IsTrue (is_message call.now) }
+        requires position { IsAbove at self.old }
+        requires rank { rank < length self.old.table.rows }
+        ensures ok { IfOk result (λ started. IsStarted self.old self.new at rank call.now started) }
+        ensures err { OnErr result (self.new ≡ self.old) }
+        ensures knows { IfOk result (λ started. (n : ℕ) (events : List Event) → Knows n events self.old → at ≡ length events → KnowsStarted n events rank call.now started self.new) }
+    {
+        let copied = copy_of(call)?;
+        reserve_to(&mut self.names, at)?;
+        let start = add_start(&mut self.rows, rank, copied, 0)?;
+        let Ok(mate) = matched(&mut self.matcher, at, rank, call) else {
+            drop_start(&mut self.rows, rank);
+            return Err(AllocError);
+        };
+        pair(&mut self.rows, &self.names, (rank, start), mate);
+        put_name(&mut self.names, at, (rank, start));
+        Ok(Started::Made { start, mate })
+    }
+
+    /// Whether a start can be taken. Takes no memory.
+    pub fn ready(&self, rank: u8, start: u32) -> Readiness
+        ensures value { result ≡ readiness_of self.now.table rank (found_in self.now.table.rows (rank, start)) }
+        ensures knows { (n : ℕ) (events : List Event) → Knows n events self.now → IsReadiness n events rank start result }
+    {
+        readiness(&self.rows, &self.board, &self.comms, rank, start)
+    }
+
+    /// Takes the chosen ones of the listed starts, where the mode's condition holds and no message is too long. Only
+    /// `Took` changes anything and takes memory.
+    pub fn take(
+        &mut self,
+        rank: u8,
+        starts: &Starts,
+        mode: TakeMode,
+    ) -> Result<TakeAnswer, AllocError>
+        requires rank { rank < length self.old.table.rows }
+        ensures answer { IfOk result (λ answer. answer ≡ answer_in self.old.table rank starts.now mode) }
+        ensures after { IfOk result (λ answer. self.new ≡ with_rows (rows_after self.old.table.rows rank starts.now answer) self.old) }
+        ensures err { OnErr result (self.new ≡ self.old) }
+
+        // Only what hands out items takes memory.
+        ensures sure { hands_out (answer_in self.old.table rank starts.now mode) ≡ false → IsOk result }
+        ensures knows { IfOk result (λ answer. (n : ℕ) (events : List Event) → Knows n events self.old → Answers n events rank starts.now mode answer) }
+        ensures knows_on { IfOk result (λ answer. (n : ℕ) (events : List Event) → Knows n events self.old → KnowsTaken n events rank starts.now mode answer self.new) }
+    {
+        let listed = starts.as_slice();
+        let answer = answer(
+            self.alloc,
+            &self.rows,
+            &self.board,
+            &self.comms,
+            rank,
+            listed,
+            mode,
+        )?;
+        let TakeAnswer::Took(taken) = &answer else {
+            return Ok(answer);
+        };
+        mark_in(&mut self.rows, rank, listed, taken.as_slice(), true);
+        Ok(answer)
+    }
+
+    /// Makes the starts at these items' indices such as were not taken. Right after a `take` that handed out the items, all
+    /// is as before it. Takes no memory.
+    pub fn untake(&mut self, rank: u8, starts: &Starts, items: &Items)
+        requires rank { rank < length self.old.table.rows }
+        ensures after { self.new ≡ with_rows (with_row rank (all_marked false (items_taken starts.now items.now) (row_of self.old.table.rows rank)) self.old.table.rows) self.old }
+        ensures back { (before : State) (mode : TakeMode) → answer_in before.table rank starts.now mode ≡ Took items.now → self.old ≡ with_rows (rows_after before.table.rows rank starts.now (Took items.now)) before → self.new ≡ before }
+    {
+        let listed = starts.as_slice();
+        mark_in(&mut self.rows, rank, listed, items.as_slice(), false);
+    }
+
+    /// The position of the Send that a probe finds: the earliest unpaired one that it accepts. Takes no memory.
+    pub fn peek(&self, rank: u8, call: &Call) -> Option<u32>
+        requires kind { IsTrue (is_peek call.now) }
+        ensures earliest { IsEarliest rank call.now self.now.unpaired result }
+        ensures knows { (n : ℕ) (events : List Event) → Knows n events self.now → result ≡ choice events rank call.now }
+    {
+        self.matcher.peek(rank, call)
+    }
+
+    /// The number, among its rank's starts, of the start at a position. Takes no memory.
+    pub fn name_at(&self, at: u32) -> u32
+        ensures value { (name : Name) → name_in self.now.names at ≡ Some name → result ≡ name.1 }
+        ensures knows { (n : ℕ) (events : List Event) (name : Name) → Knows n events self.now → name_at events at ≡ Some name → result ≡ name.1 }
+    {
+        match name_in(&self.names, at) {
+            Some(name) => name.1,
+            None => 0,
+        }
+    }
+
+    /// What is known of a history stays known after every event that starts and completes nothing, and a new start may stand at
+    /// the history's end.
+    pub fn knows_on(&self)
+        ensures idle { (n : ℕ) (events : List Event) (event : Event) → Knows n events self.now → IsIdle event → Knows n (events ++ event ∷ []) self.now }
+        ensures above { (n : ℕ) (events : List Event) → Knows n events self.now → IsAbove (length events) self.now }
+    {}
+}
+
+/// A row without starts for each rank.
+fn empty_rows(alloc: Global, ranks: u8) -> Result<Vec<Row>, AllocError>
+    ensures { IfOk result (λ rows. rows.items ≡ replicate ranks []) }
+{
+    let mut rows = Vec::new(alloc);
+    for _rank in 0..ranks {
+        rows.push(Row::new(alloc))?;
+    }
+    Ok(rows)
+}
+
+/// Adds a Send or Post to the matcher.
+fn matched(matcher: &mut Matcher, at: u32, rank: u8, call: &Call) -> Result<Option<u32>, AllocError>
+    requires kind { IsTrue (is_message call.now) }
+    requires position { AreBelow at matcher.old }
+    ensures mate { IfOk result (λ mate. IsEarliest rank call.now matcher.old mate) }
+    ensures ok { IfOk result (λ mate. matcher.new ≡ left_by matcher.old (start_of at rank call.now) mate) }
+    ensures err { OnErr result (matcher.new ≡ matcher.old) }
+    ensures knows { IfOk result (λ mate. (events : List Event) → MatcherKnows events matcher.old → at ≡ length events → KnowsMore events (event_of rank call.now mate) matcher.new) }
+{
+    match call {
+        Call::Send { .. } => matcher.send(at, rank, call),
+        _ => matcher.post(at, rank, call),
+    }
+}
