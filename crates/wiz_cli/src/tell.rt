@@ -2,12 +2,12 @@
 ghost use Rattle.std.specs.Prelude.{◌≡◌, ◌++◌, ◌∷◌, IfOk, OnErr, OnOk, codes};
 ghost use Rattle.std.specs.List.{list_any};
 ghost use Rattle.wiz_cli.specs.Reports.{GrewByPart, HasSaid, IsTold, IsTrace, is_at_break, is_diverged, is_starved, message_text, refusal_status, status_by, told_text, why_text};
-ghost use Rattle.wiz_cli.specs.TraceTexts.{trace_text};
+ghost use Rattle.wiz_trace.specs.TraceTexts.{trace_text};
 ghost use Rattle.wiz_base.specs.Decimals.{decimal_text};
 
 use crate::outcome::{Outcome, Refusal};
 use crate::report::Report;
-use crate::trace::trace_text;
+use wiz_trace::trace::trace_text;
 use srr_log::fault::{LogFault, LogWhy};
 use srr_replay::replayed::{Replayed, Replays, Stand};
 use std::alloc::{AllocError, Global};
