@@ -7,12 +7,12 @@ ghost use Rattle.wiz_base.specs.Decimals.{decimal_text};
 
 use crate::outcome::{Outcome, Refusal};
 use crate::report::Report;
-use wiz_trace::trace::trace_text;
 use srr_log::fault::{LogFault, LogWhy};
 use srr_replay::replayed::{Replayed, Replays, Stand};
 use std::alloc::{AllocError, Global};
 use wiz_base::{Bytes, push_decimal, push_text};
 use wiz_io::{PutFault, Sink};
+use wiz_trace::trace::trace_text;
 
 /// Tells an outcome. The error is want of memory.
 pub fn tell<K: Sink>(

@@ -86,7 +86,9 @@ fn orders_are_written_and_read_back(rt: HostRuntime) -> Result<(), Fail> {
     let alloc = rt.alloc();
     let text = order_text(alloc, &first_run(alloc)?)?;
     assert!(&rt; text.as_slice() == b"0\n1\n0\n1\n1\n".as_slice());
-    let ranks = read_order(alloc, text.as_slice(), 2).ok().ok_or("an order")?;
+    let ranks = read_order(alloc, text.as_slice(), 2)
+        .ok()
+        .ok_or("an order")?;
     assert!(&rt; ranks.as_slice() == [0, 1, 0, 1, 1].as_slice());
     Ok(())
 }
@@ -144,7 +146,8 @@ fn a_replay_is_traced(rt: HostRuntime) -> Result<(), Fail> {
         outputs: outputs(alloc, &[b"", b"7\n"])?,
         ends,
     };
-    let expected: &[u8] = b"rank 0\n0 send comm=0 to=1 tag=5 data=7 -> done\n1 end -> done\noutput 0\n\nended\nrank 1\n0 post comm=0 from=0 tag=5 room=1 -> done\n1 take all 0 -> took 0=0.0 tag=5 data=7\n2 end -> done\noutput 2\n7\n\nended\n";
+    let expected: &[u8] =
+        b"rank 0\n0 send comm=0 to=1 tag=5 data=7 -> done\n1 end -> done\noutput 0\n\nended\nrank 1\n0 post comm=0 from=0 tag=5 room=1 -> done\n1 take all 0 -> took 0=0.0 tag=5 data=7\n2 end -> done\noutput 2\n7\n\nended\n";
     assert!(&rt; trace_text(alloc, &replayed)?.as_slice() == expected);
     Ok(())
 }
