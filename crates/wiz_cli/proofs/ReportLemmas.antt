@@ -13,7 +13,7 @@ use Rattle.wiz_cli.specs.declared.outcome.Outcome.{Outcome}
 use Rattle.wiz_cli.specs.declared.outcome.Outcome.TheVariants.{Refused, Replayed as WasReplayed}
 use Rattle.small_c.specs.Courses.{next_of, output_of}
 use Rattle.wiz_cli.specs.Reports.{GrewBy, GrewByPart, IsBytesOutcome, IsFileOutcome, IsOutcome, IsReplayOfLog, IsReport, IsShown, IsTold, IsTrace, ReplaysShowEveryRun, ShowsEveryRun, is_diverged, is_starved}
-use Rattle.wiz_cli.specs.TraceTexts.{trace_text}
+use Rattle.wiz_trace.specs.TraceTexts.{trace_text}
 use Rattle.wiz_cli.specs.Words.{IsReplayOf}
 use Rattle.wiz_io.specs.Files.{Files, IsRead}
 

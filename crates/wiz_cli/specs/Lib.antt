@@ -1,4 +1,2 @@
-pub mod CallTexts
 pub mod Reports
-pub mod TraceTexts
 pub mod Words

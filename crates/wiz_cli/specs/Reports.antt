@@ -26,7 +26,7 @@ use Rattle.wiz_cli.specs.declared.outcome.Outcome.TheVariants.{Refused, Replayed
 use Rattle.small_c.specs.declared.small_program.SmallProgram.{SmallProgram}
 use Rattle.small_c.specs.Courses.{next_of, output_of, variables_of}
 use Rattle.small_c.specs.SmallTexts.{IsSmallText}
-use Rattle.wiz_cli.specs.TraceTexts.{trace_text}
+use Rattle.wiz_trace.specs.TraceTexts.{trace_text}
 use Rattle.wiz_cli.specs.Words.{IsReplayOf}
 use Rattle.wiz_base.specs.Decimals.{decimal_text}
 use Rattle.wiz_io.specs.Files.{Files, HasRisen}

@@ -1,7 +1,6 @@
 //! The top call: words and files in, texts, files and an exit status out.
 #![tactic(auto)]
 
-mod call_text;
 pub mod gate;
 pub mod outcome;
 mod replay_file;
@@ -10,5 +9,4 @@ mod tell;
 #[cfg(test)]
 mod tests;
 pub mod top;
-pub mod trace;
 mod words;

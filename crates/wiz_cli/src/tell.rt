@@ -2,18 +2,18 @@
 ghost use Rattle.std.specs.Prelude.{◌≡◌, ◌++◌, ◌∷◌, IfOk, OnErr, OnOk, codes};
 ghost use Rattle.std.specs.List.{list_any};
 ghost use Rattle.wiz_cli.specs.Reports.{GrewByPart, HasSaid, IsTold, IsTrace, fault_why, is_at_break, is_diverged, is_starved, message_text, refusal_status, status_by, told_text, why_text};
-ghost use Rattle.wiz_cli.specs.TraceTexts.{trace_text};
+ghost use Rattle.wiz_trace.specs.TraceTexts.{trace_text};
 ghost use Rattle.wiz_base.specs.Decimals.{decimal_text};
 
 use crate::outcome::{Outcome, Refusal};
 use crate::report::Report;
-use crate::trace::trace_text;
 use c_lex::{SourceFault, Why};
 use srr_log::fault::{LogFault, LogWhy};
 use srr_replay::replayed::{Replayed, Replays, Stand};
 use std::alloc::{AllocError, Global};
 use wiz_base::{Bytes, push_decimal, push_text};
 use wiz_io::{PutFault, Sink};
+use wiz_trace::trace::trace_text;
 
 /// Tells an outcome. The error is want of memory.
 pub fn tell<K: Sink>(

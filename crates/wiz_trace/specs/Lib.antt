@@ -1,0 +1,4 @@
+pub mod CallTexts
+pub mod OrderTexts
+pub mod RecordTexts
+pub mod TraceTexts

@@ -1,0 +1,9 @@
+//! The texts that the tool prints.
+#![tactic(auto)]
+
+mod call_text;
+pub mod order;
+pub mod recording;
+#[cfg(test)]
+mod tests;
+pub mod trace;
