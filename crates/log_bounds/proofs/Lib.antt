@@ -1,0 +1,6 @@
+pub mod FewRanks
+pub mod RunLengths
+pub mod Writable
+pub mod RunHalts
+pub mod RunMarks
+pub mod RunEntries
