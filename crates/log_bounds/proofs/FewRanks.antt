@@ -30,7 +30,7 @@ member_others n x (y ∷ xs) h =
       | inr t ↦ rw (t, parts.0) (member_others n x xs parts.1)
     ]
 
-distinct_parts : (x : ℕ) (xs : List ℕ) → is_distinct (x ∷ xs) ≡ true → (is_member xs x ≡ false) × (is_distinct xs ≡ true)
+pub distinct_parts : (x : ℕ) (xs : List ℕ) → is_distinct (x ∷ xs) ≡ true → (is_member xs x ≡ false) × (is_distinct xs ≡ true)
 distinct_parts x xs h =
     elim (test_cases (is_member xs x)) [
       | inl t ↦ absurd (let no : false ≡ true = rw t at h in cc)

@@ -4,3 +4,5 @@ pub mod Writable
 pub mod RunHalts
 pub mod RunMarks
 pub mod RunEntries
+pub mod EnterPlaces
+pub mod FewCommunicators
