@@ -151,7 +151,7 @@ record Counted (n : ℕ) (events : List Event) : Type 0 where
   enough : length (communicators_of n events) ≤ length used
   full : (at : ℕ) → is_member used at ≡ true → IsFull n events at
 
-pub few_made : (n : ℕ) (events : List Event) → Counted n events → length (communicators_of n events) ≤ length events
+few_made : (n : ℕ) (events : List Event) → Counted n events → length (communicators_of n events) ≤ length events
 few_made n events c =
     let enough = c.enough in
     let below : are_below (length events) c.used ≡ true = all_below (length events) c.used (λ at there. (
@@ -273,3 +273,119 @@ last_more n before event comm instance same last c =
         | inr now ↦ place_full n before event comm instance at same last (new.each at now)
       ];
     }
+
+result_cases : {A B : Type 0} (r : Result A B) → ((x : A) × (r ≡ Ok x)) ⊎ ((y : B) × (r ≡ Err y))
+result_cases (Ok x) = inl (x, refl)
+result_cases (Err y) = inr (y, refl)
+
+makes_enter : (call : Call) → makes call ≡ true → is_enter call ≡ true
+makes_enter (Enter comm kind root op count ints) h = refl
+makes_enter call h = absurd (cc)
+
+some_members : (members : List ℕ) (m : ℕ) → is_member members m ≡ true → 0 < length members
+some_members [] m h = absurd (cc)
+some_members (x ∷ members) m h = omega arith
+
+-- an Enter that is its rank's next on a communicator
+record IsEntered (n : ℕ) (before : List Event) (event : Event) (comm instance : ℕ) : Type 0 where
+  one : Entered
+  entered : enter_at n (view_of (before ++ event ∷ []) event.rank) comm instance ≡ Some one
+  new : enter_at n (view_of before event.rank) comm instance ≡ None
+  known_own : one.members ≡ known_in n (view_of before event.rank) comm
+
+just_entered : (n : ℕ) (before : List Event) (event : Event) → is_start (event.call, event.reply) ≡ true → is_enter event.call ≡ true
+    → IsEntered n before event (comm_of event.call) (count_on (comm_of event.call) (starts_of (view_of before event.rank)))
+just_entered n before event start enter =
+    let own : View = view_of before event.rank in
+    let C : ℕ = comm_of event.call in
+    let I : ℕ = count_on C (starts_of own) in
+    let longer : View = own ++ (event.call, event.reply) ∷ [] in
+    let starts : starts_of longer ≡ starts_of own ++ event.call ∷ [] = rw (starts_of-append own ((event.call, event.reply) ∷ []), start) refl in
+    let at : slice_get (starts_of longer) (length (starts_of own)) ≡ Some event.call =
+    ap (λ l. slice_get l (length (starts_of own))) starts ∙ slice_get-last (starts_of own) event.call in
+    let mine = own_at C 0 (known_first n C) longer (length (starts_of own)) event.call at (on_own event.call enter) in
+    let front : take (length (starts_of own)) (starts_of longer) ≡ starts_of own =
+    ap (take (length (starts_of own))) starts ∙ take-append_seam (starts_of own) (event.call ∷ []) in
+    let there : enter_at n longer C I ≡ Some mine.0 = sym (ap (λ l. enter_at n longer C (count_on C l)) front) ∙ mine.1 in
+    let count : length (entered_from C 0 (known_first n C) own) ≡ I = entered_from-count C 0 (known_first n C) own in
+    let none : enter_at n own C I ≡ None = slice_get_past (entered_from C 0 (known_first n C) own) I (omega (arith, count)) in
+    let new : NewEnter n own event.call event.reply C I mine.0 = elim (enter_back n own event.call event.reply C I mine.0 there) [
+      | inl was ↦ (let no : None ≡ Some mine.0 = sym none ∙ was in absurd (cc))
+      | inr new ↦ new
+    ] in
+    record { one = mine.0; entered = rw (view_of-own before event) there; new = none; known_own = new.members_are }
+
+-- where all have entered with it, it is the last
+last_enter : (n : ℕ) (before : List Event) (event : Event) (inputs : List (List ℤ)) → SameInstances n (view_of (before ++ event ∷ [])) → event.rank < n
+    → is_start (event.call, event.reply) ≡ true → makes event.call ≡ true
+    → entered_by_all n (view_of (before ++ event ∷ [])) (comm_of event.call) (count_on (comm_of event.call) (starts_of (view_of before event.rank))) (members_in n (view_of before event.rank) (comm_of event.call)) ≡ Ok inputs
+    → IsLast n before event (comm_of event.call) (count_on (comm_of event.call) (starts_of (view_of before event.rank)))
+last_enter n before event inputs same below start mk all =
+    let own : View = view_of before event.rank in
+    let W : ℕ → View = view_of (before ++ event ∷ []) in
+    let C : ℕ = comm_of event.call in
+    let I : ℕ = count_on C (starts_of own) in
+    let e = just_entered n before event start (makes_enter event.call mk) in
+    let join = same.joins event.rank C I e.one e.entered in
+    let known : known_in n (W event.rank) C ≡ Some join.members = members_kept C 0 (known_first n C) (W event.rank) I e.one join.members e.entered join.known in
+    let own_known : known_in n own C ≡ Some join.members = sym e.known_own ∙ join.known in
+    let members : members_in n own C ≡ join.members = ap or_none own_known in
+    let are = same.fine event.rank C join.members below known in
+    let gathered : entered_by_all n W C I join.members ≡ Ok inputs = sym (ap (entered_by_all n W C I) members) ∙ all in
+    let many : length inputs ≡ length join.members = gather-length (λ m. true) (λ m. enter_at n (W m) C I) join.members inputs gathered in
+    let some = some_members join.members event.rank are.has_me in
+    let made : made_at n before event ≡ origins_from (Ok inputs) I event.call = rw (start, all) refl in
+    let few = few_origins inputs I event.call mk (omega (arith, many, some)) in
+    let same_length = ap length made in
+    record {
+      one = e.one;
+      entered = e.entered;
+      new = e.new;
+      members = join.members;
+      known = known;
+      distinct = are.distinct;
+      has_me = are.has_me;
+      inputs = inputs;
+      all = gathered;
+      few = omega (arith, few, many, same_length);
+    }
+
+counted_more : (n : ℕ) (before : List Event) (event : Event) → SameInstances n (view_of (before ++ event ∷ [])) → event.rank < n
+    → Counted n before → Counted n (before ++ event ∷ [])
+counted_more n before event same below c =
+    let own : View = view_of before event.rank in
+    let C : ℕ = comm_of event.call in
+    let I : ℕ = count_on C (starts_of own) in
+    let found : Result (List (List ℤ)) ℕ = entered_by_all n (view_of (before ++ event ∷ [])) C I (members_in n own C) in
+    elim (test_cases (is_start (event.call, event.reply))) [
+      | inl t ↦ elim (test_cases (makes event.call)) [
+        | inl u ↦ elim (result_cases found) [
+          | inl ok ↦ last_more n before event C I same (last_enter n before event ok.0 same below t u ok.1) c
+          | inr err ↦ none_more n before event (rw (t, err.1) refl) c
+        ]
+        | inr u ↦ none_more n before event (rw t (no_origins found I event.call u)) c
+      ]
+      | inr t ↦ none_more n before event (rw t refl) c
+    ]
+
+record Tally (next : Next) (n : ℕ) (events : List Event) : Type 0 where
+  run : IsRun next n events
+  counted : Counted n events
+
+tally_more : (next : Next) (n : ℕ) → Lawful next → (before : List Event) (event : Event) → Tally next n before → IsEvent next n before event
+    → Tally next n (before ++ event ∷ [])
+tally_more next n lawful before event tally step =
+    let run : IsRun next n (before ++ event ∷ []) =
+    record { some = tally.run.some; few = tally.run.few; along = Along-snoc (IsEvent next n) [] before event tally.run.along step } in
+    let kept = kept_run next n (before ++ event ∷ []) lawful run in
+    record { run = run; counted = counted_more n before event kept.instances.same step.rank tally.counted }
+
+pub few_communicators : (next : Next) (n : ℕ) (run : List Event) → Lawful next → IsRun next n run → length (communicators_of n run) ≤ length run
+few_communicators next n run lawful is =
+    let tally = Along-keeps (IsEvent next n) (Tally next n) (tally_more next n lawful) [] run
+    (record {
+      run = record { some = is.some; few = is.few; along = tt };
+      counted = record { used = []; distinct = refl; enough = omega arith; full = λ at there. absurd (cc) };
+    })
+    is.along in
+    few_made n run tally.counted
