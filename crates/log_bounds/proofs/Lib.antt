@@ -6,3 +6,4 @@ pub mod RunMarks
 pub mod RunEntries
 pub mod EnterPlaces
 pub mod FewCommunicators
+pub mod SmallNumbers

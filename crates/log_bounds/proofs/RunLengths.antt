@@ -18,7 +18,7 @@ use Rattle.run_model.proofs.RunLaws.{Kept, Lawful}
 use Rattle.run_model.proofs.StartLemmas.{slice_get-below}
 use Rattle.run_model.proofs.Views.{length-view_of, option_cases, test_cases, view_of-mine, view_of-other}
 
-going_on : (next : Next) (n : ℕ) (before : List Event) (me : ℕ) (call : Call) (reply : Reply) → IsAllowed next n before me call reply
+pub going_on : (next : Next) (n : ℕ) (before : List Event) (me : ℕ) (call : Call) (reply : Reply) → IsAllowed next n before me call reply
     → is_stopped reply ≡ false → (halted before ≡ None) × (is_full before ≡ false)
 going_on next n before me call reply is going =
     let own : View = view_of before me in
@@ -85,7 +85,7 @@ IsLength view = (length view ≤ 999000) ⊎ ((was_stopped view ≡ true) × (le
 abbrev pub AreLengths : List Event → Type 0
 AreLengths events = (rank : ℕ) → IsLength (view_of events rank)
 
-short_history : (before : List Event) → is_full before ≡ false → length before < 999000
+pub short_history : (before : List Event) → is_full before ≡ false → length before < 999000
 short_history before h =
     let parts = or_parts (nat_le 999000 (length before)) (nat_le 4194304 (total_size before)) h in
     leb-false 999000 (length before) parts.0
