@@ -137,13 +137,16 @@ world_last (suc count) low =
     let e : low + suc count ≡ low + 1 + count = omega arith in
     rw e (ap (λ l. low ∷ l) (world_last count (low + 1)))
 
+pub world_next : (count : ℕ) → world (count + 1) 0 ≡ world count 0 ++ count ∷ []
+world_next count =
+    let e : 0 + count ≡ count = omega arith in
+    let more : suc count ≡ count + 1 = omega arith in
+    let F : ℕ → Type 0 = λ r. world (suc count) 0 ≡ world count 0 ++ r ∷ [] in
+    let G : ℕ → Type 0 = λ r. world r 0 ≡ world count 0 ++ count ∷ [] in
+    subst G more (subst F e (world_last count 0))
+
 pub one_rank : {P : Type 0} (next : P → Next) (rank : ℕ) (one two three : MachineState P) → GoesBy (next one.program) (world rank 0) one two
     → GoesBy (next two.program) (rank ∷ []) two three → GoesBy (next one.program) (world (rank + 1) 0) one three
 one_rank next rank one two three a b =
     let F : List ℕ → Type 0 = λ turns. GoesBy (next one.program) turns one three in
-    let e : 0 + rank ≡ rank = omega arith in
-    let G : ℕ → Type 0 = λ r. world (suc rank) 0 ≡ world rank 0 ++ r ∷ [] in
-    let last : world (suc rank) 0 ≡ world rank 0 ++ rank ∷ [] = subst G e (world_last rank 0) in
-    let more : suc rank ≡ rank + 1 = omega arith in
-    let H : ℕ → Type 0 = λ r. GoesBy (next one.program) (world r 0) one three in
-    subst H more (subst F (sym last) (one_turn next (world rank 0) rank one two three a b))
+    subst F (sym (world_next rank)) (one_turn next (world rank 0) rank one two three a b)

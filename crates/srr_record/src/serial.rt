@@ -1,5 +1,5 @@
 //! A whole recording on one thread.
-ghost use Rattle.std.specs.Prelude.{◌≡◌, ◌<◌, ◌++◌, ◌∷◌, [], All, IfOk, OnOk, map};
+ghost use Rattle.std.specs.Prelude.{◌≡◌, ◌<◌, ◌++◌, ◌∷◌, [], All, IfOk, OnOk, map, true};
 ghost use Rattle.group_plan.specs.Plans.{number_of_ranks};
 ghost use Rattle.mpi_machine.specs.Turns.{StandsAt};
 ghost use Rattle.run_model.specs.Due.{halted};
@@ -127,7 +127,7 @@ fn outputs_of<P: Program, R: RankRun<Of = P>>(
     ensures { IfOk result (λ outputs. outputs ≡ map (printed_of (P.output machine.now.program) machine.now.ranks machine.now.events) (world machine.now.ranks 0)) }
 {
     let mut outputs = Outputs::new(alloc);
-    for run in runs.iter_mut() {
+    for (_rank, run) in runs.iter_mut().enumerate() {
         let printed = printed(alloc, run)?;
         push_output(&mut outputs, printed)?;
     }
@@ -136,6 +136,7 @@ fn outputs_of<P: Program, R: RankRun<Of = P>>(
 
 /// What a rank has printed before its next call.
 fn printed<R: RankRun>(alloc: Global, run: &mut R) -> Result<Bytes, AllocError>
+    ensures run { OnOk result (R.standing run.new ≡ record (R.standing run.old) { asked = true }) }
     ensures printed { IfOk result (λ printed. printed ≡ R.Of.output (R.standing run.old).program (R.standing run.old).ranks (R.standing run.old).rank (R.standing run.old).replies) }
 {
     run.want()?;
