@@ -12,8 +12,10 @@ use run_model::ending::Ending;
 use srr_entry::entry::{Entry, Mark, Marked};
 use srr_entry::log::Log;
 use std::alloc::{AllocError, Global};
+use std::process::Abort;
 use std::rt::HostRuntime;
 use std::test::Fail;
+use wiz_base::bytes::Bytes;
 
 /// What a rank does: it sends the int 7 to a rank with a tag, receives one int with a tag from any rank, or completes a start.
 #[derive(Clone, Copy)]
@@ -148,13 +150,40 @@ fn order_of(alloc: Global, recording: &Recording) -> Result<Vec<u8>, AllocError>
 }
 
 /// Whether rank k printed k and nothing more.
-fn are_printed(recording: &Recording) -> bool {
-    recording
-        .outputs
-        .as_slice()
-        .iter()
-        .enumerate()
-        .all(|(rank, printed)| printed.as_slice() == [rank as u8].as_slice())
+fn are_printed(outputs: &[Bytes]) -> bool {
+    for (rank, printed) in outputs.iter().enumerate() {
+        match printed.as_slice() {
+            [byte] if *byte as usize == rank => {}
+            _ => return false,
+        }
+    }
+    true
+}
+
+/// What is wanted of a run: the order of its events, the entries of each rank in its log, and how it ends.
+#[derive(Clone, Copy)]
+struct Wanted<'a> {
+    order: &'a [u8],
+    entries: &'a [Short],
+    ending: Ending,
+}
+
+/// Records the script's run, and tells the order of its events where all is as wanted.
+fn check(
+    rt: &(impl Abort + AllocGlobal),
+    script: &Script,
+    plan: &Plan,
+    turns: &[u8],
+    wanted: Wanted<'_>,
+) -> Result<Vec<u8>, Fail> {
+    let recording = record(rt.alloc(), script, plan, turns)?;
+    let order = order_of(rt.alloc(), &recording)?;
+    assert_eq!(rt; order.as_slice(), wanted.order);
+    let entries = entries_in(rt.alloc(), recording.logs.as_slice())?;
+    assert_eq!(rt; entries.as_slice(), wanted.entries);
+    assert_eq!(rt; recording.ending, wanted.ending);
+    assert!(rt; are_printed(recording.outputs.as_slice()));
+    Ok(order)
 }
 
 #[test]
@@ -242,25 +271,19 @@ fn runs_are_recorded(rt: HostRuntime) -> Result<(), Fail> {
             Ending::Halted(trapped),
         ),
     ];
-    let alloc = rt.alloc();
     for at in 0..rows.len() {
         let (zeroth, others, plan, turns, order, entries, ending) = rows[at];
-        let script = script_of(alloc, zeroth, others)?;
-        let plan = read_plan(alloc, plan).expect(&rt, "a plan");
-        let recording = record(alloc, &script, &plan, turns)?;
-        let made = order_of(alloc, &recording)?;
-        assert_eq!(rt; made.as_slice(), order, "{at}");
-        let found = entries_in(alloc, recording.logs.as_slice())?;
-        assert_eq!(rt; found.as_slice(), entries, "{at}");
-        assert_eq!(rt; recording.ending, ending, "{at}");
-        assert!(&rt; are_printed(&recording), "{at}");
+        let script = script_of(rt.alloc(), zeroth, others)?;
+        let plan = read_plan(rt.alloc(), plan).expect(&rt, "a plan");
+        let wanted = Wanted {
+            order,
+            entries,
+            ending,
+        };
+        let made = check(&rt, &script, &plan, turns, wanted)?;
         // The written order makes the same run again, where no rank was stuck.
         if ending != Ending::Halted(Halt::Stuck) {
-            let again = record(alloc, &script, &plan, made.as_slice())?;
-            let same = order_of(alloc, &again)?;
-            assert_eq!(rt; same.as_slice(), order, "{at}");
-            let found = entries_in(alloc, again.logs.as_slice())?;
-            assert_eq!(rt; found.as_slice(), entries, "{at}");
+            check(&rt, &script, &plan, made.as_slice(), wanted)?;
         }
     }
     Ok(())
