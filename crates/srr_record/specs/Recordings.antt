@@ -12,6 +12,7 @@ use Rattle.run_model.specs.Program.{IsAfter, Standing}
 use Rattle.run_model.specs.Serial.{IsSerial}
 use Rattle.run_model.specs.Views.{Next, replies_in, view_of}
 use Rattle.srr_entry.specs.Entries.{log_of}
+use Rattle.srr_record.specs.Rounds.{HaveEnded}
 use Rattle.srr_record.specs.declared.recording.Recording.{Recording}
 
 -- the program makes no collective call: the machine does not answer them yet
@@ -28,14 +29,15 @@ pub record AreRuns {P R : Type 0} (standing : R → Standing P) (program : P) (n
 abbrev pub printed_of : (ℕ → ℕ → List Reply → List ℕ) → ℕ → List Event → ℕ → List ℕ
 printed_of output n events rank = output n rank (replies_in (view_of events rank))
 
--- of a run of the machine on n ranks: the log of each group, what each rank printed, and how it ended
+-- of a run of the machine in which each of n ranks has ended: the log of each group, what each rank printed, and how it ended
 pub record IsRecorded (next : Next) (output : ℕ → ℕ → List Reply → List ℕ) (n : ℕ) (text : List ℕ) (groups : List (List ℕ)) (recording : Recording) : Type 0 where
   pub chosen : IsChosen next n recording.history.events
+  pub ended : HaveEnded next n recording.history.events
   pub logs : recording.logs ≡ map (log_of text n recording.history.events) groups
   pub outputs : recording.outputs ≡ map (printed_of output n recording.history.events) (world n 0)
   pub ending : recording.ending ≡ ending_of recording.history.events
 
--- the recorded run is the serial run of the turns, in which every rank has ended
+-- the recorded run is the serial run of the turns
 pub record IsRecording (next : Next) (output : ℕ → ℕ → List Reply → List ℕ) (n : ℕ) (text : List ℕ) (groups : List (List ℕ)) (turns : List ℕ) (recording : Recording) : Type 0 where
   pub serial : IsSerial next n turns recording.history.events
   pub recorded : IsRecorded next output n text groups recording

@@ -4,10 +4,9 @@ ghost use Rattle.std.specs.List.{list_all};
 ghost use Rattle.mpi_machine.specs.Scripts.{call_at, fine_call, is_fine, is_fine_tag, is_open_source, is_stopped};
 ghost use Rattle.srr_record.specs.Recordings.{AreRuns};
 
-use mpi_call::call;
 use mpi_call::call::{Call, Fault, Source, Tag};
-use mpi_call::reply;
 use mpi_call::reply::Reply;
+use mpi_call::{call, reply};
 use run_model::lists::Variables;
 use run_model::program::{Program, RankRun, Want};
 use std::alloc::{AllocError, Global};

@@ -127,7 +127,7 @@ fn outputs_of<P: Program, R: RankRun<Of = P>>(
     ensures { IfOk result (λ outputs. outputs ≡ map (printed_of (P.output machine.now.program) machine.now.ranks machine.now.events) (world machine.now.ranks 0)) }
 {
     let mut outputs = Outputs::new(alloc);
-    for (_rank, run) in runs.iter_mut().enumerate() {
+    for run in runs.iter_mut() {
         let printed = printed(alloc, run)?;
         push_output(&mut outputs, printed)?;
     }

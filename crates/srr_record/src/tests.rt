@@ -1,13 +1,13 @@
 //! Worked examples.
 ghost use Rattle.std.specs.Prelude.{◌≡◌, ◌<◌, All, true};
-ghost use Rattle.group_plan.specs.Plans.{number_of_ranks};
 
 use crate::recording::Recording;
 use crate::scripts::{Calls, Script, start_all};
-use crate::serial::record_serial;
+use crate::serial::{finish_record, record_serial};
 use group_plan::{Plan, read_plan};
 use mpi_call::call::{Call, Fault, Halt, Source, Tag, TakeMode};
 use mpi_call::lists::{Ints, Starts};
+use mpi_machine::machine::Machine;
 use run_model::ending::Ending;
 use srr_entry::entry::{Entry, Mark, Marked};
 use srr_entry::log::Log;
@@ -128,6 +128,13 @@ fn record(
     record_serial(alloc, script, b"text", plan, runs, turns)
 }
 
+/// The same without turns, on a machine that has no event yet.
+fn finish(alloc: Global, script: &Script, plan: &Plan) -> Result<Recording, AllocError> {
+    let machine = Machine::new(alloc, script, plan.n())?;
+    let runs = start_all(alloc, script, plan.n())?;
+    finish_record(alloc, machine, b"text", plan, runs)
+}
+
 /// The entries of each rank of each log, one after the other.
 fn entries_in(alloc: Global, logs: &[Log]) -> Result<Vec<Short>, AllocError> {
     let mut entries = Vec::new(alloc);
@@ -168,16 +175,13 @@ struct Wanted<'a> {
     ending: Ending,
 }
 
-/// Records the script's run, and tells the order of its events where all is as wanted.
+/// The order of a recording's events, where all is as wanted.
 fn check(
     rt: &(impl Abort + AllocGlobal),
-    script: &Script,
-    plan: &Plan,
-    turns: &[u8],
+    recording: &Recording,
     wanted: Wanted<'_>,
 ) -> Result<Vec<u8>, Fail> {
-    let recording = record(rt.alloc(), script, plan, turns)?;
-    let order = order_of(rt.alloc(), &recording)?;
+    let order = order_of(rt.alloc(), recording)?;
     assert_eq!(rt; order.as_slice(), wanted.order);
     let entries = entries_in(rt.alloc(), recording.logs.as_slice())?;
     assert_eq!(rt; entries.as_slice(), wanted.entries);
@@ -223,12 +227,7 @@ fn runs_are_recorded(rt: HostRuntime) -> Result<(), Fail> {
             b"0 1\n",
             &[],
             &[0, 1, 1, 0],
-            &[
-                Posted,
-                Stopped(Halt::Stuck),
-                Posted,
-                Stopped(Halt::Stuck),
-            ],
+            &[Posted, Stopped(Halt::Stuck), Posted, Stopped(Halt::Stuck)],
             Ending::Halted(Halt::Stuck),
         ),
         // Tags are received against their order.
@@ -280,10 +279,15 @@ fn runs_are_recorded(rt: HostRuntime) -> Result<(), Fail> {
             entries,
             ending,
         };
-        let made = check(&rt, &script, &plan, turns, wanted)?;
+        let recording = record(rt.alloc(), &script, &plan, turns)?;
+        let made = check(&rt, &recording, wanted)?;
+        if turns.is_empty() {
+            check(&rt, &finish(rt.alloc(), &script, &plan)?, wanted)?;
+        }
         // The written order makes the same run again, where no rank was stuck.
         if ending != Ending::Halted(Halt::Stuck) {
-            check(&rt, &script, &plan, made.as_slice(), wanted)?;
+            let again = record(rt.alloc(), &script, &plan, made.as_slice())?;
+            check(&rt, &again, wanted)?;
         }
     }
     Ok(())
