@@ -1,5 +1,5 @@
 -- What is kept of a run: logs and outputs.
-use Rattle.std.proofs.Common.{◌≡◌, ◌<◌, ◌+◌, ◌∙◌, ◌++◌, ◌∷◌, ◌&&◌, All, false, Err, IfOk, List, None, Ok, Result, [], ap, arith, get_or, is_some, map, refl, replicate, subst, suc, sym, true, zero, ℕ}
+use Rattle.std.proofs.Common.{◌≡◌, ◌<◌, ◌+◌, ◌∙◌, ◌++◌, ◌∷◌, All, false, Err, IfOk, List, None, Ok, Result, [], ap, arith, is_some, map, refl, replicate, subst, suc, sym, true, zero, ℕ}
 use Rattle.std.proofs.lemmas.Bool.{lt-ltb}
 use Rattle.std.proofs.lemmas.List.{map-append}
 use Rattle.mpi_call.specs.declared.reply.Reply.{Reply}

@@ -1,5 +1,5 @@
 -- The runs of the ranks beside a machine.
-use Rattle.std.proofs.Common.{◌≡◌, ◌≢◌, ◌<◌, ◌≤◌, ◌==◌, ◌⊎◌, ◌∙◌, ◌++◌, ◌∷◌, Bool, List, [], ap, arith, false, get_or-set_other, get_or-set_same, inl, inr, length, length-set, map, refl, set, subst, sym, true, ℕ}
+use Rattle.std.proofs.Common.{◌≡◌, ◌≢◌, ◌<◌, ◌==◌, ◌⊎◌, ◌∙◌, ◌++◌, ◌∷◌, Bool, List, [], ap, arith, false, get_or-set_other, get_or-set_same, inl, inr, length, length-set, set, subst, sym, true, ℕ}
 use Rattle.std.proofs.lemmas.Bool.{eq-eqb, eqb-true}
 use Rattle.std.proofs.lemmas.List.{map-append}
 use Rattle.mpi_call.specs.declared.reply.Reply.{Reply}

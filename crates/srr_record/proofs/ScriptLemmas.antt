@@ -1,5 +1,5 @@
 -- The programs of this crate's tests make no collective call.
-use Rattle.std.proofs.Common.{◌≡◌, ◌<◌, ◌≤◌, ◌∷◌, List, None, Option, Some, [], arith, false, get_or, inl, inr, length, refl, subst, suc, true, zero, ℕ}
+use Rattle.std.proofs.Common.{◌≡◌, ◌<◌, ◌≤◌, ◌∷◌, List, None, Some, [], arith, false, get_or, inl, inr, length, refl, subst, suc, true, zero, ℕ}
 use Rattle.std.specs.List.{list_any}
 use Rattle.mpi_call.specs.declared.call.Call.{Call}
 use Rattle.mpi_call.specs.declared.call.Call.TheVariants.{Abort, End, Enter, Peek, Post, Send, Take, Trap}

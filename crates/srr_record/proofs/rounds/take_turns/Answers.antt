@@ -1,4 +1,4 @@
-use Rattle.std.proofs.Common.{slice_index, sym, take, ◌∷◌, [], ◌++◌, ◌+◌, ◌≡◌, subst, List, ℕ}
+use Rattle.std.proofs.Common.{slice_index, sym, take, subst, List, ℕ}
 use Rattle.std.proofs.lemmas.List.{take_more}
 use Rattle.srr_record.specs.Rounds.{GoesBy}
 use Rattle.srr_record.proofs.Going.{one_turn}
