@@ -18,7 +18,8 @@ all_live (suc n) = (let more = all_live n in omega arith)
 pub counted_first : (history : Kept) (n : ℕ) → n ≤ 64 → history.events ≡ [] → n ≤ history.spare → IsCounted history None 0 (replicate n false) (replicate n None)
 counted_first history n few events room =
     let flags : length (replicate n false) ≡ n = length-replicate n false in
-    let calls : length {Option Call} (replicate n None) ≡ n = length-replicate n None in
+    let nothing : List (Option Call) = replicate n None in
+    let calls : length nothing ≡ n = length-replicate n None in
     let live = all_live n in
     record {
       few = omega arith;
