@@ -8,8 +8,7 @@ use Rattle.run_model.specs.declared.event.Event.{Event}
 use Rattle.run_model.specs.Chosen.{IsChosen}
 use Rattle.run_model.specs.Views.{Kept, Next}
 use Rattle.mpi_machine.specs.Courses.{IsCounted, count_live}
-use Rattle.mpi_machine.specs.Waits.{AreKept}
-use Rattle.mpi_machine.proofs.Moving.{Keeps}
+use Rattle.mpi_machine.specs.Waits.{AreKept, Keeps}
 
 all_live : (n : ℕ) → count_live (replicate n false) ≡ n
 all_live zero = refl
@@ -33,9 +32,11 @@ counted_first history n few events room =
 
 pub keeps_first : (next : Next) (n : ℕ) (state : State) → 0 < n → n ≤ 64 → Knows n [] state → Keeps next n [] (replicate n None) state
 keeps_first next n state some few knows =
-    (record { run = record { some = some; few = few; along = tt }; along = tt },
-    knows,
     record {
-      as_many = length-replicate n None;
-      each = λ rank call below at. (let no : None ≡ Some call = sym (get_or-replicate n rank None None below) ∙ at in absurd (cc));
-    })
+      chosen = record { run = record { some = some; few = few; along = tt }; along = tt };
+      knows = knows;
+      kept_are = record {
+        as_many = length-replicate n None;
+        each = λ rank call below at. (let no : None ≡ Some call = sym (get_or-replicate n rank None None below) ∙ at in absurd (cc));
+      };
+    }

@@ -1,4 +1,5 @@
 pub mod Answering
+pub mod Attempting
 pub mod Beginning
 pub mod Completing
 pub mod Counting

@@ -24,12 +24,8 @@ use Rattle.run_model.proofs.RunLaws.{Lawful}
 use Rattle.mpi_machine.specs.declared.turn.Turn.{Turn}
 use Rattle.mpi_machine.specs.declared.turn.Turn.TheVariants.{Replied, Wait}
 use Rattle.mpi_machine.specs.Turns.{HasReply, MachineState, after_turn, is_answered, last_reply, takes_none, turn_by, turn_of}
-use Rattle.mpi_machine.specs.Waits.{AreKept}
+use Rattle.mpi_machine.specs.Waits.{AreKept, Keeps}
 use Rattle.mpi_machine.proofs.Growing.{event_is, event_with, grown, idle_event}
-
--- what a machine keeps
-abbrev pub Keeps : Next → ℕ → List Event → List (Option Call) → State → Type 0
-Keeps next n events kept state = IsChosen next n events × Knows n events state × AreKept next n events kept
 
 pub turn_is : (next : Next) (n : ℕ) (events : List Event) (kept : List (Option Call)) (rank : ℕ) (call : Call) (reply : Reply)
     → HasReply next n events kept rank call reply → turn_of next n events kept rank call ≡ Replied reply
@@ -55,7 +51,7 @@ pub idle_keeps : (next : Next) (n : ℕ) (events : List Event) (kept : List (Opt
 idle_keeps next n events kept state rank call reply lawful chosen are has idle knows =
     let g = grown next n events kept rank call reply (event_with rank call reply None) lawful chosen are has
     (idle_event n events rank call reply has.reply_is idle) knows.matcher.matched in
-    (g.chosen, knows, g.kept_are)
+    record { chosen = g.chosen; knows = knows; kept_are = g.kept_are }
 
 starting : (call : Call) → is_message call ≡ true → is_start (call, Done) ≡ true
 starting (Send comm dest tag ints) h = refl
@@ -82,7 +78,7 @@ pub start_keeps : (next : Next) (n : ℕ) (events : List Event) (kept : List (Op
 start_keeps next n events kept state rank call number mate lawful chosen are has kind knows =
     let g = grown next n events kept rank call Done (event_with rank call Done mate) lawful chosen are has
     (start_event n events rank call mate has.reply_is kind knows.choice_is) knows.knows.matcher.matched in
-    (g.chosen, knows.knows, g.kept_are)
+    record { chosen = g.chosen; knows = knows.knows; kept_are = g.kept_are }
 
 and_no : (b : Bool) → (b && false) ≡ false
 and_no true = refl
