@@ -23,9 +23,10 @@ use Rattle.run_model.specs.Views.{Next, is_start, taken_of}
 use Rattle.run_model.proofs.RunLaws.{Lawful}
 use Rattle.mpi_machine.specs.declared.turn.Turn.{Turn}
 use Rattle.mpi_machine.specs.declared.turn.Turn.TheVariants.{Replied, Wait}
-use Rattle.mpi_machine.specs.Turns.{HasReply, MachineState, after_turn, is_answered, last_reply, takes_none, turn_by, turn_of}
+use Rattle.mpi_machine.specs.Courses.{has_ended}
+use Rattle.mpi_machine.specs.Turns.{HasReply, IsAsked, MachineState, after_turn, is_answered, last_reply, takes_none, turn_by, turn_of}
 use Rattle.mpi_machine.specs.Waits.{AreKept, Keeps}
-use Rattle.mpi_machine.proofs.Growing.{event_is, event_with, grown, idle_event}
+use Rattle.mpi_machine.proofs.Growing.{event_is, event_with, grown, idle_event, live}
 
 pub turn_is : (next : Next) (n : ℕ) (events : List Event) (kept : List (Option Call)) (rank : ℕ) (call : Call) (reply : Reply)
     → HasReply next n events kept rank call reply → turn_of next n events kept rank call ≡ Replied reply
@@ -43,6 +44,11 @@ pub after_event : {P : Type 0} (program : P) (next : Next) (n : ℕ) (events : L
 after_event program next n events kept rank call reply event has is =
     ap (λ e. machine_with program n (events ++ e ∷ []) (slice_set kept rank None)) (sym is)
     ∙ ap (λ t. after_turn (machine_with program n events kept) rank call t) (sym (turn_is next n events kept rank call reply has))
+
+-- a rank with a next call has not ended
+pub live_in : (next : Next) (n : ℕ) (events : List Event) (kept : List (Option Call)) (state : State) (rank : ℕ) (call : Call)
+    → Lawful next → Keeps next n events kept state → IsAsked next n events rank call → has_ended events rank ≡ false
+live_in next n events kept state rank call lawful keeps asked = live next n events rank call lawful keeps.chosen asked.below asked.asked
 
 pub idle_keeps : (next : Next) (n : ℕ) (events : List Event) (kept : List (Option Call)) (state : State) (rank : ℕ) (call : Call) (reply : Reply)
     → Lawful next → IsChosen next n events → AreKept next n events kept → HasReply next n events kept rank call reply → is_start (call, reply) ≡ false
