@@ -1,5 +1,5 @@
 -- What follows of an attempt's answer.
-use Rattle.std.proofs.Common.{◌≡◌, ◌∙◌, ◌<◌, Bool, List, Some, ap, false, length, subst, sym, true, ℕ}
+use Rattle.std.proofs.Common.{◌≡◌, ◌∙◌, ◌<◌, Bool, List, Some, ap, false, length, refl, subst, sym, true, ℕ}
 use Rattle.mpi_call.specs.declared.call.Call.{Call}
 use Rattle.mpi_call.specs.declared.reply.Reply.{Reply}
 use Rattle.run_model.specs.Chosen.{IsChosen, chosen_reply}
@@ -16,6 +16,11 @@ use Rattle.mpi_machine.proofs.Serially.{stands_on}
 replied_by : (b : Bool) (made reply : Reply) → turn_by b made ≡ Replied reply → made ≡ reply
 replied_by true made reply h = cc
 replied_by false made reply h = absurd (cc)
+
+-- no attempt changes the program
+pub same_program : {P : Type 0} (machine : MachineState P) (rank : ℕ) (call : Call) (turn : Turn) → (after_turn machine rank call turn).program ≡ machine.program
+same_program machine rank call (Replied reply) = refl
+same_program machine rank call Wait = refl
 
 pub given : {P : Type 0} (next : Next) (machine later : MachineState P) (rank : ℕ) (call : Call) (turn : Turn) (reply : Reply)
     → Lawful next → IsChosen next machine.ranks machine.events → IsChosen next later.ranks later.events

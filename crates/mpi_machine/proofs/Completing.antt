@@ -71,8 +71,8 @@ take_sure n events state rank starts mode knows free t =
 pub record IsTaken {T E : Type 0} (n : ℕ) (events : List Event) (kept : List (Option Call)) (taken : State) (rank : ℕ) (starts : List ℕ) (mode : TakeMode) (items : List Item)
     (result : Result T E) (later_n : ℕ) (later_events : List Event) (later_kept : List (Option Call)) (later : State) : Type 0 where
   pub ranks : later_n ≡ n
-  pub events : OnOk result (later_events ≡ events ++ took_event rank starts mode items ∷ [])
-  pub kept : OnOk result (later_kept ≡ slice_set kept rank None)
+  pub longer : OnOk result (later_events ≡ events ++ took_event rank starts mode items ∷ [])
+  pub answered : OnOk result (later_kept ≡ slice_set kept rank None)
   pub known : OnOk result (later ≡ taken)
   pub same_events : OnErr result (later_events ≡ events)
   pub same_kept : OnErr result (later_kept ≡ kept)
@@ -86,7 +86,7 @@ pub took_keeps : {T E : Type 0} (next : Next) (n : ℕ) (events : List Event) (k
     → IsTaken n events kept taken rank starts mode items result later_n later_events later_kept later
     → Keeps next later_n later_events later_kept later
 took_keeps next n events kept state taken rank starts mode items (Ok turn) later_n later_events later_kept later lawful keeps has knows answer after is =
-    rw (is.ranks, is.events, is.kept, is.known) (idle_keeps next n events kept taken rank (Take starts mode) (TookReply items) lawful keeps.chosen keeps.kept_are has refl knows)
+    rw (is.ranks, is.longer, is.answered, is.known) (idle_keeps next n events kept taken rank (Take starts mode) (TookReply items) lawful keeps.chosen keeps.kept_are has refl knows)
 took_keeps next n events kept state taken rank starts mode items (Err error) later_n later_events later_kept later lawful keeps has knows answer after is =
     rw (is.ranks, is.same_events, is.same_kept, is.back state answer after) keeps
 
@@ -102,7 +102,7 @@ pub took_after : {P E : Type 0} (program : P) (next : Next) (n : ℕ) (events : 
     → IfOk result (λ turn. machine_with program later_n later_events later_kept ≡ after_turn (machine_with program n events kept) rank (Take starts mode) turn)
 took_after program next n events kept taken rank starts mode items (Ok turn) later_n later_events later_kept later has turn_is is =
     let event_is = idle_event n events rank (Take starts mode) (TookReply items) has.reply_is refl in
-    rw (turn_is, is.ranks, is.events, is.kept) (ap (λ e. machine_with program n (events ++ e ∷ []) (slice_set kept rank None)) (sym event_is))
+    rw (turn_is, is.ranks, is.longer, is.answered) (ap (λ e. machine_with program n (events ++ e ∷ []) (slice_set kept rank None)) (sym event_is))
 took_after program next n events kept taken rank starts mode items (Err error) later_n later_events later_kept later has turn_is is = tt
 
 pub took_sure : {T E : Type 0} (n : ℕ) (events : List Event) (state : State) (rank : ℕ) (starts : List ℕ) (mode : TakeMode) (items : List Item) (result : Result T E)
@@ -112,3 +112,7 @@ took_sure n events state rank starts mode items result knows free answer t =
     let F : TakeAnswer → Type 0 = λ a. hands_out a ≡ false in
     let no : hands_out (Took items) ≡ false = subst F answer (take_sure n events state rank starts mode knows free t) in
     absurd (cc)
+
+pub no_ok : {T E : Type 0} (result : Result T E) (error : E) → result ≡ Err error → IsOk result → false ≡ true
+no_ok (Ok value) error is ok = absurd (cc)
+no_ok (Err other) error is ok = ok

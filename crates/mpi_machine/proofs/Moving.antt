@@ -45,6 +45,19 @@ after_event program next n events kept rank call reply event has is =
     ap (λ e. machine_with program n (events ++ e ∷ []) (slice_set kept rank None)) (sym is)
     ∙ ap (λ t. after_turn (machine_with program n events kept) rank call t) (sym (turn_is next n events kept rank call reply has))
 
+-- what is kept of a machine's fields is kept of what contracts see
+pub keeps_now : {P : Type 0} (next_of : P → Next) (inside now : MachineState P) (state : State) → inside ≡ now
+    → Keeps (next_of inside.program) inside.ranks inside.events inside.kept state → Keeps (next_of now.program) now.ranks now.events now.kept state
+keeps_now {P} next_of inside now state same keeps =
+    let F : MachineState P → Type 0 = λ m. Keeps (next_of m.program) m.ranks m.events m.kept state in
+    subst F same keeps
+
+-- the machine after a reply whose event this is
+pub after_reply : {P : Type 0} (program : P) (n : ℕ) (events : List Event) (kept : List (Option Call)) (rank : ℕ) (call : Call) (reply : Reply) (event : Event)
+    → chosen_event n events rank call ≡ event
+    → machine_with program n (events ++ event ∷ []) (slice_set kept rank None) ≡ after_turn (machine_with program n events kept) rank call (Replied reply)
+after_reply program n events kept rank call reply event is = ap (λ e. machine_with program n (events ++ e ∷ []) (slice_set kept rank None)) (sym is)
+
 -- a rank with a next call has not ended
 pub live_in : (next : Next) (n : ℕ) (events : List Event) (kept : List (Option Call)) (state : State) (rank : ℕ) (call : Call)
     → Lawful next → Keeps next n events kept state → IsAsked next n events rank call → has_ended events rank ≡ false
