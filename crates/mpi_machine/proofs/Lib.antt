@@ -7,6 +7,7 @@ pub mod Growing
 pub mod Moving
 pub mod Probing
 pub mod Roomy
+pub mod Scripting
 pub mod Serially
 pub mod Standing
 pub mod Waiting

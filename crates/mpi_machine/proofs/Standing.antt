@@ -41,10 +41,10 @@ both x y h k = rw h k
 abbrev pub Stands : Next → ℕ → List Event → List (Option Call) → ℕ → ℕ → Type 0
 Stands next n events kept rank m = ((m == rank) || stands next n events kept m) ≡ true
 
-pub all_stand : (next : Next) (n : ℕ) (events : List Event) (kept : List (Option Call)) (rank : ℕ) (call : Call) → IsAsked next n events rank call
+all_held : (next : Next) (n : ℕ) (events : List Event) (kept : List (Option Call)) (rank : ℕ) (call : Call) → IsAsked next n events rank call
     → can_go n events (view_of events rank) rank call ≡ false → ((m : ℕ) → m < n → Stands next n events kept rank m)
     → (is_stuck next n events && others_wait next n events kept rank) ≡ true
-all_stand next n events kept rank call asked held all =
+all_held next n events kept rank call asked held all =
     let at : (m : ℕ) → m < n → (not (goes n events m (call_after next n events m)) ≡ true) × (((m == rank) || (not (is_some (call_after next n events m)) || is_some (kept_of kept m))) ≡ true) =
     λ m below. elim (test_cases (m == rank)) [
       | inl h ↦ (
@@ -62,9 +62,9 @@ all_stand next n events kept rank call asked held all =
     (world_all (λ m. not (goes n events m (call_after next n events m))) n 0 (λ m above below. (at m (omega arith)).0))
     (world_all (λ m. (m == rank) || (not (is_some (call_after next n events m)) || is_some (kept_of kept m))) n 0 (λ m above below. (at m (omega arith)).1))
 
-pub one_moves : (next : Next) (n : ℕ) (events : List Event) (kept : List (Option Call)) (rank m : ℕ) → m < n → (m == rank) ≡ false
+some_moves : (next : Next) (n : ℕ) (events : List Event) (kept : List (Option Call)) (rank m : ℕ) → m < n → (m == rank) ≡ false
     → stands next n events kept m ≡ false → (is_stuck next n events && others_wait next n events kept rank) ≡ false
-one_moves next n events kept rank m below apart moves =
+some_moves next n events kept rank m below apart moves =
     elim (test_cases (is_stuck next n events && others_wait next n events kept rank)) [
       | inl t ↦ (
           let parts = and_parts (is_stuck next n events) (others_wait next n events kept rank) t in
@@ -77,6 +77,15 @@ one_moves next n events kept rank m below apart moves =
           absurd (cc))
       | inr t ↦ t
     ]
+
+pub all_stand : (next : Next) (n : ℕ) (events : List Event) (kept : List (Option Call)) (rank : ℕ) (call : Call) → IsAsked next n events rank call
+    → can_go n events (view_of events rank) rank call ≡ false → ((m : ℕ) → m < n → Stands next n events kept rank m)
+    → true ≡ (is_stuck next n events && others_wait next n events kept rank)
+all_stand next n events kept rank call asked held all = sym (all_held next n events kept rank call asked held all)
+
+pub one_moves : (next : Next) (n : ℕ) (events : List Event) (kept : List (Option Call)) (rank m : ℕ) → m < n → (m == rank) ≡ false
+    → stands next n events kept m ≡ false → false ≡ (is_stuck next n events && others_wait next n events kept rank)
+one_moves next n events kept rank m below apart moves = sym (some_moves next n events kept rank m below apart moves)
 
 pub ended_stands : (next : Next) (n : ℕ) (events : List Event) (kept : List (Option Call)) (rank : ℕ) → Lawful next → IsChosen next n events → rank < n
     → has_ended events rank ≡ true → stands next n events kept rank ≡ true

@@ -55,7 +55,7 @@ place_in n (c ∷ calls) zero call h =
     inl (omega arith, subst F e (fine_no_end n c))
 place_in n (c ∷ calls) (suc at) call h = place_more c calls at call (place_in n calls at call h)
 
-past : (n : ℕ) (calls : List Call) (at : ℕ) → length calls < at → call_at n calls at ≡ None
+pub past : (n : ℕ) (calls : List Call) (at : ℕ) → length calls < at → call_at n calls at ≡ None
 past n [] zero h = absurd (omega arith)
 past n [] (suc at) h = refl
 past n (c ∷ calls) zero h = absurd (omega arith)

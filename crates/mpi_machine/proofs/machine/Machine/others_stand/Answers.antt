@@ -12,13 +12,11 @@ returns-then-not-is_still g c = λ call asked held.
     let parts = or_parts (c.loop-other.other == c.args.rank)
     (stands (g.P.Program.next c.args.self.now.program) c.args.self.now.ranks c.args.self.now.events c.args.self.now.kept c.loop-other.other)
     (sym c.is_still.ensures ∙ no) in
-    sym (
-        one_moves (g.P.Program.next c.args.self.now.program) c.args.self.now.ranks c.args.self.now.events c.args.self.now.kept c.args.rank c.loop-other.other
-        (omega arith) parts.0 parts.1)
+    one_moves (g.P.Program.next c.args.self.now.program) c.args.self.now.ranks c.args.self.now.events c.args.self.now.kept c.args.rank c.loop-other.other
+    (omega arith) parts.0 parts.1
 
 pub returns : goal.returns
 returns g c = λ call asked held.
     let many : c.self.inside.course.ranks ≡ c.args.self.now.ranks = ap (λ (m : MachineState g.row.P.Denot). m.ranks) c.self.view_is in
-    sym (
-        all_stand (g.P.Program.next c.args.self.now.program) c.args.self.now.ranks c.args.self.now.events c.args.self.now.kept c.args.rank call asked held
-        (λ m below. c.loop-other.invariant m (omega arith)))
+    all_stand (g.P.Program.next c.args.self.now.program) c.args.self.now.ranks c.args.self.now.events c.args.self.now.kept c.args.rank call asked held
+    (λ m below. c.loop-other.invariant m (omega arith))
