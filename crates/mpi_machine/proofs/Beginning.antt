@@ -1,14 +1,12 @@
 -- A machine without events.
-use Rattle.std.proofs.Common.{◌≡◌, ◌∙◌, ◌<◌, ◌≤◌, ◌+◌, Bool, List, None, Option, Some, [], arith, false, get_or, length, refl, replicate, suc, sym, zero, ℕ}
+use Rattle.std.proofs.Common.{◌≡◌, ◌∙◌, ◌<◌, ◌≤◌, List, None, Option, Some, [], arith, false, length, refl, replicate, suc, sym, zero, ℕ}
 use Rattle.std.proofs.lemmas.List.{get_or-replicate, length-replicate}
 use Rattle.mpi_call.specs.declared.call.Call.{Call}
 use Rattle.requests.specs.Histories.{Knows}
 use Rattle.requests.specs.States.{State}
-use Rattle.run_model.specs.declared.event.Event.{Event}
-use Rattle.run_model.specs.Chosen.{IsChosen}
 use Rattle.run_model.specs.Views.{Kept, Next}
 use Rattle.mpi_machine.specs.Courses.{IsCounted, count_live}
-use Rattle.mpi_machine.specs.Waits.{AreKept, Keeps}
+use Rattle.mpi_machine.specs.Waits.{Keeps}
 
 all_live : (n : ℕ) → count_live (replicate n false) ≡ n
 all_live zero = refl

@@ -1,5 +1,5 @@
 -- What a completion answers, and which of its answers take memory.
-use Rattle.std.proofs.Common.{◌≡◌, ◌∙◌, ◌++◌, ◌∷◌, Bool, Err, IfOk, IsOk, List, None, Ok, OnErr, OnOk, Option, Result, Some, [], ap, false, inl, inr, refl, subst, sym, true, ℕ}
+use Rattle.std.proofs.Common.{◌≡◌, ◌∙◌, ◌++◌, ◌∷◌, Err, IfOk, IsOk, List, None, Ok, OnErr, OnOk, Option, Result, [], ap, false, refl, subst, sym, true, ℕ}
 use Rattle.std.specs.List.{slice_set}
 use Rattle.mpi_call.specs.declared.call.Call.{Call}
 use Rattle.mpi_call.specs.declared.call.Call.TheVariants.{Take}
@@ -15,18 +15,18 @@ use Rattle.requests.specs.States.{State, with_rows}
 use Rattle.requests.specs.Taking.{answer_in, hands_out, rows_after}
 use Rattle.requests.proofs.Taking.{answers_are}
 use Rattle.run_model.specs.declared.event.Event.{Event}
-use Rattle.run_model.specs.Chosen.{chosen_event, chosen_reply}
+use Rattle.run_model.specs.Chosen.{chosen_reply}
 use Rattle.run_model.specs.Shape.{is_test}
 use Rattle.run_model.specs.Views.{Next}
 use Rattle.run_model.proofs.RunLaws.{Lawful}
 use Rattle.mpi_machine.specs.Courses.{bound_of}
 use Rattle.mpi_machine.specs.declared.turn.Turn.{Turn}
 use Rattle.mpi_machine.specs.declared.turn.Turn.TheVariants.{Replied}
-use Rattle.mpi_machine.specs.Turns.{HasReply, IsAsked, IsHeldBack, MachineState, after_turn, takes_none, turn_of}
+use Rattle.mpi_machine.specs.Turns.{HasReply, IsAsked, IsHeldBack, after_turn, takes_none, turn_of}
 use Rattle.mpi_machine.specs.Waits.{Keeps}
-use Rattle.mpi_machine.proofs.Answering.{Answered, bad_answered, has_reply, take_answered, take_held}
+use Rattle.mpi_machine.proofs.Answering.{bad_answered, has_reply, take_answered, take_held}
 use Rattle.mpi_machine.proofs.Growing.{idle_event}
-use Rattle.mpi_machine.proofs.Moving.{after_event, idle_keeps, machine_with, more_takes, turn_is}
+use Rattle.mpi_machine.proofs.Moving.{idle_keeps, machine_with, more_takes, turn_is}
 
 pub took_has : (next : Next) (n : ℕ) (events : List Event) (kept : List (Option Call)) (rank : ℕ) (starts : List ℕ) (mode : TakeMode) (items : List Item)
     → IsAsked next n events rank (Take starts mode) → bound_of events ≡ None → Answers n events rank starts mode (Took items)

@@ -1,18 +1,15 @@
 -- A machine after each kind of answer.
-use Rattle.std.proofs.Common.{◌≡◌, ◌||◌, ◌&&◌, ◌∙◌, ◌<◌, ◌++◌, ◌∷◌, Bool, List, None, Option, Some, [], ap, false, is_some, not, refl, subst, sym, true, ℕ}
+use Rattle.std.proofs.Common.{◌≡◌, ◌&&◌, ◌∙◌, ◌++◌, ◌∷◌, Bool, List, None, Option, Some, [], ap, false, refl, subst, sym, true, ℕ}
 use Rattle.std.proofs.lemmas.Bool.{and_parts}
 use Rattle.std.specs.List.{slice_set}
 use Rattle.mpi_call.specs.declared.call.Call.{Call}
 use Rattle.mpi_call.specs.declared.call.Call.TheVariants.{Abort, End, Enter, Peek, Post, Send, Take, Trap}
 use Rattle.mpi_call.specs.declared.call.Halt.{Halt}
-use Rattle.mpi_call.specs.declared.call.TakeMode.{TakeMode}
-use Rattle.mpi_call.specs.declared.reply.Item.{Item}
 use Rattle.mpi_call.specs.declared.reply.Reply.{Reply}
-use Rattle.mpi_call.specs.declared.reply.Reply.TheVariants.{Done, NotYet, Peeked, Stopped, Took as TookReply}
+use Rattle.mpi_call.specs.declared.reply.Reply.TheVariants.{Done}
 use Rattle.mpi_call.specs.Calls.{is_starting}
-use Rattle.match_core.specs.Histories.{event_of}
 use Rattle.match_core.specs.Starts.{is_message}
-use Rattle.requests.specs.Histories.{IsIdle, Knows, KnowsStart, took_event}
+use Rattle.requests.specs.Histories.{IsIdle, Knows, KnowsStart}
 use Rattle.requests.specs.States.{State}
 use Rattle.run_model.specs.declared.event.Event.{Event}
 use Rattle.run_model.specs.Choice.{choice, mate_of}
@@ -21,10 +18,9 @@ use Rattle.run_model.specs.Pairs.{Name, named}
 use Rattle.run_model.specs.Program.{ends}
 use Rattle.run_model.specs.Views.{Next, is_start, taken_of}
 use Rattle.run_model.proofs.RunLaws.{Lawful}
-use Rattle.mpi_machine.specs.declared.turn.Turn.{Turn}
-use Rattle.mpi_machine.specs.declared.turn.Turn.TheVariants.{Replied, Wait}
+use Rattle.mpi_machine.specs.declared.turn.Turn.TheVariants.{Replied}
 use Rattle.mpi_machine.specs.Courses.{has_ended}
-use Rattle.mpi_machine.specs.Turns.{HasReply, IsAsked, MachineState, after_turn, is_answered, last_reply, takes_none, turn_by, turn_of}
+use Rattle.mpi_machine.specs.Turns.{HasReply, IsAsked, MachineState, after_turn, last_reply, takes_none, turn_by, turn_of}
 use Rattle.mpi_machine.specs.Waits.{AreKept, Keeps}
 use Rattle.mpi_machine.proofs.Growing.{event_is, event_with, grown, idle_event, live}
 

@@ -1,5 +1,5 @@
 -- The reply to a probe that finds a message.
-use Rattle.std.proofs.Common.{◌≡◌, ◌∙◌, ◌<◌, ◌==◌, ◌++◌, ◌∷◌, Bool, List, None, Option, Some, [], ap, length, refl, slice_get, suc, subst, sym, take, true, zero, ℕ, ℤ}
+use Rattle.std.proofs.Common.{◌≡◌, ◌∙◌, ◌<◌, ◌++◌, ◌∷◌, Bool, List, Some, [], ap, length, refl, slice_get, suc, subst, sym, take, true, zero, ℕ, ℤ}
 use Rattle.std.proofs.lemmas.Bool.{eq-eqb}
 use Rattle.mpi_call.specs.declared.call.Call.{Call}
 use Rattle.mpi_call.specs.declared.call.Call.TheVariants.{Abort, End, Enter, Peek, Post, Send, Take, Trap}
@@ -11,7 +11,7 @@ use Rattle.run_model.specs.declared.event.Event.{Event}
 use Rattle.run_model.specs.Choice.{choice}
 use Rattle.run_model.specs.Chosen.{chosen_answer, peek_reply, peeked_at, peeked_in}
 use Rattle.run_model.specs.Pairs.{Name, name_at, named}
-use Rattle.run_model.specs.Views.{View, is_start, start_at, starts_of, view_of}
+use Rattle.run_model.specs.Views.{View, is_start, starts_of, view_of}
 use Rattle.run_model.proofs.Choosing.{choice_some}
 use Rattle.run_model.proofs.Positions.{name_at-below, name_parts, new_name}
 use Rattle.run_model.proofs.StartLemmas.{starts_of-append}

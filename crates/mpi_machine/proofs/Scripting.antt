@@ -1,5 +1,5 @@
 -- The calls of a script.
-use Rattle.std.proofs.Common.{◌≡◌, ◌<◌, ◌+◌, ◌∙◌, Bool, List, None, Option, Some, [], ◌∷◌, arith, false, get_or, if◌then◌else◌, inl, inr, length, refl, subst, suc, sym, true, zero, ℕ, ℤ}
+use Rattle.std.proofs.Common.{◌≡◌, ◌<◌, List, None, Some, [], ◌∷◌, arith, false, get_or, if◌then◌else◌, inl, inr, length, refl, subst, suc, true, zero, ℕ}
 use Rattle.std.specs.Prelude.{◌==◌}
 use Rattle.std.specs.List.{list_any}
 use Rattle.mpi_call.specs.Calls.{is_enter}

@@ -1,21 +1,19 @@
 -- When no rank can go on.
-use Rattle.std.proofs.Common.{◌≡◌, ◌||◌, ◌&&◌, ◌==◌, ◌∙◌, ◌<◌, ◌≤◌, ◌+◌, Bool, List, None, Option, Some, [], ap, arith, false, inl, inr, is_some, not, refl, subst, sym, true, ℕ}
-use Rattle.std.proofs.lemmas.Bool.{and_parts, eqb-true}
-use Rattle.std.specs.List.{list_all, slice_index_or}
+use Rattle.std.proofs.Common.{◌≡◌, ◌||◌, ◌&&◌, ◌==◌, ◌∙◌, ◌<◌, Bool, List, None, Option, Some, ap, arith, false, inl, inr, is_some, not, refl, subst, sym, true, ℕ}
+use Rattle.std.proofs.lemmas.Bool.{and_parts, eqb-true, or_parts}
 use Rattle.mpi_call.specs.declared.call.Call.{Call}
 use Rattle.run_model.specs.declared.event.Event.{Event}
 use Rattle.run_model.specs.Allowed.{can_go}
 use Rattle.run_model.specs.Chosen.{IsChosen}
 use Rattle.run_model.specs.Serial.{call_after, goes, is_stuck}
 use Rattle.run_model.specs.Views.{Next, view_of}
-use Rattle.run_model.proofs.Origins.{AllBelow}
 use Rattle.run_model.proofs.RunLaws.{Lawful, kept_run}
-use Rattle.run_model.proofs.Views.{option_cases, test_cases}
+use Rattle.run_model.proofs.Views.{test_cases}
 use Rattle.mpi_machine.specs.Courses.{bound_of, has_ended}
 use Rattle.mpi_machine.specs.Turns.{IsAsked, kept_of, others_wait, stands}
 use Rattle.mpi_machine.specs.Waits.{AreKept, is_there}
 use Rattle.mpi_machine.proofs.Answering.{waits_go}
-use Rattle.mpi_machine.proofs.Growing.{ended_is, not_true, over, world_all, world_at}
+use Rattle.mpi_machine.proofs.Growing.{ended_is, over, world_all, world_at}
 
 -- whether a rank stands, by whether it has a call, whether it waits, and whether its call can go
 parts_of : (called waits go : Bool) → (called ≡ false → go ≡ false) → (not called || (waits && not go)) ≡ true → (not go ≡ true) × ((not called || waits) ≡ true)
@@ -86,6 +84,10 @@ all_stand next n events kept rank call asked held all = sym (all_held next n eve
 pub one_moves : (next : Next) (n : ℕ) (events : List Event) (kept : List (Option Call)) (rank m : ℕ) → m < n → (m == rank) ≡ false
     → stands next n events kept m ≡ false → false ≡ (is_stuck next n events && others_wait next n events kept rank)
 one_moves next n events kept rank m below apart moves = sym (some_moves next n events kept rank m below apart moves)
+
+-- a rank that is another and does not stand
+pub stirs : (still same stood : Bool) → still ≡ (same || stood) → still ≡ false → (same ≡ false) × (stood ≡ false)
+stirs still same stood is apart = or_parts same stood (sym is ∙ apart)
 
 pub ended_stands : (next : Next) (n : ℕ) (events : List Event) (kept : List (Option Call)) (rank : ℕ) → Lawful next → IsChosen next n events → rank < n
     → has_ended events rank ≡ true → stands next n events kept rank ≡ true

@@ -1,4 +1,4 @@
-use Rattle.std.proofs.Common.{◌≡◌, ◌∙◌, Option, Some, ap, arith, sym}
+use Rattle.std.proofs.Common.{◌∙◌, Some, ap, arith, sym}
 use Rattle.mpi_call.specs.declared.call.Call.{Call}
 use Rattle.mpi_machine.specs.ScriptLaws.{past}
 use Rattle.mpi_machine.specs.Scripts.{fine_call}

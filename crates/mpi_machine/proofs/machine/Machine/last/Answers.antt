@@ -17,8 +17,8 @@ invariant_of-self g c =
     let has = rw (← c.self.view_is) at c.requires.reply in
     let idle = last_idle c.args.rank c.args.call c.args.halt c.requires.last in
     rw (c.append.ensures.ranks, c.append.ensures.events, c.append.ensures.kept, c.last_reply.ensures) (
-        idle_keeps (g.P.Program.next c.self.inside.program.now) c.self.inside.course.ranks c.self.inside.course.events c.self.inside.course.kept c.self.inside.requests
-        c.args.rank c.args.call (last_reply c.args.halt)
-        (record { ends = g.P.Program.ends_exactly c.self.inside.program.now; enters = g.P.Program.enters_in_form c.self.inside.program.now })
-        c.self.invariant.chosen c.self.invariant.kept_are has idle.no_start
-        (c.knows_on.ensures.idle c.self.inside.course.ranks c.self.inside.course.events (event_with c.args.rank c.args.call (last_reply c.args.halt) None) c.self.invariant.knows idle))
+    idle_keeps (g.P.Program.next c.self.inside.program.now) c.self.inside.course.ranks c.self.inside.course.events c.self.inside.course.kept c.self.inside.requests
+    c.args.rank c.args.call (last_reply c.args.halt)
+    (record { ends = g.P.Program.ends_exactly c.self.inside.program.now; enters = g.P.Program.enters_in_form c.self.inside.program.now })
+    c.self.invariant.chosen c.self.invariant.kept_are has idle.no_start
+    (c.knows_on.ensures.idle c.self.inside.course.ranks c.self.inside.course.events (event_with c.args.rank c.args.call (last_reply c.args.halt) None) c.self.invariant.knows idle))

@@ -2,7 +2,7 @@ use Rattle.std.proofs.Common.{◌≡◌, ◌∙◌, IfOk, subst, sym}
 use Rattle.mpi_call.specs.declared.call.Call.TheVariants.{Take}
 use Rattle.mpi_call.specs.declared.reply.Reply.TheVariants.{Took as TookReply}
 use Rattle.requests.specs.declared.requests.TakeAnswer.{TakeAnswer}
-use Rattle.requests.specs.declared.requests.TakeAnswer.TheVariants.{Took, TooLong}
+use Rattle.requests.specs.declared.requests.TakeAnswer.TheVariants.{Took}
 use Rattle.requests.specs.Histories.{Answers, KnowsTaken}
 use Rattle.requests.specs.States.{with_rows}
 use Rattle.requests.specs.Taking.{answer_in, rows_after}
@@ -64,8 +64,8 @@ returns-in-Took-clause-turn g c =
     let has = took_has (g.P.Program.next c.self.inside.program.now) c.self.inside.course.ranks c.self.inside.course.events c.self.inside.course.kept
     c.args.rank c.args.starts c.args.mode c.in-Took.items asked free answers in
     rw (← c.self.view_is) (
-        took_turn (g.P.Program.next c.self.inside.program.now) c.self.inside.course.ranks c.self.inside.course.events c.self.inside.course.kept
-        c.args.rank (Take c.args.starts c.args.mode) (TookReply c.in-Took.items) c.took.result has c.took.ensures.turn)
+    took_turn (g.P.Program.next c.self.inside.program.now) c.self.inside.course.ranks c.self.inside.course.events c.self.inside.course.kept
+    c.args.rank (Take c.args.starts c.args.mode) (TookReply c.in-Took.items) c.took.result has c.took.ensures.turn)
 
 pub returns-in-Took-clause-after : goal.returns-in-Took-clause-after
 returns-in-Took-clause-after g c =
@@ -78,10 +78,10 @@ returns-in-Took-clause-after g c =
     let G : MachineState g.row.P.Denot → Type 0 = λ m.
     IfOk c.took.result (λ turn. machine_with c.self.inside.program.now c.took.new.course.ranks c.took.new.course.events c.took.new.course.kept ≡ after_turn m c.args.rank (Take c.args.starts c.args.mode) turn) in
     subst G c.self.view_is (
-        took_after c.self.inside.program.now (g.P.Program.next c.self.inside.program.now) c.self.inside.course.ranks c.self.inside.course.events c.self.inside.course.kept c.take.new.self
-        c.args.rank c.args.starts c.args.mode c.in-Took.items c.took.result c.took.new.course.ranks c.took.new.course.events c.took.new.course.kept c.took.new.requests
-        has c.took.ensures.turn
-        (record { ranks = c.took.ensures.ranks; longer = c.took.ensures.events; answered = c.took.ensures.kept; known = c.took.ensures.known; same_events = c.took.ensures.same_events; same_kept = c.took.ensures.same_kept; back = c.took.ensures.back }))
+    took_after c.self.inside.program.now (g.P.Program.next c.self.inside.program.now) c.self.inside.course.ranks c.self.inside.course.events c.self.inside.course.kept c.take.new.self
+    c.args.rank c.args.starts c.args.mode c.in-Took.items c.took.result c.took.new.course.ranks c.took.new.course.events c.took.new.course.kept c.took.new.requests
+    has c.took.ensures.turn
+    (record { ranks = c.took.ensures.ranks; longer = c.took.ensures.events; answered = c.took.ensures.kept; known = c.took.ensures.known; same_events = c.took.ensures.same_events; same_kept = c.took.ensures.same_kept; back = c.took.ensures.back }))
 
 pub returns-in-Took-clause-sure : goal.returns-in-Took-clause-sure
 returns-in-Took-clause-sure g c = λ t.
