@@ -1,11 +1,11 @@
 -- The halts that are due, and replies that are answered at once.
-use Rattle.std.proofs.Common.{◌≡◌, ◌||◌, ◌&&◌, if◌then◌else◌, ◌∙◌, ◌<◌, Bool, List, None, Option, Some, [], false, is_some, not, refl, subst, sym, true, ℕ, ℤ, inl, inr}
+use Rattle.std.proofs.Common.{◌≡◌, ◌||◌, ◌&&◌, if◌then◌else◌, ◌∙◌, Bool, List, None, Option, Some, [], false, is_some, not, refl, sym, true, ℕ, ℤ, inl, inr}
 use Rattle.std.proofs.lemmas.Bool.{and_parts, or_left, or_right}
 use Rattle.mpi_call.specs.declared.call.Call.{Call}
 use Rattle.mpi_call.specs.declared.call.Call.TheVariants.{Abort, End, Enter, Peek, Post, Send, Take, Trap}
 use Rattle.mpi_call.specs.declared.call.Fault.{Fault}
 use Rattle.mpi_call.specs.declared.call.Halt.{Halt}
-use Rattle.mpi_call.specs.declared.call.Halt.TheVariants.{Aborted, BadRequest, Limit, Stuck, Trapped}
+use Rattle.mpi_call.specs.declared.call.Halt.TheVariants.{Aborted, BadRequest, Limit, Trapped}
 use Rattle.mpi_call.specs.declared.call.Source.{Source}
 use Rattle.mpi_call.specs.declared.call.Tag.{Tag}
 use Rattle.mpi_call.specs.declared.call.TakeMode.{TakeMode}
@@ -15,7 +15,7 @@ use Rattle.match_core.specs.Starts.{is_message}
 use Rattle.run_model.specs.declared.event.Event.{Event}
 use Rattle.run_model.specs.Allowed.{can_go, flags_of, has_open, holds, is_prompt}
 use Rattle.run_model.specs.Choice.{choice}
-use Rattle.run_model.specs.Chosen.{chosen_answer, chosen_reply, held_reply}
+use Rattle.run_model.specs.Chosen.{chosen_answer, chosen_reply}
 use Rattle.run_model.specs.Due.{bad_request, due, halt_at, halted, is_full, or_else}
 use Rattle.run_model.specs.Serial.{is_stuck}
 use Rattle.run_model.specs.Shape.{is_test}

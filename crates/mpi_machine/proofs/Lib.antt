@@ -1,4 +1,5 @@
 pub mod Answering
+pub mod Attempting
 pub mod Beginning
 pub mod Completing
 pub mod Counting
@@ -6,6 +7,7 @@ pub mod Growing
 pub mod Moving
 pub mod Probing
 pub mod Roomy
+pub mod Scripting
 pub mod Serially
 pub mod Standing
 pub mod Waiting

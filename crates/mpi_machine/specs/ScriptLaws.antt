@@ -1,13 +1,10 @@
 -- Scripts are programs: they keep the four laws.
-use Rattle.std.proofs.Common.{◌≡◌, ◌<◌, ◌≤◌, ◌^◌, ◌+◌, ◌⊎◌, ◌||◌, ◌&&◌, ◌==◌, ◌∙◌, ◌++◌, ◌∷◌, if◌then◌else◌, Bool, List, None, Option, Some, [], ap, arith, false, get_or, inl, inr, length, length-append, map, nat_lt, nat_le, refl, suc, subst, sym, true, zero, ℕ, ℤ}
-use Rattle.std.specs.Prelude.{◌↔◌}
+use Rattle.std.proofs.Common.{◌≡◌, ◌<◌, ◌≤◌, ◌+◌, ◌⊎◌, ◌||◌, ◌&&◌, ◌==◌, ◌∙◌, ◌++◌, ◌∷◌, if◌then◌else◌, Bool, List, None, Some, [], ap, arith, false, inl, inr, length, length-append, nat_lt, nat_le, refl, suc, subst, sym, true, zero, ℕ}
 use Rattle.std.specs.List.{All, list_all, list_any}
 use Rattle.std.proofs.lemmas.Bool.{and_parts, leb-true, ltb-true}
-use Rattle.std.proofs.lemmas.List.{map-append}
 use Rattle.std.proofs.lemmas.List.Folds.{list_any-append}
 use Rattle.mpi_call.specs.declared.call.Call.{Call}
 use Rattle.mpi_call.specs.declared.call.Call.TheVariants.{Send, Post, Enter, Take, Peek, Abort, Trap, End}
-use Rattle.mpi_call.specs.declared.call.Fault.TheVariants.{BadRank}
 use Rattle.mpi_call.specs.declared.call.Source.{Source}
 use Rattle.mpi_call.specs.declared.call.Source.TheVariants.{Any as AnySource, From, Null}
 use Rattle.mpi_call.specs.declared.call.Tag.{Tag}
@@ -55,7 +52,7 @@ place_in n (c ∷ calls) zero call h =
     inl (omega arith, subst F e (fine_no_end n c))
 place_in n (c ∷ calls) (suc at) call h = place_more c calls at call (place_in n calls at call h)
 
-past : (n : ℕ) (calls : List Call) (at : ℕ) → length calls < at → call_at n calls at ≡ None
+pub past : (n : ℕ) (calls : List Call) (at : ℕ) → length calls < at → call_at n calls at ≡ None
 past n [] zero h = absurd (omega arith)
 past n [] (suc at) h = refl
 past n (c ∷ calls) zero h = absurd (omega arith)

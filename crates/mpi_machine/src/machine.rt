@@ -47,17 +47,14 @@ pub struct Machine<'a, P: Program> {
 }
 
 impl<'a, P: Program> Model for Machine<'a, P> {
-    ghost use Rattle.std.specs.Prelude.{◌≡◌};
-    ghost use Rattle.run_model.specs.Chosen.{IsChosen};
-    ghost use Rattle.requests.specs.Histories.{Knows};
     ghost use Rattle.mpi_machine.specs.Turns.{MachineState};
-    ghost use Rattle.mpi_machine.specs.Waits.{AreKept};
+    ghost use Rattle.mpi_machine.specs.Waits.{Keeps};
 
     ghost Value = { MachineState P };
 
     ghost view = { λ m. record { program = m.program.now; ranks = m.course.ranks; events = m.course.events; kept = m.course.kept } };
 
-    ghost invariant = { λ m. IsChosen (P.next m.program.now) m.course.ranks m.course.events × Knows m.course.ranks m.course.events m.requests × AreKept (P.next m.program.now) m.course.ranks m.course.events m.course.kept };
+    ghost invariant = { λ m. Keeps (P.next m.program.now) m.course.ranks m.course.events m.course.kept m.requests };
 }
 
 impl<'a, P: Program> Machine<'a, P> {
@@ -93,15 +90,19 @@ impl<'a, P: Program> Machine<'a, P> {
         // Attempts one after the other make the run that the order of ranks fixes.
         ensures serial { OnOk result ((stage : Stage) → StandsAt self.old stage → StandsAt self.new (attempt (P.next self.old.program) self.old.ranks stage rank)) }
     {
+        self.is_run();
         let turn = self.turn(rank, call)?;
         self.is_run();
         Ok(turn)
     }
 
-    /// The events so far are a run, each event of which is the machine's.
+    /// The events so far are a run, each event of which is the machine's, and each rank has a place for its waiting call.
     fn is_run(&self)
-        ensures { IsChosen (P.next self.now.program) self.now.ranks self.now.events }
-    {}
+        ensures chosen { IsChosen (P.next self.now.program) self.now.ranks self.now.events }
+        ensures kept { length self.now.kept ≡ self.now.ranks }
+    {
+        let _ = &self.program;
+    }
 
     /// The attempt.
     fn turn(&mut self, rank: u8, call: Call) -> Result<Turn, AllocError>

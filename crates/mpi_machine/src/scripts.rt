@@ -111,8 +111,20 @@ fn is_fine(ranks: u8, call: &Call) -> bool
 fn are_fine(starts: &[u32]) -> bool
     ensures { result ≡ (nat_lt 0 (length starts.now) && (nat_le (length starts.now) 1000000 && list_all (λ k. nat_lt k 1000000) starts.now)) }
 {
-    !starts.is_empty()
-        && (starts.len() <= 1_000_000 && starts.iter().all(|start| *start < 1_000_000))
+    !starts.is_empty() && (starts.len() <= 1_000_000 && are_low(starts))
+}
+
+fn are_low(starts: &[u32]) -> bool
+    ensures { result ≡ list_all (λ k. nat_lt k 1000000) starts.now }
+{
+    let mut rest = starts;
+    while let [start, after @ ..] = rest {
+        if *start >= 1_000_000 {
+            return false;
+        }
+        rest = after;
+    }
+    true
 }
 
 /// A call of a script; one that may not stand there is a trap.
