@@ -1,6 +1,6 @@
 -- What the members of a collective have entered so far, for one of them.
 -- (MPI 3.1, Collective Communication.)
-use Rattle.std.specs.Prelude.{◌≡◌, ℕ, ℤ, List, [], Bool, true, not, ◌||◌, if◌then◌else◌, map, length}
+use Rattle.std.specs.Prelude.{◌≡◌, ℕ, ℤ, List, [], ◌∷◌, Option, Some, None, Bool, true, not, ◌||◌, ◌==◌, if◌then◌else◌, map, length}
 use Rattle.std.specs.List.{list_all}
 use Rattle.mpi_call.specs.declared.call.Call.{Call}
 use Rattle.mpi_call.specs.Calls.{comm_of}
@@ -23,3 +23,8 @@ pub record IsSoundEnter (entrants : List Entrant) (members : List ℕ) (me : ℕ
   pub form : IsEnterOf enter members me
   pub lengths : (who : ℕ) → is_member members who ≡ true → has_entered entrants who ≡ true
       → length (ints_by entrants who) ≡ input_length enter members who
+
+-- the call by which a rank entered
+abbrev pub call_by : List Entrant → ℕ → Option Call
+call_by [] rank = None
+call_by (entrant ∷ entrants) rank = if entrant.rank == rank then Some entrant.call else call_by entrants rank

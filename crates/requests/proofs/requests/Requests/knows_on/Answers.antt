@@ -1,4 +1,4 @@
-use Rattle.requests.proofs.Starting.{knows_above, knows_idle}
+use Rattle.requests.proofs.Known.{knows_above, knows_idle}
 use Rattle.requests.proofs.requests.Requests.knows_on.Goals as goal
 
 pub returns-clause-idle : goal.returns-clause-idle

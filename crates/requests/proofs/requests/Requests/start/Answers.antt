@@ -8,7 +8,7 @@ use Rattle.match_core.specs.Starts.{left_by, start_of}
 use Rattle.requests.specs.States.{IsSound, State, table_of}
 use Rattle.requests.specs.Starts.{Rows, fresh, mate_named, with_pair, with_start}
 use Rattle.requests.proofs.Sounding.{sound_message}
-use Rattle.requests.proofs.Starting.{knows_started}
+use Rattle.requests.proofs.Known.{knows_started}
 use Rattle.requests.proofs.requests.Requests.start.Goals as goal
 
 pub matched-requires-clause-position : goal.matched-requires-clause-position
