@@ -29,7 +29,7 @@ use Rattle.requests.specs.Taking.{collected_as, collected_in, entrants_for, inpu
 use Rattle.requests.specs.Histories.{IsNumbered, KnowsEnters, number_for}
 
 -- who has entered, by the call
-entered_some : (entrants : List Entrant) (rank : ℕ) → has_entered entrants rank ≡ is_some (call_by entrants rank)
+pub entered_some : (entrants : List Entrant) (rank : ℕ) → has_entered entrants rank ≡ is_some (call_by entrants rank)
 entered_some [] rank = refl
 entered_some (entrant ∷ entrants) rank =
     elim (test_cases (entrant.rank == rank)) [
@@ -37,11 +37,11 @@ entered_some (entrant ∷ entrants) rank =
       | inr h ↦ rw h (entered_some entrants rank)
     ]
 
-abbrev ints_in : Option Call → List ℤ
+abbrev pub ints_in : Option Call → List ℤ
 ints_in None = []
 ints_in (Some call) = ints_of call
 
-ints_some : (entrants : List Entrant) (rank : ℕ) → ints_by entrants rank ≡ ints_in (call_by entrants rank)
+pub ints_some : (entrants : List Entrant) (rank : ℕ) → ints_by entrants rank ≡ ints_in (call_by entrants rank)
 ints_some [] rank = refl
 ints_some (entrant ∷ entrants) rank =
     elim (test_cases (entrant.rank == rank)) [
@@ -49,10 +49,10 @@ ints_some (entrant ∷ entrants) rank =
       | inr h ↦ rw h (ints_some entrants rank)
     ]
 
-abbrev call_of : Option Entered → Option Call
+abbrev pub call_of : Option Entered → Option Call
 call_of o = option_map (λ (entered : Entered). entered.call) o
 
-some_call : (o : Option Entered) → is_some (call_of o) ≡ is_some o
+pub some_call : (o : Option Entered) → is_some (call_of o) ≡ is_some o
 some_call None = refl
 some_call (Some entered) = refl
 
@@ -65,7 +65,7 @@ with_is : (m : ℕ) (found : Option Entered) (rest : Result (List (List ℤ)) �
 with_is m None rest = refl
 with_is m (Some entered) rest = pushed_is (ints_of entered.call) rest
 
-gathered_all : (needed : ℕ → Bool) (find : ℕ → Option Entered) (members : List ℕ) → is_gathered (gather needed find members) ≡ list_all (λ m. not (needed m) || is_some (find m)) members
+pub gathered_all : (needed : ℕ → Bool) (find : ℕ → Option Entered) (members : List ℕ) → is_gathered (gather needed find members) ≡ list_all (λ m. not (needed m) || is_some (find m)) members
 gathered_all needed find [] = refl
 gathered_all needed find (m ∷ members) =
     elim (test_cases (needed m)) [
@@ -73,13 +73,13 @@ gathered_all needed find (m ∷ members) =
       | inr h ↦ rw h (pushed_is [] (gather needed find members) ∙ gathered_all needed find members)
     ]
 
-all_same : (p q : ℕ → Bool) (members : List ℕ) → ((m : ℕ) → p m ≡ q m) → list_all p members ≡ list_all q members
+pub all_same : (p q : ℕ → Bool) (members : List ℕ) → ((m : ℕ) → p m ≡ q m) → list_all p members ≡ list_all q members
 all_same p q [] same = refl
 all_same p q (m ∷ members) same =
     ap (λ (b : Bool). b && list_all p members) (same m) ∙ ap (λ (b : Bool). q m && b) (all_same p q members same)
 
 -- and what it is
-abbrev found_ints : (ℕ → Bool) → (ℕ → Option Entered) → ℕ → List ℤ
+abbrev pub found_ints : (ℕ → Bool) → (ℕ → Option Entered) → ℕ → List ℤ
 found_ints needed find m = cond (needed m) (ints_in (call_of (find m))) []
 
 and_front : (a b : Bool) → (a && b) ≡ true → a ≡ true
@@ -94,7 +94,7 @@ with_ok : (m : ℕ) (found : Option Entered) (inputs : List (List ℤ)) → is_s
 with_ok m None inputs h = absurd (cc)
 with_ok m (Some entered) inputs h = refl
 
-gathered_ok : (needed : ℕ → Bool) (find : ℕ → Option Entered) (members : List ℕ) → list_all (λ m. not (needed m) || is_some (find m)) members ≡ true
+pub gathered_ok : (needed : ℕ → Bool) (find : ℕ → Option Entered) (members : List ℕ) → list_all (λ m. not (needed m) || is_some (find m)) members ≡ true
     → gather needed find members ≡ Ok (map (found_ints needed find) members)
 gathered_ok needed find [] h = refl
 gathered_ok needed find (m ∷ members) h =
@@ -107,7 +107,7 @@ gathered_ok needed find (m ∷ members) h =
       | inr t ↦ rw (t, rest) refl
     ]
 
-map_same : (f g : ℕ → List ℤ) (members : List ℕ) → ((m : ℕ) → f m ≡ g m) → map f members ≡ map g members
+pub map_same : (f g : ℕ → List ℤ) (members : List ℕ) → ((m : ℕ) → f m ≡ g m) → map f members ≡ map g members
 map_same f g [] same = refl
 map_same f g (m ∷ members) same = ap (λ (x : List ℤ). x ∷ map f members) (same m) ∙ ap (λ (l : List (List ℤ)). g m ∷ l) (map_same f g members same)
 

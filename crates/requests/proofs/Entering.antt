@@ -27,7 +27,7 @@ use Rattle.requests.specs.declared.start.Start.{Start}
 use Rattle.requests.specs.Starts.{Rows, found_in}
 use Rattle.requests.specs.States.{Table, table_of}
 use Rattle.requests.specs.Enters.{call_by, has_needed}
-use Rattle.requests.specs.Histories.{IsNumbered, KnowsEnters}
+use Rattle.requests.specs.Histories.{IsNumbered, KnowsEnters, is_made}
 
 -- an event that enters nothing
 abbrev pub EntersNone : Event → Type 0
@@ -37,7 +37,7 @@ on_enters : (comm : ℕ) (call : Call) → is_on comm call ≡ true → is_enter
 on_enters comm (Enter c kind root op count ints) h = refl
 on_enters comm call h = absurd (cc)
 
-begins : (events : List Event) (event : Event) (rank : ℕ) → IsPrefixOf (view_of events rank) (view_of (events ++ event ∷ []) rank)
+pub begins : (events : List Event) (event : Event) (rank : ℕ) → IsPrefixOf (view_of events rank) (view_of (events ++ event ∷ []) rank)
 begins events event rank = (view_of (event ∷ []) rank, sym (view_of-append events (event ∷ []) rank))
 
 -- the Enters stay
@@ -93,7 +93,7 @@ made_none n events event none =
     communicators_of-push n events event ∙ rw (none_made, append-nil) refl
 
 -- what was learned of a communicator
-learned_split : (n comm : ℕ) (view : View) (call : Call) (reply : Reply) (members : List ℕ) → known_in n (view ++ (call, reply) ∷ []) comm ≡ Some members
+pub learned_split : (n comm : ℕ) (view : View) (call : Call) (reply : Reply) (members : List ℕ) → known_in n (view ++ (call, reply) ∷ []) comm ≡ Some members
     → (known_in n view comm ≡ Some members) ⊎ (((comm == 0) ≡ false) × (learned comm None reply ≡ Some members))
 learned_split n comm view call reply members h =
     let both : learned comm (known_in n view comm) reply ≡ Some members = sym (known_after-append comm (known_first n comm) view ((call, reply) ∷ [])) ∙ h in
@@ -108,18 +108,18 @@ pub record IsThere (events : List Event) (rows more : Rows) : Type 0 where
   pub same : (name : Name) (start : Start) → found_in more name ≡ Some start → is_enter start.call ≡ true
       → (old : Start) × (found_in rows name ≡ Some old) × (old.call ≡ start.call) × (old.instance ≡ start.instance)
 
-make_enters : (call : Call) → makes call ≡ true → is_enter call ≡ true
+pub make_enters : (call : Call) → makes call ≡ true → is_enter call ≡ true
 make_enters (Enter comm kind root op count ints) h = refl
 make_enters call h = absurd (cc)
 
 -- what speaks of a start's call and instance alone
-moved : (P : Call → ℕ → Type 0) (one two : Call) (i j : ℕ) → one ≡ two → i ≡ j → P one i → P two j
+pub moved : (P : Call → ℕ → Type 0) (one two : Call) (i j : ℕ) → one ≡ two → i ≡ j → P one i → P two j
 moved P one two i j e f p =
     let F : Call → Type 0 = λ c. P c i in
     let G : ℕ → Type 0 = λ k. P two k in
     subst G f (subst F e p)
 
-instance-on : (events : List Event) (event : Event) (rank number comm : ℕ) (call : Call) → start_at (view_of events rank) number ≡ Some call
+pub instance-on : (events : List Event) (event : Event) (rank number comm : ℕ) (call : Call) → start_at (view_of events rank) number ≡ Some call
     → instance_of (view_of (events ++ event ∷ []) rank) number comm ≡ instance_of (view_of events rank) number comm
 instance-on events event rank number comm call there = instance_of-kept (view_of events rank) (view_of (events ++ event ∷ []) rank) number comm call (begins events event rank) there
 
@@ -171,6 +171,8 @@ enters_on n events event rows more stages comms k there none learns = record {
         ])
     | inr t ↦ (let F : View → Type 0 = λ v. known_in n v comm ≡ Some members in k.members rank comm members (subst F (view_of-other events event rank t) h))
   ];
+  count = k.count ∙ ap (λ (l : List Origin). suc (length l)) (sym (made_none n events event none));
+  first = λ origin free. ap (λ (l : List Origin). is_made l origin) (made_none n events event none) ∙ k.first origin free;
 }
 
 -- what an event that takes nothing teaches

@@ -11,7 +11,7 @@ use Rattle.run_model.proofs.Views.{test_cases}
 use Rattle.comms.specs.Communicators.{members_of, world}
 use Rattle.requests.specs.declared.start.Start.{Start}
 use Rattle.requests.specs.Starts.{Rows, call_in, found_in, is_gone, mate_of, row_of}
-use Rattle.requests.specs.States.{at_first}
+use Rattle.requests.specs.States.{IsSound, at_first}
 use Rattle.requests.specs.Histories.{Knows}
 
 empty_row : (n rank : ℕ) → row_of (replicate n []) rank ≡ []
@@ -51,5 +51,14 @@ knows_first n = record {
           ap (members_of (world n)) here ∙ (ap (λ (l : List ℕ). Some l) (world_range n 0) ∙ e))
       | inr t ↦ absurd (let no : None ≡ Some members = rw t at h in cc)
     ];
+    count = refl;
+    first = λ origin none. refl;
   };
+}
+
+pub sound_first : (n : ℕ) → IsSound (at_first n).table
+sound_first n = record {
+  enters = λ name start found enter. absurd (let no : None ≡ Some start = sym (none_found n name) ∙ found in cc);
+  entrants = λ comm instance entrant among. absurd among;
+  given = λ comm instance numbers h. absurd (cc);
 }

@@ -32,7 +32,7 @@ use Rattle.requests.proofs.Found.{found-change, found-start, length-row, not_sam
 use Rattle.requests.proofs.Pairing.{different, length-names, name_at-push, name_in-push, named-push, pairs-alone, pairs-paired, one_more, partner_of-push, same_length}
 use Rattle.requests.specs.Histories.{KnowsEnters}
 use Rattle.requests.proofs.Entering.{IsThere, enters_on, nothing_learned}
-use Rattle.requests.proofs.Sounding.{message_shape, there_is}
+use Rattle.requests.proofs.Sounding.{message_shape, no_enter, there_is}
 use Rattle.requests.proofs.Starting.{call_start, calls-pair, choice_same, gone-pair, gone_start, length-pair, mates_after, message_starts, rows_length, taken-same}
 
 -- the starts of the table are the history's
@@ -70,19 +70,20 @@ knows_message n events state rank call mate k less message more =
     record {
       number_is = many;
       choice_is = sym (choice_same events rank call mate more.choice);
+      agrees = λ enter. absurd (let no : true ≡ false = sym enter ∙ no_enter call message in cc);
       knows = record {
         ranks = length-pair started next (mate_named state.names mate) ∙ (length-row rank (row_of rows rank ++ fresh call 0 ∷ []) rows ∙ k.ranks);
         matcher = more.knows;
         calls = λ other.
             calls-pair started next (mate_named state.names mate) other
-            ∙ (call_start rows rank call other within
+            ∙ (call_start rows rank call 0 other within
             ∙ (ap (λ (o : Option Call). cond (same_name other next) (Some call) o) (k.calls other)
             ∙ (ap (λ (m : Name). cond (same_name other m) (Some call) (named events other)) next_is
             ∙ sym (named-push events event other t))));
         mates = λ other. mates_after n events state rank call mate other k less more.choice next_is;
         taken = λ r number.
             gone-pair started next (mate_named state.names mate) (r, number)
-            ∙ (gone_start rows rank call (r, number) within
+            ∙ (gone_start rows rank call 0 (r, number) within
             ∙ (k.taken r number ∙ ap (λ (l : List ℕ). is_member l number) (sym (taken-same events event r refl))));
         names = λ at.
             name_in-push state.names (length events) next at k.below

@@ -51,6 +51,8 @@ sound_same rows more stages comms sound same = record {
             subst (SoundFor stages comms name.0) both (sound.enters name some.0 some.1 (ap enters_in both ∙ enter)))
         | inr none ↦ absurd (let no : None ≡ Some (start.call, start.instance) = sym (ap enter_of none) ∙ there in cc)
       ];
+  entrants = sound.entrants;
+  given = sound.given;
 }
 
 enter_kept : (b : Bool) (mate : Name) (o : Option Start) → enter_of (cond b (option_map (paired_with mate) o) o) ≡ enter_of o
@@ -64,7 +66,7 @@ enter_pair rows new (Some old) other =
     ap enter_of (found-pair rows new old other)
     ∙ (enter_kept (same_name other old) new (with_one other new old (found_in rows other)) ∙ enter_kept (same_name other new) old (found_in rows other))
 
-no_enter : (call : Call) → is_message call ≡ true → is_enter call ≡ false
+pub no_enter : (call : Call) → is_message call ≡ true → is_enter call ≡ false
 no_enter (Send comm dest tag ints) h = refl
 no_enter (Post comm source tag room) h = refl
 no_enter call h = absurd (cc)

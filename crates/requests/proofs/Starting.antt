@@ -83,10 +83,10 @@ length-pair rows new None = refl
 length-pair rows new (Some old) = length-row old.0 _ (with_mate new old rows) ∙ length-row new.0 _ rows
 
 -- the partners after a pair
-mates_alone : (rows : Rows) (rank : ℕ) (call : Call) (other : Name) → rank < length rows
-    → mate_of (found_in (with_start rank (fresh call 0) rows) other) ≡ mate_of (found_in rows other)
-mates_alone rows rank call other within =
-    ap mate_of (found-start rows rank (fresh call 0) other within) ∙ elim (test_cases (same_name other (rank, length (row_of rows rank)))) [
+pub mates_alone : (rows : Rows) (rank : ℕ) (call : Call) (instance : ℕ) (other : Name) → rank < length rows
+    → mate_of (found_in (with_start rank (fresh call instance) rows) other) ≡ mate_of (found_in rows other)
+mates_alone rows rank call instance other within =
+    ap mate_of (found-start rows rank (fresh call instance) other within) ∙ elim (test_cases (same_name other (rank, length (row_of rows rank)))) [
       | inl h ↦ rw h (sym (ap mate_of (next_gone rows rank other h)))
       | inr h ↦ rw h refl
     ]
@@ -132,18 +132,18 @@ message_starts (Send comm dest tag ints) h = refl
 message_starts (Post comm source tag room) h = refl
 message_starts call h = absurd (cc)
 
-pub gone_start : (rows : Rows) (rank : ℕ) (call : Call) (other : Name) → rank < length rows
-    → is_gone (found_in (with_start rank (fresh call 0) rows) other) ≡ is_gone (found_in rows other)
-gone_start rows rank call other within =
-    ap is_gone (found-start rows rank (fresh call 0) other within) ∙ elim (test_cases (same_name other (rank, length (row_of rows rank)))) [
+pub gone_start : (rows : Rows) (rank : ℕ) (call : Call) (instance : ℕ) (other : Name) → rank < length rows
+    → is_gone (found_in (with_start rank (fresh call instance) rows) other) ≡ is_gone (found_in rows other)
+gone_start rows rank call instance other within =
+    ap is_gone (found-start rows rank (fresh call instance) other within) ∙ elim (test_cases (same_name other (rank, length (row_of rows rank)))) [
       | inl h ↦ rw h (sym (ap is_gone (next_gone rows rank other h)))
       | inr h ↦ rw h refl
     ]
 
-pub call_start : (rows : Rows) (rank : ℕ) (call : Call) (other : Name) → rank < length rows
-    → call_in (with_start rank (fresh call 0) rows) other ≡ cond (same_name other (rank, length (row_of rows rank))) (Some call) (call_in rows other)
-call_start rows rank call other within =
-    ap (λ (o : Option Start). option_map (λ (start : Start). start.call) o) (found-start rows rank (fresh call 0) other within)
+pub call_start : (rows : Rows) (rank : ℕ) (call : Call) (instance : ℕ) (other : Name) → rank < length rows
+    → call_in (with_start rank (fresh call instance) rows) other ≡ cond (same_name other (rank, length (row_of rows rank))) (Some call) (call_in rows other)
+call_start rows rank call instance other within =
+    ap (λ (o : Option Start). option_map (λ (start : Start). start.call) o) (found-start rows rank (fresh call instance) other within)
     ∙ elim (test_cases (same_name other (rank, length (row_of rows rank)))) [ inl h ↦ rw h refl | inr h ↦ rw h refl ]
 
 -- the matcher's choice is the machine's
@@ -188,7 +188,7 @@ pub mates_after : (n : ℕ) (events : List Event) (state : State) (rank : ℕ) (
     → mate_of (found_in (with_message state (length events) rank call mate).table.rows other) ≡ partner_of (pairs_of (events ++ event_of rank call mate ∷ [])) other
 mates_after n events state rank call None other k less chosen next_is =
     let within : rank < length state.table.rows = let e = k.ranks in omega (arith, e) in
-    mates_alone state.table.rows rank call other within
+    mates_alone state.table.rows rank call 0 other within
     ∙ (k.mates other ∙ sym (ap (λ (P : List (Name × Name)). partner_of P other) (pairs-alone events (event_of rank call None) refl)))
 mates_after n events state rank call (Some at) other k less chosen next_is =
     let within : rank < length state.table.rows = let e = k.ranks in omega (arith, e) in

@@ -9,7 +9,7 @@ use Rattle.requests.specs.States.{IsSound, State, table_of}
 use Rattle.requests.specs.Starts.{Rows, fresh, mate_named, with_pair, with_start}
 use Rattle.requests.proofs.Sounding.{sound_message}
 use Rattle.requests.proofs.Known.{knows_started}
-use Rattle.requests.proofs.requests.Requests.start.Goals as goal
+use Rattle.requests.proofs.requests.Requests.message.Goals as goal
 
 pub matched-requires-clause-position : goal.matched-requires-clause-position
 matched-requires-clause-position c =
