@@ -69,9 +69,9 @@ next_instance n events table comm rank k orderly =
     let view : View = view_of events rank in
     let L : List Entered = entered_from comm 0 (known_first n comm) view in
     let at : (number : ℕ) → nat_lt number (enters_on table.stages comm rank) ≡ nat_lt number (length L) = λ number.
-        sym (orderly.counted number)
-        ∙ (entered_some (enters_of table.stages comm number) rank
-        ∙ (ap (λ (c : Option Call). is_some c) (k.entrants comm number rank) ∙ (some_call (slice_get L number) ∙ get_less L number))) in
+    sym (orderly.counted number)
+    ∙ (entered_some (enters_of table.stages comm number) rank
+    ∙ (ap (λ (c : Option Call). is_some c) (k.entrants comm number rank) ∙ (some_call (slice_get L number) ∙ get_less L number))) in
     same_bound (enters_on table.stages comm rank) (length L) at ∙ entered_from-count comm 0 (known_first n comm) view
 
 -- an Enter of a history that joined its instance
@@ -114,9 +114,9 @@ new_instance n events rows stages more comms new rank call instance j =
     let comm : ℕ = comm_of call in
     let starts : List Call = starts_of (view_of events rank) in
     j.next ∙ sym (
-      ap (λ (k : ℕ). count_on comm (take k (starts_of (view_of (after events rank call) rank)))) j.many
-      ∙ (ap (λ (l : List Call). count_on comm (take (length starts) l)) (starts_after events rank call j.entering.enter)
-      ∙ ap (count_on comm) (take-append_seam starts (call ∷ []))))
+    ap (λ (k : ℕ). count_on comm (take k (starts_of (view_of (after events rank call) rank)))) j.many
+    ∙ (ap (λ (l : List Call). count_on comm (take (length starts) l)) (starts_after events rank call j.entering.enter)
+    ∙ ap (count_on comm) (take-append_seam starts (call ∷ []))))
 
 pub instances_after : (n : ℕ) (events : List Event) (rows : Rows) (stages more : Stages) (comms new : Communicators) (rank : ℕ) (call : Call) (instance : ℕ)
     → IsJoining n events rows stages more comms new rank call instance → (name : Name) (start : Start) → found_in (with_start rank (fresh call instance) rows) name ≡ Some start
@@ -150,11 +150,11 @@ known_after_enter n events rows stages more comms new rank call instance j =
     (λ enter. known_in-kept n (view_of events rank) (view_of (after events rank call) rank) (comm_of call) (old_members comms (comm_of call)) (begins events e rank) j.known
     ∙ ap (λ (m : List ℕ). Some m) (sym (members_stay comms new (comm_of call) instance (comm_of call) g j.entering.may.made)))
     (λ name start found enter. (
-      let comm : ℕ = comm_of start.call in
-      let was : known_in n (view_of events name.0) comm ≡ Some (old_members comms comm) = j.knows.known name start found enter in
-      let made : comm < length comms.members = slice_get-below comms.members comm (old_members comms comm) (j.knows.members name.0 comm (old_members comms comm) was) in
-      known_in-kept n (view_of events name.0) (view_of (after events rank call) name.0) comm (old_members comms comm) (begins events e name.0) was
-      ∙ ap (λ (m : List ℕ). Some m) (sym (members_stay comms new (comm_of call) instance comm g made))))
+    let comm : ℕ = comm_of start.call in
+    let was : known_in n (view_of events name.0) comm ≡ Some (old_members comms comm) = j.knows.known name start found enter in
+    let made : comm < length comms.members = slice_get-below comms.members comm (old_members comms comm) (j.knows.members name.0 comm (old_members comms comm) was) in
+    known_in-kept n (view_of events name.0) (view_of (after events rank call) name.0) comm (old_members comms comm) (begins events e name.0) was
+    ∙ ap (λ (m : List ℕ). Some m) (sym (members_stay comms new (comm_of call) instance comm g made))))
 
 -- the entrants are the Enters of the views
 abbrev or_call : Option Call → Option Call → Option Call

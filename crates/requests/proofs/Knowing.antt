@@ -163,10 +163,10 @@ knows_joined n events old new at rank call start mate k sound enter may within w
             ∙ (ap (λ (m : Name). cond (place == length events) (Some m) (name_at events place)) next_is
             ∙ sym (name_at-push events event place ∙ rw t refl))));
         below = (
-          let is_names : length new.names ≡ length (with_name (length events) next old.names) = ap (λ (l : Names). length l) (joined.names ∙ ap (λ (p : ℕ). with_name p next old.names) here) in
-          let e = length-names old.names (length events) next k.below in
-          let f = one_more events event in
-          omega (arith, is_names, e, f));
+            let is_names : length new.names ≡ length (with_name (length events) next old.names) = ap (λ (l : Names). length l) (joined.names ∙ ap (λ (p : ℕ). with_name p next old.names) here) in
+            let e = length-names old.names (length events) next k.below in
+            let f = one_more events event in
+            omega (arith, is_names, e, f));
         enters = subst F (sym joined.rows) (enters_after n events rows old.table.stages new.table.stages old.table.comms new.table.comms rank call instance joining);
       };
     }

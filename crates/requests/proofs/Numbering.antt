@@ -347,11 +347,12 @@ numbered_else false n events rows stages more comms new rank call instance name 
     let X : List Entrant → List ℕ → List ℕ = λ l m. members_made b m (needed_ints l m me b) me in
     let moved_is : X (enters_of more comm number) (old_members new comm) ≡ X (enters_of stages comm number) (old_members comms comm) =
     ap (λ (l : List Entrant). X l (old_members new comm)) (stays_at stages more (comm_of call) instance comm number last j.entering.gains apart)
-    ∙ ap (X (enters_of stages comm number)) (members_stay comms new (comm_of call) instance comm g made) in
-    (same ∙ (is.0 ∙ sym numbers),
-    ap (members_of new) same
-    ∙ (made_stays comms new (comm_of call) instance (number_for comms me b number) (X (enters_of stages comm number) (old_members comms comm)) g is.1
-    ∙ ap (λ (l : List ℕ). Some l) (sym moved_is)))
+    ∙ ap (X (enters_of stages comm number)) (members_stay comms new (comm_of call) instance comm g made) in (
+      same ∙ (is.0 ∙ sym numbers),
+      ap (members_of new) same
+          ∙ (made_stays comms new (comm_of call) instance (number_for comms me b number) (X (enters_of stages comm number) (old_members comms comm)) g is.1
+          ∙ ap (λ (l : List ℕ). Some l) (sym moved_is)),
+    )
 
 -- all starts
 here_new : (n : ℕ) (events : List Event) (rows : Rows) (stages more : Stages) (comms new : Communicators) (rank : ℕ) (call : Call) (instance : ℕ) (name : Name) (start : Start)
@@ -393,19 +394,19 @@ numbers_after n events rows stages more comms new rank call instance j name star
       | inl t ↦ here_new n events rows stages more comms new rank call instance name start j found making gathered t
       | inr t ↦ (
           let P : Name → Start → Type 0 = λ m s. (comm_of s.call == comm_of call && s.instance == instance) ≡ false → makes s.call ≡ true
-              → is_gathered_in (table_of (with_start rank (fresh call instance) rows) more new) m.0 s ≡ true
-              → IsNumbered (is_uncoloured s.call) n (after events rank call) more new m s.call s.instance in
+          → is_gathered_in (table_of (with_start rank (fresh call instance) rows) more new) m.0 s ≡ true
+          → IsNumbered (is_uncoloured s.call) n (after events rank call) more new m s.call s.instance in
           split_found rows rank (fresh call instance) P j.entering.within
           (λ apart m e. absurd (let both : (comm_of call == comm_of call && instance == instance) ≡ true = rw (eq-eqb (comm_of call) (comm_of call) refl, eq-eqb instance instance refl) refl in let no : true ≡ false = sym both ∙ apart in cc))
           (λ m s old apart made_is all. (
-            let enter = make_enters s.call made_is in
-            let comm : ℕ = comm_of s.call in
-            let known = j.knows.known m s old enter in
-            let made : comm < length comms.members = slice_get-below comms.members comm (old_members comms comm) (j.knows.members m.0 comm (old_members comms comm) known) in
-            let was : is_gathered_in (table_of rows stages comms) m.0 s ≡ true =
-            ap (λ (l : List Entrant). has_needed l (old_members comms comm) m.0 s.call) (sym (stays_at stages more (comm_of call) instance comm s.instance last j.entering.gains apart))
-            ∙ (ap (λ (l : List ℕ). has_needed (enters_of more comm s.instance) l m.0 s.call) (sym (members_stay comms new (comm_of call) instance comm g made)) ∙ all) in
-            numbered_else (is_uncoloured s.call) n events rows stages more comms new rank call instance m s.call s.instance j made apart (j.calls m s old) (j.knows.numbers m s old made_is was)))
+          let enter = make_enters s.call made_is in
+          let comm : ℕ = comm_of s.call in
+          let known = j.knows.known m s old enter in
+          let made : comm < length comms.members = slice_get-below comms.members comm (old_members comms comm) (j.knows.members m.0 comm (old_members comms comm) known) in
+          let was : is_gathered_in (table_of rows stages comms) m.0 s ≡ true =
+          ap (λ (l : List Entrant). has_needed l (old_members comms comm) m.0 s.call) (sym (stays_at stages more (comm_of call) instance comm s.instance last j.entering.gains apart))
+          ∙ (ap (λ (l : List ℕ). has_needed (enters_of more comm s.instance) l m.0 s.call) (sym (members_stay comms new (comm_of call) instance comm g made)) ∙ all) in
+          numbered_else (is_uncoloured s.call) n events rows stages more comms new rank call instance m s.call s.instance j made apart (j.calls m s old) (j.knows.numbers m s old made_is was)))
           name start found t making gathered)
     ]
 

@@ -1,6 +1,7 @@
 -- What is kept of a run: the starts, who has entered what, the communicators, the names of starts by their positions in the
 -- history, and the Sends and Posts that have no partner.
 use Rattle.std.specs.Prelude.{◌≡◌, ℕ, ℤ, ◌<◌, ◌≤◌, List, [], Option, Some, None, Bool, true, false, length, map, replicate}
+use Rattle.std.specs.List.{range_with_len}
 use Rattle.mpi_call.specs.declared.call.Call.{Call}
 use Rattle.mpi_call.specs.declared.call.Call.TheVariants.{Enter}
 use Rattle.mpi_call.specs.declared.call.Kind.TheVariants.{Split, Dup}
@@ -14,7 +15,7 @@ use Rattle.collectives.specs.Boards.{GainsEnter, Stages, entered_by, enters_of, 
 use Rattle.collectives.specs.Entrants.{Among, has_entered, ints_by}
 use Rattle.collectives.specs.declared.entrants.Entrant.{Entrant}
 use Rattle.collectives.specs.declared.instances.Entered.TheVariants.{Joined as JoinedInstance, Disagrees as DisagreesWith}
-use Rattle.comms.specs.Communicators.{Communicators, IsDup, IsSplit, given_in, old_members, world}
+use Rattle.comms.specs.Communicators.{Communicators, IsDup, IsSplit, given_in, members_of, old_members, world}
 use Rattle.requests.specs.declared.start.Start.{Start}
 use Rattle.requests.specs.declared.requests.Started.{Started}
 use Rattle.requests.specs.declared.requests.Started.TheVariants.{Made, Disagrees}
@@ -43,7 +44,6 @@ pub record IsGiven (stages : Stages) (comms : Communicators) (comm instance : �
 pub record IsSound (table : Table) : Type 0 where
   pub enters : (name : Name) (start : Start) → found_in table.rows name ≡ Some start → is_enter start.call ≡ true
       → IsSoundEnter (enters_of table.stages (comm_of start.call) start.instance) (old_members table.comms (comm_of start.call)) name.0 start.call
-
   pub entrants : (comm instance : ℕ) (entrant : Entrant) → Among entrant (enters_of table.stages comm instance) → IsSoundEntrant (old_members table.comms comm) entrant
   pub given : (comm instance : ℕ) (numbers : List ℕ) → given_in table.comms.given comm instance ≡ Some numbers → IsGiven table.stages table.comms comm instance
 
@@ -59,10 +59,11 @@ pub record IsAbove (at : ℕ) (state : State) : Type 0 where
   pub names : length state.names ≤ at
   pub unpaired : AreBelow at state.unpaired
 
--- a start of one of so many ranks may stand at this position
+-- a start of one of so many ranks, all of them in the world, may stand at this position
 pub record MayStart (ranks at : ℕ) (state : State) : Type 0 where
   pub above : IsAbove at state
   pub many : length state.table.rows ≡ ranks
+  pub world : members_of state.table.comms 0 ≡ Some (range_with_len 0 ranks)
 
 -- the starts are others
 abbrev pub with_rows : Rows → State → State

@@ -152,12 +152,7 @@ fn are_in(board: &Board, members: &[u8], comm: Comm, instance: u32) -> bool
 }
 
 /// What each member of a communicator that was made entered in an instance.
-fn inputs_of(
-    board: &Board,
-    comms: &Comms,
-    comm: Comm,
-    instance: u32,
-) -> Result<Inputs, AllocError>
+fn inputs_of(board: &Board, comms: &Comms, comm: Comm, instance: u32) -> Result<Inputs, AllocError>
     ensures { IfOk result (λ inputs. inputs ≡ map (ints_by (enters_of board.now comm instance)) (old_members comms.now comm)) }
 {
     let Some(members) = comms.members(comm) else {
