@@ -3,6 +3,7 @@ pub mod Attempting
 pub mod Beginning
 pub mod Completing
 pub mod Counting
+pub mod Entering
 pub mod Growing
 pub mod Moving
 pub mod Probing

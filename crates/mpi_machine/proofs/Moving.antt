@@ -8,7 +8,6 @@ use Rattle.mpi_call.specs.declared.call.Halt.{Halt}
 use Rattle.mpi_call.specs.declared.reply.Reply.{Reply}
 use Rattle.mpi_call.specs.declared.reply.Reply.TheVariants.{Done}
 use Rattle.mpi_call.specs.Calls.{is_starting}
-use Rattle.match_core.specs.Starts.{is_message}
 use Rattle.requests.specs.Histories.{IsIdle, Knows, KnowsStart}
 use Rattle.requests.specs.States.{State}
 use Rattle.run_model.specs.declared.event.Event.{Event}
@@ -68,26 +67,19 @@ idle_keeps next n events kept state rank call reply lawful chosen are has idle k
     (idle_event n events rank call reply has.reply_is idle) knows.matcher.matched in
     record { chosen = g.chosen; knows = knows; kept_are = g.kept_are }
 
-starting : (call : Call) → is_message call ≡ true → is_start (call, Done) ≡ true
-starting (Send comm dest tag ints) h = refl
-starting (Post comm source tag room) h = refl
-starting (Enter comm kind root op count ints) h = absurd (cc)
-starting (Take starts mode) h = absurd (cc)
-starting (Peek comm source tag wait) h = absurd (cc)
-starting (Abort code) h = absurd (cc)
-starting (Trap fault) h = absurd (cc)
-starting End h = absurd (cc)
+starting : (call : Call) → is_starting call ≡ true → is_start (call, Done) ≡ true
+starting call h = rw h refl
 
 mate_found : (events : List Event) (rank : ℕ) (call : Call) (mate : Option ℕ) → is_start (call, Done) ≡ true → mate ≡ choice events rank call
     → mate_of events rank call Done ≡ mate
 mate_found events rank call mate h e = rw h (sym e)
 
-pub start_event : (n : ℕ) (events : List Event) (rank : ℕ) (call : Call) (mate : Option ℕ) → chosen_reply n events rank call ≡ Done → is_message call ≡ true
+pub start_event : (n : ℕ) (events : List Event) (rank : ℕ) (call : Call) (mate : Option ℕ) → chosen_reply n events rank call ≡ Done → is_starting call ≡ true
     → mate ≡ choice events rank call → chosen_event n events rank call ≡ event_with rank call Done mate
 start_event n events rank call mate r kind e = event_is n events rank call Done mate r (mate_found events rank call mate (starting call kind) e)
 
 pub start_keeps : (next : Next) (n : ℕ) (events : List Event) (kept : List (Option Call)) (state : State) (rank : ℕ) (call : Call) (number : ℕ) (mate : Option ℕ)
-    → Lawful next → IsChosen next n events → AreKept next n events kept → HasReply next n events kept rank call Done → is_message call ≡ true
+    → Lawful next → IsChosen next n events → AreKept next n events kept → HasReply next n events kept rank call Done → is_starting call ≡ true
     → KnowsStart n events rank call number mate state
     → Keeps next n (events ++ event_with rank call Done mate ∷ []) (slice_set kept rank None) state
 start_keeps next n events kept state rank call number mate lawful chosen are has kind knows =
@@ -121,15 +113,15 @@ more_takes events call reply other e h t =
     let parts = and_parts (ends (call, reply)) _ (subst F e t) in
     sym h ∙ parts.0
 
-pub message_more : (call : Call) → is_message call ≡ true → ends (call, Done) ≡ false
-message_more (Send comm dest tag ints) h = refl
-message_more (Post comm source tag room) h = refl
-message_more (Enter comm kind root op count ints) h = absurd (cc)
-message_more (Take starts mode) h = absurd (cc)
-message_more (Peek comm source tag wait) h = absurd (cc)
-message_more (Abort code) h = absurd (cc)
-message_more (Trap fault) h = absurd (cc)
-message_more End h = absurd (cc)
+pub starting_more : (call : Call) → is_starting call ≡ true → ends (call, Done) ≡ false
+starting_more (Send comm dest tag ints) h = refl
+starting_more (Post comm source tag room) h = refl
+starting_more (Enter comm kind root op count ints) h = refl
+starting_more (Take starts mode) h = absurd (cc)
+starting_more (Peek comm source tag wait) h = absurd (cc)
+starting_more (Abort code) h = absurd (cc)
+starting_more (Trap fault) h = absurd (cc)
+starting_more End h = absurd (cc)
 
 peeked_in_more : (call : Call) (send : Name) (found : Option Call) → ends (call, peeked_in send found) ≡ false
 peeked_in_more call send None = refl

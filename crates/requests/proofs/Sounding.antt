@@ -30,6 +30,14 @@ abbrev enters_in : Option (Call × ℕ) → Bool
 enters_in None = false
 enters_in (Some enter) = is_enter enter.0
 
+abbrev first_or : Call → Option (Call × ℕ) → Call
+first_or call None = call
+first_or call (Some enter) = enter.0
+
+abbrev second_or : ℕ → Option (Call × ℕ) → ℕ
+second_or instance None = instance
+second_or instance (Some enter) = enter.1
+
 -- what is sound of some starts is sound of others, where each Enter among them is there with its instance
 pub sound_same : (rows more : Rows) (stages : Stages) (comms : Communicators) → IsSound (table_of rows stages comms)
     → ((name : Name) (start : Start) → found_in more name ≡ Some start → is_enter start.call ≡ true → enter_of (found_in rows name) ≡ Some (start.call, start.instance))
@@ -43,6 +51,8 @@ sound_same rows more stages comms sound same = record {
             subst (SoundFor stages comms name.0) both (sound.enters name some.0 some.1 (ap enters_in both ∙ enter)))
         | inr none ↦ absurd (let no : None ≡ Some (start.call, start.instance) = sym (ap enter_of none) ∙ there in cc)
       ];
+  entrants = sound.entrants;
+  given = sound.given;
 }
 
 enter_kept : (b : Bool) (mate : Name) (o : Option Start) → enter_of (cond b (option_map (paired_with mate) o) o) ≡ enter_of o
@@ -56,17 +66,22 @@ enter_pair rows new (Some old) other =
     ap enter_of (found-pair rows new old other)
     ∙ (enter_kept (same_name other old) new (with_one other new old (found_in rows other)) ∙ enter_kept (same_name other new) old (found_in rows other))
 
-no_enter : (call : Call) → is_message call ≡ true → is_enter call ≡ false
+pub no_enter : (call : Call) → is_message call ≡ true → is_enter call ≡ false
 no_enter (Send comm dest tag ints) h = refl
 no_enter (Post comm source tag room) h = refl
 no_enter call h = absurd (cc)
 
--- a new Send or Post
-pub sound_message : (rows : Rows) (stages : Stages) (comms : Communicators) (rank : ℕ) (call : Call) (new : Name) (mate : Option Name) → IsSound (table_of rows stages comms) → rank < length rows
-    → is_message call ≡ true → IsSound (table_of (with_pair new mate (with_start rank (fresh call 0) rows)) stages comms)
-sound_message rows stages comms rank call new mate sound within message =
+some_first : {a b : Call} {i j : ℕ} → ◌≡◌ {A = Option (Call × ℕ)} (Some (a, i)) (Some (b, j)) → a ≡ b
+some_first {a} {b} {i} {j} h = ap (λ (o : Option (Call × ℕ)). first_or a o) h
+
+some_second : {a b : Call} {i j : ℕ} → ◌≡◌ {A = Option (Call × ℕ)} (Some (a, i)) (Some (b, j)) → i ≡ j
+some_second {a} {b} {i} {j} h = ap (λ (o : Option (Call × ℕ)). second_or i o) h
+
+-- a new Send or Post changes no Enter
+pub message_shape : (rows : Rows) (rank : ℕ) (call : Call) (new : Name) (mate : Option Name) → rank < length rows → is_message call ≡ true
+    → (name : Name) (start : Start) → found_in (with_pair new mate (with_start rank (fresh call 0) rows)) name ≡ Some start → is_enter start.call ≡ true → enter_of (found_in rows name) ≡ Some (start.call, start.instance)
+message_shape rows rank call new mate within message name start found enter =
     let started : Rows = with_start rank (fresh call 0) rows in
-    sound_same rows (with_pair new mate started) stages comms sound (λ name start found enter.
     let shape : enter_of (found_in started name) ≡ Some (start.call, start.instance) = sym (enter_pair started new mate name) ∙ ap enter_of found in
     let at = found-start rows rank (fresh call 0) name within in
     elim (test_cases (same_name name (rank, length (row_of rows rank)))) [
@@ -78,7 +93,12 @@ sound_message rows stages comms rank call new mate sound within message =
       | inr h ↦ (
           let old_is : found_in started name ≡ found_in rows name = at ∙ rw h refl in
           sym (ap enter_of old_is) ∙ shape)
-    ])
+    ]
+
+pub sound_message : (rows : Rows) (stages : Stages) (comms : Communicators) (rank : ℕ) (call : Call) (new : Name) (mate : Option Name) → IsSound (table_of rows stages comms) → rank < length rows
+    → is_message call ≡ true → IsSound (table_of (with_pair new mate (with_start rank (fresh call 0) rows)) stages comms)
+sound_message rows stages comms rank call new mate sound within message =
+    sound_same rows (with_pair new mate (with_start rank (fresh call 0) rows)) stages comms sound (message_shape rows rank call new mate within message)
 
 enter_marked : (b : Bool) (taken : Bool) (o : Option Start) → enter_of (cond b (option_map (marked taken) o) o) ≡ enter_of o
 enter_marked true taken None = refl
@@ -97,11 +117,26 @@ found-marked rows rank taken numbers other within =
       | inr h ↦ rw h refl
     ]
 
-pub sound_marked : (rows : Rows) (stages : Stages) (comms : Communicators) (rank : ℕ) (taken : Bool) (numbers : List ℕ) → IsSound (table_of rows stages comms) → rank < length rows
-    → IsSound (table_of (with_row rank (all_marked taken numbers (row_of rows rank)) rows) stages comms)
-sound_marked rows stages comms rank taken numbers sound within =
-    sound_same rows (with_row rank (all_marked taken numbers (row_of rows rank)) rows) stages comms sound (λ name start found enter.
+pub marked_shape : (rows : Rows) (rank : ℕ) (taken : Bool) (numbers : List ℕ) → rank < length rows
+    → (name : Name) (start : Start) → found_in (with_row rank (all_marked taken numbers (row_of rows rank)) rows) name ≡ Some start → is_enter start.call ≡ true → enter_of (found_in rows name) ≡ Some (start.call, start.instance)
+marked_shape rows rank taken numbers within name start found enter =
     sym (ap enter_of (found-marked rows rank taken numbers name within) ∙ elim (test_cases (name.0 == rank)) [
       | inl h ↦ rw h (enter_marked (is_member numbers name.1) taken (found_in rows name))
       | inr h ↦ rw h refl
-    ]) ∙ ap enter_of found)
+    ]) ∙ ap enter_of found
+
+pub sound_marked : (rows : Rows) (stages : Stages) (comms : Communicators) (rank : ℕ) (taken : Bool) (numbers : List ℕ) → IsSound (table_of rows stages comms) → rank < length rows
+    → IsSound (table_of (with_row rank (all_marked taken numbers (row_of rows rank)) rows) stages comms)
+sound_marked rows stages comms rank taken numbers sound within =
+    sound_same rows (with_row rank (all_marked taken numbers (row_of rows rank)) rows) stages comms sound (marked_shape rows rank taken numbers within)
+
+-- the Enter that is there
+pub there_is : (rows : Rows) (name : Name) (start : Start) → enter_of (found_in rows name) ≡ Some (start.call, start.instance)
+    → (old : Start) × (found_in rows name ≡ Some old) × (old.call ≡ start.call) × (old.instance ≡ start.instance)
+there_is rows name start h =
+    elim (option_cases (found_in rows name)) [
+      | inl some ↦ (
+          let both : Some (some.0.call, some.0.instance) ≡ Some (start.call, start.instance) = sym (ap enter_of some.1) ∙ h in
+          (some.0, some.1, some_first both, some_second both))
+      | inr none ↦ absurd (let no : None ≡ Some (start.call, start.instance) = sym (ap enter_of none) ∙ h in cc)
+    ]

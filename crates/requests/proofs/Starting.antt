@@ -27,7 +27,7 @@ use Rattle.match_core.proofs.Pairing.{same_name-refl, same_name-true}
 use Rattle.requests.specs.declared.start.Start.{Start}
 use Rattle.requests.specs.Starts.{Names, Rows, call_in, found_in, fresh, is_gone, mate_named, mate_of, name_in, paired_with, row_of, with_mate, with_name, with_pair, with_row, with_start}
 use Rattle.requests.specs.States.{IsAbove, State, next_name, with_message}
-use Rattle.requests.specs.Histories.{IsIdle, Knows, KnowsStart}
+use Rattle.requests.specs.Histories.{Knows}
 use Rattle.requests.proofs.Found.{found-change, found-start, length-row, not_same}
 use Rattle.requests.proofs.Pairing.{different, length-names, name_at-push, name_in-push, named-push, pairs-alone, pairs-paired, one_more, partner_of-push, same_length}
 
@@ -83,10 +83,10 @@ length-pair rows new None = refl
 length-pair rows new (Some old) = length-row old.0 _ (with_mate new old rows) ∙ length-row new.0 _ rows
 
 -- the partners after a pair
-mates_alone : (rows : Rows) (rank : ℕ) (call : Call) (other : Name) → rank < length rows
-    → mate_of (found_in (with_start rank (fresh call 0) rows) other) ≡ mate_of (found_in rows other)
-mates_alone rows rank call other within =
-    ap mate_of (found-start rows rank (fresh call 0) other within) ∙ elim (test_cases (same_name other (rank, length (row_of rows rank)))) [
+pub mates_alone : (rows : Rows) (rank : ℕ) (call : Call) (instance : ℕ) (other : Name) → rank < length rows
+    → mate_of (found_in (with_start rank (fresh call instance) rows) other) ≡ mate_of (found_in rows other)
+mates_alone rows rank call instance other within =
+    ap mate_of (found-start rows rank (fresh call instance) other within) ∙ elim (test_cases (same_name other (rank, length (row_of rows rank)))) [
       | inl h ↦ rw h (sym (ap mate_of (next_gone rows rank other h)))
       | inr h ↦ rw h refl
     ]
@@ -127,23 +127,23 @@ taken-same events event rank none =
       | inr h ↦ rw (view_of-other events event rank h)
     ]
 
-message_starts : (call : Call) → is_message call ≡ true → is_start (call, Done) ≡ true
+pub message_starts : (call : Call) → is_message call ≡ true → is_start (call, Done) ≡ true
 message_starts (Send comm dest tag ints) h = refl
 message_starts (Post comm source tag room) h = refl
 message_starts call h = absurd (cc)
 
-gone_start : (rows : Rows) (rank : ℕ) (call : Call) (other : Name) → rank < length rows
-    → is_gone (found_in (with_start rank (fresh call 0) rows) other) ≡ is_gone (found_in rows other)
-gone_start rows rank call other within =
-    ap is_gone (found-start rows rank (fresh call 0) other within) ∙ elim (test_cases (same_name other (rank, length (row_of rows rank)))) [
+pub gone_start : (rows : Rows) (rank : ℕ) (call : Call) (instance : ℕ) (other : Name) → rank < length rows
+    → is_gone (found_in (with_start rank (fresh call instance) rows) other) ≡ is_gone (found_in rows other)
+gone_start rows rank call instance other within =
+    ap is_gone (found-start rows rank (fresh call instance) other within) ∙ elim (test_cases (same_name other (rank, length (row_of rows rank)))) [
       | inl h ↦ rw h (sym (ap is_gone (next_gone rows rank other h)))
       | inr h ↦ rw h refl
     ]
 
-call_start : (rows : Rows) (rank : ℕ) (call : Call) (other : Name) → rank < length rows
-    → call_in (with_start rank (fresh call 0) rows) other ≡ cond (same_name other (rank, length (row_of rows rank))) (Some call) (call_in rows other)
-call_start rows rank call other within =
-    ap (λ (o : Option Start). option_map (λ (start : Start). start.call) o) (found-start rows rank (fresh call 0) other within)
+pub call_start : (rows : Rows) (rank : ℕ) (call : Call) (instance : ℕ) (other : Name) → rank < length rows
+    → call_in (with_start rank (fresh call instance) rows) other ≡ cond (same_name other (rank, length (row_of rows rank))) (Some call) (call_in rows other)
+call_start rows rank call instance other within =
+    ap (λ (o : Option Start). option_map (λ (start : Start). start.call) o) (found-start rows rank (fresh call instance) other within)
     ∙ elim (test_cases (same_name other (rank, length (row_of rows rank)))) [ inl h ↦ rw h refl | inr h ↦ rw h refl ]
 
 -- the matcher's choice is the machine's
@@ -183,12 +183,12 @@ found_there n events state name call k h =
           let e : None ≡ Some call = sym (ap (λ (o : Option Start). option_map (λ (start : Start). start.call) o) none) ∙ there in cc)
     ]
 
-mates_after : (n : ℕ) (events : List Event) (state : State) (rank : ℕ) (call : Call) (mate : Option ℕ) (other : Name) → Knows n events state → rank < n
+pub mates_after : (n : ℕ) (events : List Event) (state : State) (rank : ℕ) (call : Call) (mate : Option ℕ) (other : Name) → Knows n events state → rank < n
     → IsChoice events rank call mate → next_name state rank ≡ new_name events (event_of rank call mate)
     → mate_of (found_in (with_message state (length events) rank call mate).table.rows other) ≡ partner_of (pairs_of (events ++ event_of rank call mate ∷ [])) other
 mates_after n events state rank call None other k less chosen next_is =
     let within : rank < length state.table.rows = let e = k.ranks in omega (arith, e) in
-    mates_alone state.table.rows rank call other within
+    mates_alone state.table.rows rank call 0 other within
     ∙ (k.mates other ∙ sym (ap (λ (P : List (Name × Name)). partner_of P other) (pairs-alone events (event_of rank call None) refl)))
 mates_after n events state rank call (Some at) other k less chosen next_is =
     let within : rank < length state.table.rows = let e = k.ranks in omega (arith, e) in
@@ -208,97 +208,3 @@ mates_after n events state rank call (Some at) other k less chosen next_is =
     ∙ (ap (λ (m : Name). cond (same_name other old) (Some m) (cond (same_name other m) (Some old) (partner_of pairs other))) next_is
     ∙ (sym (partner_of-push pairs old new other f.unpaired.free fresh_free)
     ∙ sym (ap (λ (P : List (Name × Name)). partner_of P other) (pairs-paired events event at old refl f.unpaired.there))))))
-
-pub knows_message : (n : ℕ) (events : List Event) (state : State) (rank : ℕ) (call : Call) (mate : Option ℕ) → Knows n events state → rank < n → is_message call ≡ true
-    → KnowsMore events (event_of rank call mate) (left_by state.unpaired (start_of (length events) rank call) mate)
-    → KnowsStart n events rank call (length (row_of state.table.rows rank)) mate (with_message state (length events) rank call mate)
-knows_message n events state rank call mate k less message more =
-    let within : rank < length state.table.rows = let e = k.ranks in omega (arith, e) in
-    let rows : Rows = state.table.rows in
-    let event : Event = event_of rank call mate in
-    let t : is_start (event.call, event.reply) ≡ true = message_starts call message in
-    let next : Name = next_name state rank in
-    let new : Name = new_name events event in
-    let started : Rows = with_start rank (fresh call 0) rows in
-    let many : length (row_of rows rank) ≡ length (starts_of (view_of events rank)) = rows_length n events state rank k in
-    let next_is : next ≡ new = (let pair : ℕ → Name = λ l. (rank, l) in ap pair many) in
-    record {
-      number_is = many;
-      choice_is = sym (choice_same events rank call mate more.choice);
-      knows = record {
-        ranks = length-pair started next (mate_named state.names mate) ∙ (length-row rank (row_of rows rank ++ fresh call 0 ∷ []) rows ∙ k.ranks);
-        matcher = more.knows;
-        calls = λ other.
-            calls-pair started next (mate_named state.names mate) other
-            ∙ (call_start rows rank call other within
-            ∙ (ap (λ (o : Option Call). cond (same_name other next) (Some call) o) (k.calls other)
-            ∙ (ap (λ (m : Name). cond (same_name other m) (Some call) (named events other)) next_is
-            ∙ sym (named-push events event other t))));
-        mates = λ other. mates_after n events state rank call mate other k less more.choice next_is;
-        taken = λ r number.
-            gone-pair started next (mate_named state.names mate) (r, number)
-            ∙ (gone_start rows rank call (r, number) within
-            ∙ (k.taken r number ∙ ap (λ (l : List ℕ). is_member l number) (sym (taken-same events event r refl))));
-        names = λ at.
-            name_in-push state.names (length events) next at k.below
-            ∙ (ap (λ (o : Option Name). cond (at == length events) (Some next) o) (k.names at)
-            ∙ (ap (λ (m : Name). cond (at == length events) (Some m) (name_at events at)) next_is
-            ∙ sym (name_at-push events event at ∙ rw t refl)));
-        below = (let e = length-names state.names (length events) next k.below in let f = one_more events event in omega (arith, e, f));
-        messages = λ name c h. elim ((Grows-event events event t).back name c h) [
-          | inl e ↦ (
-              let there : named (events ++ event ∷ []) name ≡ Some call = ap (named (events ++ event ∷ [])) e ∙ named-new events event t in
-              let same : Some c ≡ Some call = sym h ∙ there in
-              let call_is : call ≡ c = cc in
-              subst (λ (x : Call). is_message x ≡ true) call_is message)
-          | inr was ↦ k.messages name c was
-        ];
-      };
-    }
-
-no_message : (call : Call) (done : Bool) → (is_starting call && done) ≡ false → (is_message call && done) ≡ false
-no_message (Send comm dest tag ints) done h = h
-no_message (Post comm source tag room) done h = h
-no_message call done h = refl
-
-pub name_past : (names : Names) (at : ℕ) → length names ≤ at → name_in names at ≡ None
-name_past [] at h = refl
-name_past (name ∷ names) zero h = absurd (omega arith)
-name_past (name ∷ names) (suc at) h = name_past names at (omega arith)
-
-pub knows_idle : (n : ℕ) (events : List Event) (event : Event) (state : State) → Knows n events state → IsIdle event → Knows n (events ++ event ∷ []) state
-knows_idle n events event state k idle =
-    let t = idle.no_start in
-    let none : name_at events (length events) ≡ None = sym (k.names (length events)) ∙ name_past state.names (length events) k.below in
-    record {
-      ranks = k.ranks;
-      matcher = knows_others events state.unpaired event k.matcher (record { other = no_message event.call (is_done event.reply) t; alone = idle.alone });
-      calls = λ other. k.calls other ∙ sym (named-other events event t other);
-      mates = λ other. k.mates other ∙ sym (ap (λ (P : List (Name × Name)). partner_of P other) (pairs-alone events event idle.alone));
-      taken = λ r number. k.taken r number ∙ ap (λ (l : List ℕ). is_member l number) (sym (taken-same events event r idle.none_taken));
-      names = λ at. k.names at ∙ sym (name_at-push events event at ∙ rw t (elim (cases_eq at (length events)) [
-        | inl e ↦ rw (eq-eqb at (length events) e) (sym (ap (name_at events) e ∙ none))
-        | inr apart ↦ rw (not_same at (length events) apart) refl
-      ]));
-      below = (let f = one_more events event in let b = k.below in omega (arith, f, b));
-      messages = λ name c h. k.messages name c (sym (named-other events event t name) ∙ h);
-    }
-
-pub knows_above : (n : ℕ) (events : List Event) (state : State) → Knows n events state → IsAbove (length events) state
-knows_above n events state k = record { names = k.below; unpaired = knows_below events state.unpaired k.matcher }
-
--- the same for a state that was come to
-pub knows_started : (n : ℕ) (events : List Event) (old new : State) (at rank : ℕ) (call : Call) (number : ℕ) (mate : Option ℕ) (after : List Unpaired) → Knows n events old
-    → rank < length old.table.rows → is_message call ≡ true → at ≡ length events → number ≡ length (row_of old.table.rows rank)
-    → KnowsMore events (event_of rank call mate) after → after ≡ left_by old.unpaired (start_of at rank call) mate → new ≡ with_message old at rank call mate
-    → KnowsStart n events rank call number mate new
-knows_started n events old new at rank call number mate after k within message here number_is more after_is new_is =
-    let ranks : length old.table.rows ≡ n = k.ranks in
-    let less : rank < n = omega (arith, ranks) in
-    let F : ℕ → Type 0 = λ p. KnowsMore events (event_of rank call mate) (left_by old.unpaired (start_of p rank call) mate) in
-    let G : List Unpaired → Type 0 = λ u. KnowsMore events (event_of rank call mate) u in
-    let H : ℕ → Type 0 = λ p. KnowsStart n events rank call (length (row_of old.table.rows rank)) mate (with_message old p rank call mate) in
-    let I : ℕ → Type 0 = λ m. KnowsStart n events rank call m mate new in
-    let J : State → Type 0 = λ s. KnowsStart n events rank call (length (row_of old.table.rows rank)) mate s in
-    let base = knows_message n events old rank call mate k less message (subst F here (subst G after_is more)) in
-    subst I (sym number_is) (subst J (sym new_is) (subst H (sym here) base))
