@@ -1,9 +1,7 @@
 -- What a recording keeps of a run, and which run is recorded.
-use Rattle.std.specs.Prelude.{◌≡◌, ◌<◌, ℕ, List, Some, false, length, map}
+use Rattle.std.specs.Prelude.{◌≡◌, ◌<◌, ℕ, List, length, map}
 use Rattle.std.specs.List.{slice_index_or}
-use Rattle.mpi_call.specs.declared.call.Call.{Call}
 use Rattle.mpi_call.specs.declared.reply.Reply.{Reply}
-use Rattle.mpi_call.specs.Calls.{is_enter}
 use Rattle.run_model.specs.declared.event.Event.{Event}
 use Rattle.run_model.specs.Chosen.{IsChosen}
 use Rattle.run_model.specs.Endings.{ending_of}
@@ -14,11 +12,6 @@ use Rattle.run_model.specs.Views.{Next, replies_in, view_of}
 use Rattle.srr_entry.specs.Entries.{log_of}
 use Rattle.srr_record.specs.Rounds.{HaveEnded}
 use Rattle.srr_record.specs.declared.recording.Recording.{Recording}
-
--- the program makes no collective call: the machine does not answer them yet
-abbrev pub NoEnters : Next → Type 0
-NoEnters next =
-    (n rank : ℕ) (replies : List Reply) (call : Call) → next n rank replies ≡ Some call → is_enter call ≡ false
 
 -- one run for each of n ranks, each after its rank's events
 pub record AreRuns {P R : Type 0} (standing : R → Standing P) (program : P) (n : ℕ) (events : List Event) (runs : List R) : Type 0 where

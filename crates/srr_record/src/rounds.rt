@@ -3,7 +3,7 @@ ghost use Rattle.std.specs.Prelude.{◌≡◌, ◌<◌, ◌≤◌, ◌∷◌, []
 ghost use Rattle.run_model.specs.Lists.{world};
 ghost use Rattle.run_model.specs.Program.{IsAfter};
 ghost use Rattle.run_model.specs.Serial.{call_after};
-ghost use Rattle.srr_record.specs.Recordings.{AreRuns, NoEnters};
+ghost use Rattle.srr_record.specs.Recordings.{AreRuns};
 ghost use Rattle.srr_record.specs.Rounds.{GoesBy, GoesByRounds, HaveEnded, IsOnlyOf};
 
 use mpi_machine::machine::Machine;
@@ -19,7 +19,6 @@ fn try_rank<P: Program, R: RankRun<Of = P>>(
 ) -> Result<(), AllocError>
     requires rank { rank < machine.old.ranks }
     requires run { IsAfter machine.old.program machine.old.ranks rank machine.old.events (R.standing run.old) }
-    requires built { NoEnters (P.next machine.old.program) }
     ensures run { OnOk result (IsAfter machine.old.program machine.old.ranks rank machine.new.events (R.standing run.new)) }
     ensures others { OnOk result (IsOnlyOf rank machine.old.events machine.new.events) }
     ensures goes { OnOk result (GoesBy (P.next machine.old.program) (rank ∷ []) machine.old machine.new) }
@@ -42,7 +41,6 @@ pub fn take_turns<P: Program, R: RankRun<Of = P>>(
 ) -> Result<(), AllocError>
     requires turns { All (λ rank. rank < machine.old.ranks) turns.now }
     requires runs { AreRuns R.standing machine.old.program machine.old.ranks machine.old.events runs.old }
-    requires built { NoEnters (P.next machine.old.program) }
     ensures runs { OnOk result (AreRuns R.standing machine.old.program machine.old.ranks machine.new.events runs.new) }
     ensures goes { OnOk result (GoesBy (P.next machine.old.program) turns.now machine.old machine.new) }
 {
@@ -59,7 +57,6 @@ fn round<P: Program, R: RankRun<Of = P>>(
 ) -> Result<(), AllocError>
     requires few { machine.old.ranks ≤ 64 }
     requires runs { AreRuns R.standing machine.old.program machine.old.ranks machine.old.events runs.old }
-    requires built { NoEnters (P.next machine.old.program) }
     ensures runs { OnOk result (AreRuns R.standing machine.old.program machine.old.ranks machine.new.events runs.new) }
     ensures goes { OnOk result (GoesBy (P.next machine.old.program) (world machine.old.ranks 0) machine.old machine.new) }
 {
@@ -89,7 +86,6 @@ pub fn make_rounds<P: Program, R: RankRun<Of = P>>(
 ) -> Result<(), AllocError>
     requires few { machine.old.ranks ≤ 64 }
     requires runs { AreRuns R.standing machine.old.program machine.old.ranks machine.old.events runs.old }
-    requires built { NoEnters (P.next machine.old.program) }
     ensures runs { OnOk result (AreRuns R.standing machine.old.program machine.old.ranks machine.new.events runs.new) }
     ensures goes { OnOk result (GoesByRounds (P.next machine.old.program) machine.old machine.new) }
     ensures ended { OnOk result (HaveEnded (P.next machine.old.program) machine.old.ranks machine.new.events) }

@@ -1,10 +1,10 @@
 //! Programs of two lists of calls, and the ranks that run them.
 ghost use Rattle.std.specs.Prelude.{◌≡◌, ◌&&◌, ◌++◌, ◌∷◌, [], false, if◌then◌else◌, length, nat_le, nat_lt, replicate, true, IfOk, OnErr, OnOk, ◌==◌};
 ghost use Rattle.std.specs.List.{list_all};
-ghost use Rattle.mpi_machine.specs.Scripts.{call_at, fine_call, is_fine, is_fine_tag, is_open_source, is_stopped};
+ghost use Rattle.mpi_machine.specs.Scripts.{call_at, fine_call, is_fine, is_fine_tag, is_open_source, is_plain, is_stopped};
 ghost use Rattle.srr_record.specs.Recordings.{AreRuns};
 
-use mpi_call::call::{Call, Fault, Source, Tag};
+use mpi_call::call::{Call, Fault, Kind, Source, Tag};
 use mpi_call::reply::Reply;
 use mpi_call::{call, reply};
 use run_model::lists::Variables;
@@ -216,6 +216,13 @@ fn fine_call(ranks: u8, call: &Call) -> Result<Call, AllocError>
     })
 }
 
+/// Whether a collective has no root, operation and ints.
+fn is_plain(kind: Kind) -> bool
+    ensures { result ≡ is_plain kind }
+{
+    matches!(kind, Kind::Barrier | Kind::Dup)
+}
+
 /// Whether a call may stand in a script for so many ranks.
 fn is_fine(ranks: u8, call: &Call) -> bool
     ensures { result ≡ is_fine ranks call.now }
@@ -230,8 +237,21 @@ fn is_fine(ranks: u8, call: &Call) -> bool
         Call::Post { source, tag, .. } => is_open_source(source) && is_fine_tag(tag),
         Call::Peek { source, tag, .. } => is_open_source(source) && is_fine_tag(tag),
         Call::Take { starts, .. } => are_fine(starts.as_slice()),
+        Call::Enter {
+            comm,
+            kind,
+            root,
+            op,
+            count,
+            ints,
+        } => {
+            *comm == 0
+                && (is_plain(*kind)
+                    && (root.is_none()
+                        && (op.is_none() && (*count == 0 && ints.as_slice().len() == 0))))
+        }
         Call::Abort { .. } | Call::Trap { .. } => true,
-        Call::Enter { .. } | Call::End => false,
+        Call::End => false,
     }
 }
 

@@ -7,7 +7,7 @@ ghost use Rattle.run_model.specs.Endings.{ending_by};
 ghost use Rattle.run_model.specs.Lists.{IsPrefixOf, world};
 ghost use Rattle.run_model.specs.Serial.{Stage};
 ghost use Rattle.srr_entry.specs.Entries.{log_of};
-ghost use Rattle.srr_record.specs.Recordings.{AreRuns, IsRecorded, IsRecording, NoEnters, printed_of};
+ghost use Rattle.srr_record.specs.Recordings.{AreRuns, IsRecorded, IsRecording, printed_of};
 ghost use Rattle.srr_record.specs.Rounds.{AreRounds};
 
 use crate::recording::Recording;
@@ -35,7 +35,6 @@ pub fn record_serial<P: Program, R: RankRun<Of = P>>(
 ) -> Result<Recording, AllocError>
     requires runs { AreRuns R.standing program.now (number_of_ranks plan.now) [] runs.items }
     requires turns { All (λ rank. rank < number_of_ranks plan.now) turns.now }
-    requires built { NoEnters (P.next program.now) }
     ensures { IfOk result (λ recording. IsRecording (P.next program.now) (P.output program.now) (number_of_ranks plan.now) text.now plan.now turns.now recording) }
 {
     let mut machine = Machine::new(alloc, program, plan.n())?;
@@ -54,7 +53,6 @@ pub fn finish_record<P: Program, R: RankRun<Of = P>>(
 ) -> Result<Recording, AllocError>
     requires ranks { number_of_ranks plan.now ≡ machine.ranks }
     requires runs { AreRuns R.standing machine.program machine.ranks machine.events runs.items }
-    requires built { NoEnters (P.next machine.program) }
     ensures begins { IfOk result (λ recording. IsPrefixOf machine.entry.events recording.history.events) }
     ensures rounds { IfOk result (λ recording. (stage : Stage) → StandsAt machine.entry stage → AreRounds (P.next machine.entry.program) machine.entry.ranks stage recording.history.events) }
     ensures recorded { IfOk result (λ recording. IsRecorded (P.next machine.entry.program) (P.output machine.entry.program) machine.entry.ranks text.now plan.now recording) }
@@ -71,7 +69,6 @@ fn finish<P: Program, R: RankRun<Of = P>>(
 ) -> Result<Recording, AllocError>
     requires ranks { number_of_ranks plan.now ≡ machine.ranks }
     requires runs { AreRuns R.standing machine.program machine.ranks machine.events runs.old }
-    requires built { NoEnters (P.next machine.program) }
     ensures begins { IfOk result (λ recording. IsPrefixOf machine.entry.events recording.history.events) }
     ensures rounds { IfOk result (λ recording. (stage : Stage) → StandsAt machine.entry stage → AreRounds (P.next machine.entry.program) machine.entry.ranks stage recording.history.events) }
     ensures recorded { IfOk result (λ recording. IsRecorded (P.next machine.entry.program) (P.output machine.entry.program) machine.entry.ranks text.now plan.now recording) }

@@ -5,7 +5,7 @@ use crate::recording::Recording;
 use crate::scripts::{Calls, Script, start_all};
 use crate::serial::{finish_record, record_serial};
 use group_plan::{Plan, read_plan};
-use mpi_call::call::{Call, Fault, Halt, Source, Tag, TakeMode};
+use mpi_call::call::{Call, Fault, Halt, Kind, Source, Tag, TakeMode};
 use mpi_call::lists::{Ints, Starts};
 use mpi_machine::machine::Machine;
 use run_model::ending::Ending;
@@ -17,11 +17,13 @@ use std::rt::HostRuntime;
 use std::test::Fail;
 use wiz_base::bytes::Bytes;
 
-/// What a rank does: it sends the int 7 to a rank with a tag, receives one int with a tag from any rank, or completes a start.
+/// What a rank does: it sends the int 7 to a rank with a tag, receives one int with a tag from any rank, enters a barrier or
+/// another collective without ints, or completes a start.
 #[derive(Clone, Copy)]
 enum Step {
     Send(u8, u32),
     Post(u32),
+    Enter(Kind),
     Take(u32),
 }
 
@@ -38,6 +40,14 @@ fn call_of(alloc: Global, step: Step) -> Result<Call, AllocError> {
             source: Source::Any,
             tag: Tag::Is(tag),
             room: 1,
+        }),
+        Step::Enter(kind) => Ok(Call::Enter {
+            comm: 0,
+            kind,
+            root: None,
+            op: None,
+            count: 0,
+            ints: Ints::from_slice(alloc, &[])?,
         }),
         Step::Take(start) => Ok(Call::Take {
             starts: Starts::from_slice(alloc, &[start])?,
@@ -66,9 +76,13 @@ fn script_of(alloc: Global, zeroth: &[Step], others: &[Step]) -> Result<Script, 
 enum Short {
     Sent,
     Posted,
+    Entered,
     Ended,
     Inside(u8, u32),
     Outside(u8, u32, u32, i32),
+    Inner,
+    Outer,
+    Made(u32),
     Stopped(Halt),
     Other,
 }
@@ -77,6 +91,7 @@ fn in_short(entry: &Entry) -> Short {
     match entry {
         Entry::Sent => Short::Sent,
         Entry::Posted => Short::Posted,
+        Entry::Entered => Short::Entered,
         Entry::Ended => Short::Ended,
         Entry::Stopped(halt) => Short::Stopped(*halt),
         Entry::Took(items) => match items.as_slice() {
@@ -90,6 +105,9 @@ fn in_short(entry: &Entry) -> Short {
 fn mark_in_short(marked: &Marked) -> Short {
     match &marked.mark {
         Mark::Inside { source, start } => Short::Inside(*source, *start),
+        Mark::Inner => Short::Inner,
+        Mark::Outer { .. } => Short::Outer,
+        Mark::Made { comm } => Short::Made(*comm),
         Mark::Outside {
             source,
             start,
@@ -198,8 +216,9 @@ fn runs_are_recorded(rt: HostRuntime) -> Result<(), Fail> {
         rank: 0,
         fault: Fault::BadRank,
     };
+    let mismatched = Halt::Mismatched { rank: 1 };
     // What the ranks do, the plan, the turns, the order of the events, the entries, and how the run ends.
-    let rows: [(&[Step], &[Step], &[u8], &[u8], &[u8], &[Short], Ending); 6] = [
+    let rows: [(&[Step], &[Step], &[u8], &[u8], &[u8], &[Short], Ending); 9] = [
         // One message inside a group. Rank 1's second turn makes no event.
         (
             &[Send(1, 5)],
@@ -268,6 +287,47 @@ fn runs_are_recorded(rt: HostRuntime) -> Result<(), Fail> {
             &[0, 1],
             &[Stopped(trapped), Stopped(trapped)],
             Ending::Halted(trapped),
+        ),
+        // A barrier inside a group, then a copy of the world.
+        (
+            &[Enter(Kind::Barrier), Take(0), Enter(Kind::Dup), Take(1)],
+            &[Enter(Kind::Barrier), Take(0), Enter(Kind::Dup), Take(1)],
+            b"0 1\n",
+            &[1],
+            &[1, 0, 1, 0, 1, 0, 1, 0, 1, 0],
+            &[
+                Entered,
+                Inner,
+                Entered,
+                Made(1),
+                Ended,
+                Entered,
+                Inner,
+                Entered,
+                Made(1),
+                Ended,
+            ],
+            Ending::Finished,
+        ),
+        // A barrier across groups.
+        (
+            &[Enter(Kind::Barrier), Take(0)],
+            &[Enter(Kind::Barrier), Take(0)],
+            b"0\n1\n",
+            &[],
+            &[0, 1, 0, 1, 0, 1],
+            &[Entered, Outer, Ended, Entered, Outer, Ended],
+            Ending::Finished,
+        ),
+        // Two collectives that do not agree.
+        (
+            &[Enter(Kind::Barrier), Take(0)],
+            &[Enter(Kind::Dup), Take(0)],
+            b"0 1\n",
+            &[],
+            &[0, 1, 0],
+            &[Entered, Stopped(mismatched), Stopped(mismatched)],
+            Ending::Halted(mismatched),
         ),
     ];
     for at in 0..rows.len() {
