@@ -1,5 +1,5 @@
 -- Starts of collectives.
-use Rattle.std.proofs.Common.{◌≡◌, ◌||◌, ◌&&◌, ◌∙◌, ◌<◌, Bool, List, None, Option, Some, ap, false, inl, inr, is_some, not, refl, subst, sym, true, ℕ}
+use Rattle.std.proofs.Common.{◌≡◌, ◌||◌, ◌&&◌, ◌∙◌, ◌<◌, List, None, Option, Some, false, inl, inr, is_some, subst, sym, true, ℕ}
 use Rattle.mpi_call.specs.Calls.{comm_of, is_enter, is_starting}
 use Rattle.mpi_call.specs.Members.{is_member}
 use Rattle.mpi_call.specs.Needs.{IsEnterOf}

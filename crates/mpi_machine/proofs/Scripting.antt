@@ -1,12 +1,8 @@
 -- The calls of a script.
-use Rattle.std.proofs.Common.{◌≡◌, ◌<◌, List, None, Some, [], ◌∷◌, arith, false, get_or, if◌then◌else◌, inl, inr, length, refl, subst, suc, true, zero, ℕ}
-use Rattle.std.specs.Prelude.{◌==◌}
-use Rattle.std.specs.List.{list_any}
+use Rattle.std.proofs.Common.{◌≡◌, ◌<◌, List, Some, [], ◌∷◌, arith, get_or, length, refl, suc, zero, ℕ}
 use Rattle.mpi_call.specs.declared.call.Call.{Call}
-use Rattle.mpi_call.specs.declared.call.Call.TheVariants.{Abort, End, Enter, Peek, Post, Send, Take, Trap}
-use Rattle.mpi_call.specs.declared.reply.Reply.{Reply}
-use Rattle.run_model.proofs.Views.{test_cases}
-use Rattle.mpi_machine.specs.Scripts.{call_at, fine_call, is_fine, is_stopped, next_in, next_of}
+use Rattle.mpi_call.specs.declared.call.Call.TheVariants.{End}
+use Rattle.mpi_machine.specs.Scripts.{call_at, fine_call}
 
 pub call_here : (n : ℕ) (calls : List Call) (at : ℕ) (other : Call) → at < length calls → Some (fine_call n (get_or calls at other)) ≡ call_at n calls at
 call_here n [] at other h = absurd (omega arith)

@@ -1,5 +1,5 @@
 -- Scripts are programs: they keep the four laws.
-use Rattle.std.proofs.Common.{◌≡◌, ◌<◌, ◌≤◌, ◌+◌, ◌⊎◌, ◌||◌, ◌&&◌, ◌==◌, ◌∙◌, ◌++◌, ◌∷◌, if◌then◌else◌, Bool, List, None, Some, [], ap, arith, false, inl, inr, length, length-append, nat_lt, nat_le, not, refl, suc, subst, sym, true, zero, ℕ}
+use Rattle.std.proofs.Common.{◌≡◌, ◌<◌, ◌≤◌, ◌+◌, ◌⊎◌, ◌||◌, ◌&&◌, ◌==◌, ◌∙◌, ◌++◌, ◌∷◌, if◌then◌else◌, Bool, List, None, Option, Some, [], ap, arith, false, inl, inr, is_some, length, length-append, nat_lt, nat_le, not, refl, suc, subst, sym, true, zero, ℕ, ℤ}
 use Rattle.std.specs.List.{All, list_all, list_any}
 use Rattle.std.proofs.lemmas.Bool.{and_parts, eqb-true, leb-true, ltb-true}
 use Rattle.std.proofs.lemmas.List.Folds.{list_any-append}
@@ -259,78 +259,10 @@ in_bounds n got (Trap fault) h = tt
 in_bounds n got (Enter comm kind root op count ints) h = (let parts = plain_parts n comm kind root op count ints h in rw parts.root_is tt)
 in_bounds n got End h = tt
 
-fine_no_some : {A : Type 0} (o : Option A) → not (is_some o) ≡ true → o ≡ None
-no_some None h = refl
-no_some (Some x) h = absurd (cc)
-
-no_ints : (xs : List ℤ) → length xs ≡ 0 → xs ≡ []
-no_ints [] h = refl
-no_ints (x ∷ xs) h = absurd (omega arith)
-
--- what a script's collective is
-record IsPlainEnter (comm : ℕ) (kind : Kind) (root : Option ℕ) (op : Option Op) (count : ℕ) (ints : List ℤ) : Type 0 where
-  comm_is : comm ≡ 0
-  plain : is_plain kind ≡ true
-  root_is : root ≡ None
-  op_is : op ≡ None
-  count_is : count ≡ 0
-  ints_are : ints ≡ []
-
-plain_parts : (n comm : ℕ) (kind : Kind) (root : Option ℕ) (op : Option Op) (count : ℕ) (ints : List ℤ) → is_fine n (Enter comm kind root op count ints) ≡ true
-    → IsPlainEnter comm kind root op count ints
-plain_parts n comm kind root op count ints h =
-    let one = and_parts (comm == 0) (is_plain kind && (not (is_some root) && (not (is_some op) && ((count == 0) && (length ints == 0))))) h in
-    let two = and_parts (is_plain kind) (not (is_some root) && (not (is_some op) && ((count == 0) && (length ints == 0)))) one.1 in
-    let three = and_parts (not (is_some root)) (not (is_some op) && ((count == 0) && (length ints == 0))) two.1 in
-    let four = and_parts (not (is_some op)) ((count == 0) && (length ints == 0)) three.1 in
-    let five = and_parts (count == 0) (length ints == 0) four.1 in
-    record {
-      comm_is = eqb-true comm 0 one.0;
-      plain = two.0;
-      root_is = no_some root three.0;
-      op_is = no_some op four.0;
-      count_is = eqb-true count 0 five.0;
-      ints_are = no_ints ints (eqb-true (length ints) 0 five.1);
-    }
-
-in_bounds : (n got : ℕ) (call : Call) → IsInBounds n got (fine_call n call)
+fine_in_bounds : (n got : ℕ) (call : Call) → IsInBounds n got (fine_call n call)
 fine_in_bounds n got call = elim (test_cases (is_fine n call)) [ inl h ↦ rw h (in_bounds n got call h) | inr h ↦ rw h tt ]
 
-at_no_some : {A : Type 0} (o : Option A) → not (is_some o) ≡ true → o ≡ None
-no_some None h = refl
-no_some (Some x) h = absurd (cc)
-
-no_ints : (xs : List ℤ) → length xs ≡ 0 → xs ≡ []
-no_ints [] h = refl
-no_ints (x ∷ xs) h = absurd (omega arith)
-
--- what a script's collective is
-record IsPlainEnter (comm : ℕ) (kind : Kind) (root : Option ℕ) (op : Option Op) (count : ℕ) (ints : List ℤ) : Type 0 where
-  comm_is : comm ≡ 0
-  plain : is_plain kind ≡ true
-  root_is : root ≡ None
-  op_is : op ≡ None
-  count_is : count ≡ 0
-  ints_are : ints ≡ []
-
-plain_parts : (n comm : ℕ) (kind : Kind) (root : Option ℕ) (op : Option Op) (count : ℕ) (ints : List ℤ) → is_fine n (Enter comm kind root op count ints) ≡ true
-    → IsPlainEnter comm kind root op count ints
-plain_parts n comm kind root op count ints h =
-    let one = and_parts (comm == 0) (is_plain kind && (not (is_some root) && (not (is_some op) && ((count == 0) && (length ints == 0))))) h in
-    let two = and_parts (is_plain kind) (not (is_some root) && (not (is_some op) && ((count == 0) && (length ints == 0)))) one.1 in
-    let three = and_parts (not (is_some root)) (not (is_some op) && ((count == 0) && (length ints == 0))) two.1 in
-    let four = and_parts (not (is_some op)) ((count == 0) && (length ints == 0)) three.1 in
-    let five = and_parts (count == 0) (length ints == 0) four.1 in
-    record {
-      comm_is = eqb-true comm 0 one.0;
-      plain = two.0;
-      root_is = no_some root three.0;
-      op_is = no_some op four.0;
-      count_is = eqb-true count 0 five.0;
-      ints_are = no_ints ints (eqb-true (length ints) 0 five.1);
-    }
-
-in_bounds : (n got : ℕ) (calls : List Call) (at : ℕ) (call : Call) → call_at n calls at ≡ Some call → IsInBounds n got call
+at_in_bounds : (n got : ℕ) (calls : List Call) (at : ℕ) (call : Call) → call_at n calls at ≡ Some call → IsInBounds n got call
 at_in_bounds n got [] zero call h =
     let e : End ≡ call = cc in
     let F : Call → Type 0 = λ c. IsInBounds n got c in

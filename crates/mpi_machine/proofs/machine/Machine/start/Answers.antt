@@ -5,7 +5,7 @@ use Rattle.run_model.specs.declared.event.Event.{Event}
 use Rattle.requests.specs.declared.requests.Started.{Started}
 use Rattle.requests.specs.Histories.{KnowsStart, KnowsStarted}
 use Rattle.mpi_machine.proofs.Answering.{has_reply, mismatch_answered, start_answered}
-use Rattle.mpi_machine.proofs.Entering.{asked_form, may_join, start_takes}
+use Rattle.mpi_machine.proofs.Entering.{asked_form, may_join}
 use Rattle.mpi_machine.proofs.Growing.{event_with}
 use Rattle.mpi_machine.proofs.Moving.{after_reply, live_in, start_event, start_keeps, turn_is}
 use Rattle.mpi_machine.proofs.machine.Machine.start.Goals as goal
@@ -13,7 +13,7 @@ use Rattle.mpi_machine.proofs.machine.Machine.start.Goals as goal
 pub start-requires-clause-position : goal.start-requires-clause-position
 start-requires-clause-position g c =
     rw (c.len-at.ensures, c.history.ensures, c.reserve.ensures.events) (
-        c.knows_on.ensures.above c.self.inside.course.ranks c.self.inside.course.events c.self.invariant.knows)
+    c.knows_on.ensures.above c.self.inside.course.ranks c.self.inside.course.events c.self.invariant.knows)
 
 pub start-requires-clause-enter : goal.start-requires-clause-enter
 start-requires-clause-enter g c = λ enter.
@@ -30,10 +30,10 @@ pub append-requires-clause-live : goal.append-requires-clause-live
 append-requires-clause-live g c =
     let asked = rw (← c.self.view_is) at c.requires.asked in
     rw c.reserve.ensures.events (
-        live_in (g.P.Program.next c.self.inside.program.now) c.self.inside.course.ranks c.self.inside.course.events c.self.inside.course.kept c.self.inside.requests
-        c.args.rank c.args.call
-        (record { ends = g.P.Program.ends_exactly c.self.inside.program.now; enters = g.P.Program.enters_in_form c.self.inside.program.now })
-        c.self.invariant asked)
+    live_in (g.P.Program.next c.self.inside.program.now) c.self.inside.course.ranks c.self.inside.course.events c.self.inside.course.kept c.self.inside.requests
+    c.args.rank c.args.call
+    (record { ends = g.P.Program.ends_exactly c.self.inside.program.now; enters = g.P.Program.enters_in_form c.self.inside.program.now })
+    c.self.invariant asked)
 
 pub invariant_of-self-in-Made : goal.invariant_of-self-in-Made
 invariant_of-self-in-Made g c =
@@ -50,10 +50,10 @@ invariant_of-self-in-Made g c =
     let has = has_reply (g.P.Program.next c.self.inside.program.now) c.self.inside.course.ranks c.self.inside.course.events c.self.inside.course.kept
     c.args.rank c.args.call Done asked (start_answered c.self.inside.course.ranks c.self.inside.course.events c.args.rank c.args.call free c.requires.kind made.agrees) in
     rw (c.append.ensures.ranks ∙ c.reserve.ensures.ranks, c.append.ensures.events, c.append.ensures.kept, c.reserve.ensures.events, c.reserve.ensures.kept) (
-        start_keeps (g.P.Program.next c.self.inside.program.now) c.self.inside.course.ranks c.self.inside.course.events c.self.inside.course.kept c.start.new.self
-        c.args.rank c.args.call c.in-Made.start c.in-Made.mate
-        (record { ends = g.P.Program.ends_exactly c.self.inside.program.now; enters = g.P.Program.enters_in_form c.self.inside.program.now })
-        c.self.invariant.chosen c.self.invariant.kept_are has c.requires.kind made)
+    start_keeps (g.P.Program.next c.self.inside.program.now) c.self.inside.course.ranks c.self.inside.course.events c.self.inside.course.kept c.start.new.self
+    c.args.rank c.args.call c.in-Made.start c.in-Made.mate
+    (record { ends = g.P.Program.ends_exactly c.self.inside.program.now; enters = g.P.Program.enters_in_form c.self.inside.program.now })
+    c.self.invariant.chosen c.self.invariant.kept_are has c.requires.kind made)
 
 pub returns-in-Made-clause-after : goal.returns-in-Made-clause-after
 returns-in-Made-clause-after g c =
@@ -69,9 +69,9 @@ returns-in-Made-clause-after g c =
     subst F c.in-Made.is (c.in_ok-mate.ensures.knows c.self.inside.course.ranks c.self.inside.course.events c.self.invariant.knows at form) in
     let is = (start_answered c.self.inside.course.ranks c.self.inside.course.events c.args.rank c.args.call free c.requires.kind made.agrees).reply_is in
     rw (← c.self.view_is, c.append.ensures.ranks ∙ c.reserve.ensures.ranks, c.append.ensures.events, c.append.ensures.kept, c.reserve.ensures.events, c.reserve.ensures.kept) (
-        after_reply c.self.inside.program.now c.self.inside.course.ranks c.self.inside.course.events c.self.inside.course.kept c.args.rank c.args.call Done
-        (event_with c.args.rank c.args.call Done c.in-Made.mate)
-        (start_event c.self.inside.course.ranks c.self.inside.course.events c.args.rank c.args.call c.in-Made.mate is c.requires.kind made.choice_is))
+    after_reply c.self.inside.program.now c.self.inside.course.ranks c.self.inside.course.events c.self.inside.course.kept c.args.rank c.args.call Done
+    (event_with c.args.rank c.args.call Done c.in-Made.mate)
+    (start_event c.self.inside.course.ranks c.self.inside.course.events c.args.rank c.args.call c.in-Made.mate is c.requires.kind made.choice_is))
 
 pub returns-in-Made-clause-turn : goal.returns-in-Made-clause-turn
 returns-in-Made-clause-turn g c =
@@ -88,9 +88,9 @@ returns-in-Made-clause-turn g c =
     let has = has_reply (g.P.Program.next c.self.inside.program.now) c.self.inside.course.ranks c.self.inside.course.events c.self.inside.course.kept
     c.args.rank c.args.call Done asked (start_answered c.self.inside.course.ranks c.self.inside.course.events c.args.rank c.args.call free c.requires.kind made.agrees) in
     rw (← c.self.view_is) (
-        sym (
-            turn_is (g.P.Program.next c.self.inside.program.now) c.self.inside.course.ranks c.self.inside.course.events c.self.inside.course.kept
-            c.args.rank c.args.call Done has))
+    sym (
+    turn_is (g.P.Program.next c.self.inside.program.now) c.self.inside.course.ranks c.self.inside.course.events c.self.inside.course.kept
+    c.args.rank c.args.call Done has))
 
 pub last-requires-clause-reply : goal.last-requires-clause-reply
 last-requires-clause-reply g c =
@@ -104,6 +104,6 @@ last-requires-clause-reply g c =
     let F : Started → Type 0 = λ s. KnowsStarted c.self.inside.course.ranks c.self.inside.course.events c.args.rank c.args.call s c.start.new.self in
     let other = subst F c.in-Disagrees.is (c.in_ok-mate.ensures.knows c.self.inside.course.ranks c.self.inside.course.events c.self.invariant.knows at form) in
     rw (c.reserve.ensures.ranks, c.reserve.ensures.events, c.reserve.ensures.kept) (
-        has_reply (g.P.Program.next c.self.inside.program.now) c.self.inside.course.ranks c.self.inside.course.events c.self.inside.course.kept
-        c.args.rank c.args.call (Stopped (Mismatched c.args.rank)) asked
-        (mismatch_answered c.self.inside.course.ranks c.self.inside.course.events c.args.rank c.args.call free other.0 other.1))
+    has_reply (g.P.Program.next c.self.inside.program.now) c.self.inside.course.ranks c.self.inside.course.events c.self.inside.course.kept
+    c.args.rank c.args.call (Stopped (Mismatched c.args.rank)) asked
+    (mismatch_answered c.self.inside.course.ranks c.self.inside.course.events c.args.rank c.args.call free other.0 other.1))
