@@ -1,22 +1,20 @@
 -- What is known of the history with a new Enter, and after one that was taken back.
-use Rattle.std.proofs.Common.{◌≡◌, ◌<◌, ◌≤◌, ◌&&◌, ◌==◌, ℕ, zero, suc, List, [], ◌∷◌, ◌++◌, Option, Some, None, Bool, true, false, cond, get_or, length, slice_get, ◌⊎◌, inl, inr, refl, ap, sym, ◌∙◌, subst, arith}
-use Rattle.std.specs.Prelude.{option_map, nat_lt}
+use Rattle.std.proofs.Common.{◌≡◌, ◌<◌, ◌&&◌, ◌==◌, ℕ, List, [], ◌∷◌, ◌++◌, Option, Some, None, Bool, true, false, cond, length, inl, inr, refl, ap, sym, ◌∙◌, subst, arith}
 use Rattle.mpi_call.specs.declared.call.Call.{Call}
-use Rattle.mpi_call.specs.declared.call.Call.TheVariants.{Send, Post, Enter}
-use Rattle.mpi_call.specs.Calls.{comm_of, is_enter, makes}
+use Rattle.mpi_call.specs.declared.call.Call.TheVariants.{Enter}
+use Rattle.mpi_call.specs.Calls.{comm_of, is_enter}
 use Rattle.mpi_call.specs.Collectives.{is_uncoloured, members_made}
 use Rattle.mpi_call.specs.Members.{is_member}
 use Rattle.mpi_call.specs.Needs.{IsEnterOf}
 use Rattle.run_model.specs.declared.event.Event.{Event}
 use Rattle.run_model.specs.Choice.{choice}
-use Rattle.run_model.specs.Communicators.{Entered, enter_at, known_in}
-use Rattle.run_model.specs.Due.{is_mismatched}
-use Rattle.run_model.specs.Pairs.{Name, name_at, named, pairs_of, partner_of, same_name}
+use Rattle.run_model.specs.Communicators.{known_in}
+use Rattle.run_model.specs.Pairs.{Name, name_at, named, partner_of, same_name}
 use Rattle.run_model.specs.Program.{IsInForm}
-use Rattle.run_model.specs.Views.{View, is_start, starts_of, taken_of, view_of}
+use Rattle.run_model.specs.Views.{View, is_start, starts_of, view_of}
 use Rattle.run_model.proofs.Choosing.{IsOpenAt, choice_is_none}
 use Rattle.run_model.proofs.StartLemmas.{slice_get-below}
-use Rattle.run_model.proofs.Views.{option_cases, test_cases}
+use Rattle.run_model.proofs.Views.{option_cases}
 use Rattle.match_core.specs.Histories.{event_of, Knows as MatcherKnows}
 use Rattle.match_core.specs.Starts.{is_message}
 use Rattle.match_core.specs.declared.start.Start.{Start as Unpaired}
@@ -28,20 +26,18 @@ use Rattle.collectives.specs.Instances.{joins_unless}
 use Rattle.collectives.specs.declared.entrants.Entrant.{Entrant}
 use Rattle.collectives.specs.declared.instances.Entered.{Entered as EnteredAnswer}
 use Rattle.collectives.specs.declared.instances.Entered.TheVariants.{Joined, Disagrees}
-use Rattle.comms.specs.Communicators.{Communicators, given_in, members_of, old_members}
-use Rattle.requests.specs.declared.start.Start.{Start}
+use Rattle.comms.specs.Communicators.{Communicators, given_in, old_members}
 use Rattle.requests.specs.declared.requests.Started.{Started}
 use Rattle.requests.specs.declared.requests.Started.TheVariants.{Made, Disagrees as DisagreesWith}
 use Rattle.requests.specs.Enters.{IsSoundEnter, IsSoundEntrant, call_by, has_all, has_needed, needed_ints}
-use Rattle.requests.specs.Starts.{Names, Rows, call_in, found_in, fresh, is_gone, mate_of, name_in, row_of, with_name, with_start}
-use Rattle.requests.specs.States.{IsCommsAfter, IsEntered, IsGiven, IsJoined, IsSound, IsUnchanged, MayEnter, MayMake, State, Table, next_name, table_of}
+use Rattle.requests.specs.Starts.{Names, Rows, call_in, found_in, fresh, is_gone, mate_of, name_in, row_of, with_name}
+use Rattle.requests.specs.States.{IsCommsAfter, IsEntered, IsJoined, IsSound, IsUnchanged, MayEnter, MayMake, State, Table, next_name, table_of}
 use Rattle.requests.specs.Taking.{is_gathered_in}
 use Rattle.requests.specs.Histories.{IsNumbered, Knows, KnowsEnters, KnowsStart, KnowsStarted}
 use Rattle.requests.proofs.Found.{length-row}
 use Rattle.requests.proofs.Pairing.{length-names, name_at-push, name_in-push, named-push, one_more, pairs-alone}
 use Rattle.requests.proofs.Starting.{call_start, gone_start, mates_alone, rows_length, taken-same}
 use Rattle.requests.proofs.Steps.{some_members}
-use Rattle.requests.proofs.Collecting.{call_of}
 use Rattle.requests.proofs.Growing.{all_member, among-back, among-last, gained}
 use Rattle.requests.proofs.Joining.{IsEntering, lengths_are}
 use Rattle.requests.proofs.Leaving.{not_less}

@@ -1,6 +1,6 @@
 -- What a completion answers and leaves, by the history.
-use Rattle.std.proofs.Common.{◌≡◌, ◌<◌, ◌≤◌, ◌+◌, ◌&&◌, ◌||◌, ◌==◌, ℕ, ℤ, zero, suc, List, [], ◌∷◌, ◌++◌, Option, Some, None, Bool, true, false, not, cond, drop, get_or, set, length, map, slice_get, slice_index, take, ◌⊎◌, inl, inr, refl, ap, sym, ◌∙◌, subst, arith, append-nil, get_or-set_same}
-use Rattle.std.specs.Prelude.{option_map, is_some}
+use Rattle.std.proofs.Common.{◌≡◌, ◌<◌, ◌+◌, ◌&&◌, ◌||◌, ◌==◌, ℕ, ℤ, zero, suc, List, [], ◌∷◌, ◌++◌, Option, Some, None, Bool, true, false, not, cond, set, length, map, slice_get, slice_index, take, inl, inr, refl, ap, sym, ◌∙◌, subst, arith, append-nil, get_or-set_same}
+use Rattle.std.specs.Prelude.{option_map}
 use Rattle.std.proofs.lemmas.Bool.{cases_eq, eqb-true, eq-eqb, and_parts}
 use Rattle.std.proofs.lemmas.List.{set-get_or}
 use Rattle.mpi_call.specs.declared.call.Call.{Call}
@@ -22,9 +22,9 @@ use Rattle.collectives.specs.Boards.{Stages, enters_of}
 use Rattle.comms.specs.Communicators.{Communicators, members_of, old_members}
 use Rattle.requests.specs.Enters.{needed_ints}
 use Rattle.run_model.specs.Due.{bad_request}
-use Rattle.run_model.specs.Pairs.{Name, name_at, named, pairs_of, partner_of}
+use Rattle.run_model.specs.Pairs.{Name, name_at, partner_of}
 use Rattle.run_model.specs.Shape.{is_test}
-use Rattle.run_model.specs.Views.{View, is_done, items_taken, taken_of, view_of}
+use Rattle.run_model.specs.Views.{View, items_taken, taken_of, view_of}
 use Rattle.run_model.proofs.ChosenGots.{AllOf}
 use Rattle.run_model.proofs.Views.{option_cases, test_cases, view_of-mine, view_of-other}
 use Rattle.match_core.proofs.Grown.{named-other}
@@ -32,12 +32,11 @@ use Rattle.match_core.proofs.Knowing.{knows_others}
 use Rattle.requests.specs.declared.start.Start.{Start}
 use Rattle.requests.specs.declared.requests.TakeAnswer.{TakeAnswer}
 use Rattle.requests.specs.declared.requests.TakeAnswer.TheVariants.{Took, NotReady, TooLong, BadStart}
-use Rattle.requests.specs.Starts.{Rows, all_marked, call_in, found_in, is_gone, marked, mate_of, name_in, row_of, with_row}
+use Rattle.requests.specs.Starts.{Rows, all_marked, call_in, found_in, is_gone, marked, mate_of, row_of, with_row}
 use Rattle.requests.specs.States.{State, Table, with_rows}
 use Rattle.requests.specs.Taking.{collected_as, collected_in, got_as, got_in, inputs_in, is_complete_as, is_gathered_in, members_for, message_from, answer_in, bad_or, held_or, places_from, takes_one, can_take_in, first_bad, first_long_in, flags_in, is_complete, item_in, items_in, long_or, rows_after}
 use Rattle.requests.specs.Histories.{Answers, IsNumbered, Knows, KnowsTaken, number_for, took_event}
 use Rattle.requests.proofs.Found.{get-marked, length-row, not_same}
-use Rattle.requests.proofs.Steps.{steps}
 use Rattle.requests.proofs.Pairing.{name_at-push, one_more, pairs-alone}
 use Rattle.requests.proofs.Starting.{taken_of-append}
 use Rattle.requests.proofs.Known.{calls_there, name_past}

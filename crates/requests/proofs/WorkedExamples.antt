@@ -1,17 +1,16 @@
 -- The next position of the worked examples.
-use Rattle.std.proofs.Common.{◌≡◌, ◌<◌, ◌≤◌, ◌+◌, ℕ, zero, suc, Bool, List, [], ◌∷◌, ◌++◌, Option, Some, None, true, false, length, ◌⊎◌, inl, inr, refl, ap, sym, ◌∙◌, subst, arith}
+use Rattle.std.proofs.Common.{◌≡◌, ◌<◌, ◌+◌, ℕ, zero, suc, Bool, List, [], ◌∷◌, ◌++◌, Option, Some, None, true, false, length, inl, inr, refl, ap, sym, ◌∙◌, subst, arith}
 use Rattle.std.specs.List.{range_with_len}
 use Rattle.mpi_call.specs.declared.call.Call.{Call}
 use Rattle.mpi_call.specs.declared.call.Call.TheVariants.{Send, Post, Enter}
 use Rattle.mpi_call.specs.Calls.{comm_of, is_enter, is_starting}
 use Rattle.mpi_call.specs.Members.{is_member}
 use Rattle.mpi_call.specs.Needs.{IsEnterOf}
-use Rattle.mpi_call.specs.declared.reply.Item.{Item}
 use Rattle.run_model.specs.Pairs.{Name}
 use Rattle.run_model.specs.Views.{items_taken}
 use Rattle.match_core.specs.declared.start.Start.{Start as Unpaired}
 use Rattle.run_model.proofs.StartLemmas.{slice_get-below}
-use Rattle.match_core.specs.Starts.{AreBelow, IsAmong, is_message, left_by, start_of}
+use Rattle.match_core.specs.Starts.{AreBelow, is_message, left_by, start_of}
 use Rattle.match_core.proofs.Queues.{among_cases, among_without}
 use Rattle.collectives.specs.Boards.{enters_of, enters_on}
 use Rattle.comms.specs.Communicators.{Communicators, old_members}
@@ -20,7 +19,7 @@ use Rattle.requests.specs.declared.requests.Started.TheVariants.{Made, Disagrees
 use Rattle.requests.specs.declared.requests.TakeAnswer.{TakeAnswer}
 use Rattle.requests.specs.declared.requests.TakeAnswer.TheVariants.{Took, NotReady, TooLong, BadStart}
 use Rattle.requests.specs.Starts.{Names, Rows, all_marked, fresh, mate_named, row_of, with_name, with_row, with_start}
-use Rattle.requests.specs.States.{IsAbove, IsEntered, IsPaired, IsStarted, IsStartedAs, MayEnter, MayStart, State, at_first, next_name, with_message, with_rows}
+use Rattle.requests.specs.States.{IsEntered, IsPaired, IsStarted, IsStartedAs, MayEnter, MayStart, State, at_first, next_name, with_rows}
 use Rattle.requests.specs.Taking.{rows_after}
 use Rattle.requests.proofs.Found.{length-row}
 use Rattle.requests.proofs.Pairing.{length-names}

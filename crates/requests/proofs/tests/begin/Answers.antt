@@ -1,4 +1,4 @@
-use Rattle.std.proofs.Common.{◌≡◌, ◌∙◌, absurd, false, sym, true}
+use Rattle.std.proofs.Common.{◌≡◌, ◌∙◌, false, sym, true}
 use Rattle.requests.proofs.Sounding.{no_enter}
 use Rattle.requests.proofs.WorkedExamples.{message_starting, next_started}
 use Rattle.requests.proofs.tests.begin.Goals as goal

@@ -1,4 +1,4 @@
-use Rattle.std.proofs.Common.{◌∙◌, ap, List, refl, subst, sym}
+use Rattle.std.proofs.Common.{◌∙◌, ap, List, refl, subst}
 use Rattle.collectives.proofs.BoardLemmas.{known, unknown}
 use Rattle.collectives.proofs.InstanceLemmas.{orderly_first}
 use Rattle.collectives.specs.Boards.{IsOrderly, instances_on}

@@ -1,10 +1,10 @@
-use Rattle.std.proofs.Common.{◌≡◌, ◌<◌, ◌∙◌, List, None, ap, length, rules, subst, sym, true, ℕ}
+use Rattle.std.proofs.Common.{◌≡◌, ◌<◌, None, length, rules, subst, sym, ℕ}
 use Rattle.mpi_call.specs.declared.call.Call.{Call}
 use Rattle.mpi_call.specs.Calls.{comm_of}
 use Rattle.collectives.specs.declared.entrants.Entrant.{Entrant}
 use Rattle.collectives.specs.Boards.{GainsEnter, IsOrderly, Stages, enters_of, enters_on}
 use Rattle.requests.specs.declared.requests.Started.TheVariants.{Made, Disagrees}
-use Rattle.requests.specs.Starts.{Rows, fresh, with_start}
+use Rattle.requests.specs.Starts.{Rows}
 use Rattle.requests.specs.States.{IsSound, MayEnter, State, table_of}
 use Rattle.requests.proofs.Joining.{sound_entered}
 use Rattle.requests.proofs.Knowing.{IsOn, entering_on, knows_entered, may_make, on_board, sound_back}
