@@ -1,8 +1,3 @@
-pub mod ExprRules
-pub mod CallRules
-pub mod Faultless
-pub mod MpiRules
-pub mod ArgumentRules
 pub mod Growing
 pub mod SimpleRules
 pub mod StatementRules

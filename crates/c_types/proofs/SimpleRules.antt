@@ -25,13 +25,13 @@ use Rattle.c_check.specs.declared.thing.Meaning.{Meaning}
 use Rattle.c_check.specs.declared.thing.Meaning.TheVariants as m
 use Rattle.c_check.specs.declared.thing.Thing.TheVariants as d
 use Rattle.c_check.proofs.Lists.{drop_got, drop_past}
-use Rattle.c_types.specs.Calls.{IsValue}
-use Rattle.c_types.specs.Exprs.{IsPlace}
-use Rattle.c_types.specs.Shapes.{is_value}
+use Rattle.c_calls.specs.Calls.{IsValue}
+use Rattle.c_calls.specs.Exprs.{IsPlace}
+use Rattle.c_calls.specs.Shapes.{is_value}
 use Rattle.c_types.specs.Statements as x
 use Rattle.c_types.specs.Statements.{AreValues, IsSimple, one, update_of}
-use Rattle.c_types.specs.declared.expr.Expr.{Expr}
-use Rattle.c_types.specs.declared.expr.Place.{Place}
+use Rattle.c_calls.specs.declared.expr.Expr.{Expr}
+use Rattle.c_calls.specs.declared.expr.Place.{Place}
 use Rattle.c_types.specs.declared.statement.Simple.TheVariants as l
 use Rattle.c_types.proofs.Growing.{ended, grown, none_left, none_right}
 

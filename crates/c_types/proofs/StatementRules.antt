@@ -34,11 +34,11 @@ use Rattle.c_check.proofs.Lists.{drop_at, drop_past}
 use Rattle.c_check.proofs.More.{after_items_next, after_parts_next}
 use Rattle.c_check.proofs.Rows.{behind_viewed}
 use Rattle.c_lex.specs.declared.fault.Why.TheVariants.{WrongType}
-use Rattle.c_types.specs.Exprs.{IsExpr}
+use Rattle.c_calls.specs.Exprs.{IsExpr}
 use Rattle.c_types.specs.Statements as x
 use Rattle.c_types.specs.Statements.{AreExprs, AreItems, AreParts, IsDeclaration, IsItem, IsPart, IsReturn, IsSimple, IsStart, IsStep, IsStmt, IsTest}
-use Rattle.c_types.specs.declared.expr.Expr.{Expr}
-use Rattle.c_types.specs.declared.expr.Right.{Right}
+use Rattle.c_calls.specs.declared.expr.Expr.{Expr}
+use Rattle.c_calls.specs.declared.expr.Right.{Right}
 use Rattle.c_types.specs.declared.statement.Declaration.{Declaration}
 use Rattle.c_types.specs.declared.statement.ForStart.{ForStart}
 use Rattle.c_types.specs.declared.statement.Item.{Item}

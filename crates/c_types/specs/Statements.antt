@@ -21,16 +21,16 @@ use Rattle.c_check.specs.Signatures.{listed}
 use Rattle.c_check.specs.Statements.{after_item, after_part, after_start, is_assign}
 use Rattle.c_check.specs.declared.thing.Kind.{Kind}
 use Rattle.c_check.specs.declared.thing.Meaning.TheVariants as m
-use Rattle.c_types.specs.Calls.{IsCall, IsRight, IsValue}
-use Rattle.c_types.specs.Exprs.{IsExpr, IsPlace}
-use Rattle.c_types.specs.MpiCalls.{IsMpiCall}
-use Rattle.c_types.specs.declared.expr.Call.{Call}
-use Rattle.c_types.specs.declared.expr.Expr.{Expr}
-use Rattle.c_types.specs.declared.expr.Expr.TheVariants as v
-use Rattle.c_types.specs.declared.expr.Place.{Place}
-use Rattle.c_types.specs.declared.expr.Right.{Right}
-use Rattle.c_types.specs.declared.expr.Right.TheVariants as g
-use Rattle.c_types.specs.declared.mpi.MpiCall.{MpiCall}
+use Rattle.c_calls.specs.Calls.{IsCall, IsRight, IsValue}
+use Rattle.c_calls.specs.Exprs.{IsExpr, IsPlace}
+use Rattle.c_calls.specs.MpiCalls.{IsMpiCall}
+use Rattle.c_calls.specs.declared.expr.Call.{Call}
+use Rattle.c_calls.specs.declared.expr.Expr.{Expr}
+use Rattle.c_calls.specs.declared.expr.Expr.TheVariants as v
+use Rattle.c_calls.specs.declared.expr.Place.{Place}
+use Rattle.c_calls.specs.declared.expr.Right.{Right}
+use Rattle.c_calls.specs.declared.expr.Right.TheVariants as g
+use Rattle.c_calls.specs.declared.mpi.MpiCall.{MpiCall}
 use Rattle.c_types.specs.declared.statement.Declaration.{Declaration}
 use Rattle.c_types.specs.declared.statement.ForStart.{ForStart}
 use Rattle.c_types.specs.declared.statement.ForStart.TheVariants as b

@@ -1,11 +1,6 @@
 //! The typed program of a C text, or the first fault that it has.
 #![tactic(auto)]
 
-mod call_of;
-pub mod expr;
-mod expr_of;
-pub mod mpi;
-mod mpi_of;
 pub mod program;
 pub mod statement;
 mod statement_of;

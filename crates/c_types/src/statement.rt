@@ -1,7 +1,7 @@
 //! Typed statements.
 
-use crate::expr::{Call, Expr, Place, Right};
-use crate::mpi::MpiCall;
+use c_calls::expr::{Call, Expr, Place, Right};
+use c_calls::mpi::MpiCall;
 use c_check::thing::Kind;
 use c_names::format::Piece;
 use c_names::operator::Operator;

@@ -17,11 +17,11 @@ ghost use Rattle.c_check.specs.declared.thing.Meaning.TheVariants as m;
 ghost use Rattle.c_check.specs.declared.thing.Thing.{Thing};
 ghost use Rattle.c_types.specs.Statements.{AreExprs, AreParts, AreValues, IsDeclaration, IsInitial, IsItem, IsPart, IsReturn, IsSimple, IsStart, IsStep, IsStmt, IsTest, length_in, update_of};
 
-use crate::call_of::{call_of, right_of, value_of};
-use crate::expr::{Expr, Right};
-use crate::expr_of::{expr_of, place_of};
-use crate::mpi_of::mpi_call_of;
 use crate::statement::{Declaration, ForStart, Initial, Item, Part, Simple, Stmt};
+use c_calls::call_of::{call_of, right_of, value_of};
+use c_calls::expr::{Expr, Right};
+use c_calls::expr_of::{expr_of, place_of};
+use c_calls::mpi_of::mpi_call_of;
 use c_check::call::{argument_at, argument_count, inside};
 use c_check::constant::length_of;
 use c_check::kind::place_start;

@@ -1,6 +1,5 @@
 //! Writing a log.
 ghost use Rattle.std.specs.Prelude.{◌≡◌, ◌++◌, [], OnOk, IfOk, length, map};
-ghost use Rattle.srr_log.specs.Bounds.{IsInBounds};
 ghost use Rattle.srr_log.specs.EntryText.{each_behind};
 ghost use Rattle.srr_log.specs.LogText.{entries_text, group_text, head_text, list_text, lists_text, log_text, program_text};
 ghost use Rattle.wiz_base.specs.Decimals.{decimal_text};
@@ -11,9 +10,9 @@ use srr_entry::log::{Entries, Log};
 use std::alloc::{AllocError, Global};
 use wiz_base::{Bytes, push_decimal, push_text};
 
-/// The text of a log. Takes time linear in it.
+/// The text of a log, which can be read where the log is within its bounds. Takes time linear in it.
 pub fn write_log(alloc: Global, log: &Log) -> Result<Bytes, AllocError>
-    requires { IsInBounds log.now }
+    requires { length log.now.lists ≡ length log.now.group }
     ensures { IfOk result (λ text. text ≡ log_text log.now) }
 {
     let mut out = Bytes::new(alloc);

@@ -1,11 +1,10 @@
 -- A log that was read can be replayed.
-use Rattle.std.proofs.Common.{◌≡◌, ◌<◌, ◌≤◌, ◌+◌, ◌==◌, ℕ, suc, List, [], ◌∷◌, All, Bool, true, false, inl, inr, refl, arith, length}
+use Rattle.std.proofs.Common.{◌≡◌, ◌<◌, ◌+◌, ◌==◌, ℕ, List, [], ◌∷◌, true, false, inl, inr, refl, arith}
 use Rattle.std.proofs.lemmas.Bool.{eqb-true}
 use Rattle.mpi_call.specs.Collectives.{is_distinct, is_member}
 use Rattle.run_model.proofs.Views.{test_cases}
-use Rattle.srr_entry.specs.declared.entry.Entry.{Entry}
 use Rattle.srr_entry.specs.declared.log.Log.{Log}
-use Rattle.srr_log.specs.Bounds.{IsInBounds, IsList, RiseFrom}
+use Rattle.srr_log.specs.Bounds.{RiseFrom}
 use Rattle.srr_log.specs.LogText.{IsLogText}
 use Rattle.srr_replay.specs.Rounds.{IsReplayable}
 

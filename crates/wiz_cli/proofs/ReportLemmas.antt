@@ -8,7 +8,7 @@ use Rattle.srr_entry.specs.declared.log.Log.{Log}
 use Rattle.srr_replay.specs.declared.replayed.Replayed.{Replayed}
 use Rattle.srr_replay.specs.declared.replayed.Stand.{Stand}
 use Rattle.srr_replay.specs.Laws.{IsDone, IsRunWith}
-use Rattle.wiz_cli.specs.declared.outcome.Refusal.TheVariants.{Words, Missing, ReadFault, Program, Log as LogRefused, TooLong}
+use Rattle.wiz_cli.specs.declared.outcome.Refusal.TheVariants.{Words, Missing, ReadFault, Program, NotBuilt, Log as LogRefused, TooLong}
 use Rattle.wiz_cli.specs.declared.outcome.Outcome.{Outcome}
 use Rattle.wiz_cli.specs.declared.outcome.Outcome.TheVariants.{Refused, Replayed as WasReplayed}
 use Rattle.small_c.specs.Courses.{next_of, output_of}
@@ -23,7 +23,8 @@ pub IsFileOutcome-bytes : (files : Option Files) (name : List ℕ) (before after
 IsFileOutcome-bytes files name before after bytes (Refused Words) is short h = absurd h.2
 IsFileOutcome-bytes files name before after bytes (Refused Missing) is short h = absurd h.2
 IsFileOutcome-bytes files name before after bytes (Refused ReadFault) is short h = absurd h.2
-IsFileOutcome-bytes files name before after bytes (Refused Program) is short h = (bytes, is, short, h)
+IsFileOutcome-bytes files name before after bytes (Refused (Program fault)) is short h = (bytes, is, short, h)
+IsFileOutcome-bytes files name before after bytes (Refused NotBuilt) is short h = (bytes, is, short, h)
 IsFileOutcome-bytes files name before after bytes (Refused (LogRefused fault)) is short h = (bytes, is, short, h)
 IsFileOutcome-bytes files name before after bytes (Refused TooLong) is short h = absurd h.2
 IsFileOutcome-bytes files name before after bytes (WasReplayed replayed) is short h = (bytes, is, short, h)
@@ -33,7 +34,8 @@ pub IsOutcome-file : (words : List (List ℕ)) (files : Option Files) (before af
 IsOutcome-file words files before after name (Refused Words) is h = absurd h
 IsOutcome-file words files before after name (Refused Missing) is h = (is, h)
 IsOutcome-file words files before after name (Refused ReadFault) is h = (is, h)
-IsOutcome-file words files before after name (Refused Program) is h = (is, h)
+IsOutcome-file words files before after name (Refused (Program fault)) is h = (is, h)
+IsOutcome-file words files before after name (Refused NotBuilt) is h = (is, h)
 IsOutcome-file words files before after name (Refused (LogRefused fault)) is h = (is, h)
 IsOutcome-file words files before after name (Refused TooLong) is h = (is, h)
 IsOutcome-file words files before after name (WasReplayed replayed) is h = (is, h)

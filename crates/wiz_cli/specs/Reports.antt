@@ -6,6 +6,10 @@ use Rattle.mpi_call.specs.Collectives.{is_member}
 use Rattle.run_model.specs.declared.event.Event.{Event}
 use Rattle.run_model.specs.Views.{Kept, view_of}
 use Rattle.srr_entry.specs.declared.log.Log.{Log}
+use Rattle.c_lex.specs.declared.fault.Why.{Why}
+use Rattle.c_lex.specs.declared.fault.Why.TheVariants as w
+use Rattle.c_types.specs.Checks.{IsFaultOf, IsProgramOf}
+use Rattle.c_types.specs.declared.program.CProgram.{CProgram}
 use Rattle.srr_log.specs.declared.fault.LogWhy.{LogWhy}
 use Rattle.srr_log.specs.declared.fault.LogWhy.TheVariants.{BadHead, BadNumber, BadGroup, BadEntry, Short, Extra, BadVersion, Digest, NoMemory}
 use Rattle.srr_log.specs.Faults.{IsFirstFault}
@@ -16,7 +20,7 @@ use Rattle.srr_replay.specs.declared.replayed.Stand.TheVariants.{AtBreak, Diverg
 use Rattle.srr_replay.specs.Laws.{IsReplayOfEveryRun, IsRunWith}
 use Rattle.srr_replay.specs.Stands.{IsReplayed, printed_of}
 use Rattle.wiz_cli.specs.declared.outcome.Refusal.{Refusal}
-use Rattle.wiz_cli.specs.declared.outcome.Refusal.TheVariants.{Words, Missing, ReadFault, Program, Log as LogRefused, TooLong}
+use Rattle.wiz_cli.specs.declared.outcome.Refusal.TheVariants.{Words, Missing, ReadFault, Program, NotBuilt, Log as LogRefused, TooLong}
 use Rattle.wiz_cli.specs.declared.outcome.Outcome.{Outcome}
 use Rattle.wiz_cli.specs.declared.outcome.Outcome.TheVariants.{Refused, Replayed as WasReplayed}
 use Rattle.small_c.specs.declared.small_program.SmallProgram.{SmallProgram}
@@ -27,16 +31,22 @@ use Rattle.wiz_cli.specs.Words.{IsReplayOf}
 use Rattle.wiz_base.specs.Decimals.{decimal_text}
 use Rattle.wiz_io.specs.Files.{Files, HasRisen}
 
+-- the text is a program
+abbrev pub IsAccepted : List ℕ → Type 0
+IsAccepted text = (program : CProgram) × IsProgramOf text program
+
 -- a whole replay of a log's group with the program whose text stands in it, beside every run of that program with that log
 pub record IsReplayOfLog (log : Log) (replayed : Replayed) : Type 0 where
+  pub accepted : IsAccepted log.program
   pub program : SmallProgram
   pub is_program : IsSmallText log.program program
   pub replay : IsReplayed (next_of program) (output_of program) (variables_of program) log None replayed
   pub runs : IsReplayOfEveryRun (next_of program) (output_of program) log None replayed
 
--- what comes of a log: its program is not of the small form, or its group is replayed
+-- what comes of a log: its program has a first fault, or is accepted and not of the small form, or its group is replayed
 abbrev pub IsLogOutcome : Log → Outcome → Type 0
-IsLogOutcome log (Refused Program) = (program : SmallProgram) → IsSmallText log.program program → ⊥
+IsLogOutcome log (Refused (Program fault)) = IsFaultOf log.program fault
+IsLogOutcome log (Refused NotBuilt) = IsAccepted log.program × ((program : SmallProgram) → IsSmallText log.program program → ⊥)
 IsLogOutcome log (Refused refusal) = ⊥
 IsLogOutcome log (WasReplayed replayed) = IsReplayOfLog log replayed
 
@@ -66,7 +76,8 @@ abbrev pub refusal_status : Refusal → ℕ
 refusal_status Words = 1
 refusal_status Missing = 2
 refusal_status ReadFault = 3
-refusal_status Program = 5
+refusal_status (Program fault) = 5
+refusal_status NotBuilt = 5
 refusal_status (LogRefused fault) = 8
 refusal_status TooLong = 12
 
@@ -82,12 +93,31 @@ why_text BadVersion = codes "bad version"
 why_text Digest = codes "digest"
 why_text NoMemory = codes "no memory"
 
+-- what is wrong with a program
+abbrev pub fault_why : Why → List ℕ
+fault_why w.BadByte = codes "bad byte"
+fault_why w.OpenComment = codes "open comment"
+fault_why w.OpenText = codes "open text"
+fault_why w.BadLiteral = codes "bad literal"
+fault_why w.Unexpected = codes "unexpected"
+fault_why w.TooDeep = codes "too deep"
+fault_why w.Unknown = codes "unknown"
+fault_why w.Twice = codes "twice"
+fault_why w.WrongType = codes "wrong type"
+fault_why w.WrongCount = codes "wrong count"
+fault_why w.NoMain = codes "no main"
+fault_why w.BadFormat = codes "bad format"
+fault_why w.LeftOut = codes "left out"
+fault_why w.NoMemory = codes "no memory"
+
 -- its message
 abbrev pub message_text : Refusal → List ℕ → List ℕ
 message_text Words name = codes "refused words\n"
 message_text Missing name = codes "no file " ++ name ++ codes "\n"
 message_text ReadFault name = codes "cannot read " ++ name ++ codes "\n"
-message_text Program name = codes "program 1:1 not built\n"
+message_text (Program fault) name =
+    codes "program " ++ decimal_text fault.line ++ (58 ∷ decimal_text fault.column) ++ (32 ∷ fault_why fault.why) ++ codes "\n"
+message_text NotBuilt name = codes "program 1:1 not built\n"
 message_text (LogRefused fault) name = codes "log " ++ decimal_text fault.at ++ (32 ∷ why_text fault.why) ++ codes "\n"
 message_text TooLong name = codes "too long " ++ name ++ codes "\n"
 

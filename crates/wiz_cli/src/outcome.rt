@@ -1,4 +1,5 @@
 //! What a command comes to, before it is told.
+use c_lex::SourceFault;
 use srr_log::fault::LogFault;
 use srr_replay::replayed::Replayed;
 
@@ -11,8 +12,10 @@ pub enum Refusal {
     Missing,
     /// The input file could not be read.
     ReadFault,
-    /// The log's program is not of the form that is read.
-    Program,
+    /// The log's program is refused.
+    Program(SourceFault),
+    /// The log's program is accepted, but not of the form that is run.
+    NotBuilt,
     /// The file's bytes are no log.
     Log(LogFault),
     /// The input file is longer than such a file may be.

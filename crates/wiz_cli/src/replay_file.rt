@@ -1,13 +1,15 @@
 //! The replay of a log file.
-ghost use Rattle.std.specs.Prelude.{◌≡◌, [], IfOk, Err, None, length, ◌≤◌};
+ghost use Rattle.std.specs.Prelude.{◌≡◌, [], IfOk, Err, length, ◌≤◌};
 ghost use Rattle.srr_entry.specs.declared.log.Log.{Log};
 ghost use Rattle.srr_replay.specs.Laws.{IsReplayOfEveryRun};
 ghost use Rattle.srr_replay.specs.Rounds.{IsReplayable, RunAll};
 ghost use Rattle.srr_replay.specs.Stands.{IsReplayed};
 ghost use Rattle.small_c.specs.Courses.{next_of, output_of, variables_of};
-ghost use Rattle.wiz_cli.specs.Reports.{IsBytesOutcome, IsFileOutcome, IsLogOutcome};
+ghost use Rattle.wiz_cli.specs.Reports.{IsAccepted, IsBytesOutcome, IsFileOutcome, IsLogOutcome};
 
 use crate::outcome::{Outcome, Refusal};
+use c_lex::Why;
+use c_types::read_program;
 use small_c::small_fault::SmallFault;
 use small_c::small_program::SmallProgram;
 use small_c::small_rank::SmallRank;
@@ -65,21 +67,42 @@ fn replay_log(alloc: Global, log: &Log) -> Result<Outcome, AllocError>
     requires program { length log.now.program ≤ 65536 }
     ensures { IfOk result (λ outcome. IsLogOutcome log.now outcome) }
 {
+    match read_program(alloc, log.program.as_slice()) {
+        Ok(_) => replay_accepted(alloc, log),
+        Err(fault) => match fault.why {
+            Why::NoMemory => Err(AllocError),
+            _ => Ok(Outcome::Refused(Refusal::Program(fault))),
+        },
+    }
+}
+
+/// Replays a log whose program is accepted.
+fn replay_accepted(alloc: Global, log: &Log) -> Result<Outcome, AllocError>
+    requires log { IsReplayable log.now }
+    requires program { length log.now.program ≤ 65536 }
+    requires accepted { IsAccepted log.now.program }
+    ensures { IfOk result (λ outcome. IsLogOutcome log.now outcome) }
+{
     match read_small(alloc, log.program.as_slice()) {
-        Ok(program) => Ok(Outcome::Replayed(replay_group(alloc, &program, log)?)),
-        Err(SmallFault::NotBuilt) => Ok(Outcome::Refused(Refusal::Program)),
+        Ok(program) => Ok(Outcome::Replayed(replay_group(alloc, &program, log, None)?)),
+        Err(SmallFault::NotBuilt) => Ok(Outcome::Refused(Refusal::NotBuilt)),
         Err(SmallFault::NoMemory) => Err(AllocError),
     }
 }
 
-/// The replay of a log's group with a program.
-fn replay_group(alloc: Global, program: &SmallProgram, log: &Log) -> Result<Replayed, AllocError>
+/// The replay of a log's group with a program; a rank stops before the call that `stop` names.
+pub fn replay_group(
+    alloc: Global,
+    program: &SmallProgram,
+    log: &Log,
+    stop: Option<(u8, u32)>,
+) -> Result<Replayed, AllocError>
     requires { IsReplayable log.now }
-    ensures replay { IfOk result (λ replayed. IsReplayed (next_of program.now) (output_of program.now) (variables_of program.now) log.now None replayed) }
-    ensures runs { IfOk result (λ replayed. IsReplayOfEveryRun (next_of program.now) (output_of program.now) log.now None replayed) }
+    ensures replay { IfOk result (λ replayed. IsReplayed (next_of program.now) (output_of program.now) (variables_of program.now) log.now stop replayed) }
+    ensures runs { IfOk result (λ replayed. IsReplayOfEveryRun (next_of program.now) (output_of program.now) log.now stop replayed) }
 {
     let runs = start_all(alloc, program, log)?;
-    replay_serial(alloc, program, log, runs, None)
+    replay_serial(alloc, program, log, runs, stop)
 }
 
 /// One run for each rank of the group, before its first call. No other rank is run.

@@ -1,12 +1,13 @@
 //! Telling an outcome: its status, and its message or trace.
 ghost use Rattle.std.specs.Prelude.{◌≡◌, ◌++◌, ◌∷◌, IfOk, OnErr, OnOk, codes};
 ghost use Rattle.std.specs.List.{list_any};
-ghost use Rattle.wiz_cli.specs.Reports.{GrewByPart, HasSaid, IsTold, IsTrace, is_at_break, is_diverged, is_starved, message_text, refusal_status, status_by, told_text, why_text};
+ghost use Rattle.wiz_cli.specs.Reports.{GrewByPart, HasSaid, IsTold, IsTrace, fault_why, is_at_break, is_diverged, is_starved, message_text, refusal_status, status_by, told_text, why_text};
 ghost use Rattle.wiz_trace.specs.TraceTexts.{trace_text};
 ghost use Rattle.wiz_base.specs.Decimals.{decimal_text};
 
 use crate::outcome::{Outcome, Refusal};
 use crate::report::Report;
+use c_lex::{SourceFault, Why};
 use srr_log::fault::{LogFault, LogWhy};
 use srr_replay::replayed::{Replayed, Replays, Stand};
 use std::alloc::{AllocError, Global};
@@ -56,7 +57,8 @@ fn exit_status(refusal: Refusal) -> u8
         Refusal::Words => 1,
         Refusal::Missing => 2,
         Refusal::ReadFault => 3,
-        Refusal::Program => 5,
+        Refusal::Program(_) => 5,
+        Refusal::NotBuilt => 5,
         Refusal::Log(_) => 8,
         Refusal::TooLong => 12,
     }
@@ -82,7 +84,8 @@ fn message(alloc: Global, refusal: Refusal, name: &str) -> Result<Bytes, AllocEr
         Refusal::Words => Bytes::from_slice(alloc, b"refused words\n"),
         Refusal::Missing => about_file(alloc, b"no file ", name),
         Refusal::ReadFault => about_file(alloc, b"cannot read ", name),
-        Refusal::Program => Bytes::from_slice(alloc, b"program 1:1 not built\n"),
+        Refusal::Program(fault) => about_program(alloc, fault),
+        Refusal::NotBuilt => Bytes::from_slice(alloc, b"program 1:1 not built\n"),
         Refusal::Log(fault) => about_log(alloc, fault),
         Refusal::TooLong => about_file(alloc, b"too long ", name),
     }
@@ -110,7 +113,43 @@ fn about_log(alloc: Global, fault: LogFault) -> Result<Bytes, AllocError>
     Ok(text)
 }
 
-/// The reason in words.
+/// The message of a program that was refused: the line and column of its first fault, and the reason.
+fn about_program(alloc: Global, fault: SourceFault) -> Result<Bytes, AllocError>
+    ensures { IfOk result (λ text. text ≡ codes "program " ++ decimal_text fault.line ++ (58 ∷ decimal_text fault.column) ++ (32 ∷ fault_why fault.why) ++ codes "\n") }
+{
+    let mut text = Bytes::from_slice(alloc, b"program ")?;
+    push_decimal(&mut text, fault.line as u64)?;
+    push_text(&mut text, b":")?;
+    push_decimal(&mut text, fault.column as u64)?;
+    push_text(&mut text, b" ")?;
+    push_text(&mut text, fault_words(fault.why))?;
+    push_text(&mut text, b"\n")?;
+    Ok(text)
+}
+
+/// What is wrong with a program, in words.
+fn fault_words(why: Why) -> &'static [u8]
+    ensures { result.now ≡ fault_why why }
+{
+    match why {
+        Why::BadByte => b"bad byte",
+        Why::OpenComment => b"open comment",
+        Why::OpenText => b"open text",
+        Why::BadLiteral => b"bad literal",
+        Why::Unexpected => b"unexpected",
+        Why::TooDeep => b"too deep",
+        Why::Unknown => b"unknown",
+        Why::Twice => b"twice",
+        Why::WrongType => b"wrong type",
+        Why::WrongCount => b"wrong count",
+        Why::NoMain => b"no main",
+        Why::BadFormat => b"bad format",
+        Why::LeftOut => b"left out",
+        Why::NoMemory => b"no memory",
+    }
+}
+
+/// What is wrong with a log, in words.
 fn why_words(why: LogWhy) -> &'static [u8]
     ensures { result.now ≡ why_text why }
 {

@@ -1,6 +1,11 @@
 //! Commands over files in memory: words, status and what is printed.
 use crate::gate::OpenGate;
+use crate::outcome::Outcome;
+use crate::replay_file::replay_group;
+use crate::tell::tell;
 use crate::top::wiz;
+use small_c::small_source::read_small;
+use srr_log::read_log::read_log;
 use std::alloc::{AllocError, Global};
 use std::sync::Wait;
 use std::thread::Threads;
@@ -36,6 +41,24 @@ const NO_ENTRY: &[u8] =
 
 const NO_ENTRY_TRACE: &[u8] = b"rank 0\noutput 0\n\nlog ended\n";
 
+const REFUSED: &[u8] =
+    b"srr 1\nranks 1\ngroup 0\nprogram 25\nint main(void){return y;}\nrank 0 0\nend\n";
+
+const UNEXPECTED: &[u8] = b"srr 1\nranks 1\ngroup 0\nprogram 6\nint x;\nrank 0 0\nend\n";
+
+const LEFT_OUT: &[u8] = b"srr 1\nranks 1\ngroup 0\nprogram 8\nfloat f;\nrank 0 0\nend\n";
+
+const BAD_LITERAL: &[u8] =
+    b"srr 1\nranks 1\ngroup 0\nprogram 34\nint main(void){return 2147483648;}\nrank 0 0\nend\n";
+
+const NO_MAIN: &[u8] = b"srr 1\nranks 1\ngroup 0\nprogram 0\n\nrank 0 0\nend\n";
+
+const TWICE: &[u8] =
+    b"srr 1\nranks 1\ngroup 0\nprogram 37\nint main(void){int x;int x;return 0;}\nrank 0 0\nend\n";
+
+const CUT_OFF: &[u8] =
+    b"srr 1\nranks 1\ngroup 0\nprogram 23\nint main(void){return 0\nrank 0 0\nend\n";
+
 const NOT_BUILT: &[u8] =
     b"srr 1\nranks 1\ngroup 0\nprogram 25\nint main(void){return 0;}\nrank 0 0\nend\n";
 
@@ -59,12 +82,19 @@ fn answers<R: Threads + Wait + Sync + AllocGlobal>(
 #[test]
 fn commands_have_their_status_and_output(rt: HostRuntime) {
     let replay: &[&str] = &["replay", "L", "--serial"];
-    let table: [(&[&str], &[u8], u8, &[u8]); 12] = [
+    let table: [(&[&str], &[u8], u8, &[u8]); 19] = [
         (replay, FIRST, 0, FIRST_TRACE),
         (replay, DIVERGED, 9, DIVERGED_TRACE),
         (replay, STARVED, 10, STARVED_TRACE),
         (replay, ALONE, 0, ALONE_TRACE),
         (replay, NO_ENTRY, 0, NO_ENTRY_TRACE),
+        (replay, REFUSED, 5, b"program 1:23 unknown\n"),
+        (replay, UNEXPECTED, 5, b"program 1:6 unexpected\n"),
+        (replay, LEFT_OUT, 5, b"program 1:1 left out\n"),
+        (replay, BAD_LITERAL, 5, b"program 1:23 bad literal\n"),
+        (replay, NO_MAIN, 5, b"program 1:1 no main\n"),
+        (replay, TWICE, 5, b"program 1:26 twice\n"),
+        (replay, CUT_OFF, 5, b"program 1:24 unexpected\n"),
         (replay, NOT_BUILT, 5, b"program 1:1 not built\n"),
         (replay, &FIRST[..270], 8, b"log 270 short\n"),
         (replay, b"srr 2\n", 8, b"log 0 bad version\n"),
@@ -157,4 +187,40 @@ fn a_failing_read_or_put_is_told(rt: HostRuntime) {
     full.fail(0).expect(&rt, "number");
     let unwritten = wiz(&rt, rt.alloc(), words, &mut store, &mut full, &OpenGate);
     assert!(&rt; unwritten.status == 4 && full.bytes().is_empty());
+}
+
+/// Whether a replay of the first log with this breakpoint has status 0 and this trace.
+fn stops_with(alloc: Global, stop: (u8, u32), trace: &[u8]) -> bool {
+    let Ok(log) = read_log(alloc, FIRST) else {
+        return false;
+    };
+    let Ok(program) = read_small(alloc, log.program.as_slice()) else {
+        return false;
+    };
+    let Ok(replayed) = replay_group(alloc, &program, &log, Some(stop)) else {
+        return false;
+    };
+    let mut out = MemorySink::new(alloc);
+    let Ok(report) = tell(alloc, Outcome::Replayed(replayed), "L", &mut out) else {
+        return false;
+    };
+    report.status == 0 && out.bytes() == trace
+}
+
+#[test]
+fn a_rank_stops_at_its_breakpoint(rt: HostRuntime) {
+    let table: [((u8, u32), &[u8]); 3] = [
+        (
+            (0, 0),
+            b"rank 0\noutput 0\n\nbreak\nvar 0 r 0\nvar 0 x 7\nrank 1\n0 post comm=0 from=0 tag=5 room=1 -> done\noutput 0\n\nstarved 0.0\n",
+        ),
+        (
+            (1, 1),
+            b"rank 0\n0 send comm=0 to=1 tag=5 data=7 -> done\n1 end -> done\noutput 0\n\nended\nrank 1\n0 post comm=0 from=0 tag=5 room=1 -> done\noutput 0\n\nbreak\nvar 0 r 1\nvar 0 x 0\n",
+        ),
+        ((7, 0), FIRST_TRACE),
+    ];
+    for (stop, trace) in table {
+        assert!(&rt; stops_with(rt.alloc(), stop, trace));
+    }
 }

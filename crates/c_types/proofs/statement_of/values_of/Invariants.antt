@@ -4,7 +4,7 @@ use Rattle.c_grammar.specs.View.{view}
 use Rattle.c_check.specs.Signatures.{listed}
 use Rattle.c_check.proofs.Rows.{behind_viewed}
 use Rattle.c_types.specs.Statements.{AreExprs}
-use Rattle.c_types.specs.declared.expr.Expr.{Expr}
+use Rattle.c_calls.specs.declared.expr.Expr.{Expr}
 use Rattle.c_types.proofs.statement_of.values_of.Given as goal
 
 abbrev pub invariant-loop-behind : goal.invariant-loop-behind

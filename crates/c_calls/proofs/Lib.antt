@@ -1,0 +1,5 @@
+pub mod ExprRules
+pub mod CallRules
+pub mod Faultless
+pub mod MpiRules
+pub mod ArgumentRules

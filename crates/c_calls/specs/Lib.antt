@@ -1,0 +1,5 @@
+pub mod Shapes
+pub mod Exprs
+pub mod Calls
+pub mod Given
+pub mod MpiCalls

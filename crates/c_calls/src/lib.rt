@@ -1,0 +1,8 @@
+//! The typed expressions and calls of a C text without faults.
+#![tactic(auto)]
+
+pub mod call_of;
+pub mod expr;
+pub mod expr_of;
+pub mod mpi;
+pub mod mpi_of;

@@ -1,6 +1,0 @@
-use Rattle.c_types.specs.MpiCalls as y
-use Rattle.c_types.proofs.MpiRules.{by_places}
-use Rattle.c_types.proofs.mpi_of.Given.irecv.Goals as goal
-
-pub returns : goal.returns
-returns c = by_places _ _ _ _ c.requires (y.irecv c.in_ok-buffer.ensures c.in_ok-source.ensures c.in_ok-tag.ensures c.in_ok-comm.ensures c.in_ok-request.ensures)

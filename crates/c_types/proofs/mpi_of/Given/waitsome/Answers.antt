@@ -1,6 +1,0 @@
-use Rattle.c_types.specs.MpiCalls as y
-use Rattle.c_types.proofs.MpiRules.{by_places}
-use Rattle.c_types.proofs.mpi_of.Given.waitsome.Goals as goal
-
-pub returns : goal.returns
-returns c = by_places _ _ _ _ c.requires (y.waitsome c.in_ok-count.ensures c.in_ok-requests.ensures c.in_ok-outcount.ensures c.in_ok-indices.ensures c.in_ok-statuses.ensures)

@@ -1,0 +1,4 @@
+//! The bounds of the logs of runs.
+#![tactic(auto)]
+
+pub mod laws;
