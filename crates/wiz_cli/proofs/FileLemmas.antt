@@ -74,9 +74,11 @@ AreWritten-append before mid after front behind others first second apart =
 -- where the files of the front are written, and the writing of those behind stops
 names_apart : (names front : List (List ℕ)) (name : List ℕ) (behind : List (List ℕ)) → AreApart names (front ++ name ∷ behind) → AreApart names (front ++ name ∷ [])
 names_apart [] front name behind apart = tt
-names_apart (one ∷ names) front name behind apart =
-    (all_both (λ other. one ≢ other) front (name ∷ []) (all_front (λ other. one ≢ other) front (name ∷ behind) apart.0)
-    ((all_back (λ other. one ≢ other) front (name ∷ behind) apart.0).0, tt), names_apart names front name behind apart.1)
+names_apart (one ∷ names) front name behind apart = (
+  all_both (λ other. one ≢ other) front (name ∷ []) (all_front (λ other. one ≢ other) front (name ∷ behind) apart.0)
+      ((all_back (λ other. one ≢ other) front (name ∷ behind) apart.0).0, tt),
+  names_apart names front name behind apart.1,
+)
 
 IsStoppedAt-behind : (before mid after : Option Files) (front behind : List NamedFile) (name : List ℕ) → AreWritten before mid front [] → IsStoppedAt mid after behind name
     → AreApart (names_of front) (names_of behind) → IsStoppedAt before after (front ++ behind) name

@@ -5,4 +5,5 @@ pub mod RecordSteps
 pub mod RecordWords
 pub mod Recordings
 pub mod Reports
+pub mod WordNames
 pub mod Words

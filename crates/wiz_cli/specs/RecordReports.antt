@@ -1,27 +1,19 @@
 -- How a recording is told.
 use Rattle.std.specs.Prelude.{◌≡◌, ◌⊎◌, ℕ, List, [], ◌++◌, Option, Some, None, codes}
 use Rattle.std.specs.Option.{unwrap_or}
-use Rattle.group_plan.specs.declared.fault.OrderFault.{OrderFault}
-use Rattle.group_plan.specs.declared.fault.OrderFault.TheVariants.{BadLine as BadRankLine, NoMemory as OrderMemory}
-use Rattle.group_plan.specs.declared.fault.PlanFault.{PlanFault}
-use Rattle.group_plan.specs.declared.fault.PlanFault.TheVariants.{BadLine, TooManyRanks, Empty, Repeated, Gap, NoMemory as PlanMemory}
 use Rattle.run_model.specs.declared.ending.Ending.{Ending}
 use Rattle.run_model.specs.declared.ending.Ending.TheVariants.{Finished, Halted}
 use Rattle.run_model.specs.Views.{Kept}
 use Rattle.srr_record.specs.declared.recording.Recording.{Recording}
 use Rattle.srr_replay.specs.declared.replayed.Replayed.{Replayed}
-use Rattle.wiz_base.specs.Decimals.{decimal_text}
 use Rattle.wiz_cli.specs.declared.record_outcome.InputFile.{InputFile}
 use Rattle.wiz_cli.specs.declared.record_outcome.InputFile.TheVariants.{Program, Plan, Order}
 use Rattle.wiz_cli.specs.declared.record_outcome.Inputs.{Inputs}
 use Rattle.wiz_cli.specs.declared.record_outcome.RecordRefusal.{RecordRefusal}
-use Rattle.wiz_cli.specs.declared.record_outcome.RecordRefusal.TheVariants.{Unread, Program as BadProgram, Plan as BadPlan, Order as BadOrder}
 use Rattle.wiz_cli.specs.RecordFiles.{AreWritten, ArePartlyWritten, IsStoppedAt, files_of}
 use Rattle.wiz_cli.specs.Recordings.{AreInputs, IsRecordingOf, IsRefusal}
 use Rattle.wiz_cli.specs.RecordWords.{RecordNames}
-use Rattle.wiz_cli.specs.Reports.{GrewBy, GrewByPart, HasSaid}
-use Rattle.wiz_io.specs.declared.fault.ReadFault.{ReadFault}
-use Rattle.wiz_io.specs.declared.fault.ReadFault.TheVariants.{Missing, TooLong, Failed, NoMemory}
+use Rattle.wiz_cli.specs.Reports.{GrewBy, GrewByPart, HasSaid, message_text, refusal_status}
 use Rattle.wiz_io.specs.Files.{Files, HasRisen}
 use Rattle.wiz_trace.specs.RecordTexts.{record_text}
 
@@ -36,51 +28,15 @@ pub record Outside : Type 0 where
 abbrev pub outside : Option Files → ℕ → ℕ → Option (List ℕ) → ℕ → Outside
 outside files reads writes written puts = record { files = files; reads = reads; writes = writes; written = written; puts = puts }
 
--- the exit status of a refusal
-abbrev pub unread_status : ReadFault → ℕ
-unread_status Missing = 2
-unread_status Failed = 3
-unread_status TooLong = 12
-unread_status NoMemory = 11
-
-abbrev pub refused_status : RecordRefusal → ℕ
-refused_status (Unread input why) = unread_status why
-refused_status BadProgram = 5
-refused_status (BadPlan fault) = 6
-refused_status (BadOrder fault) = 6
-
+-- the name of an input file
 abbrev pub name_of : RecordNames → InputFile → List ℕ
 name_of names Program = names.program
 name_of names Plan = names.plan
 name_of names Order = unwrap_or names.order []
 
--- its message, without the newline
-abbrev pub unread_words : ReadFault → List ℕ
-unread_words Missing = codes "no file "
-unread_words Failed = codes "cannot read "
-unread_words TooLong = codes "too long "
-unread_words NoMemory = []
-
-abbrev pub plan_words : PlanFault → List ℕ
-plan_words (BadLine line) = codes "plan line " ++ decimal_text line
-plan_words TooManyRanks = codes "plan too many ranks"
-plan_words Empty = codes "plan empty"
-plan_words (Repeated rank) = codes "plan repeated " ++ decimal_text rank
-plan_words (Gap rank) = codes "plan gap " ++ decimal_text rank
-plan_words PlanMemory = []
-
-abbrev pub order_words : OrderFault → List ℕ
-order_words (BadRankLine line) = codes "order line " ++ decimal_text line
-order_words OrderMemory = []
-
-abbrev pub refusal_words : RecordNames → RecordRefusal → List ℕ
-refusal_words names (Unread input why) = unread_words why ++ name_of names input
-refusal_words names BadProgram = codes "program 1:1 not built"
-refusal_words names (BadPlan fault) = plan_words fault
-refusal_words names (BadOrder fault) = order_words fault
-
+-- the message of a refusal
 abbrev pub refused_text : RecordNames → RecordRefusal → List ℕ
-refused_text names refusal = refusal_words names refusal ++ codes "\n"
+refused_text names refused = message_text refused.refusal (name_of names refused.input)
 
 -- the message of a file that was not written
 abbrev pub unwritten_text : List ℕ → List ℕ
@@ -93,7 +49,7 @@ ending_status (Halted halt) = 7
 
 -- a refusal, told by its status and message
 pub record IsRefusalTold (names : RecordNames) (refusal : RecordRefusal) (written written' : Option (List ℕ)) (puts puts' status : ℕ) (run : Option Kept) (replays : List Replayed) : Type 0 where
-  pub status_is : status ≡ refused_status refusal
+  pub status_is : status ≡ refusal_status refusal.refusal
   pub no_run : run ≡ None
   pub no_replays : replays ≡ []
   pub said : HasSaid written written' puts puts' (refused_text names refusal)

@@ -16,3 +16,11 @@ turn_words (Some order) = codes "--order" ∷ order ∷ []
 -- record PROGRAM PLAN PREFIX --serial, or record PROGRAM PLAN PREFIX --order FILE
 abbrev pub IsRecordOf : List (List ℕ) → RecordNames → Type 0
 IsRecordOf words names = words ≡ codes "record" ∷ names.program ∷ names.plan ∷ names.prefix ∷ turn_words names.order
+
+-- the words are not `record PROGRAM PLAN PREFIX --serial`
+abbrev pub IsNotSerial : List (List ℕ) → Type 0
+IsNotSerial words = (program plan prefix : List ℕ) → words ≡ codes "record" ∷ program ∷ plan ∷ prefix ∷ codes "--serial" ∷ [] → ⊥
+
+-- nor `record PROGRAM PLAN PREFIX --order FILE`
+abbrev pub IsNotOrdered : List (List ℕ) → Type 0
+IsNotOrdered words = (program plan prefix order : List ℕ) → words ≡ codes "record" ∷ program ∷ plan ∷ prefix ∷ codes "--order" ∷ order ∷ [] → ⊥

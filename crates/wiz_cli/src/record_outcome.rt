@@ -1,9 +1,9 @@
 //! Why nothing is recorded, and what the input files of a recording hold.
-use group_plan::{OrderFault, Plan, PlanFault};
+use crate::outcome::Refusal;
+use group_plan::Plan;
 use small_c::small_program::SmallProgram;
 use std::alloc::AllocError;
 use wiz_base::Bytes;
-use wiz_io::ReadFault;
 
 /// One of the input files.
 #[derive(Clone, Copy, Debug, PartialEq, Eq)]
@@ -13,17 +13,11 @@ pub enum InputFile {
     Order,
 }
 
-/// Why nothing is recorded.
+/// Why nothing is recorded, and the input file that is refused.
 #[derive(Clone, Copy, Debug, PartialEq, Eq)]
-pub enum RecordRefusal {
-    /// An input file was not read.
-    Unread { input: InputFile, why: ReadFault },
-    /// The program is not of the form that is read.
-    Program,
-    /// The plan file holds no plan.
-    Plan(PlanFault),
-    /// The order file holds no order of the plan's ranks.
-    Order(OrderFault),
+pub struct RecordRefusal {
+    pub input: InputFile,
+    pub refusal: Refusal,
 }
 
 /// Why there is no recording: it is refused, or memory is wanting.
@@ -31,17 +25,6 @@ pub enum RecordRefusal {
 pub enum Unrecorded {
     Refused(RecordRefusal),
     NoMemory,
-}
-
-impl From<AllocError> for Unrecorded {
-    ghost use Rattle.std.specs.Prelude.{◌≡◌};
-    ghost use Rattle.wiz_cli.specs.declared.record_outcome.Unrecorded.TheVariants.{NoMemory};
-
-    ghost from_gives = { λ _ why. why ≡ NoMemory };
-
-    fn from(_error: AllocError) -> Self {
-        Unrecorded::NoMemory
-    }
 }
 
 /// What the input files hold.

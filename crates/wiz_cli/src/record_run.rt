@@ -4,6 +4,7 @@ ghost use Rattle.srr_record.specs.Recordings.{AreRuns};
 ghost use Rattle.wiz_cli.specs.Recordings.{AreInputs, ArePrepared, IsRecordingOf};
 ghost use Rattle.wiz_cli.specs.RecordReports.{IsCutRecord, IsRecordReport, outside};
 ghost use Rattle.wiz_cli.specs.RecordSteps.{HasLists};
+ghost use Rattle.wiz_cli.specs.WordNames.{names_of};
 
 use crate::record_files::{Unwritten, write_files};
 use crate::record_inputs::{prepare, read_inputs};
@@ -24,8 +25,8 @@ pub fn record<S: Store, K: Sink>(
     store: &mut S,
     out: &mut K,
 ) -> Result<Report, AllocError>
-    ensures report { IfOk result (λ report. IsRecordReport names.now (outside (S.files store.old) (S.read_faults store.old) (S.write_faults store.old) (K.written out.old) (K.faults out.old)) (outside (S.files store.new) (S.read_faults store.new) (S.write_faults store.new) (K.written out.new) (K.faults out.new)) report.status report.run report.replayed) }
-    ensures short { OnErr result (IsCutRecord names.now (outside (S.files store.old) (S.read_faults store.old) (S.write_faults store.old) (K.written out.old) (K.faults out.old)) (outside (S.files store.new) (S.read_faults store.new) (S.write_faults store.new) (K.written out.new) (K.faults out.new))) }
+    ensures report { IfOk result (λ report. IsRecordReport (names_of names.now) (outside (S.files store.old) (S.read_faults store.old) (S.write_faults store.old) (K.written out.old) (K.faults out.old)) (outside (S.files store.new) (S.read_faults store.new) (S.write_faults store.new) (K.written out.new) (K.faults out.new)) report.status report.run report.replayed) }
+    ensures short { OnErr result (IsCutRecord (names_of names.now) (outside (S.files store.old) (S.read_faults store.old) (S.write_faults store.old) (K.written out.old) (K.faults out.old)) (outside (S.files store.new) (S.read_faults store.new) (S.write_faults store.new) (K.written out.new) (K.faults out.new))) }
 {
     match read_inputs(names, store) {
         Ok(inputs) => record_inputs(alloc, names, &inputs, store, out),
@@ -42,9 +43,9 @@ fn record_inputs<S: Store, K: Sink>(
     store: &mut S,
     out: &mut K,
 ) -> Result<Report, AllocError>
-    requires inputs { AreInputs (S.files store.old) names.now inputs.now }
-    ensures report { IfOk result (λ report. (reads : ℕ) → IsRecordReport names.now (outside (S.files store.old) reads (S.write_faults store.old) (K.written out.old) (K.faults out.old)) (outside (S.files store.new) (S.read_faults store.new) (S.write_faults store.new) (K.written out.new) (K.faults out.new)) report.status report.run report.replayed) }
-    ensures short { OnErr result ((reads : ℕ) → IsCutRecord names.now (outside (S.files store.old) reads (S.write_faults store.old) (K.written out.old) (K.faults out.old)) (outside (S.files store.new) (S.read_faults store.new) (S.write_faults store.new) (K.written out.new) (K.faults out.new))) }
+    requires inputs { AreInputs (S.files store.old) (names_of names.now) inputs.now }
+    ensures report { IfOk result (λ report. (reads : ℕ) → IsRecordReport (names_of names.now) (outside (S.files store.old) reads (S.write_faults store.old) (K.written out.old) (K.faults out.old)) (outside (S.files store.new) (S.read_faults store.new) (S.write_faults store.new) (K.written out.new) (K.faults out.new)) report.status report.run report.replayed) }
+    ensures short { OnErr result ((reads : ℕ) → IsCutRecord (names_of names.now) (outside (S.files store.old) reads (S.write_faults store.old) (K.written out.old) (K.faults out.old)) (outside (S.files store.new) (S.read_faults store.new) (S.write_faults store.new) (K.written out.new) (K.faults out.new))) }
 {
     match prepare(alloc, inputs) {
         Ok(prepared) => record_prepared(alloc, names, inputs, &prepared, store, out),
@@ -62,10 +63,10 @@ fn record_prepared<S: Store, K: Sink>(
     store: &mut S,
     out: &mut K,
 ) -> Result<Report, AllocError>
-    requires inputs { AreInputs (S.files store.old) names.now inputs.now }
+    requires inputs { AreInputs (S.files store.old) (names_of names.now) inputs.now }
     requires prepared { ArePrepared inputs.now prepared.now.program prepared.now.plan prepared.now.turns }
-    ensures report { IfOk result (λ report. (reads : ℕ) → IsRecordReport names.now (outside (S.files store.old) reads (S.write_faults store.old) (K.written out.old) (K.faults out.old)) (outside (S.files store.new) (S.read_faults store.new) (S.write_faults store.new) (K.written out.new) (K.faults out.new)) report.status report.run report.replayed) }
-    ensures short { OnErr result ((reads : ℕ) → IsCutRecord names.now (outside (S.files store.old) reads (S.write_faults store.old) (K.written out.old) (K.faults out.old)) (outside (S.files store.new) (S.read_faults store.new) (S.write_faults store.new) (K.written out.new) (K.faults out.new))) }
+    ensures report { IfOk result (λ report. (reads : ℕ) → IsRecordReport (names_of names.now) (outside (S.files store.old) reads (S.write_faults store.old) (K.written out.old) (K.faults out.old)) (outside (S.files store.new) (S.read_faults store.new) (S.write_faults store.new) (K.written out.new) (K.faults out.new)) report.status report.run report.replayed) }
+    ensures short { OnErr result ((reads : ℕ) → IsCutRecord (names_of names.now) (outside (S.files store.old) reads (S.write_faults store.old) (K.written out.old) (K.faults out.old)) (outside (S.files store.new) (S.read_faults store.new) (S.write_faults store.new) (K.written out.new) (K.faults out.new))) }
 {
     let recording = make_recording(alloc, inputs, prepared)?;
     match write_files(alloc, names.prefix, &recording, store) {

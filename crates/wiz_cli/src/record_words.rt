@@ -1,8 +1,7 @@
 //! The words of a recording.
 ghost use Rattle.std.specs.Prelude.{◌≡◌, MatchOption, map};
-ghost use Rattle.wiz_cli.specs.RecordWords.{IsRecordOf, RecordNames};
-
-use std::marker::Model;
+ghost use Rattle.wiz_cli.specs.RecordWords.{IsNotOrdered, IsNotSerial, IsRecordOf, RecordNames};
+ghost use Rattle.wiz_cli.specs.WordNames.{names_of};
 
 /// The files that a recording's words name.
 #[derive(Drop)]
@@ -15,38 +14,48 @@ pub struct RecordWords<'a> {
     pub order: Option<&'a str>,
 }
 
-impl<'a> Model for RecordWords<'a> {
-    ghost use Rattle.std.specs.Option.{option_copied};
-    ghost use Rattle.wiz_cli.specs.RecordWords.{RecordNames};
-
-    ghost Value = { RecordNames };
-
-    ghost view = { λ w. record { program = w.program.now; plan = w.plan.now; prefix = w.prefix.now; order = option_copied w.order } };
-}
-
 /// The files that are named, where the words are `record PROGRAM PLAN PREFIX` and behind these `--serial`, or `--order FILE`.
 pub fn record_words<'a>(words: &'a [&'a str]) -> Option<RecordWords<'a>>
-    ensures { MatchOption result ((names : RecordNames) → IsRecordOf (map (λ word. word.now) words.now) names → ⊥) (λ names. IsRecordOf (map (λ word. word.now) words.now) names) }
+    ensures { MatchOption result ((names : RecordNames) → IsRecordOf (map (λ word. word.now) words.now) names → ⊥) (λ names. IsRecordOf (map (λ word. word.now) words.now) (names_of names)) }
 {
-    match words {
-        [command, program, plan, prefix, serial] if *command == "record" && *serial == "--serial" =>
-            {
-                Some(RecordWords {
-                    program: *program,
-                    plan: *plan,
-                    prefix: *prefix,
-                    order: None,
-                })
-            }
-        [command, program, plan, prefix, option, order]
-            if *command == "record" && *option == "--order" => {
-            Some(RecordWords {
-                program: *program,
-                plan: *plan,
-                prefix: *prefix,
-                order: Some(*order),
-            })
-        }
-        _ => None,
+    match serial_words(words) {
+        Some(names) => Some(names),
+        None => ordered_words(words),
     }
+}
+
+/// The files that `record PROGRAM PLAN PREFIX --serial` names.
+fn serial_words<'a>(words: &'a [&'a str]) -> Option<RecordWords<'a>>
+    ensures { MatchOption result (IsNotSerial (map (λ word. word.now) words.now)) (λ names. IsRecordOf (map (λ word. word.now) words.now) (names_of names)) }
+{
+    let [command, program, plan, prefix, serial] = words else {
+        return None;
+    };
+    if *command == "record" && *serial == "--serial" {
+        return Some(RecordWords {
+            program: *program,
+            plan: *plan,
+            prefix: *prefix,
+            order: None,
+        });
+    }
+    None
+}
+
+/// The files that `record PROGRAM PLAN PREFIX --order FILE` names.
+fn ordered_words<'a>(words: &'a [&'a str]) -> Option<RecordWords<'a>>
+    ensures { MatchOption result (IsNotOrdered (map (λ word. word.now) words.now)) (λ names. IsRecordOf (map (λ word. word.now) words.now) (names_of names)) }
+{
+    let [command, program, plan, prefix, option, order] = words else {
+        return None;
+    };
+    if *command == "record" && *option == "--order" {
+        return Some(RecordWords {
+            program: *program,
+            plan: *plan,
+            prefix: *prefix,
+            order: Some(*order),
+        });
+    }
+    None
 }
