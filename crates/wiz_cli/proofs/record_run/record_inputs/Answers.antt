@@ -10,7 +10,7 @@ returns-in-Err-Refused-clause-report g c =
     if_ok c.tell_refusal.result _ _
     (λ report told reads.
         IsRecordReport-refused (names_of c.args.names.now) (outside (g.S.Store.files c.args.store.now) reads (g.S.Store.write_faults c.args.store.now) (g.K.Sink.written c.args.out.now) (g.K.Sink.faults c.args.out.now)) (outside (g.S.Store.files c.args.store.now) (g.S.Store.read_faults c.args.store.now) (g.S.Store.write_faults c.args.store.now) (g.K.Sink.written c.tell_refusal.new.out) (g.K.Sink.faults c.tell_refusal.new.out))
-        report.status report.run report.replayed c.in-Err-Refused.refusal refl refl (inr (c.args.inputs.now, c.requires, by)) told)
+        report.status report.run report.replayed c.in-Err-Refused.refusal refl refl (inr (c.args.inputs.now, c.requires.inputs, by)) told)
     c.tell_refusal.ensures.told
 
 pub returns-in-Err-Refused-clause-short : goal.returns-in-Err-Refused-clause-short
@@ -19,5 +19,5 @@ returns-in-Err-Refused-clause-short g c =
     on_err c.tell_refusal.result _ _
     (λ short reads.
         IsCutRecord-refused (names_of c.args.names.now) (outside (g.S.Store.files c.args.store.now) reads (g.S.Store.write_faults c.args.store.now) (g.K.Sink.written c.args.out.now) (g.K.Sink.faults c.args.out.now)) (outside (g.S.Store.files c.args.store.now) (g.S.Store.read_faults c.args.store.now) (g.S.Store.write_faults c.args.store.now) (g.K.Sink.written c.tell_refusal.new.out) (g.K.Sink.faults c.tell_refusal.new.out))
-        c.in-Err-Refused.refusal refl refl (inr (c.args.inputs.now, c.requires, by)) short)
+        c.in-Err-Refused.refusal refl refl (inr (c.args.inputs.now, c.requires.inputs, by)) short)
     c.tell_refusal.ensures.short
