@@ -1,2 +1,9 @@
+pub mod Commands
+pub mod RecordFiles
+pub mod RecordReports
+pub mod RecordSteps
+pub mod RecordWords
+pub mod Recordings
 pub mod Reports
+pub mod WordNames
 pub mod Words

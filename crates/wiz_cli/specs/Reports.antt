@@ -8,6 +8,10 @@ use Rattle.run_model.specs.Views.{Kept, view_of}
 use Rattle.srr_entry.specs.declared.log.Log.{Log}
 use Rattle.c_lex.specs.declared.fault.Why.{Why}
 use Rattle.c_lex.specs.declared.fault.Why.TheVariants as w
+use Rattle.group_plan.specs.declared.fault.OrderFault.{OrderFault}
+use Rattle.group_plan.specs.declared.fault.OrderFault.TheVariants.{BadLine as BadRankLine, NoMemory as OrderMemory}
+use Rattle.group_plan.specs.declared.fault.PlanFault.{PlanFault}
+use Rattle.group_plan.specs.declared.fault.PlanFault.TheVariants.{BadLine, TooManyRanks, Empty, Repeated, Gap, NoMemory as PlanMemory}
 use Rattle.c_types.specs.Checks.{IsFaultOf, IsProgramOf}
 use Rattle.c_types.specs.declared.program.CProgram.{CProgram}
 use Rattle.srr_log.specs.declared.fault.LogWhy.{LogWhy}
@@ -20,7 +24,7 @@ use Rattle.srr_replay.specs.declared.replayed.Stand.TheVariants.{AtBreak, Diverg
 use Rattle.srr_replay.specs.Laws.{IsReplayOfEveryRun, IsRunWith}
 use Rattle.srr_replay.specs.Stands.{IsReplayed, printed_of}
 use Rattle.wiz_cli.specs.declared.outcome.Refusal.{Refusal}
-use Rattle.wiz_cli.specs.declared.outcome.Refusal.TheVariants.{Words, Missing, ReadFault, Program, NotBuilt, Log as LogRefused, TooLong}
+use Rattle.wiz_cli.specs.declared.outcome.Refusal.TheVariants.{Words, Missing, ReadFault, Program, NotBuilt, Plan, Order, Log as LogRefused, TooLong}
 use Rattle.wiz_cli.specs.declared.outcome.Outcome.{Outcome}
 use Rattle.wiz_cli.specs.declared.outcome.Outcome.TheVariants.{Refused, Replayed as WasReplayed}
 use Rattle.small_c.specs.declared.small_program.SmallProgram.{SmallProgram}
@@ -43,11 +47,15 @@ pub record IsReplayOfLog (log : Log) (replayed : Replayed) : Type 0 where
   pub replay : IsReplayed (next_of program) (output_of program) (variables_of program) log None replayed
   pub runs : IsReplayOfEveryRun (next_of program) (output_of program) log None replayed
 
--- what comes of a log: its program has a first fault, or is accepted and not of the small form, or its group is replayed
+-- why a program is not run: it has a first fault, or is accepted and not of the small form
+abbrev pub IsProgramRefusal : List ℕ → Refusal → Type 0
+IsProgramRefusal text (Program fault) = IsFaultOf text fault
+IsProgramRefusal text NotBuilt = IsAccepted text × ((program : SmallProgram) → IsSmallText text program → ⊥)
+IsProgramRefusal text refusal = ⊥
+
+-- what comes of a log: its program is refused, or its group is replayed
 abbrev pub IsLogOutcome : Log → Outcome → Type 0
-IsLogOutcome log (Refused (Program fault)) = IsFaultOf log.program fault
-IsLogOutcome log (Refused NotBuilt) = IsAccepted log.program × ((program : SmallProgram) → IsSmallText log.program program → ⊥)
-IsLogOutcome log (Refused refusal) = ⊥
+IsLogOutcome log (Refused refusal) = IsProgramRefusal log.program refusal
 IsLogOutcome log (WasReplayed replayed) = IsReplayOfLog log replayed
 
 -- what comes of a file's bytes: they have a first fault, or are the text of a log of which this comes
@@ -78,6 +86,8 @@ refusal_status Missing = 2
 refusal_status ReadFault = 3
 refusal_status (Program fault) = 5
 refusal_status NotBuilt = 5
+refusal_status (Plan fault) = 6
+refusal_status (Order fault) = 6
 refusal_status (LogRefused fault) = 8
 refusal_status TooLong = 12
 
@@ -110,6 +120,19 @@ fault_why w.BadFormat = codes "bad format"
 fault_why w.LeftOut = codes "left out"
 fault_why w.NoMemory = codes "no memory"
 
+-- what is wrong with a plan, and with an order
+abbrev pub plan_message : PlanFault → List ℕ
+plan_message (BadLine line) = codes "plan line " ++ decimal_text line ++ codes "\n"
+plan_message TooManyRanks = codes "plan too many ranks\n"
+plan_message Empty = codes "plan empty\n"
+plan_message (Repeated rank) = codes "plan repeated " ++ decimal_text rank ++ codes "\n"
+plan_message (Gap rank) = codes "plan gap " ++ decimal_text rank ++ codes "\n"
+plan_message PlanMemory = codes "plan no memory\n"
+
+abbrev pub order_message : OrderFault → List ℕ
+order_message (BadRankLine line) = codes "order line " ++ decimal_text line ++ codes "\n"
+order_message OrderMemory = codes "order no memory\n"
+
 -- its message
 abbrev pub message_text : Refusal → List ℕ → List ℕ
 message_text Words name = codes "refused words\n"
@@ -118,6 +141,8 @@ message_text ReadFault name = codes "cannot read " ++ name ++ codes "\n"
 message_text (Program fault) name =
     codes "program " ++ decimal_text fault.line ++ (58 ∷ decimal_text fault.column) ++ (32 ∷ fault_why fault.why) ++ codes "\n"
 message_text NotBuilt name = codes "program 1:1 not built\n"
+message_text (Plan fault) name = plan_message fault
+message_text (Order fault) name = order_message fault
 message_text (LogRefused fault) name = codes "log " ++ decimal_text fault.at ++ (32 ∷ why_text fault.why) ++ codes "\n"
 message_text TooLong name = codes "too long " ++ name ++ codes "\n"
 

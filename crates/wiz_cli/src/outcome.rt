@@ -1,5 +1,6 @@
 //! What a command comes to, before it is told.
 use c_lex::SourceFault;
+use group_plan::{OrderFault, PlanFault};
 use srr_log::fault::LogFault;
 use srr_replay::replayed::Replayed;
 
@@ -12,10 +13,14 @@ pub enum Refusal {
     Missing,
     /// The input file could not be read.
     ReadFault,
-    /// The log's program is refused.
+    /// The program is refused.
     Program(SourceFault),
-    /// The log's program is accepted, but not of the form that is run.
+    /// The program is accepted, but not of the form that is run.
     NotBuilt,
+    /// The plan file holds no plan.
+    Plan(PlanFault),
+    /// The order file holds no order of the plan's ranks.
+    Order(OrderFault),
     /// The file's bytes are no log.
     Log(LogFault),
     /// The input file is longer than such a file may be.

@@ -1,13 +1,14 @@
 //! Telling an outcome: its status, and its message or trace.
 ghost use Rattle.std.specs.Prelude.{◌≡◌, ◌++◌, ◌∷◌, IfOk, OnErr, OnOk, codes};
 ghost use Rattle.std.specs.List.{list_any};
-ghost use Rattle.wiz_cli.specs.Reports.{GrewByPart, HasSaid, IsTold, IsTrace, fault_why, is_at_break, is_diverged, is_starved, message_text, refusal_status, status_by, told_text, why_text};
+ghost use Rattle.wiz_cli.specs.Reports.{GrewByPart, HasSaid, IsTold, IsTrace, fault_why, is_at_break, is_diverged, is_starved, message_text, order_message, plan_message, refusal_status, status_by, told_text, why_text};
 ghost use Rattle.wiz_trace.specs.TraceTexts.{trace_text};
 ghost use Rattle.wiz_base.specs.Decimals.{decimal_text};
 
 use crate::outcome::{Outcome, Refusal};
 use crate::report::Report;
 use c_lex::{SourceFault, Why};
+use group_plan::{OrderFault, PlanFault};
 use srr_log::fault::{LogFault, LogWhy};
 use srr_replay::replayed::{Replayed, Replays, Stand};
 use std::alloc::{AllocError, Global};
@@ -50,7 +51,7 @@ pub fn tell<K: Sink>(
 }
 
 /// The exit status of a refusal.
-fn exit_status(refusal: Refusal) -> u8
+pub fn exit_status(refusal: Refusal) -> u8
     ensures { result ≡ refusal_status refusal }
 {
     match refusal {
@@ -59,18 +60,33 @@ fn exit_status(refusal: Refusal) -> u8
         Refusal::ReadFault => 3,
         Refusal::Program(_) => 5,
         Refusal::NotBuilt => 5,
+        Refusal::Plan(_) => 6,
+        Refusal::Order(_) => 6,
         Refusal::Log(_) => 8,
         Refusal::TooLong => 12,
     }
 }
 
 /// Puts a refusal's message out. A fault of the sink changes no status.
-fn say<K: Sink>(alloc: Global, refusal: Refusal, name: &str, out: &mut K) -> Result<(), AllocError>
+pub fn say<K: Sink>(
+    alloc: Global,
+    refusal: Refusal,
+    name: &str,
+    out: &mut K,
+) -> Result<(), AllocError>
     ensures said { OnOk result (HasSaid (K.written out.old) (K.written out.new) (K.faults out.old) (K.faults out.new) (message_text refusal name.now)) }
     ensures short { OnErr result (GrewByPart (K.written out.old) (K.written out.new) (message_text refusal name.now)) }
 {
     let text = message(alloc, refusal, name)?;
-    match out.put(text.as_slice()) {
+    put_message(text.as_slice(), out)
+}
+
+/// Puts a message out. A fault of the sink changes no status.
+pub fn put_message<K: Sink>(text: &[u8], out: &mut K) -> Result<(), AllocError>
+    ensures said { OnOk result (HasSaid (K.written out.old) (K.written out.new) (K.faults out.old) (K.faults out.new) text.now) }
+    ensures short { OnErr result (GrewByPart (K.written out.old) (K.written out.new) text.now) }
+{
+    match out.put(text) {
         Ok(()) | Err(PutFault::Failed) => Ok(()),
         Err(PutFault::NoMemory) => Err(AllocError),
     }
@@ -86,13 +102,15 @@ fn message(alloc: Global, refusal: Refusal, name: &str) -> Result<Bytes, AllocEr
         Refusal::ReadFault => about_file(alloc, b"cannot read ", name),
         Refusal::Program(fault) => about_program(alloc, fault),
         Refusal::NotBuilt => Bytes::from_slice(alloc, b"program 1:1 not built\n"),
+        Refusal::Plan(fault) => about_plan(alloc, fault),
+        Refusal::Order(fault) => about_order(alloc, fault),
         Refusal::Log(fault) => about_log(alloc, fault),
         Refusal::TooLong => about_file(alloc, b"too long ", name),
     }
 }
 
 /// A message that names a file.
-fn about_file(alloc: Global, words: &[u8], name: &str) -> Result<Bytes, AllocError>
+pub fn about_file(alloc: Global, words: &[u8], name: &str) -> Result<Bytes, AllocError>
     ensures { IfOk result (λ text. text ≡ words.now ++ name.now ++ codes "\n") }
 {
     let mut text = Bytes::from_slice(alloc, words)?;
@@ -123,6 +141,40 @@ fn about_program(alloc: Global, fault: SourceFault) -> Result<Bytes, AllocError>
     push_decimal(&mut text, fault.column as u64)?;
     push_text(&mut text, b" ")?;
     push_text(&mut text, fault_words(fault.why))?;
+    push_text(&mut text, b"\n")?;
+    Ok(text)
+}
+
+/// The message of a plan that was refused: the line or rank of its first fault.
+fn about_plan(alloc: Global, fault: PlanFault) -> Result<Bytes, AllocError>
+    ensures { IfOk result (λ text. text ≡ plan_message fault) }
+{
+    match fault {
+        PlanFault::BadLine { line } => about_number(alloc, b"plan line ", line as u64),
+        PlanFault::TooManyRanks => Bytes::from_slice(alloc, b"plan too many ranks\n"),
+        PlanFault::Empty => Bytes::from_slice(alloc, b"plan empty\n"),
+        PlanFault::Repeated { rank } => about_number(alloc, b"plan repeated ", rank as u64),
+        PlanFault::Gap { rank } => about_number(alloc, b"plan gap ", rank as u64),
+        PlanFault::NoMemory => Bytes::from_slice(alloc, b"plan no memory\n"),
+    }
+}
+
+/// The message of an order that was refused: its first bad line.
+fn about_order(alloc: Global, fault: OrderFault) -> Result<Bytes, AllocError>
+    ensures { IfOk result (λ text. text ≡ order_message fault) }
+{
+    match fault {
+        OrderFault::BadLine { line } => about_number(alloc, b"order line ", line as u64),
+        OrderFault::NoMemory => Bytes::from_slice(alloc, b"order no memory\n"),
+    }
+}
+
+/// A message that names a number.
+fn about_number(alloc: Global, words: &[u8], number: u64) -> Result<Bytes, AllocError>
+    ensures { IfOk result (λ text. text ≡ words.now ++ decimal_text number ++ codes "\n") }
+{
+    let mut text = Bytes::from_slice(alloc, words)?;
+    push_decimal(&mut text, number)?;
     push_text(&mut text, b"\n")?;
     Ok(text)
 }

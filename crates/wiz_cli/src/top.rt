@@ -1,9 +1,13 @@
 //! The top call.
 ghost use Rattle.std.specs.Prelude.{◌≡◌, IfOk, OnErr, map};
+ghost use Rattle.wiz_cli.specs.Commands.{IsCommandCut, IsCommandReport};
+ghost use Rattle.wiz_cli.specs.RecordReports.{outside};
 ghost use Rattle.wiz_cli.specs.Reports.{IsCutShort, IsReport, ReplaysShowEveryRun};
 
 use crate::gate::Gate;
 use crate::outcome::{Outcome, Refusal};
+use crate::record_run::record;
+use crate::record_words::record_words;
 use crate::replay_file::replay_file;
 use crate::report::Report;
 use crate::tell::tell;
@@ -15,17 +19,17 @@ use std::thread::Threads;
 use wiz_io::{Sink, Store};
 
 /// The tool as a function of its words, its files and its output, without threads. `replay LOG --serial` prints the trace
-/// of the log's group, replayed with the program that stands in the log; other words are refused.
+/// of the log's group, replayed with the program that stands in the log. `record PROGRAM PLAN PREFIX --serial` runs the
+/// program on the plan's ranks, in rounds, and writes the log of each group and the order of the run; with `--order FILE` in
+/// place of `--serial` the ranks of the file have the first turns. Other words are refused.
 pub fn wiz_serial<S: Store, K: Sink>(
     alloc: Global,
     words: &[&str],
     store: &mut S,
     out: &mut K,
 ) -> Report
-    ensures report { IsReport (map (λ word. word.now) words.now) (S.files store.old) (S.read_faults store.old) (S.read_faults store.new) (K.written out.old) (K.written out.new) (K.faults out.old) (K.faults out.new) result.status result.run result.replayed }
+    ensures report { IsCommandReport (map (λ word. word.now) words.now) (outside (S.files store.old) (S.read_faults store.old) (S.write_faults store.old) (K.written out.old) (K.faults out.old)) (outside (S.files store.new) (S.read_faults store.new) (S.write_faults store.new) (K.written out.new) (K.faults out.new)) result.status result.run result.replayed }
     ensures runs { ReplaysShowEveryRun (map (λ word. word.now) words.now) (S.files store.old) result.replayed result.status }
-    ensures files { S.files store.new ≡ S.files store.old }
-    ensures writes { S.write_faults store.new ≡ S.write_faults store.old }
 {
     match answer(alloc, words, store, out) {
         Ok(report) => report,
@@ -46,16 +50,31 @@ pub fn wiz<R: Threads + Wait + Sync, S: Store, K: Sink, G: Gate + Sync>(
     out: &mut K,
     _gate: &G,
 ) -> Report
-    ensures report { IsReport (map (λ word. word.now) words.now) (S.files store.old) (S.read_faults store.old) (S.read_faults store.new) (K.written out.old) (K.written out.new) (K.faults out.old) (K.faults out.new) result.status result.run result.replayed }
+    ensures report { IsCommandReport (map (λ word. word.now) words.now) (outside (S.files store.old) (S.read_faults store.old) (S.write_faults store.old) (K.written out.old) (K.faults out.old)) (outside (S.files store.new) (S.read_faults store.new) (S.write_faults store.new) (K.written out.new) (K.faults out.new)) result.status result.run result.replayed }
     ensures runs { ReplaysShowEveryRun (map (λ word. word.now) words.now) (S.files store.old) result.replayed result.status }
-    ensures files { S.files store.new ≡ S.files store.old }
-    ensures writes { S.write_faults store.new ≡ S.write_faults store.old }
 {
     wiz_serial(alloc, words, store, out)
 }
 
 /// What the words come to, told. The error is want of memory.
 fn answer<S: Store, K: Sink>(
+    alloc: Global,
+    words: &[&str],
+    store: &mut S,
+    out: &mut K,
+) -> Result<Report, AllocError>
+    ensures short { OnErr result (IsCommandCut (map (λ word. word.now) words.now) (outside (S.files store.old) (S.read_faults store.old) (S.write_faults store.old) (K.written out.old) (K.faults out.old)) (outside (S.files store.new) (S.read_faults store.new) (S.write_faults store.new) (K.written out.new) (K.faults out.new))) }
+    ensures report { IfOk result (λ report. IsCommandReport (map (λ word. word.now) words.now) (outside (S.files store.old) (S.read_faults store.old) (S.write_faults store.old) (K.written out.old) (K.faults out.old)) (outside (S.files store.new) (S.read_faults store.new) (S.write_faults store.new) (K.written out.new) (K.faults out.new)) report.status report.run report.replayed) }
+    ensures runs { IfOk result (λ report. ReplaysShowEveryRun (map (λ word. word.now) words.now) (S.files store.old) report.replayed report.status) }
+{
+    match record_words(words) {
+        Some(names) => record(alloc, &names, store, out),
+        None => answer_other(alloc, words, store, out),
+    }
+}
+
+/// What words that are no recording come to, told.
+fn answer_other<S: Store, K: Sink>(
     alloc: Global,
     words: &[&str],
     store: &mut S,

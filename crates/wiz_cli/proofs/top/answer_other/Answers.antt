@@ -2,7 +2,7 @@ use Rattle.std.proofs.Common.{[], inr}
 use Rattle.wiz_cli.specs.declared.outcome.Refusal.TheVariants.{Words}
 use Rattle.wiz_cli.specs.declared.outcome.Outcome.TheVariants.{Refused}
 use Rattle.wiz_cli.proofs.ReportLemmas.{OnErr-any, IsOutcome-file, IsReport-told, ReplaysShowEveryRun-told}
-use Rattle.wiz_cli.proofs.top.answer.Goals as goal
+use Rattle.wiz_cli.proofs.top.answer_other.Goals as goal
 
 pub returns-in_ok-report-in-None-clause-report : goal.returns-in_ok-report-in-None-clause-report
 returns-in_ok-report-in-None-clause-report g c =

@@ -1,0 +1,120 @@
+-- Reports of recordings, from what their steps answer.
+use Rattle.std.proofs.Common.{◌≡◌, ◌⊎◌, ℕ, List, [], Option, Some, None, Result, Ok, Err, IfOk, OnErr, OnOk, inl, inr, refl}
+use Rattle.std.specs.Prelude.{IfErr}
+use Rattle.run_model.specs.Views.{Kept}
+use Rattle.srr_record.specs.declared.recording.Recording.{Recording}
+use Rattle.srr_replay.specs.declared.replayed.Replayed.{Replayed}
+use Rattle.wiz_cli.specs.declared.record_files.Unwritten.{Unwritten}
+use Rattle.wiz_cli.specs.declared.record_files.Unwritten.TheVariants.{Failed, NoMemory}
+use Rattle.wiz_cli.specs.declared.record_outcome.Inputs.{Inputs}
+use Rattle.wiz_cli.specs.declared.record_outcome.RecordRefusal.{RecordRefusal}
+use Rattle.wiz_cli.specs.Commands.{IsCommandCut, IsCommandReport}
+use Rattle.wiz_cli.specs.RecordFiles.{AreWritten, ArePartlyWritten, IsStoppedAt, files_of}
+use Rattle.wiz_cli.specs.Recordings.{AreInputs, IsRecordingOf, IsRefusal}
+use Rattle.wiz_cli.specs.RecordReports.{HasRecorded, IsCutRecord, IsCutRefusal, IsCutRun, IsRecordPut, IsRecordReport, IsRecordedReport, IsRefusalTold, IsRefusedReport, IsUntouched, IsUnwrittenReport, IsUnwrittenTold, Outside, refused_text, unwritten_text}
+use Rattle.wiz_cli.specs.RecordWords.{RecordNames}
+use Rattle.wiz_cli.specs.Reports.{GrewByPart}
+use Rattle.wiz_cli.proofs.FileLemmas.{ArePartlyWritten-none}
+use Rattle.wiz_io.specs.Files.{HasRisen}
+use Rattle.wiz_trace.specs.RecordTexts.{record_text}
+
+untouched : (before after : Outside) → after.files ≡ before.files → after.writes ≡ before.writes → IsUntouched before after
+untouched before after files writes = record { files = files; writes = writes }
+
+-- nothing is recorded
+pub IsRecordReport-refused : (names : RecordNames) (before after : Outside) (status : ℕ) (run : Option Kept) (replays : List Replayed) (refused : RecordRefusal)
+    → after.files ≡ before.files → after.writes ≡ before.writes → IsRefusal before.files before.reads after.reads names refused
+    → IsRefusalTold names refused before.written after.written before.puts after.puts status run replays
+    → IsRecordReport names before after status run replays
+IsRecordReport-refused names before after status run replays refused files writes why told =
+    inr (inl (record { refusal = refused; why = why; untouched = untouched before after files writes; told = told }))
+
+pub IsCutRecord-refused : (names : RecordNames) (before after : Outside) (refused : RecordRefusal)
+    → after.files ≡ before.files → after.writes ≡ before.writes → IsRefusal before.files before.reads after.reads names refused
+    → GrewByPart before.written after.written (refused_text names refused) → IsCutRecord names before after
+IsCutRecord-refused names before after refused files writes why said =
+    inl (record { untouched = untouched before after files writes; said = inr (refused, why, said) })
+
+pub IsCutRecord-silent : (names : RecordNames) (before after : Outside) → after.files ≡ before.files → after.writes ≡ before.writes → after.written ≡ before.written → IsCutRecord names before after
+IsCutRecord-silent names before after files writes same = inl (record { untouched = untouched before after files writes; said = inl same })
+
+has_recorded : (names : RecordNames) (before : Outside) (inputs : Inputs) (recording : Recording) → AreInputs before.files names inputs → IsRecordingOf inputs recording → HasRecorded names before recording
+has_recorded names before inputs recording are recorded = record { inputs = inputs; are_inputs = are; recorded = recorded }
+
+-- a run is recorded, and all files are written
+pub IsRecordReport-recorded : (names : RecordNames) (before after : Outside) (status : ℕ) (run : Option Kept) (replays : List Replayed) (inputs : Inputs) (recording : Recording)
+    → AreInputs before.files names inputs → IsRecordingOf inputs recording
+    → AreWritten before.files after.files (files_of names.prefix recording) []
+    → IsRecordPut recording before.written after.written before.puts after.puts status run replays
+    → IsRecordReport names before after status run replays
+IsRecordReport-recorded names before after status run replays inputs recording are recorded files told =
+    inr (inr (inl (record { recording = recording; recorded = has_recorded names before inputs recording are recorded; files = files; told = told })))
+
+pub IsCutRecord-recorded : (names : RecordNames) (before after : Outside) (inputs : Inputs) (recording : Recording)
+    → AreInputs before.files names inputs → IsRecordingOf inputs recording
+    → AreWritten before.files after.files (files_of names.prefix recording) []
+    → GrewByPart before.written after.written (record_text recording.outputs recording.ending)
+    → IsCutRecord names before after
+IsCutRecord-recorded names before after inputs recording are recorded files said =
+    inr (record { recording = recording; recorded = has_recorded names before inputs recording are recorded; cut = inr (inl (files, said)) })
+
+-- a file was not written
+pub IsRecordReport-unwritten : (names : RecordNames) (before after : Outside) (status : ℕ) (run : Option Kept) (replays : List Replayed) (inputs : Inputs) (recording : Recording) (name : List ℕ)
+    → AreInputs before.files names inputs → IsRecordingOf inputs recording → HasRisen before.writes after.writes
+    → IsStoppedAt before.files after.files (files_of names.prefix recording) name
+    → IsUnwrittenTold recording name before.written after.written before.puts after.puts status run replays
+    → IsRecordReport names before after status run replays
+IsRecordReport-unwritten names before after status run replays inputs recording name are recorded risen files told =
+    inr (inr (inr (record {
+      recording = recording;
+      recorded = has_recorded names before inputs recording are recorded;
+      risen = risen;
+      name = name;
+      files = files;
+      told = told;
+    })))
+
+pub IsCutRecord-unwritten : (names : RecordNames) (before after : Outside) (inputs : Inputs) (recording : Recording) (name : List ℕ)
+    → AreInputs before.files names inputs → IsRecordingOf inputs recording → HasRisen before.writes after.writes
+    → IsStoppedAt before.files after.files (files_of names.prefix recording) name
+    → GrewByPart before.written after.written (unwritten_text name)
+    → IsCutRecord names before after
+IsCutRecord-unwritten names before after inputs recording name are recorded risen files said =
+    inr (record { recording = recording; recorded = has_recorded names before inputs recording are recorded; cut = inr (inr (name, files, risen, said)) })
+
+pub IsCutRecord-partly : (names : RecordNames) (before after : Outside) (inputs : Inputs) (recording : Recording)
+    → AreInputs before.files names inputs → IsRecordingOf inputs recording
+    → ArePartlyWritten before.files after.files (files_of names.prefix recording) → after.written ≡ before.written
+    → IsCutRecord names before after
+IsCutRecord-partly names before after inputs recording are recorded files same =
+    inr (record { recording = recording; recorded = has_recorded names before inputs recording are recorded; cut = inl (files, same) })
+
+-- a recording replays nothing
+pub no_replays : (names : RecordNames) (before after : Outside) (status : ℕ) (run : Option Kept) (replays : List Replayed) → IsRecordReport names before after status run replays → replays ≡ []
+no_replays names before after status run replays (inl cut) = cut.2
+no_replays names before after status run replays (inr (inl refused)) = refused.told.no_replays
+no_replays names before after status run replays (inr (inr (inl recorded))) = recorded.told.no_replays
+no_replays names before after status run replays (inr (inr (inr unwritten))) = unwritten.told.no_replays
+
+-- where memory was wanting for a command
+pub IsCommandReport-cut : (words : List (List ℕ)) (before after : Outside) → IsCommandCut words before after → IsCommandReport words before after 11 None []
+IsCommandReport-cut words before after (inl (names, is, cut)) = inl (names, is, inl (refl, refl, refl, cut))
+IsCommandReport-cut words before after (inr (other, untouched, short)) =
+    inr (record { other = other; report = inl (refl, refl, refl, short); untouched = untouched })
+
+-- what follows from what a result is
+pub if_ok : {A E : Type 0} (result : Result A E) (P Q : A → Type 0) → ((value : A) → P value → Q value) → IfOk result P → IfOk result Q
+if_ok (Ok value) P Q weaker h = weaker value h
+if_ok (Err error) P Q weaker h = h
+
+pub if_err : {A E : Type 0} (result : Result A E) (P Q : E → Type 0) → ((error : E) → P error → Q error) → IfErr result P → IfErr result Q
+if_err (Ok value) P Q weaker h = h
+if_err (Err error) P Q weaker h = weaker error h
+
+pub on_ok : {A E : Type 0} (result : Result A E) (P Q : Type 0) → (P → Q) → OnOk result P → OnOk result Q
+on_ok (Ok value) P Q weaker h = weaker h
+on_ok (Err error) P Q weaker h = h
+
+pub on_err : {A E : Type 0} (result : Result A E) (P Q : Type 0) → (P → Q) → OnErr result P → OnErr result Q
+on_err (Ok value) P Q weaker h = h
+on_err (Err error) P Q weaker h = weaker h

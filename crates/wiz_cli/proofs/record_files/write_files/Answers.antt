@@ -1,0 +1,27 @@
+use Rattle.std.proofs.Common.{[], ◌∷◌}
+use Rattle.wiz_cli.specs.RecordFiles.{AreWritten, files_of, log_files, order_name}
+use Rattle.wiz_cli.specs.RecordSteps.{IsStopped}
+use Rattle.wiz_trace.specs.OrderTexts.{order_text}
+use Rattle.wiz_cli.proofs.FileLemmas.{AreWritten-append, IsStopped-behind}
+use Rattle.wiz_cli.proofs.FileNames.{logs_apart}
+use Rattle.wiz_cli.proofs.RecordLemmas.{if_err, on_ok}
+use Rattle.wiz_cli.proofs.record_files.write_files.Goals as goal
+
+pub returns-clause-ok : goal.returns-clause-ok
+returns-clause-ok g c =
+    on_ok c.write_order.result _ _
+    (λ second. AreWritten-append (g.S.Store.files c.args.store.now) (g.S.Store.files c.write_logs.new.store) (g.S.Store.files c.write_order.new.store)
+    (log_files c.args.prefix.now 0 c.args.recording.now.logs)
+    ((record { name = order_name c.args.prefix.now; bytes = order_text c.args.recording.now.history.events }) ∷ []) []
+    (rw c.as_slice.ensures at c.in_ok-write_logs.ensures.ok) second (logs_apart c.args.prefix.now 0 c.args.recording.now.logs))
+    c.write_order.ensures.ok
+
+pub returns-clause-stopped : goal.returns-clause-stopped
+returns-clause-stopped g c =
+    if_err c.write_order.result _ _
+    (λ why stopped. IsStopped-behind (g.S.Store.files c.args.store.now) (g.S.Store.files c.write_logs.new.store) (g.S.Store.files c.write_order.new.store)
+    (g.S.Store.write_faults c.args.store.now) (g.S.Store.write_faults c.write_logs.new.store) (g.S.Store.write_faults c.write_order.new.store)
+    (log_files c.args.prefix.now 0 c.args.recording.now.logs)
+    ((record { name = order_name c.args.prefix.now; bytes = order_text c.args.recording.now.history.events }) ∷ []) why
+    (rw c.as_slice.ensures at c.in_ok-write_logs.ensures.ok) stopped c.in_ok-write_logs.ensures.later (logs_apart c.args.prefix.now 0 c.args.recording.now.logs))
+    c.write_order.ensures.stopped
