@@ -10,6 +10,4 @@ pub mod program;
 pub mod row;
 pub mod scope;
 pub mod statement;
-#[cfg(test)]
-mod tests;
 pub mod thing;

@@ -10,7 +10,7 @@ use Rattle.mpi_call.specs.Calls.{is_enter}
 use Rattle.mpi_call.specs.Needs.{agree}
 use Rattle.mpi_call.specs.declared.call.Call.{Call}
 use Rattle.collectives.specs.Entrants.{AllAgree, Among, first_against, has_entered, without}
-use Rattle.collectives.specs.Instances.{enters_by, answer_of, instance_at, joins_unless, Gains, IsKept, Loses}
+use Rattle.collectives.specs.Instances.{enters_by, answer_of, instance_at, joins_unless, AreOrderly, Gains, IsKept, Loses}
 use Rattle.collectives.specs.declared.entrants.Entrant.{Entrant}
 use Rattle.collectives.specs.declared.instances.Entered.TheVariants.{Joined, Disagrees}
 
@@ -53,6 +53,18 @@ enters_by_is (entrants ∷ others) rank (suc k) first =
 
 pub count_is : (instances : List (List Entrant)) (counts : List ℕ) (rank : ℕ) → IsKept instances counts → get_or counts rank 0 ≡ enters_by instances rank
 count_is instances counts rank kept = sym (enters_by_is instances rank (get_or counts rank 0) (kept.counted rank))
+
+pub orderly_is : (instances : List (List Entrant)) (counts : List ℕ) (rank : ℕ) → IsKept instances counts → AreOrderly instances rank
+orderly_is instances counts rank kept = record {
+  counted = λ number. kept.counted rank number ∙ ap (nat_lt number) (count_is instances counts rank kept);
+  agreed = kept.agreed;
+}
+
+pub orderly_first : (rank : ℕ) → AreOrderly [] rank
+orderly_first rank = record {
+  counted = λ number. sym (not_less number 0 (omega arith));
+  agreed = λ number. record { pairs = λ a b h g. absurd h };
+}
 
 -- counts that read the same
 pub kept_same : (instances : List (List Entrant)) (counts more : List ℕ) → IsKept instances counts → ((rank : ℕ) → get_or more rank 0 ≡ get_or counts rank 0) → IsKept instances more

@@ -1,8 +1,8 @@
 -- The collectives of all communicators.
-use Rattle.std.specs.Prelude.{◌≡◌, ℕ, List, [], ◌∷◌, ◌++◌, ◌&&◌, ◌==◌, if◌then◌else◌}
+use Rattle.std.specs.Prelude.{◌≡◌, ℕ, List, [], ◌∷◌, ◌++◌, ◌&&◌, ◌==◌, if◌then◌else◌, nat_lt}
 use Rattle.mpi_call.specs.Calls.{comm_of}
 use Rattle.mpi_call.specs.declared.call.Call.{Call}
-use Rattle.collectives.specs.Entrants.{without}
+use Rattle.collectives.specs.Entrants.{AllAgree, has_entered, without}
 use Rattle.collectives.specs.Instances.{answer_of, enters_by, instance_at}
 use Rattle.collectives.specs.declared.entrants.Entrant.{Entrant}
 use Rattle.collectives.specs.declared.instances.Entered.{Entered}
@@ -23,6 +23,11 @@ enters_of stages comm instance = instance_at (instances_on stages comm) instance
 -- how many Enters a rank has made on a communicator: the instance of its next one
 abbrev pub enters_on : Stages → ℕ → ℕ → ℕ
 enters_on stages comm rank = enters_by (instances_on stages comm) rank
+
+-- a rank has entered just the instances below its next one, and the Enters of each instance agree
+pub record IsOrderly (stages : Stages) (comm rank : ℕ) : Type 0 where
+  pub counted : (number : ℕ) → has_entered (enters_of stages comm number) rank ≡ nat_lt number (enters_on stages comm rank)
+  pub agreed : (number : ℕ) → AllAgree (enters_of stages comm number)
 
 -- what `enter` answers
 abbrev pub entered_by : Stages → ℕ → Call → Entered

@@ -42,3 +42,8 @@ IsInstancesAfter old new rank call (Disagrees other) = new ≡ old
 pub record IsKept (instances : List (List Entrant)) (counts : List ℕ) : Type 0 where
   pub counted : (rank number : ℕ) → has_entered (instance_at instances number) rank ≡ nat_lt number (slice_index counts rank)
   pub agreed : (number : ℕ) → AllAgree (instance_at instances number)
+
+-- a rank has entered just the instances below its next one, and the Enters of each agree
+pub record AreOrderly (instances : List (List Entrant)) (rank : ℕ) : Type 0 where
+  pub counted : (number : ℕ) → has_entered (instance_at instances number) rank ≡ nat_lt number (enters_by instances rank)
+  pub agreed : (number : ℕ) → AllAgree (instance_at instances number)

@@ -1,7 +1,7 @@
 //! The collectives of all communicators.
 ghost use Rattle.std.specs.Prelude.{◌≡◌, ◌-◌, ◌<◌, [], ℕ, map, IfOk, IsOk, IsTrue, OnErr};
 ghost use Rattle.mpi_call.specs.Calls.{comm_of, is_enter};
-ghost use Rattle.collectives.specs.Boards.{entered_by, enters_of, enters_on, IsBoardAfter, LosesEnter};
+ghost use Rattle.collectives.specs.Boards.{entered_by, enters_of, enters_on, IsBoardAfter, IsOrderly, LosesEnter};
 ghost use Rattle.collectives.specs.Entrants.{has_entered, ints_by};
 ghost use Rattle.collectives.specs.declared.instances.Entered.TheVariants.{Disagrees};
 
@@ -63,7 +63,8 @@ impl Board {
 
     /// How many Enters a rank has made on a communicator: the instance of its next one. Takes no memory.
     pub fn enters_on(&self, comm: Comm, rank: u8) -> u32
-        ensures { result ≡ enters_on self.now comm rank }
+        ensures value { result ≡ enters_on self.now comm rank }
+        ensures orderly { IsOrderly self.now comm rank }
     {
         match self.stages.get(&comm) {
             Some(instances) => instances.enters_by(rank),

@@ -2,7 +2,7 @@
 ghost use Rattle.std.specs.Prelude.{◌≡◌, ◌-◌, ◌<◌, ◌≤◌, [], ℕ, length, map, IfOk, IsOk, IsTrue, OnErr, OnOk, slice_index, vec_len};
 ghost use Rattle.mpi_call.specs.Calls.{is_enter};
 ghost use Rattle.collectives.specs.Entrants.{first_against, has_entered, ints_by, AllAgree};
-ghost use Rattle.collectives.specs.Instances.{answer_of, enters_by, instance_at, Gains, IsInstancesAfter, Loses};
+ghost use Rattle.collectives.specs.Instances.{answer_of, enters_by, instance_at, AreOrderly, Gains, IsInstancesAfter, Loses};
 ghost use Rattle.collectives.specs.declared.instances.Entered.TheVariants.{Disagrees};
 
 use crate::entrants::{Entrant, Entrants};
@@ -53,7 +53,8 @@ impl Instances {
 
     /// How many Enters a rank has made: the instance of its next one. Takes no memory.
     pub fn enters_by(&self, rank: u8) -> u32
-        ensures { result ≡ enters_by self.now rank }
+        ensures value { result ≡ enters_by self.now rank }
+        ensures orderly { AreOrderly self.now rank }
     {
         count_of(&self.counts, rank)
     }

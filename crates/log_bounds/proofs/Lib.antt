@@ -7,3 +7,4 @@ pub mod RunEntries
 pub mod EnterPlaces
 pub mod FewCommunicators
 pub mod SmallNumbers
+pub mod Reading

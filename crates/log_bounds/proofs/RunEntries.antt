@@ -1,5 +1,5 @@
 -- The entries in the log of a run are within their bounds.
-use Rattle.std.proofs.Common.{◌≡◌, ◌≤◌, ◌<◌, ◌⊎◌, ◌++◌, ◌∷◌, ◌∙◌, ◌==◌, ◌&&◌, ◌+◌, ◌^◌, All, Bool, List, None, Option, Some, [], ap, append-nil, append_assoc, arith, false, if◌then◌else◌, inl, inr, length, map, nat_lt, refl, subst, suc, sym, true, zero, ℕ, ℤ}
+use Rattle.std.proofs.Common.{◌≡◌, ◌≤◌, ◌<◌, ◌⊎◌, ◌++◌, ◌∷◌, ◌∙◌, ◌==◌, ◌&&◌, All, Bool, List, None, Option, Some, [], ap, append-nil, append_assoc, arith, false, if◌then◌else◌, inl, inr, length, map, refl, subst, suc, sym, true, ℕ, ℤ}
 use Rattle.std.proofs.lemmas.Bool.{and_parts, cases_lt, eq-eqb, eqb-true, or_left, or_right, ltb-true}
 use Rattle.std.specs.List.{list_all, list_any}
 use Rattle.mpi_call.specs.declared.call.Call.{Call}
@@ -12,22 +12,19 @@ use Rattle.mpi_call.specs.declared.reply.Reply.{Reply}
 use Rattle.mpi_call.specs.declared.reply.Reply.TheVariants.{Done, NotYet, Peeked, Stopped, Took}
 use Rattle.mpi_call.specs.Collectives.{is_member}
 use Rattle.run_model.specs.declared.event.Event.{Event}
-use Rattle.run_model.specs.Allowed.{IsAllowed, IsStuck}
+use Rattle.run_model.specs.Allowed.{IsStuck}
 use Rattle.run_model.specs.Due.{due, halt_in, halted, or_else}
 use Rattle.run_model.specs.Forms.{IsInOrder}
-use Rattle.run_model.specs.Lists.{Along, are_below}
-use Rattle.run_model.specs.Program.{AsksInBounds, EntersInForm, IsInBounds, IsRankOf, IsSeen, IsViewOf, ends}
+use Rattle.run_model.specs.Program.{AsksInBounds, IsInBounds, IsRankOf, IsSeen, IsViewOf, ends}
 use Rattle.run_model.specs.Run.{IsEvent, IsRun}
 use Rattle.run_model.specs.Shape.{can_take, gots_fit, has_count, has_shape, rises}
 use Rattle.run_model.specs.Views.{Next, View, replies_in, start_at, view_of}
 use Rattle.run_model.proofs.Along.{Along-keeps, Along-snoc}
-use Rattle.run_model.proofs.MemberLists.{below_member}
 use Rattle.run_model.proofs.Orders.{in_order, short_sends, start_back}
 use Rattle.run_model.proofs.Places.{place}
 use Rattle.run_model.proofs.RunLaws.{IsRun-event, IsRun-front, Kept, Lawful, event_shaped, kept_run}
-use Rattle.run_model.proofs.TrueReplies.{IsPeekedSend, IsTrueReply, allowed_true}
-use Rattle.run_model.proofs.Views.{option_cases, test_cases, view_of-append}
-use Rattle.srr_entry.specs.declared.entry.Entry.{Entry}
+use Rattle.run_model.proofs.TrueReplies.{IsTrueReply, allowed_true}
+use Rattle.run_model.proofs.Views.{option_cases}
 use Rattle.srr_entry.specs.declared.entry.Entry.TheVariants.{PeekedInside, PeekedOutside}
 use Rattle.srr_entry.specs.Entries.{entries_from, entry_of, entry_of_done, log_of}
 use Rattle.srr_log.specs.Bounds.{AreEntries, IsEntry, IsGroup, IsHalt, IsInBounds as IsLogInBounds, IsList, is_last}
@@ -73,10 +70,12 @@ sent_bounds next n before laws some few kept lengths =
             | inr above ↦ (let no : None ≡ Some (Send c d tag ints) = rw (kept.below.empty source above) at at in absurd (cc))
           ] in
           let rank : IsRankOf n source = (some, few, below) in
-          let came = kept.came source below in
-          (below, small_start (view_of before source) start (Send c d tag ints) (lengths source) at,
-          (tagged next n source (view_of before source) laws.asks rank came).sends start c d tag ints at,
-          short_sends next n source (view_of before source) laws.asks rank came start c d tag ints at));
+          let came = kept.came source below in (
+            below,
+            small_start (view_of before source) start (Send c d tag ints) (lengths source) at,
+            (tagged next n source (view_of before source) laws.asks rank came).sends start c d tag ints at,
+            short_sends next n source (view_of before source) laws.asks rank came start c d tag ints at,
+          ));
     }
 
 done_entry : (n : ℕ) (group : List ℕ) (call : Call) → IsEntry n group (entry_of_done call)
@@ -122,10 +121,11 @@ took_entry next n group before me (Take starts mode) items mine b =
     let two = and_parts (rises 0 (length starts) indices) (list_all (λ k. can_take own k) starts && gots_fit n own me starts items) one.1 in
     let three = and_parts (list_all (λ k. can_take own k) starts) (gots_fit n own me starts items) two.1 in
     let many = marks_many n group me own starts items in
-    let some = some_taken mode (length starts) (length items) b.bounds.0 one.0 in
-    (omega (arith, many, some),
-    marks_rise n group me own starts items 0 (length starts) two.0,
-    marks_ok n group me before starts items 0 b.few mine b.order b.sent b.bounds.1 b.truth three.1 two.0 b.writable.0 b.writable.1)
+    let some = some_taken mode (length starts) (length items) b.bounds.0 one.0 in (
+      omega (arith, many, some),
+      marks_rise n group me own starts items 0 (length starts) two.0,
+      marks_ok n group me before starts items 0 b.few mine b.order b.sent b.bounds.1 b.truth three.1 two.0 b.writable.0 b.writable.1,
+    )
 took_entry next n group before me (Send comm dest tag ints) items mine b = absurd (let h : false ≡ true = b.shape in cc)
 took_entry next n group before me (Post comm source tag room) items mine b = absurd (let h : false ≡ true = b.shape in cc)
 took_entry next n group before me (Enter comm kind root op count ints) items mine b = absurd (let h : false ≡ true = b.shape in cc)
@@ -302,10 +302,11 @@ entries_ok next n group rank run laws is writable mine own ((call, reply) ∷ vi
     let K : Reply → Type 0 = λ y. B rank call y in
     subst K p.reply_is (subst H p.call_is (subst G p.rank_is facts))) in
     let E : View → Type 0 = λ v. IsEntry n group (entry_of n group rank v call reply) in
-    let S : View → Type 0 = λ v. has_shape n rank v call reply ≡ true in
-    (subst E p.view_is (entry_ok next n group p.before rank call reply mine b),
-    (λ last. nothing_after next n group rank run laws is own call reply view whole b.below (last_ends n group rank own call reply (subst S p.view_is b.shape) last)),
-    rest)
+    let S : View → Type 0 = λ v. has_shape n rank v call reply ≡ true in (
+      subst E p.view_is (entry_ok next n group p.before rank call reply mine b),
+      (λ last. nothing_after next n group rank run laws is own call reply view whole b.below (last_ends n group rank own call reply (subst S p.view_is b.shape) last)),
+      rest,
+    )
 
 length-entries : (n : ℕ) (group : List ℕ) (me : ℕ) (own view : View) → length (entries_from n group me own view) ≡ length view
 length-entries n group me own [] = refl

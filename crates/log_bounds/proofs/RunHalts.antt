@@ -1,5 +1,5 @@
 -- The halts of a run are within their bounds.
-use Rattle.std.proofs.Common.{◌≡◌, ◌≤◌, ◌<◌, ◌++◌, ◌∷◌, ◌∙◌, ◌==◌, All, Bool, List, None, Option, Some, [], ap, arith, false, inl, inr, length, not, refl, slice_index, subst, suc, sym, true, ℕ}
+use Rattle.std.proofs.Common.{◌≡◌, ◌≤◌, ◌<◌, ◌∷◌, ◌∙◌, ◌==◌, All, Bool, List, None, Option, Some, [], arith, false, inl, inr, length, not, refl, slice_index, subst, suc, sym, true, ℕ}
 use Rattle.std.proofs.lemmas.Bool.{eqb-true, or_cases}
 use Rattle.mpi_call.specs.declared.call.Call.{Call}
 use Rattle.mpi_call.specs.declared.call.Call.TheVariants.{Abort, End, Enter, Peek, Post, Send, Take, Trap}

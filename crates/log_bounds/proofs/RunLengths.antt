@@ -1,5 +1,5 @@
 -- A rank of a run makes fewer than a million calls.
-use Rattle.std.proofs.Common.{◌≡◌, ◌≤◌, ◌<◌, ◌⊎◌, ◌++◌, ◌∷◌, ◌∙◌, ◌==◌, ◌||◌, Bool, List, None, Option, Some, [], arith, false, inl, inr, length, length-append, nat_le, refl, subst, sym, true, ℕ}
+use Rattle.std.proofs.Common.{◌≡◌, ◌≤◌, ◌<◌, ◌⊎◌, ◌++◌, ◌∷◌, ◌∙◌, ◌==◌, List, None, Option, Some, [], arith, false, inl, inr, length, length-append, nat_le, refl, subst, sym, true, ℕ}
 use Rattle.std.proofs.lemmas.Bool.{eqb-true, false_from_ne_true, leb-false, or_cases, or_left, or_parts, or_right}
 use Rattle.std.specs.List.{list_any}
 use Rattle.mpi_call.specs.declared.call.Call.{Call}
@@ -102,8 +102,9 @@ lengths_more next n before event lawful some few kept step lengths rank =
             let here : was_stopped (view_of before rank) ≡ false = subst F mine live in
             rw (view_of-mine before event rank mine) (elim (lengths rank) [
               | inl short ↦ inr (
-                  stopped_last (view_of before rank) event.call event.reply t,
-                  (let one : List (Call × Reply) = (event.call, event.reply) ∷ [] in rw (length-append (view_of before rank) one) (omega (arith, short))))
+                stopped_last (view_of before rank) event.call event.reply t,
+                (let one : List (Call × Reply) = (event.call, event.reply) ∷ [] in rw (length-append (view_of before rank) one) (omega (arith, short))),
+              )
               | inr stopped ↦ (let no : true ≡ false = sym stopped.0 ∙ here in absurd (cc))
             ]))
         | inr u ↦ rw (view_of-other before event rank u) (lengths rank)

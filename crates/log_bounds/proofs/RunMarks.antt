@@ -1,7 +1,7 @@
 -- The marks in the log of a run are within their bounds.
-use Rattle.std.proofs.Common.{◌≡◌, ◌≤◌, ◌<◌, ◌++◌, ◌∷◌, ◌∙◌, ◌==◌, ◌&&◌, ◌||◌, ◌+◌, ◌^◌, All, Bool, List, None, Option, Some, [], ap, arith, false, if◌then◌else◌, inl, inr, length, map, nat_le, nat_lt, not, refl, slice_index, slice_index_or, subst, suc, sym, true, zero, ℕ, ℤ}
+use Rattle.std.proofs.Common.{◌≡◌, ◌≤◌, ◌<◌, ◌∷◌, ◌∙◌, ◌==◌, ◌&&◌, ◌||◌, ◌+◌, All, Bool, List, None, Option, Some, [], ap, arith, false, if◌then◌else◌, inl, inr, length, map, nat_le, nat_lt, not, refl, slice_index, subst, suc, sym, true, zero, ℕ, ℤ}
 use Rattle.std.specs.Prelude.{FitsSigned}
-use Rattle.std.proofs.lemmas.Bool.{and_from, and_parts, cases_lt, eq-eqb, eqb-false, eqb-true, leb-true, ltb-true}
+use Rattle.std.proofs.lemmas.Bool.{and_parts, eqb-true, leb-true, ltb-true}
 use mir.Syntax.{w32}
 use Rattle.mpi_call.specs.declared.call.Call.{Call}
 use Rattle.mpi_call.specs.declared.call.Call.TheVariants.{Abort, End, Enter, Peek, Post, Send, Take, Trap}
@@ -9,23 +9,22 @@ use Rattle.mpi_call.specs.declared.call.Source.TheVariants.{Any, From, Null}
 use Rattle.mpi_call.specs.declared.reply.Got.{Got}
 use Rattle.mpi_call.specs.declared.reply.Got.TheVariants.{Joined, Made, Message, Nothing, Sent}
 use Rattle.mpi_call.specs.declared.reply.Item.{Item}
-use Rattle.mpi_call.specs.Calls.{comm_of, makes}
+use Rattle.mpi_call.specs.Calls.{makes}
 use Rattle.mpi_call.specs.Collectives.{is_distinct, is_member, is_uncoloured, needs, result_length}
 use Rattle.mpi_call.proofs.NeedsLemmas.{needs-uncoloured}
 use Rattle.run_model.specs.declared.event.Event.{Event}
-use Rattle.run_model.specs.Communicators.{known_in, members_in, or_none}
+use Rattle.run_model.specs.Communicators.{members_in, or_none}
 use Rattle.run_model.specs.Forms.{IsInOrder}
 use Rattle.run_model.specs.Lists.{are_below, same_ranks}
 use Rattle.run_model.specs.Readiness.{AreGots, IsFrom, IsGot}
 use Rattle.run_model.specs.Shape.{are_members, got_fits, gots_fit, is_dup, rises}
 use Rattle.run_model.specs.Views.{View, start_at, view_of}
 use Rattle.run_model.proofs.Views.{test_cases}
-use Rattle.srr_entry.specs.declared.entry.Mark.{Mark}
-use Rattle.srr_entry.specs.declared.entry.Mark.TheVariants.{Inner, Inside, Made as MarkMade, MadeOutside, Nothing as MarkNothing, Outer, Outside, Sent as MarkSent}
+use Rattle.srr_entry.specs.declared.entry.Mark.TheVariants.{Inner, Inside, Made as MarkMade, MadeOutside, Outer, Outside}
 use Rattle.srr_entry.specs.declared.entry.Marked.{Marked}
 use Rattle.srr_entry.specs.Entries.{all_within, is_inner, mark_of, marks_of}
 use Rattle.srr_log.specs.Bounds.{IsMark, IsSmallNumber, RiseFrom}
-use Rattle.log_bounds.specs.RunBounds.{HasWords, HaveWords}
+use Rattle.log_bounds.specs.RunBounds.{HasWords}
 use Rattle.log_bounds.proofs.FewRanks.{few_ranks}
 use Rattle.log_bounds.proofs.Writable.{AreSmallItems, IsSmallGot}
 
@@ -180,7 +179,7 @@ IsItem n group item = IsSmallNumber item.index × IsMark n group item.mark
 pub marks_ok : (n : ℕ) (group : List ℕ) (me : ℕ) (before : List Event) (starts : List ℕ) (items : List Item) (low : ℕ) → n ≤ 64 → is_member group me ≡ true
     → IsInOrder n me (view_of before me) → SentBounds n before → length starts ≤ 1000000
     → AreGots n before (view_of before me) me starts items → gots_fit n (view_of before me) me starts items ≡ true
-    → rises low (length starts) (map (λ (item : Item). item.index) items) ≡ true → HaveWords items → AreSmallItems items
+    → rises low (length starts) (map (λ (item : Item). item.index) items) ≡ true → All (λ (item : Item). HasWords item.got) items → AreSmallItems items
     → All (IsItem n group) (marks_of n group me (view_of before me) starts items)
 marks_ok n group me before starts [] low few mine order bounds short gots fit rising words numbers = all_nil (IsItem n group)
 marks_ok n group me before starts (item ∷ items) low few mine order bounds short gots fit rising words numbers =
@@ -192,8 +191,8 @@ marks_ok n group me before starts (item ∷ items) low few mine order bounds sho
     let within : item.index < length starts = ltb-true item.index (length starts) two.0 in
     let small : item.index ≤ 999999 = omega (arith, within, short) in
     all_cons (IsItem n group) (record { index = item.index; mark = mark_of n group me own k item.got }) (marks_of n group me own starts items)
-    (small, mark_ok n group me before own k item.got few mine order bounds (got_sent n before own me k (start_at own k) item.got gots.0) fits.0 words.0 numbers.0)
-    (marks_ok n group me before starts items (item.index + 1) few mine order bounds short gots.1 fits.1 two.1 words.1 numbers.1)
+    (small, mark_ok n group me before own k item.got few mine order bounds (got_sent n before own me k (start_at own k) item.got gots.0) fits.0 (words 0 item (omega arith)) numbers.0)
+    (marks_ok n group me before starts items (item.index + 1) few mine order bounds short gots.1 fits.1 two.1 (λ i d less. words (suc i) d (omega (arith, less))) numbers.1)
 
 pub marks_rise : (n : ℕ) (group : List ℕ) (me : ℕ) (own : View) (starts : List ℕ) (items : List Item) (low len : ℕ)
     → rises low len (map (λ (item : Item). item.index) items) ≡ true

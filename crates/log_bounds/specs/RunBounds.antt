@@ -1,5 +1,5 @@
 -- The bounds of the logs of a recording machine's runs.
-use Rattle.std.specs.Prelude.{◌≡◌, ◌≤◌, ℕ, ℤ, List, [], ◌∷◌, ◌++◌, All, FitsSigned, length}
+use Rattle.std.specs.Prelude.{◌≤◌, ℕ, List, All, FitsSigned, length}
 use mir.Syntax.{w32}
 use Rattle.mpi_call.specs.declared.call.Halt.TheVariants.{Aborted}
 use Rattle.mpi_call.specs.declared.reply.Got.{Got}
@@ -19,19 +19,15 @@ HasWords (Message source start tag ints) = All (λ int. FitsSigned w32 int) ints
 HasWords (Joined ints) = All (λ int. FitsSigned w32 int) ints
 HasWords got = Unit {0}
 
-abbrev pub HaveWords : List Item → Type 0
-HaveWords [] = Unit {0}
-HaveWords (item ∷ items) = HasWords item.got × HaveWords items
-
--- those of a reply, and the code of an Abort, have 32 bits
+-- so have the ints of a reply, and the code of an Abort
 abbrev pub IsOfWords : Reply → Type 0
-IsOfWords (Took items) = HaveWords items
+IsOfWords (Took items) = All (λ (item : Item). HasWords item.got) items
 IsOfWords (Stopped (Aborted rank code)) = FitsSigned w32 code
 IsOfWords reply = Unit {0}
 
--- all replies of a history are such: the types of ints say so, and a list of events in a clause does not
+-- so have those of all replies of a history: their types say so, but a list of events in a clause does not carry it
 abbrev pub AreOfWords : List Event → Type 0
-AreOfWords events = (before after : List Event) (event : Event) → events ≡ before ++ event ∷ after → IsOfWords event.reply
+AreOfWords events = All (λ (event : Event). IsOfWords event.reply) events
 
 -- the log of each run that a recording machine makes has a text, for each group and each text of a program that is not too long
 abbrev pub LogsAreInBounds : Next → ℕ → Type 0

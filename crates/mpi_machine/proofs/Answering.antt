@@ -1,22 +1,22 @@
 -- The halts that are due, and replies that are answered at once.
-use Rattle.std.proofs.Common.{◌≡◌, ◌||◌, ◌&&◌, if◌then◌else◌, ◌∙◌, ◌<◌, Bool, List, None, Option, Some, [], false, is_some, not, refl, subst, sym, true, ℕ, ℤ, inl, inr}
+use Rattle.std.proofs.Common.{◌≡◌, ◌||◌, ◌&&◌, if◌then◌else◌, ◌∙◌, Bool, List, None, Option, Some, [], false, is_some, not, refl, sym, true, ℕ, ℤ, inl, inr}
 use Rattle.std.proofs.lemmas.Bool.{and_parts, or_left, or_right}
 use Rattle.mpi_call.specs.declared.call.Call.{Call}
 use Rattle.mpi_call.specs.declared.call.Call.TheVariants.{Abort, End, Enter, Peek, Post, Send, Take, Trap}
 use Rattle.mpi_call.specs.declared.call.Fault.{Fault}
 use Rattle.mpi_call.specs.declared.call.Halt.{Halt}
-use Rattle.mpi_call.specs.declared.call.Halt.TheVariants.{Aborted, BadRequest, Limit, Stuck, Trapped}
+use Rattle.mpi_call.specs.declared.call.Halt.TheVariants.{Aborted, BadRequest, Limit, Mismatched, Trapped}
 use Rattle.mpi_call.specs.declared.call.Source.{Source}
 use Rattle.mpi_call.specs.declared.call.Tag.{Tag}
 use Rattle.mpi_call.specs.declared.call.TakeMode.{TakeMode}
 use Rattle.mpi_call.specs.declared.reply.Reply.{Reply}
 use Rattle.mpi_call.specs.declared.reply.Reply.TheVariants.{Done, Stopped}
-use Rattle.match_core.specs.Starts.{is_message}
+use Rattle.mpi_call.specs.Calls.{is_enter, is_starting}
 use Rattle.run_model.specs.declared.event.Event.{Event}
 use Rattle.run_model.specs.Allowed.{can_go, flags_of, has_open, holds, is_prompt}
 use Rattle.run_model.specs.Choice.{choice}
-use Rattle.run_model.specs.Chosen.{chosen_answer, chosen_reply, held_reply}
-use Rattle.run_model.specs.Due.{bad_request, due, halt_at, halted, is_full, or_else}
+use Rattle.run_model.specs.Chosen.{chosen_answer, chosen_reply}
+use Rattle.run_model.specs.Due.{bad_request, due, halt_at, halted, is_full, is_mismatched, or_else}
 use Rattle.run_model.specs.Serial.{is_stuck}
 use Rattle.run_model.specs.Shape.{is_test}
 use Rattle.run_model.specs.Views.{Next, View, view_of}
@@ -72,18 +72,34 @@ pub free_answered : (n : ℕ) (events : List Event) (me : ℕ) (call : Call) (re
     → Answered n events me call reply
 free_answered n events me call reply d p a = record { go = rw (d, p) refl; reply_is = rw d a }
 
-pub message_answered : (n : ℕ) (events : List Event) (me : ℕ) (call : Call) → bound_of events ≡ None → is_message call ≡ true
-    → Answered n events me call Done
-message_answered n events me (Send comm dest tag ints) free h =
+-- a start is answered at once: an Enter that agrees with those of its instance, a Send and a Post
+pub start_answered : (n : ℕ) (events : List Event) (me : ℕ) (call : Call) → bound_of events ≡ None → is_starting call ≡ true
+    → (is_enter call ≡ true → is_mismatched n events (view_of events me) call ≡ false) → Answered n events me call Done
+start_answered n events me (Send comm dest tag ints) free h agrees =
     free_answered n events me (Send comm dest tag ints) Done (due_free n events (view_of events me) me (Send comm dest tag ints) free) refl refl
-message_answered n events me (Post comm source tag room) free h =
+start_answered n events me (Post comm source tag room) free h agrees =
     free_answered n events me (Post comm source tag room) Done (due_free n events (view_of events me) me (Post comm source tag room) free) refl refl
-message_answered n events me (Enter comm kind root op count ints) free h = absurd (cc)
-message_answered n events me (Take starts mode) free h = absurd (cc)
-message_answered n events me (Peek comm source tag wait) free h = absurd (cc)
-message_answered n events me (Abort code) free h = absurd (cc)
-message_answered n events me (Trap fault) free h = absurd (cc)
-message_answered n events me End free h = absurd (cc)
+start_answered n events me (Enter comm kind root op count ints) free h agrees =
+    let same : is_mismatched n events (view_of events me) (Enter comm kind root op count ints) ≡ false = agrees refl in
+    free_answered n events me (Enter comm kind root op count ints) Done
+    (due_free n events (view_of events me) me (Enter comm kind root op count ints) free ∙ rw same refl) refl refl
+start_answered n events me (Take starts mode) free h agrees = absurd (cc)
+start_answered n events me (Peek comm source tag wait) free h agrees = absurd (cc)
+start_answered n events me (Abort code) free h agrees = absurd (cc)
+start_answered n events me (Trap fault) free h agrees = absurd (cc)
+start_answered n events me End free h agrees = absurd (cc)
+
+pub mismatch_answered : (n : ℕ) (events : List Event) (me : ℕ) (call : Call) → bound_of events ≡ None → is_enter call ≡ true
+    → is_mismatched n events (view_of events me) call ≡ true → Answered n events me call (Stopped (Mismatched me))
+mismatch_answered n events me (Enter comm kind root op count ints) free h other =
+    halt_answered n events me (Enter comm kind root op count ints) (Mismatched me) free (rw other refl)
+mismatch_answered n events me (Send comm dest tag ints) free h other = absurd (cc)
+mismatch_answered n events me (Post comm source tag room) free h other = absurd (cc)
+mismatch_answered n events me (Take starts mode) free h other = absurd (cc)
+mismatch_answered n events me (Peek comm source tag wait) free h other = absurd (cc)
+mismatch_answered n events me (Abort code) free h other = absurd (cc)
+mismatch_answered n events me (Trap fault) free h other = absurd (cc)
+mismatch_answered n events me End free h other = absurd (cc)
 
 pub end_answered : (n : ℕ) (events : List Event) (me : ℕ) → bound_of events ≡ None → Answered n events me End Done
 end_answered n events me free = free_answered n events me End Done (due_free n events (view_of events me) me End free) refl refl

@@ -1,5 +1,5 @@
 -- The run that an answered call makes longer, and the calls that ranks wait with after it.
-use Rattle.std.proofs.Common.{◌≡◌, ◌≢◌, ◌⊎◌, ◌||◌, ◌&&◌, ◌==◌, ◌∙◌, ◌<◌, ◌≤◌, ◌+◌, ◌++◌, ◌∷◌, if◌then◌else◌, Bool, List, None, Option, Some, [], ap, arith, false, get_or, inl, inr, is_some, length, not, refl, set, suc, subst, sym, true, zero, ℕ}
+use Rattle.std.proofs.Common.{◌≡◌, ◌≢◌, ◌⊎◌, ◌&&◌, ◌==◌, ◌∙◌, ◌<◌, ◌≤◌, ◌+◌, ◌++◌, ◌∷◌, Bool, List, None, Option, Some, [], ap, arith, false, get_or, inl, inr, is_some, not, refl, set, suc, subst, sym, true, zero, ℕ}
 use Rattle.std.proofs.lemmas.Bool.{and_parts, cases_order, eq-eqb, eqb-true, or_cases}
 use Rattle.std.proofs.lemmas.List.{get_or-set_other, get_or-set_same, length-set}
 use Rattle.std.specs.List.{list_all, list_any, slice_set}
@@ -13,7 +13,6 @@ use Rattle.run_model.specs.Lists.{world}
 use Rattle.run_model.specs.Pairs.{IsMatched}
 use Rattle.run_model.specs.Program.{MayGive, ends}
 use Rattle.run_model.specs.Serial.{call_after, goes, is_stuck}
-use Rattle.run_model.specs.Shape.{has_shape}
 use Rattle.run_model.specs.Views.{Next, is_start, replies_in, view_of}
 use Rattle.run_model.proofs.GoingOn.{goes_on}
 use Rattle.run_model.proofs.RunLaws.{IsRun-event, Lawful, event_shaped, kept_run}

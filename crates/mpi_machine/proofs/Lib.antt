@@ -1,11 +1,14 @@
 pub mod Answering
+pub mod Attempting
 pub mod Beginning
 pub mod Completing
 pub mod Counting
+pub mod Entering
 pub mod Growing
 pub mod Moving
 pub mod Probing
 pub mod Roomy
+pub mod Scripting
 pub mod Serially
 pub mod Standing
 pub mod Waiting

@@ -1,18 +1,14 @@
 -- A machine after each kind of answer.
-use Rattle.std.proofs.Common.{◌≡◌, ◌||◌, ◌&&◌, ◌∙◌, ◌<◌, ◌++◌, ◌∷◌, Bool, List, None, Option, Some, [], ap, false, is_some, not, refl, subst, sym, true, ℕ}
+use Rattle.std.proofs.Common.{◌≡◌, ◌&&◌, ◌∙◌, ◌++◌, ◌∷◌, Bool, List, None, Option, Some, [], ap, false, refl, subst, sym, true, ℕ}
 use Rattle.std.proofs.lemmas.Bool.{and_parts}
 use Rattle.std.specs.List.{slice_set}
 use Rattle.mpi_call.specs.declared.call.Call.{Call}
 use Rattle.mpi_call.specs.declared.call.Call.TheVariants.{Abort, End, Enter, Peek, Post, Send, Take, Trap}
 use Rattle.mpi_call.specs.declared.call.Halt.{Halt}
-use Rattle.mpi_call.specs.declared.call.TakeMode.{TakeMode}
-use Rattle.mpi_call.specs.declared.reply.Item.{Item}
 use Rattle.mpi_call.specs.declared.reply.Reply.{Reply}
-use Rattle.mpi_call.specs.declared.reply.Reply.TheVariants.{Done, NotYet, Peeked, Stopped, Took as TookReply}
+use Rattle.mpi_call.specs.declared.reply.Reply.TheVariants.{Done}
 use Rattle.mpi_call.specs.Calls.{is_starting}
-use Rattle.match_core.specs.Histories.{event_of}
-use Rattle.match_core.specs.Starts.{is_message}
-use Rattle.requests.specs.Histories.{IsIdle, Knows, KnowsStart, took_event}
+use Rattle.requests.specs.Histories.{IsIdle, Knows, KnowsStart}
 use Rattle.requests.specs.States.{State}
 use Rattle.run_model.specs.declared.event.Event.{Event}
 use Rattle.run_model.specs.Choice.{choice, mate_of}
@@ -21,15 +17,11 @@ use Rattle.run_model.specs.Pairs.{Name, named}
 use Rattle.run_model.specs.Program.{ends}
 use Rattle.run_model.specs.Views.{Next, is_start, taken_of}
 use Rattle.run_model.proofs.RunLaws.{Lawful}
-use Rattle.mpi_machine.specs.declared.turn.Turn.{Turn}
-use Rattle.mpi_machine.specs.declared.turn.Turn.TheVariants.{Replied, Wait}
-use Rattle.mpi_machine.specs.Turns.{HasReply, MachineState, after_turn, is_answered, last_reply, takes_none, turn_by, turn_of}
-use Rattle.mpi_machine.specs.Waits.{AreKept}
-use Rattle.mpi_machine.proofs.Growing.{event_is, event_with, grown, idle_event}
-
--- what a machine keeps
-abbrev pub Keeps : Next → ℕ → List Event → List (Option Call) → State → Type 0
-Keeps next n events kept state = IsChosen next n events × Knows n events state × AreKept next n events kept
+use Rattle.mpi_machine.specs.declared.turn.Turn.TheVariants.{Replied}
+use Rattle.mpi_machine.specs.Courses.{has_ended}
+use Rattle.mpi_machine.specs.Turns.{HasReply, IsAsked, MachineState, after_turn, last_reply, takes_none, turn_by, turn_of}
+use Rattle.mpi_machine.specs.Waits.{AreKept, Keeps}
+use Rattle.mpi_machine.proofs.Growing.{event_is, event_with, grown, idle_event, live}
 
 pub turn_is : (next : Next) (n : ℕ) (events : List Event) (kept : List (Option Call)) (rank : ℕ) (call : Call) (reply : Reply)
     → HasReply next n events kept rank call reply → turn_of next n events kept rank call ≡ Replied reply
@@ -48,6 +40,24 @@ after_event program next n events kept rank call reply event has is =
     ap (λ e. machine_with program n (events ++ e ∷ []) (slice_set kept rank None)) (sym is)
     ∙ ap (λ t. after_turn (machine_with program n events kept) rank call t) (sym (turn_is next n events kept rank call reply has))
 
+-- what is kept of a machine's fields is kept of what contracts see
+pub keeps_now : {P : Type 0} (next_of : P → Next) (inside now : MachineState P) (state : State) → inside ≡ now
+    → Keeps (next_of inside.program) inside.ranks inside.events inside.kept state → Keeps (next_of now.program) now.ranks now.events now.kept state
+keeps_now {P} next_of inside now state same keeps =
+    let F : MachineState P → Type 0 = λ m. Keeps (next_of m.program) m.ranks m.events m.kept state in
+    subst F same keeps
+
+-- the machine after a reply whose event this is
+pub after_reply : {P : Type 0} (program : P) (n : ℕ) (events : List Event) (kept : List (Option Call)) (rank : ℕ) (call : Call) (reply : Reply) (event : Event)
+    → chosen_event n events rank call ≡ event
+    → machine_with program n (events ++ event ∷ []) (slice_set kept rank None) ≡ after_turn (machine_with program n events kept) rank call (Replied reply)
+after_reply program n events kept rank call reply event is = ap (λ e. machine_with program n (events ++ e ∷ []) (slice_set kept rank None)) (sym is)
+
+-- a rank with a next call has not ended
+pub live_in : (next : Next) (n : ℕ) (events : List Event) (kept : List (Option Call)) (state : State) (rank : ℕ) (call : Call)
+    → Lawful next → Keeps next n events kept state → IsAsked next n events rank call → has_ended events rank ≡ false
+live_in next n events kept state rank call lawful keeps asked = live next n events rank call lawful keeps.chosen asked.below asked.asked
+
 pub idle_keeps : (next : Next) (n : ℕ) (events : List Event) (kept : List (Option Call)) (state : State) (rank : ℕ) (call : Call) (reply : Reply)
     → Lawful next → IsChosen next n events → AreKept next n events kept → HasReply next n events kept rank call reply → is_start (call, reply) ≡ false
     → Knows n (events ++ event_with rank call reply None ∷ []) state
@@ -55,34 +65,27 @@ pub idle_keeps : (next : Next) (n : ℕ) (events : List Event) (kept : List (Opt
 idle_keeps next n events kept state rank call reply lawful chosen are has idle knows =
     let g = grown next n events kept rank call reply (event_with rank call reply None) lawful chosen are has
     (idle_event n events rank call reply has.reply_is idle) knows.matcher.matched in
-    (g.chosen, knows, g.kept_are)
+    record { chosen = g.chosen; knows = knows; kept_are = g.kept_are }
 
-starting : (call : Call) → is_message call ≡ true → is_start (call, Done) ≡ true
-starting (Send comm dest tag ints) h = refl
-starting (Post comm source tag room) h = refl
-starting (Enter comm kind root op count ints) h = absurd (cc)
-starting (Take starts mode) h = absurd (cc)
-starting (Peek comm source tag wait) h = absurd (cc)
-starting (Abort code) h = absurd (cc)
-starting (Trap fault) h = absurd (cc)
-starting End h = absurd (cc)
+starting : (call : Call) → is_starting call ≡ true → is_start (call, Done) ≡ true
+starting call h = rw h refl
 
 mate_found : (events : List Event) (rank : ℕ) (call : Call) (mate : Option ℕ) → is_start (call, Done) ≡ true → mate ≡ choice events rank call
     → mate_of events rank call Done ≡ mate
 mate_found events rank call mate h e = rw h (sym e)
 
-pub start_event : (n : ℕ) (events : List Event) (rank : ℕ) (call : Call) (mate : Option ℕ) → chosen_reply n events rank call ≡ Done → is_message call ≡ true
+pub start_event : (n : ℕ) (events : List Event) (rank : ℕ) (call : Call) (mate : Option ℕ) → chosen_reply n events rank call ≡ Done → is_starting call ≡ true
     → mate ≡ choice events rank call → chosen_event n events rank call ≡ event_with rank call Done mate
 start_event n events rank call mate r kind e = event_is n events rank call Done mate r (mate_found events rank call mate (starting call kind) e)
 
 pub start_keeps : (next : Next) (n : ℕ) (events : List Event) (kept : List (Option Call)) (state : State) (rank : ℕ) (call : Call) (number : ℕ) (mate : Option ℕ)
-    → Lawful next → IsChosen next n events → AreKept next n events kept → HasReply next n events kept rank call Done → is_message call ≡ true
+    → Lawful next → IsChosen next n events → AreKept next n events kept → HasReply next n events kept rank call Done → is_starting call ≡ true
     → KnowsStart n events rank call number mate state
     → Keeps next n (events ++ event_with rank call Done mate ∷ []) (slice_set kept rank None) state
 start_keeps next n events kept state rank call number mate lawful chosen are has kind knows =
     let g = grown next n events kept rank call Done (event_with rank call Done mate) lawful chosen are has
     (start_event n events rank call mate has.reply_is kind knows.choice_is) knows.knows.matcher.matched in
-    (g.chosen, knows.knows, g.kept_are)
+    record { chosen = g.chosen; knows = knows.knows; kept_are = g.kept_are }
 
 and_no : (b : Bool) → (b && false) ≡ false
 and_no true = refl
@@ -110,15 +113,15 @@ more_takes events call reply other e h t =
     let parts = and_parts (ends (call, reply)) _ (subst F e t) in
     sym h ∙ parts.0
 
-pub message_more : (call : Call) → is_message call ≡ true → ends (call, Done) ≡ false
-message_more (Send comm dest tag ints) h = refl
-message_more (Post comm source tag room) h = refl
-message_more (Enter comm kind root op count ints) h = absurd (cc)
-message_more (Take starts mode) h = absurd (cc)
-message_more (Peek comm source tag wait) h = absurd (cc)
-message_more (Abort code) h = absurd (cc)
-message_more (Trap fault) h = absurd (cc)
-message_more End h = absurd (cc)
+pub starting_more : (call : Call) → is_starting call ≡ true → ends (call, Done) ≡ false
+starting_more (Send comm dest tag ints) h = refl
+starting_more (Post comm source tag room) h = refl
+starting_more (Enter comm kind root op count ints) h = refl
+starting_more (Take starts mode) h = absurd (cc)
+starting_more (Peek comm source tag wait) h = absurd (cc)
+starting_more (Abort code) h = absurd (cc)
+starting_more (Trap fault) h = absurd (cc)
+starting_more End h = absurd (cc)
 
 peeked_in_more : (call : Call) (send : Name) (found : Option Call) → ends (call, peeked_in send found) ≡ false
 peeked_in_more call send None = refl

@@ -1,16 +1,17 @@
 -- The reply to a probe that finds a message.
-use Rattle.std.proofs.Common.{◌≡◌, ◌∙◌, ◌<◌, ◌==◌, ◌++◌, ◌∷◌, Bool, List, None, Option, Some, [], ap, length, refl, slice_get, suc, subst, sym, take, true, zero, ℕ}
+use Rattle.std.proofs.Common.{◌≡◌, ◌∙◌, ◌<◌, ◌++◌, ◌∷◌, Bool, List, Some, [], ap, length, refl, slice_get, suc, subst, sym, take, true, zero, ℕ, ℤ}
 use Rattle.std.proofs.lemmas.Bool.{eq-eqb}
 use Rattle.mpi_call.specs.declared.call.Call.{Call}
-use Rattle.mpi_call.specs.declared.call.Call.TheVariants.{Peek}
+use Rattle.mpi_call.specs.declared.call.Call.TheVariants.{Abort, End, Enter, Peek, Post, Send, Take, Trap}
 use Rattle.mpi_call.specs.declared.call.Source.{Source}
 use Rattle.mpi_call.specs.declared.call.Tag.{Tag}
 use Rattle.mpi_call.specs.declared.reply.Reply.{Reply}
+use Rattle.mpi_call.specs.declared.reply.Reply.TheVariants.{NotYet, Peeked}
 use Rattle.run_model.specs.declared.event.Event.{Event}
 use Rattle.run_model.specs.Choice.{choice}
 use Rattle.run_model.specs.Chosen.{chosen_answer, peek_reply, peeked_at, peeked_in}
 use Rattle.run_model.specs.Pairs.{Name, name_at, named}
-use Rattle.run_model.specs.Views.{View, is_start, start_at, starts_of, view_of}
+use Rattle.run_model.specs.Views.{View, is_start, starts_of, view_of}
 use Rattle.run_model.proofs.Choosing.{choice_some}
 use Rattle.run_model.proofs.Positions.{name_at-below, name_parts, new_name}
 use Rattle.run_model.proofs.StartLemmas.{starts_of-append}
@@ -60,6 +61,27 @@ pub peeked_from : (events : List Event) (at : ℕ) (name : Name) (event : Event)
     → peeked_at events (name_at events at) ≡ peeked_in name (Some event.call)
 peeked_from events at name event h there =
     ap (peeked_at events) h ∙ ap (peeked_in name) (named_at events at name event h there).made
+
+pub peeked_is : (events : List Event) (at : ℕ) (name : Name) (event : Event) (comm dest tag : ℕ) (ints : List ℤ) (number count : ℕ) → name_at events at ≡ Some name
+    → slice_get events at ≡ Some event → event.call ≡ Send comm dest tag ints → number ≡ name.1 → count ≡ length ints
+    → Peeked event.rank number tag count ≡ peeked_at events (name_at events at)
+peeked_is events at name event comm dest tag ints number count h there call_is number_is count_is =
+    let rank_is = (named_at events at name event h there).rank in
+    rw (rank_is, number_is, count_is) (sym (peeked_from events at name event h there ∙ ap (λ (c : Call). peeked_in name (Some c)) call_is))
+
+no_send : (name : Name) (call : Call) → ((comm dest tag : ℕ) (ints : List ℤ) → call ≡ Send comm dest tag ints → ⊥) → peeked_in name (Some call) ≡ NotYet
+no_send name (Send comm dest tag ints) h = absurd (h comm dest tag ints refl)
+no_send name (Post comm source tag room) h = refl
+no_send name (Enter comm kind root op count ints) h = refl
+no_send name (Take starts mode) h = refl
+no_send name (Peek comm source tag wait) h = refl
+no_send name (Abort code) h = refl
+no_send name (Trap fault) h = refl
+no_send name End h = refl
+
+pub peeked_none : (events : List Event) (at : ℕ) (name : Name) (event : Event) → name_at events at ≡ Some name → slice_get events at ≡ Some event
+    → ((comm dest tag : ℕ) (ints : List ℤ) → event.call ≡ Send comm dest tag ints → ⊥) → NotYet ≡ peeked_at events (name_at events at)
+peeked_none events at name event h there none = sym (peeked_from events at name event h there ∙ no_send name event.call none)
 
 pub probe_starts : (events : List Event) (rank : ℕ) (call : Call) (at : ℕ) → choice events rank call ≡ Some at → IsStartAt events at
 probe_starts events rank call at h = (let o = (choice_some events rank call at h).chosen in record { name = o.name; call = o.start; there = o.there; made = o.made })

@@ -1,5 +1,5 @@
 -- Attempts on a machine are the attempts that make a serial run.
-use Rattle.std.proofs.Common.{◌≡◌, ◌≢◌, ◌||◌, ◌&&◌, ◌==◌, ◌∙◌, ◌<◌, ◌++◌, ◌∷◌, if◌then◌else◌, Bool, List, None, Option, Some, [], ap, arith, false, filter, get_or, inl, inr, is_some, length, not, refl, set, subst, sym, true, ℕ}
+use Rattle.std.proofs.Common.{◌≡◌, ◌≢◌, ◌||◌, ◌&&◌, ◌==◌, ◌∙◌, ◌<◌, ◌∷◌, Bool, List, None, Option, Some, [], ap, arith, false, filter, inl, inr, is_some, length, not, refl, subst, sym, true, ℕ}
 use Rattle.std.proofs.lemmas.Bool.{eq-eqb, eqb-true}
 use Rattle.std.proofs.lemmas.List.{get_or-set_other, get_or-set_same}
 use Rattle.std.specs.List.{list_all, slice_set}
@@ -7,12 +7,11 @@ use Rattle.mpi_call.specs.declared.call.Call.{Call}
 use Rattle.mpi_call.specs.Members.{is_member}
 use Rattle.run_model.specs.declared.event.Event.{Event}
 use Rattle.run_model.specs.Allowed.{can_go}
-use Rattle.run_model.specs.Chosen.{chosen_event, chosen_reply}
 use Rattle.run_model.specs.Lists.{world}
 use Rattle.run_model.specs.Serial.{Stage, attempt, attempt_with, call_after, is_stuck, others_wait as stage_waits}
 use Rattle.run_model.specs.Views.{Next, view_of}
 use Rattle.run_model.proofs.Views.{test_cases}
-use Rattle.mpi_machine.specs.Turns.{MachineState, StandsAt, after_turn, is_answered, kept_of, others_wait, turn_by, turn_of}
+use Rattle.mpi_machine.specs.Turns.{MachineState, StandsAt, after_turn, kept_of, others_wait, turn_of}
 
 all_same : (f g : ℕ → Bool) (xs : List ℕ) → ((m : ℕ) → f m ≡ g m) → list_all f xs ≡ list_all g xs
 all_same f g [] h = refl

@@ -1,21 +1,19 @@
 -- When no rank can go on.
-use Rattle.std.proofs.Common.{◌≡◌, ◌||◌, ◌&&◌, ◌==◌, ◌∙◌, ◌<◌, ◌≤◌, ◌+◌, Bool, List, None, Option, Some, [], ap, arith, false, inl, inr, is_some, not, refl, subst, sym, true, ℕ}
-use Rattle.std.proofs.lemmas.Bool.{and_parts, eqb-true}
-use Rattle.std.specs.List.{list_all, slice_index_or}
+use Rattle.std.proofs.Common.{◌≡◌, ◌||◌, ◌&&◌, ◌==◌, ◌∙◌, ◌<◌, Bool, List, None, Option, Some, ap, arith, false, inl, inr, is_some, not, refl, subst, sym, true, ℕ}
+use Rattle.std.proofs.lemmas.Bool.{and_parts, eqb-true, or_parts}
 use Rattle.mpi_call.specs.declared.call.Call.{Call}
 use Rattle.run_model.specs.declared.event.Event.{Event}
 use Rattle.run_model.specs.Allowed.{can_go}
 use Rattle.run_model.specs.Chosen.{IsChosen}
 use Rattle.run_model.specs.Serial.{call_after, goes, is_stuck}
 use Rattle.run_model.specs.Views.{Next, view_of}
-use Rattle.run_model.proofs.Origins.{AllBelow}
 use Rattle.run_model.proofs.RunLaws.{Lawful, kept_run}
-use Rattle.run_model.proofs.Views.{option_cases, test_cases}
+use Rattle.run_model.proofs.Views.{test_cases}
 use Rattle.mpi_machine.specs.Courses.{bound_of, has_ended}
 use Rattle.mpi_machine.specs.Turns.{IsAsked, kept_of, others_wait, stands}
 use Rattle.mpi_machine.specs.Waits.{AreKept, is_there}
 use Rattle.mpi_machine.proofs.Answering.{waits_go}
-use Rattle.mpi_machine.proofs.Growing.{ended_is, not_true, over, world_all, world_at}
+use Rattle.mpi_machine.proofs.Growing.{ended_is, over, world_all, world_at}
 
 -- whether a rank stands, by whether it has a call, whether it waits, and whether its call can go
 parts_of : (called waits go : Bool) → (called ≡ false → go ≡ false) → (not called || (waits && not go)) ≡ true → (not go ≡ true) × ((not called || waits) ≡ true)
@@ -41,10 +39,10 @@ both x y h k = rw h k
 abbrev pub Stands : Next → ℕ → List Event → List (Option Call) → ℕ → ℕ → Type 0
 Stands next n events kept rank m = ((m == rank) || stands next n events kept m) ≡ true
 
-pub all_stand : (next : Next) (n : ℕ) (events : List Event) (kept : List (Option Call)) (rank : ℕ) (call : Call) → IsAsked next n events rank call
+all_held : (next : Next) (n : ℕ) (events : List Event) (kept : List (Option Call)) (rank : ℕ) (call : Call) → IsAsked next n events rank call
     → can_go n events (view_of events rank) rank call ≡ false → ((m : ℕ) → m < n → Stands next n events kept rank m)
     → (is_stuck next n events && others_wait next n events kept rank) ≡ true
-all_stand next n events kept rank call asked held all =
+all_held next n events kept rank call asked held all =
     let at : (m : ℕ) → m < n → (not (goes n events m (call_after next n events m)) ≡ true) × (((m == rank) || (not (is_some (call_after next n events m)) || is_some (kept_of kept m))) ≡ true) =
     λ m below. elim (test_cases (m == rank)) [
       | inl h ↦ (
@@ -62,9 +60,9 @@ all_stand next n events kept rank call asked held all =
     (world_all (λ m. not (goes n events m (call_after next n events m))) n 0 (λ m above below. (at m (omega arith)).0))
     (world_all (λ m. (m == rank) || (not (is_some (call_after next n events m)) || is_some (kept_of kept m))) n 0 (λ m above below. (at m (omega arith)).1))
 
-pub one_moves : (next : Next) (n : ℕ) (events : List Event) (kept : List (Option Call)) (rank m : ℕ) → m < n → (m == rank) ≡ false
+some_moves : (next : Next) (n : ℕ) (events : List Event) (kept : List (Option Call)) (rank m : ℕ) → m < n → (m == rank) ≡ false
     → stands next n events kept m ≡ false → (is_stuck next n events && others_wait next n events kept rank) ≡ false
-one_moves next n events kept rank m below apart moves =
+some_moves next n events kept rank m below apart moves =
     elim (test_cases (is_stuck next n events && others_wait next n events kept rank)) [
       | inl t ↦ (
           let parts = and_parts (is_stuck next n events) (others_wait next n events kept rank) t in
@@ -77,6 +75,19 @@ one_moves next n events kept rank m below apart moves =
           absurd (cc))
       | inr t ↦ t
     ]
+
+pub all_stand : (next : Next) (n : ℕ) (events : List Event) (kept : List (Option Call)) (rank : ℕ) (call : Call) → IsAsked next n events rank call
+    → can_go n events (view_of events rank) rank call ≡ false → ((m : ℕ) → m < n → Stands next n events kept rank m)
+    → true ≡ (is_stuck next n events && others_wait next n events kept rank)
+all_stand next n events kept rank call asked held all = sym (all_held next n events kept rank call asked held all)
+
+pub one_moves : (next : Next) (n : ℕ) (events : List Event) (kept : List (Option Call)) (rank m : ℕ) → m < n → (m == rank) ≡ false
+    → stands next n events kept m ≡ false → false ≡ (is_stuck next n events && others_wait next n events kept rank)
+one_moves next n events kept rank m below apart moves = sym (some_moves next n events kept rank m below apart moves)
+
+-- a rank that is another and does not stand
+pub stirs : (still same stood : Bool) → still ≡ (same || stood) → still ≡ false → (same ≡ false) × (stood ≡ false)
+stirs still same stood is apart = or_parts same stood (sym is ∙ apart)
 
 pub ended_stands : (next : Next) (n : ℕ) (events : List Event) (kept : List (Option Call)) (rank : ℕ) → Lawful next → IsChosen next n events → rank < n
     → has_ended events rank ≡ true → stands next n events kept rank ≡ true

@@ -1,8 +1,7 @@
 -- Which starts of a waiting call are ready.
-use Rattle.std.proofs.Common.{◌≡◌, ◌||◌, ◌&&◌, ◌∙◌, Bool, List, None, Option, Some, [], ◌∷◌, ap, false, is_some, map, not, refl, subst, sym, true, ℕ}
+use Rattle.std.proofs.Common.{◌≡◌, ◌∙◌, List, None, Option, Some, [], ◌∷◌, false, is_some, not, refl, sym, true, ℕ}
 use Rattle.std.proofs.lemmas.Bool.{and_parts}
 use Rattle.std.specs.List.{list_all, list_any}
-use Rattle.mpi_call.specs.declared.call.Call.{Call}
 use Rattle.mpi_call.specs.declared.call.Call.TheVariants.{Take}
 use Rattle.mpi_call.specs.declared.call.TakeMode.{TakeMode}
 use Rattle.mpi_call.specs.declared.call.TakeMode.TheVariants.{All, Any as AnyOne, Several, TestAll, TestAny, TestSeveral}
@@ -33,8 +32,8 @@ ready_by n events me k Taken is left = (let no : true ≡ false = sym is ∙ lef
 
 ready_same : (n : ℕ) (events : List Event) (state : State) (me k : ℕ) → Knows n events state → can_take (view_of events me) k ≡ true
     → ready_in state me k ≡ is_ready n events (view_of events me) me k (start_at (view_of events me) k)
-ready_same n events state me k knows open =
-    let parts = and_parts (is_some (start_at (view_of events me) k)) (not (is_member (taken_of (view_of events me)) k)) open in
+ready_same n events state me k knows free =
+    let parts = and_parts (is_some (start_at (view_of events me) k)) (not (is_member (taken_of (view_of events me)) k)) free in
     ready_by n events me k (readiness_of state.table me (found_in state.table.rows (me, k))) (readiness_is n events state me k knows)
     (not_true (is_member (taken_of (view_of events me)) k) parts.1)
 

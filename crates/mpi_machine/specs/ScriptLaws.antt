@@ -1,26 +1,28 @@
 -- Scripts are programs: they keep the four laws.
-use Rattle.std.proofs.Common.{◌≡◌, ◌<◌, ◌≤◌, ◌^◌, ◌+◌, ◌⊎◌, ◌||◌, ◌&&◌, ◌==◌, ◌∙◌, ◌++◌, ◌∷◌, if◌then◌else◌, Bool, List, None, Option, Some, [], ap, arith, false, get_or, inl, inr, length, length-append, map, nat_lt, nat_le, refl, suc, subst, sym, true, zero, ℕ, ℤ}
-use Rattle.std.specs.Prelude.{◌↔◌}
+use Rattle.std.proofs.Common.{◌≡◌, ◌<◌, ◌≤◌, ◌+◌, ◌⊎◌, ◌||◌, ◌&&◌, ◌==◌, ◌∙◌, ◌++◌, ◌∷◌, if◌then◌else◌, Bool, List, None, Option, Some, [], ap, arith, false, inl, inr, is_some, length, length-append, nat_lt, nat_le, not, refl, suc, subst, sym, true, zero, ℕ, ℤ}
 use Rattle.std.specs.List.{All, list_all, list_any}
-use Rattle.std.proofs.lemmas.Bool.{and_parts, leb-true, ltb-true}
-use Rattle.std.proofs.lemmas.List.{map-append}
+use Rattle.std.proofs.lemmas.Bool.{and_parts, eqb-true, leb-true, ltb-true}
 use Rattle.std.proofs.lemmas.List.Folds.{list_any-append}
+use Rattle.mpi_call.specs.Needs.{IsEnterOf, result_length}
 use Rattle.mpi_call.specs.declared.call.Call.{Call}
 use Rattle.mpi_call.specs.declared.call.Call.TheVariants.{Send, Post, Enter, Take, Peek, Abort, Trap, End}
-use Rattle.mpi_call.specs.declared.call.Fault.TheVariants.{BadRank}
+use Rattle.mpi_call.specs.declared.call.Kind.{Kind}
+use Rattle.mpi_call.specs.declared.call.Kind.TheVariants.{Allgather, Allreduce, Alltoall, Barrier, Bcast, Dup, Gather, Reduce, Scan, Scatter, Split}
+use Rattle.mpi_call.specs.declared.call.Op.{Op}
 use Rattle.mpi_call.specs.declared.call.Source.{Source}
 use Rattle.mpi_call.specs.declared.call.Source.TheVariants.{Any as AnySource, From, Null}
 use Rattle.mpi_call.specs.declared.call.Tag.{Tag}
 use Rattle.mpi_call.specs.declared.call.Tag.TheVariants.{Any as AnyTag, Is}
 use Rattle.mpi_call.specs.declared.reply.Reply.{Reply}
 use Rattle.mpi_call.specs.declared.reply.Reply.TheVariants.{Done, NotYet, Peeked, Stopped, Took}
-use Rattle.run_model.specs.Lists.{Along}
+use Rattle.run_model.specs.Lists.{Along, world}
 use Rattle.run_model.specs.Program.{AsksInBounds, EndsExactly, EntersInForm, IsInBounds, IsInForm, IsSeen, IsSourceBelow, IsTagInBounds, ends}
 use Rattle.run_model.specs.Shape.{has_shape}
 use Rattle.run_model.specs.Views.{Next, View, replies_in}
 use Rattle.run_model.proofs.Along.{Along-keeps}
+use Rattle.run_model.proofs.CommunicatorLaws.{known_after-some}
 use Rattle.run_model.proofs.Views.{test_cases}
-use Rattle.mpi_machine.specs.Scripts.{call_at, fine_call, is_fine, is_fine_tag, is_open_source, is_stopped, next_in, next_of}
+use Rattle.mpi_machine.specs.Scripts.{call_at, fine_call, is_fine, is_fine_tag, is_open_source, is_plain, is_stopped, next_in, next_of}
 
 abbrev is_end : Call → Bool
 is_end End = true
@@ -55,7 +57,7 @@ place_in n (c ∷ calls) zero call h =
     inl (omega arith, subst F e (fine_no_end n c))
 place_in n (c ∷ calls) (suc at) call h = place_more c calls at call (place_in n calls at call h)
 
-past : (n : ℕ) (calls : List Call) (at : ℕ) → length calls < at → call_at n calls at ≡ None
+pub past : (n : ℕ) (calls : List Call) (at : ℕ) → length calls < at → call_at n calls at ≡ None
 past n [] zero h = absurd (omega arith)
 past n [] (suc at) h = refl
 past n (c ∷ calls) zero h = absurd (omega arith)
@@ -202,6 +204,40 @@ tag_below : (tag : Tag) → is_fine_tag tag ≡ true → IsTagInBounds tag
 tag_below AnyTag h = tt
 tag_below (Is tag) h = (let less = ltb-true tag 2147483648 h in omega arith)
 
+no_some : {A : Type 0} (o : Option A) → not (is_some o) ≡ true → o ≡ None
+no_some None h = refl
+no_some (Some x) h = absurd (cc)
+
+no_ints : (xs : List ℤ) → length xs ≡ 0 → xs ≡ []
+no_ints [] h = refl
+no_ints (x ∷ xs) h = absurd (omega arith)
+
+-- what a script's collective is
+record IsPlainEnter (comm : ℕ) (kind : Kind) (root : Option ℕ) (op : Option Op) (count : ℕ) (ints : List ℤ) : Type 0 where
+  comm_is : comm ≡ 0
+  plain : is_plain kind ≡ true
+  root_is : root ≡ None
+  op_is : op ≡ None
+  count_is : count ≡ 0
+  ints_are : ints ≡ []
+
+plain_parts : (n comm : ℕ) (kind : Kind) (root : Option ℕ) (op : Option Op) (count : ℕ) (ints : List ℤ) → is_fine n (Enter comm kind root op count ints) ≡ true
+    → IsPlainEnter comm kind root op count ints
+plain_parts n comm kind root op count ints h =
+    let one = and_parts (comm == 0) (is_plain kind && (not (is_some root) && (not (is_some op) && ((count == 0) && (length ints == 0))))) h in
+    let two = and_parts (is_plain kind) (not (is_some root) && (not (is_some op) && ((count == 0) && (length ints == 0)))) one.1 in
+    let three = and_parts (not (is_some root)) (not (is_some op) && ((count == 0) && (length ints == 0))) two.1 in
+    let four = and_parts (not (is_some op)) ((count == 0) && (length ints == 0)) three.1 in
+    let five = and_parts (count == 0) (length ints == 0) four.1 in
+    record {
+      comm_is = eqb-true comm 0 one.0;
+      plain = two.0;
+      root_is = no_some root three.0;
+      op_is = no_some op four.0;
+      count_is = eqb-true count 0 five.0;
+      ints_are = no_ints ints (eqb-true (length ints) 0 five.1);
+    }
+
 in_bounds : (n got : ℕ) (call : Call) → is_fine n call ≡ true → IsInBounds n got call
 in_bounds n got (Send comm dest tag ints) h =
     let one = and_parts (nat_lt dest n) (nat_lt tag 2147483648 && nat_le (length ints) 65536) h in
@@ -220,7 +256,7 @@ in_bounds n got (Take starts mode) h =
     (ltb-true 0 (length starts) one.0, leb-true (length starts) 1000000 two.0, λ few. all_below starts two.1)
 in_bounds n got (Abort code) h = tt
 in_bounds n got (Trap fault) h = tt
-in_bounds n got (Enter comm kind root op count ints) h = absurd (cc)
+in_bounds n got (Enter comm kind root op count ints) h = (let parts = plain_parts n comm kind root op count ints h in rw parts.root_is tt)
 in_bounds n got End h = tt
 
 fine_in_bounds : (n got : ℕ) (call : Call) → IsInBounds n got (fine_call n call)
@@ -249,9 +285,27 @@ pub asks_in_bounds : (zeroth first : List Call) → AsksInBounds (next_of zeroth
 asks_in_bounds zeroth first n me view call rank came asked =
     at_in_bounds n (length view) (calls_of zeroth first me) (length (replies_in view)) call (asked_at n (calls_of zeroth first me) (replies_in view) call asked)
 
--- no script makes a collective
+-- a script's collectives are in form
+plain_form : (kind : Kind) → is_plain kind ≡ true → (n me : ℕ) → IsEnterOf (Enter 0 kind None None 0 []) (world n 0) me × (result_length (Enter 0 kind None None 0 []) (world n 0) me ≤ 262144)
+plain_form Barrier h n me = (record { form = refl; ints = refl }, omega arith)
+plain_form Dup h n me = (record { form = refl; ints = refl }, omega arith)
+plain_form Bcast h n me = absurd (cc)
+plain_form Reduce h n me = absurd (cc)
+plain_form Allreduce h n me = absurd (cc)
+plain_form Gather h n me = absurd (cc)
+plain_form Allgather h n me = absurd (cc)
+plain_form Scatter h n me = absurd (cc)
+plain_form Alltoall h n me = absurd (cc)
+plain_form Scan h n me = absurd (cc)
+plain_form Split h n me = absurd (cc)
+
+plain_in_form : (n me : ℕ) (own : View) (kind : Kind) → is_plain kind ≡ true → IsInForm n own me (Enter 0 kind None None 0 [])
+plain_in_form n me own kind h = (let form = plain_form kind h n me in (world n 0, known_after-some 0 (world n 0) own, form.0, form.1))
+
 fine_in_form : (n me : ℕ) (own : View) (call : Call) → is_fine n call ≡ true → IsInForm n own me call
-fine_in_form n me own (Enter comm kind root op count ints) h = absurd (cc)
+fine_in_form n me own (Enter comm kind root op count ints) h =
+    let is = plain_parts n comm kind root op count ints h in
+    rw (is.comm_is, is.root_is, is.op_is, is.count_is, is.ints_are) (plain_in_form n me own kind is.plain)
 fine_in_form n me own (Send comm dest tag ints) h = tt
 fine_in_form n me own (Post comm source tag room) h = tt
 fine_in_form n me own (Take starts mode) h = tt

@@ -1,9 +1,11 @@
 -- The programs of this crate's tests: two ranks, each with a list of calls.
-use Rattle.std.specs.Prelude.{ℕ, zero, suc, List, [], ◌∷◌, Option, Some, None, Bool, true, false, ◌&&◌, ◌==◌, if◌then◌else◌, nat_lt, nat_le, length}
+use Rattle.std.specs.Prelude.{ℕ, zero, suc, List, [], ◌∷◌, Option, Some, None, Bool, true, false, not, ◌&&◌, ◌==◌, if◌then◌else◌, is_some, nat_lt, nat_le, length}
 use Rattle.std.specs.List.{list_all, list_any}
 use Rattle.mpi_call.specs.declared.call.Call.{Call}
-use Rattle.mpi_call.specs.declared.call.Call.TheVariants.{Send, Post, Take, Peek, Abort, Trap, End}
+use Rattle.mpi_call.specs.declared.call.Call.TheVariants.{Send, Post, Enter, Take, Peek, Abort, Trap, End}
 use Rattle.mpi_call.specs.declared.call.Fault.TheVariants.{BadRank}
+use Rattle.mpi_call.specs.declared.call.Kind.{Kind}
+use Rattle.mpi_call.specs.declared.call.Kind.TheVariants.{Barrier, Dup}
 use Rattle.mpi_call.specs.declared.call.Source.{Source}
 use Rattle.mpi_call.specs.declared.call.Source.TheVariants.{From}
 use Rattle.mpi_call.specs.declared.call.Tag.{Tag}
@@ -21,10 +23,18 @@ abbrev pub is_fine_tag : Tag → Bool
 is_fine_tag (Is tag) = nat_lt tag 2147483648
 is_fine_tag tag = true
 
--- the call may stand in a script for n ranks
+-- a collective without root, operation and ints
+abbrev pub is_plain : Kind → Bool
+is_plain Barrier = true
+is_plain Dup = true
+is_plain kind = false
+
+-- the call may stand in a script for n ranks; a collective is one of the world
 abbrev pub is_fine : ℕ → Call → Bool
 is_fine n (Send comm dest tag ints) = nat_lt dest n && (nat_lt tag 2147483648 && nat_le (length ints) 65536)
 is_fine n (Post comm source tag room) = is_open_source source && is_fine_tag tag
+is_fine n (Enter comm kind root op count ints) =
+    (comm == 0) && (is_plain kind && (not (is_some root) && (not (is_some op) && ((count == 0) && (length ints == 0)))))
 is_fine n (Take starts mode) = nat_lt 0 (length starts) && (nat_le (length starts) 1000000 && list_all (λ k. nat_lt k 1000000) starts)
 is_fine n (Peek comm source tag wait) = is_open_source source && is_fine_tag tag
 is_fine n (Abort code) = true

@@ -7,12 +7,14 @@ use Rattle.mpi_call.specs.declared.call.Call.TheVariants.{Take, Peek}
 use Rattle.run_model.specs.declared.event.Event.{Event}
 use Rattle.run_model.specs.Allowed.{flags_of, holds}
 use Rattle.run_model.specs.Choice.{choice}
+use Rattle.run_model.specs.Chosen.{IsChosen}
 use Rattle.run_model.specs.Due.{bad_request}
 use Rattle.run_model.specs.Serial.{call_after}
 use Rattle.run_model.specs.Shape.{is_test}
 use Rattle.run_model.specs.Views.{Next, View, view_of}
 use Rattle.requests.specs.declared.requests.Readiness.{Readiness}
 use Rattle.requests.specs.declared.requests.Readiness.TheVariants.{Ready}
+use Rattle.requests.specs.Histories.{Knows}
 use Rattle.requests.specs.Starts.{found_in}
 use Rattle.requests.specs.States.{State}
 use Rattle.requests.specs.Taking.{readiness_of}
@@ -46,3 +48,10 @@ pub record IsKept (next : Next) (n : ℕ) (events : List Event) (rank : ℕ) (ca
 pub record AreKept (next : Next) (n : ℕ) (events : List Event) (kept : List (Option Call)) : Type 0 where
   pub as_many : length kept ≡ n
   pub each : (rank : ℕ) (call : Call) → rank < n → slice_index_or kept rank None ≡ Some call → IsKept next n events rank call
+
+-- a machine's events are a run of the program, each event of which is the machine's, and what it keeps of starts and of waiting
+-- calls is what these events say
+pub record Keeps (next : Next) (n : ℕ) (events : List Event) (kept : List (Option Call)) (state : State) : Type 0 where
+  pub chosen : IsChosen next n events
+  pub knows : Knows n events state
+  pub kept_are : AreKept next n events kept

@@ -1,7 +1,7 @@
 //! A recording machine, one event at a time.
 ghost use Rattle.std.specs.Prelude.{◌≡◌, ◌<◌, ◌≤◌, ◌++◌, ◌∷◌, ◌==◌, ◌&&◌, ◌||◌, [], false, is_some, length, not, replicate, true, IfOk, IsOk, None, OnErr, OnOk, Some};
 ghost use Rattle.std.specs.List.{slice_set};
-ghost use Rattle.mpi_call.specs.Calls.{is_enter};
+ghost use Rattle.mpi_call.specs.Calls.{is_starting};
 ghost use Rattle.mpi_call.specs.declared.call.Call.{Call};
 ghost use Rattle.mpi_call.specs.declared.call.Call.TheVariants.{Peek, Take};
 ghost use Rattle.mpi_call.specs.declared.reply.Reply.{Reply};
@@ -14,7 +14,6 @@ ghost use Rattle.run_model.specs.Program.{ends, MayGive};
 ghost use Rattle.run_model.specs.Serial.{attempt, call_after, is_stuck, Stage};
 ghost use Rattle.run_model.specs.Shape.{is_test};
 ghost use Rattle.run_model.specs.Views.{is_start, replies_in, taken_of, view_of};
-ghost use Rattle.match_core.specs.Starts.{is_message};
 ghost use Rattle.requests.specs.Histories.{took_event, Knows};
 ghost use Rattle.requests.specs.States.{with_rows, State};
 ghost use Rattle.requests.specs.Taking.{answer_in, rows_after};
@@ -47,17 +46,14 @@ pub struct Machine<'a, P: Program> {
 }
 
 impl<'a, P: Program> Model for Machine<'a, P> {
-    ghost use Rattle.std.specs.Prelude.{◌≡◌};
-    ghost use Rattle.run_model.specs.Chosen.{IsChosen};
-    ghost use Rattle.requests.specs.Histories.{Knows};
     ghost use Rattle.mpi_machine.specs.Turns.{MachineState};
-    ghost use Rattle.mpi_machine.specs.Waits.{AreKept};
+    ghost use Rattle.mpi_machine.specs.Waits.{Keeps};
 
     ghost Value = { MachineState P };
 
     ghost view = { λ m. record { program = m.program.now; ranks = m.course.ranks; events = m.course.events; kept = m.course.kept } };
 
-    ghost invariant = { λ m. IsChosen (P.next m.program.now) m.course.ranks m.course.events × Knows m.course.ranks m.course.events m.requests × AreKept (P.next m.program.now) m.course.ranks m.course.events m.course.kept };
+    ghost invariant = { λ m. Keeps (P.next m.program.now) m.course.ranks m.course.events m.course.kept m.requests };
 }
 
 impl<'a, P: Program> Machine<'a, P> {
@@ -77,9 +73,6 @@ impl<'a, P: Program> Machine<'a, P> {
     pub fn attempt(&mut self, rank: u8, call: Call) -> Result<Turn, AllocError>
         requires rank { rank < self.old.ranks }
         requires next { P.next self.old.program self.old.ranks rank (replies_in (view_of self.old.events rank)) ≡ Some call }
-
-        // Collectives are not answered yet.
-        requires built { is_enter call ≡ false }
         ensures turn { IfOk result (λ turn. turn ≡ turn_of (P.next self.old.program) self.old.ranks self.old.events self.old.kept rank call) }
         ensures after { IfOk result (λ turn. self.new ≡ after_turn self.old rank call turn) }
         ensures err { OnErr result (self.new ≡ self.old) }
@@ -93,20 +86,23 @@ impl<'a, P: Program> Machine<'a, P> {
         // Attempts one after the other make the run that the order of ranks fixes.
         ensures serial { OnOk result ((stage : Stage) → StandsAt self.old stage → StandsAt self.new (attempt (P.next self.old.program) self.old.ranks stage rank)) }
     {
+        self.is_run();
         let turn = self.turn(rank, call)?;
         self.is_run();
         Ok(turn)
     }
 
-    /// The events so far are a run, each event of which is the machine's.
+    /// The events so far are a run, each event of which is the machine's, and each rank has a place for its waiting call.
     fn is_run(&self)
-        ensures { IsChosen (P.next self.now.program) self.now.ranks self.now.events }
-    {}
+        ensures chosen { IsChosen (P.next self.now.program) self.now.ranks self.now.events }
+        ensures kept { length self.now.kept ≡ self.now.ranks }
+    {
+        let _ = &self.program;
+    }
 
     /// The attempt.
     fn turn(&mut self, rank: u8, call: Call) -> Result<Turn, AllocError>
         requires asked { IsAsked (P.next self.old.program) self.old.ranks self.old.events rank call }
-        requires built { is_enter call ≡ false }
         ensures turn { IfOk result (λ turn. turn ≡ turn_of (P.next self.old.program) self.old.ranks self.old.events self.old.kept rank call) }
         ensures after { IfOk result (λ turn. self.new ≡ after_turn self.old rank call turn) }
         ensures err { OnErr result (self.new ≡ self.old) }
@@ -178,10 +174,11 @@ impl<'a, P: Program> Machine<'a, P> {
     fn start(&mut self, rank: u8, call: Call) -> Result<Turn, AllocError>
         requires asked { IsAsked (P.next self.old.program) self.old.ranks self.old.events rank call }
         requires bound { bound_of self.old.events ≡ None }
-        requires kind { is_message call ≡ true }
+        requires kind { is_starting call ≡ true }
         ensures turn { IfOk result (λ turn. turn ≡ turn_of (P.next self.old.program) self.old.ranks self.old.events self.old.kept rank call) }
         ensures after { IfOk result (λ turn. self.new ≡ after_turn self.old rank call turn) }
         ensures err { OnErr result (self.new ≡ self.old) }
+        ensures sure { takes_none self.old.events call (chosen_reply self.old.ranks self.old.events rank call) ≡ true → IsOk result }
     {
         self.requests.knows_on();
         self.course.reserve()?;

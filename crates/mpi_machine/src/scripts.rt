@@ -3,10 +3,10 @@ ghost use Rattle.std.specs.Prelude.{◌≡◌, ◌&&◌, length, nat_le, nat_lt,
 ghost use Rattle.std.specs.List.{list_all, list_any};
 ghost use Rattle.run_model.specs.Serial.{call_after};
 ghost use Rattle.run_model.specs.Views.{replies_in, view_of};
-ghost use Rattle.mpi_machine.specs.Scripts.{call_at, fine_call, is_fine, is_fine_tag, is_open_source, is_stopped, next_of};
+ghost use Rattle.mpi_machine.specs.Scripts.{call_at, fine_call, is_fine, is_fine_tag, is_open_source, is_plain, is_stopped, next_of};
 
 use mpi_call::call;
-use mpi_call::call::{Call, Fault, Source, Tag};
+use mpi_call::call::{Call, Fault, Kind, Source, Tag};
 use mpi_call::reply::Reply;
 use run_model::event::Event;
 use run_model::program::Program;
@@ -89,6 +89,13 @@ fn is_fine_tag(tag: &Tag) -> bool
     }
 }
 
+/// Whether a collective has no root, operation and ints.
+fn is_plain(kind: Kind) -> bool
+    ensures { result ≡ is_plain kind }
+{
+    matches!(kind, Kind::Barrier | Kind::Dup)
+}
+
 /// Whether a call may stand in a script for so many ranks.
 fn is_fine(ranks: u8, call: &Call) -> bool
     ensures { result ≡ is_fine ranks call.now }
@@ -103,16 +110,41 @@ fn is_fine(ranks: u8, call: &Call) -> bool
         Call::Post { source, tag, .. } => is_open_source(source) && is_fine_tag(tag),
         Call::Peek { source, tag, .. } => is_open_source(source) && is_fine_tag(tag),
         Call::Take { starts, .. } => are_fine(starts.as_slice()),
+        Call::Enter {
+            comm,
+            kind,
+            root,
+            op,
+            count,
+            ints,
+        } => {
+            *comm == 0
+                && (is_plain(*kind)
+                    && (root.is_none()
+                        && (op.is_none() && (*count == 0 && ints.as_slice().len() == 0))))
+        }
         Call::Abort { .. } | Call::Trap { .. } => true,
-        Call::Enter { .. } | Call::End => false,
+        Call::End => false,
     }
 }
 
 fn are_fine(starts: &[u32]) -> bool
     ensures { result ≡ (nat_lt 0 (length starts.now) && (nat_le (length starts.now) 1000000 && list_all (λ k. nat_lt k 1000000) starts.now)) }
 {
-    !starts.is_empty()
-        && (starts.len() <= 1_000_000 && starts.iter().all(|start| *start < 1_000_000))
+    !starts.is_empty() && (starts.len() <= 1_000_000 && are_low(starts))
+}
+
+fn are_low(starts: &[u32]) -> bool
+    ensures { result ≡ list_all (λ k. nat_lt k 1000000) starts.now }
+{
+    let mut rest = starts;
+    while let [start, after @ ..] = rest {
+        if *start >= 1_000_000 {
+            return false;
+        }
+        rest = after;
+    }
+    true
 }
 
 /// A call of a script; one that may not stand there is a trap.

@@ -3,7 +3,7 @@ ghost use Rattle.std.specs.Prelude.{◌≡◌, ◌<◌};
 
 use crate::machine::Machine;
 use crate::scripts::{Calls, Script, next_call};
-use mpi_call::call::{Call, Fault, Halt, Source, Tag, TakeMode};
+use mpi_call::call::{Call, Comm, Fault, Halt, Kind, Source, Tag, TakeMode};
 use mpi_call::lists::{Ints, Starts};
 use mpi_call::reply::{Got, Item, Reply};
 use run_model::event::Event;
@@ -11,13 +11,14 @@ use std::alloc::{AllocError, Global};
 use std::rt::HostRuntime;
 use std::test::Fail;
 
-/// What a rank does: it sends one int or two with a tag to rank 1, receives from any rank with a room, probes, completes one
-/// or two starts, aborts or traps.
+/// What a rank does: it sends one int or two with a tag to rank 1, receives from any rank with a room, enters a collective of
+/// the world, probes, completes one or two starts, aborts or traps.
 #[derive(Clone, Copy)]
 enum Step {
     Send(u32),
     SendTwo(u32),
     Post(Tag, u32),
+    Enter(Kind),
     Peek(bool),
     Take(TakeMode, u32),
     TakeBoth(u32, u32),
@@ -53,6 +54,14 @@ fn call_of(alloc: Global, step: Step) -> Result<Call, AllocError> {
             tag,
             room,
         }),
+        Step::Enter(kind) => Ok(Call::Enter {
+            comm,
+            kind,
+            root: None,
+            op: None,
+            count: 0,
+            ints: Ints::from_slice(alloc, &[])?,
+        }),
         Step::Peek(wait) => Ok(Call::Peek {
             comm,
             source,
@@ -75,7 +84,7 @@ fn calls_of(alloc: Global, steps: &[Step]) -> Result<Calls, AllocError> {
 }
 
 /// What an event of the history is, in short: of a start the position of its partner, of a completion the indices and the
-/// starts of the messages, of a probe the sender and the start.
+/// starts of the messages or the communicator that was made, of a probe the sender and the start.
 fn in_short(event: &Event) -> Short {
     match &event.reply {
         Reply::Done => Short::Done(event.rank, event.mate),
@@ -96,6 +105,18 @@ fn in_short(event: &Event) -> Short {
                     ..
                 },
             ] => { Short::Both(event.rank, *one, *two) }
+            [
+                Item {
+                    got: Got::Joined { .. },
+                    ..
+                },
+            ] => { Short::Joined(event.rank) }
+            [
+                Item {
+                    got: Got::Made { comm, .. },
+                    ..
+                },
+            ] => { Short::Made(event.rank, *comm) }
             _ => Short::NotYet(event.rank),
         },
         Reply::NotYet => Short::NotYet(event.rank),
@@ -109,6 +130,8 @@ enum Short {
     Done(u8, Option<u32>),
     Took(u8, u32, u32),
     Both(u8, u32, u32),
+    Joined(u8),
+    Made(u8, Comm),
     NotYet(u8),
     Peeked(u8, u8, u32),
     Stopped(u8, Halt),
@@ -162,8 +185,29 @@ fn runs_are_made(rt: HostRuntime) -> Result<(), Fail> {
         rank: 0,
         fault: Fault::DivideByZero,
     };
+    let other = Halt::Mismatched { rank: 1 };
     // What the ranks do, in whose turns, and the events.
-    let rows: [(&[Step], &[Step], &[bool], &[Short]); 8] = [
+    let rows: [(&[Step], &[Step], &[bool], &[Short]); 11] = [
+        // The results of a collective are there once both ranks have entered.
+        (
+            &[Step::Enter(Kind::Barrier), Step::Take(all, 0)],
+            &[Step::Enter(Kind::Barrier), Step::Take(all, 0)],
+            &[false, false, true, false, true],
+            &[Done(0, None), Done(1, None), Joined(0), Joined(1)],
+        ),
+        (
+            &[Step::Enter(Kind::Dup), Step::Take(all, 0)],
+            &[Step::Enter(Kind::Dup), Step::Take(all, 0)],
+            &[true, false, false, true],
+            &[Done(1, None), Done(0, None), Made(0, 1), Made(1, 1)],
+        ),
+        // The second rank's collective does not agree with the first's.
+        (
+            &[Step::Enter(Kind::Barrier), Step::Take(all, 0)],
+            &[Step::Enter(Kind::Dup)],
+            &[false, true, false],
+            &[Done(0, None), Stopped(1, other), Stopped(0, other)],
+        ),
         // The message with tag 5 goes to the first of two receives that accept it.
         (
             &[Step::Send(5), Step::Send(6)],

@@ -1,9 +1,22 @@
 pub mod Found
 pub mod Steps
+pub mod ChosenPlaces
 pub mod Gathered
 pub mod Pairing
 pub mod Starting
 pub mod Sounding
+pub mod Entering
+pub mod Growing
+pub mod Joining
+pub mod Making
+pub mod Leaving
+pub mod Entered
+pub mod Numbering
+pub mod Collecting
+pub mod Known
+pub mod Mismatching
+pub mod Knowing
+pub mod First
 pub mod Answering
 pub mod Taking
 mod WorkedExamples

@@ -1,22 +1,30 @@
 -- What a completion answers and leaves, by the history.
-use Rattle.std.proofs.Common.{◌≡◌, ◌<◌, ◌≤◌, ◌+◌, ◌&&◌, ◌||◌, ◌==◌, ℕ, zero, suc, List, [], ◌∷◌, ◌++◌, Option, Some, None, Bool, true, false, not, cond, drop, get_or, set, length, map, slice_get, slice_index, take, ◌⊎◌, inl, inr, refl, ap, sym, ◌∙◌, subst, arith, append-nil, get_or-set_same}
-use Rattle.std.specs.Prelude.{option_map, is_some}
+use Rattle.std.proofs.Common.{◌≡◌, ◌<◌, ◌+◌, ◌&&◌, ◌||◌, ◌==◌, ℕ, ℤ, zero, suc, List, [], ◌∷◌, ◌++◌, Option, Some, None, Bool, true, false, not, cond, set, length, map, slice_get, slice_index, take, inl, inr, refl, ap, sym, ◌∙◌, subst, arith, append-nil, get_or-set_same}
+use Rattle.std.specs.Prelude.{option_map}
 use Rattle.std.proofs.lemmas.Bool.{cases_eq, eqb-true, eq-eqb, and_parts}
 use Rattle.std.proofs.lemmas.List.{set-get_or}
 use Rattle.mpi_call.specs.declared.call.Call.{Call}
-use Rattle.mpi_call.specs.declared.call.Call.TheVariants.{Take}
+use Rattle.mpi_call.specs.declared.call.Call.TheVariants.{Send, Post, Enter, Take}
+use Rattle.mpi_call.specs.declared.call.Source.TheVariants.{Any, From, Null}
+use Rattle.mpi_call.specs.declared.reply.Got.{Got}
 use Rattle.mpi_call.specs.declared.call.TakeMode.{TakeMode}
 use Rattle.mpi_call.specs.declared.call.TakeMode.TheVariants.{All, Any as AnyOne, Several, TestAll, TestAny, TestSeveral}
 use Rattle.mpi_call.specs.declared.reply.Item.{Item}
+use Rattle.mpi_call.specs.Calls.{comm_of, is_enter, makes}
+use Rattle.mpi_call.specs.Collectives.{is_uncoloured, members_made}
 use Rattle.mpi_call.specs.Members.{is_member}
 use Rattle.run_model.specs.declared.event.Event.{Event}
 use Rattle.run_model.specs.Allowed.{first_long, flags_of, holds, taken_reply, true_places}
 use Rattle.run_model.specs.Choice.{chosen_places}
-use Rattle.run_model.specs.Chosen.{chosen_answer, held_reply, items_of}
+use Rattle.run_model.specs.Chosen.{chosen_answer, held_reply, items_of, message_in}
+use Rattle.run_model.specs.Communicators.{made_in_got, made_in_items, or_members}
+use Rattle.collectives.specs.Boards.{Stages, enters_of}
+use Rattle.comms.specs.Communicators.{Communicators, members_of, old_members}
+use Rattle.requests.specs.Enters.{needed_ints}
 use Rattle.run_model.specs.Due.{bad_request}
-use Rattle.run_model.specs.Pairs.{Name, name_at, named, pairs_of, partner_of}
+use Rattle.run_model.specs.Pairs.{Name, name_at, partner_of}
 use Rattle.run_model.specs.Shape.{is_test}
-use Rattle.run_model.specs.Views.{View, is_done, items_taken, taken_of, view_of}
+use Rattle.run_model.specs.Views.{View, items_taken, taken_of, view_of}
 use Rattle.run_model.proofs.ChosenGots.{AllOf}
 use Rattle.run_model.proofs.Views.{option_cases, test_cases, view_of-mine, view_of-other}
 use Rattle.match_core.proofs.Grown.{named-other}
@@ -24,16 +32,18 @@ use Rattle.match_core.proofs.Knowing.{knows_others}
 use Rattle.requests.specs.declared.start.Start.{Start}
 use Rattle.requests.specs.declared.requests.TakeAnswer.{TakeAnswer}
 use Rattle.requests.specs.declared.requests.TakeAnswer.TheVariants.{Took, NotReady, TooLong, BadStart}
-use Rattle.requests.specs.Starts.{Rows, all_marked, call_in, found_in, is_gone, marked, mate_of, name_in, row_of, with_row}
+use Rattle.requests.specs.Starts.{Rows, all_marked, call_in, found_in, is_gone, marked, mate_of, row_of, with_row}
 use Rattle.requests.specs.States.{State, Table, with_rows}
-use Rattle.requests.specs.Taking.{answer_in, bad_or, held_or, places_from, takes_one, can_take_in, first_bad, first_long_in, flags_in, is_complete, item_in, items_in, long_or, rows_after}
-use Rattle.requests.specs.Histories.{Answers, Knows, KnowsTaken, took_event}
+use Rattle.requests.specs.Taking.{collected_as, collected_in, got_as, got_in, inputs_in, is_complete_as, is_gathered_in, members_for, message_from, answer_in, bad_or, held_or, places_from, takes_one, can_take_in, first_bad, first_long_in, flags_in, is_complete, item_in, items_in, long_or, rows_after}
+use Rattle.requests.specs.Histories.{Answers, IsNumbered, Knows, KnowsTaken, number_for, took_event}
 use Rattle.requests.proofs.Found.{get-marked, length-row, not_same}
-use Rattle.requests.proofs.Steps.{steps}
 use Rattle.requests.proofs.Pairing.{name_at-push, one_more, pairs-alone}
-use Rattle.requests.proofs.Starting.{name_past, taken_of-append}
-use Rattle.requests.proofs.Sounding.{found-marked}
-use Rattle.requests.proofs.Answering.{among-append, bad_same, flags_are, items_same, long_same}
+use Rattle.requests.proofs.Starting.{taken_of-append}
+use Rattle.requests.proofs.Known.{calls_there, name_past}
+use Rattle.requests.proofs.Sounding.{found-marked, marked_shape, there_is}
+use Rattle.requests.proofs.ChosenPlaces.{IsPlace, places_complete}
+use Rattle.requests.proofs.Entering.{IsThere, enters_on}
+use Rattle.requests.proofs.Answering.{among-append, complete_enter, own_start, bad_same, flags_are, items_same, long_same}
 
 -- the answer
 chosen_is : (n : ℕ) (events : List Event) (own : View) (me : ℕ) (starts : List ℕ) (mode : TakeMode) (long : Option ℕ) (items : List Item)
@@ -77,31 +87,6 @@ hands_them table me starts mode items h =
     let both = took_by (first_bad table.rows me [] starts) (holds mode (flags_in table me starts)) (first_long_in table.rows me starts (items_in table me starts mode)) (items_in table me starts mode) items h in
     record { none_bad = both.0; items_are = both.1 }
 
--- the chosen places are in the list, and what is listed there is complete
-abbrev IsPlace : (ℕ → Bool) → List ℕ → ℕ → Type 0
-IsPlace test starts i = (i < length starts) × (test (slice_index starts i) ≡ true)
-
-places_true : (test : ℕ → Bool) (starts rest : List ℕ) (at : ℕ) → rest ≡ drop at starts → AllOf (IsPlace test starts) (true_places at (map test rest))
-places_true test starts [] at h = tt
-places_true test starts (k ∷ rest) at h =
-    let s = steps starts rest k at h in
-    elim (test_cases (test k)) [
-      | inl t ↦ rw t ((s.below, ap test (s.here 0) ∙ t), places_true test starts rest (at + 1) s.rest)
-      | inr t ↦ rw t (places_true test starts rest (at + 1) s.rest)
-    ]
-
-first_of_all : (P : ℕ → Type 0) (xs : List ℕ) → AllOf P xs → AllOf P (take 1 xs)
-first_of_all P [] all = tt
-first_of_all P (x ∷ xs) all = (all.0, tt)
-
-by_mode : (P : ℕ → Type 0) (mode : TakeMode) (flags : List Bool) → AllOf P (true_places 0 flags) → AllOf P (chosen_places mode flags)
-by_mode P All flags all = all
-by_mode P TestAll flags all = all
-by_mode P AnyOne flags all = first_of_all P (true_places 0 flags) all
-by_mode P TestAny flags all = first_of_all P (true_places 0 flags) all
-by_mode P Several flags all = all
-by_mode P TestSeveral flags all = all
-
 -- a start that is handed out is listed at a place, and complete
 record IsHanded (test : ℕ → Bool) (starts : List ℕ) (k : ℕ) : Type 0 where
   place : ℕ
@@ -126,7 +111,7 @@ handed table me starts mode items k out h =
     let test : ℕ → Bool = λ number. is_complete table me (found_in table.rows (me, number)) in
     let F : List Item → Type 0 = λ l. is_member (items_taken starts l) k ≡ true in
     handed_at table me test starts (chosen_places mode (flags_in table me starts)) k
-    (by_mode (IsPlace test starts) mode (flags_in table me starts) (places_true test starts starts 0 refl)) (subst F (sym out.items_are) h)
+    (places_complete test starts mode) (subst F (sym out.items_are) h)
 
 complete_there : (table : Table) (me : ℕ) (o : Option Start) → is_complete table me o ≡ true → (start : Start) × (o ≡ Some start)
 complete_there table me None h = absurd (cc)
@@ -207,6 +192,86 @@ taken_after n events state me starts mode items r k knows within out =
       | inr h ↦ rw h (knows.taken r k ∙ ap (λ (v : View). is_member (taken_of v) k) (sym (view_of-other events event r (not_same me r (λ e. (let no : true ≡ false = sym (eq-eqb r me (sym e)) ∙ h in cc))))))
     ]
 
+-- what the items teach of communicators
+message_no : (comm : ℕ) (send : Name) (o : Option Call) → made_in_got comm (message_in send o) ≡ None
+message_no comm send None = refl
+message_no comm send (Some (Send c dest tag ints)) = refl
+message_no comm send (Some call) = refl
+
+no_made : (comm : ℕ) (rows : Rows) (mate : Option Name) → made_in_got comm (message_from rows mate) ≡ None
+no_made comm rows None = refl
+no_made comm rows (Some send) = message_no comm send (call_in rows send)
+
+made_by : (call : Call) (message result : Got) (comm : ℕ) (members : List ℕ) → made_in_got comm message ≡ None → made_in_got comm (got_as call message result) ≡ Some members
+    → (is_enter call ≡ true) × (made_in_got comm result ≡ Some members)
+made_by (Send c dest tag ints) message result comm members none h = absurd (cc)
+made_by (Post c Null tag room) message result comm members none h = absurd (cc)
+made_by (Post c Any tag room) message result comm members none h = absurd (let no : None ≡ Some members = sym none ∙ h in cc)
+made_by (Post c (From source) tag room) message result comm members none h = absurd (let no : None ≡ Some members = sym none ∙ h in cc)
+made_by (Enter c kind root op count ints) message result comm members none h = (refl, h)
+made_by call message result comm members none h = absurd (cc)
+
+made_from : (b : Bool) (number : ℕ) (call : Call) (old : List ℕ) (inputs : List (List ℤ)) (me comm : ℕ) (members : List ℕ) → made_in_got comm (collected_as b number call old inputs me) ≡ Some members
+    → (b ≡ true) × (number ≡ comm) × (members_made call old inputs me ≡ members)
+made_from true number call old inputs me comm members h =
+    elim (test_cases (number == comm)) [
+      | inl t ↦ (
+          let e : Some (members_made call old inputs me) ≡ Some members = rw t at h in
+          (refl, eqb-true number comm t, cc))
+      | inr t ↦ absurd (let e : None ≡ Some members = rw t at h in cc)
+    ]
+made_from false number call old inputs me comm members h = absurd (cc)
+
+taught_by : (uncoloured : Bool) (n : ℕ) (events : List Event) (stages : Stages) (comms : Communicators) (name : Name) (call : Call) (instance comm : ℕ) (members : List ℕ)
+    → IsNumbered uncoloured n events stages comms name call instance → number_for comms name.0 call instance ≡ comm
+    → members_made call (old_members comms (comm_of call)) (needed_ints (enters_of stages (comm_of call) instance) (old_members comms (comm_of call)) name.0 call) name.0 ≡ members
+    → (comm == 0) ≡ false → members_of comms comm ≡ Some members
+taught_by true n events stages comms name call instance comm members is number made zero_not =
+    absurd (let no : true ≡ false = sym (eq-eqb comm 0 (sym number ∙ is)) ∙ zero_not in cc)
+taught_by false n events stages comms name call instance comm members is number made zero_not =
+    ap (members_of comms) (sym number) ∙ (is.1 ∙ ap (λ (l : List ℕ). Some l) made)
+
+got_taught : (n : ℕ) (events : List Event) (state : State) (me k comm : ℕ) (members : List ℕ) → Knows n events state → is_complete state.table me (found_in state.table.rows (me, k)) ≡ true
+    → (comm == 0) ≡ false → made_in_got comm (got_in state.table me (found_in state.table.rows (me, k))) ≡ Some members → members_of state.table.comms comm ≡ Some members
+got_taught n events state me k comm members knows complete zero_not h =
+    let found = complete_there state.table me (found_in state.table.rows (me, k)) complete in
+    let start : Start = found.0 in
+    let own = own_start n events state me k start knows found.1 in
+    let there : is_complete_as start.call start.mate (is_gathered_in state.table me start) ≡ true = sym (ap (λ (o : Option Start). is_complete state.table me o) found.1) ∙ complete in
+    let got : made_in_got comm (got_as start.call (message_from state.table.rows start.mate) (collected_in state.table me start)) ≡ Some members =
+    sym (ap (λ (o : Option Start). made_in_got comm (got_in state.table me o)) found.1) ∙ h in
+    let entered = made_by start.call (message_from state.table.rows start.mate) (collected_in state.table me start) comm members (no_made comm state.table.rows start.mate) got in
+    let made = made_from (makes start.call) (number_for state.table.comms me start.call start.instance) start.call (members_for state.table start) (inputs_in state.table me start) me comm members entered.1 in
+    let gathered : is_gathered_in state.table me start ≡ true = complete_enter start.call start.mate (is_gathered_in state.table me start) entered.0 there in
+    taught_by (is_uncoloured start.call) n events state.table.stages state.table.comms (me, k) start.call start.instance comm members (own.numbered made.0 gathered) made.1 made.2 zero_not
+
+taught_at : (n : ℕ) (events : List Event) (state : State) (me : ℕ) (starts indices : List ℕ) (comm : ℕ) (members : List ℕ) → Knows n events state
+    → AllOf (IsPlace (λ number. is_complete state.table me (found_in state.table.rows (me, number))) starts) indices → (comm == 0) ≡ false
+    → made_in_items comm (map (item_in state.table me starts) indices) ≡ Some members → members_of state.table.comms comm ≡ Some members
+taught_at n events state me starts [] comm members knows all zero_not h = absurd (cc)
+taught_at n events state me starts (i ∷ indices) comm members knows all zero_not h =
+    let got : Got = got_in state.table me (found_in state.table.rows (me, slice_index starts i)) in
+    elim (option_cases (made_in_got comm got)) [
+      | inl some ↦ (
+          let e : Some some.0 ≡ Some members = sym (ap (λ (o : Option (List ℕ)). or_members o (made_in_items comm (map (item_in state.table me starts) indices))) some.1) ∙ h in
+          got_taught n events state me (slice_index starts i) comm some.0 knows all.0.1 zero_not some.1 ∙ e)
+      | inr none ↦ taught_at n events state me starts indices comm members knows all.1 zero_not (sym (ap (λ (o : Option (List ℕ)). or_members o (made_in_items comm (map (item_in state.table me starts) indices))) none) ∙ h)
+    ]
+
+taught : (n : ℕ) (events : List Event) (state : State) (me : ℕ) (starts : List ℕ) (mode : TakeMode) (items : List Item) → Knows n events state → HandsOut state.table me starts mode items
+    → (comm : ℕ) (members : List ℕ) → (comm == 0) ≡ false → made_in_items comm items ≡ Some members → members_of state.table.comms comm ≡ Some members
+taught n events state me starts mode items knows out comm members zero_not h =
+    taught_at n events state me starts (chosen_places mode (flags_in state.table me starts)) comm members knows
+    (places_complete (λ number. is_complete state.table me (found_in state.table.rows (me, number))) starts mode) zero_not
+    (ap (made_in_items comm) out.items_are ∙ h)
+
+marked_there : (n : ℕ) (events : List Event) (state : State) (me : ℕ) (numbers : List ℕ) → Knows n events state → me < length state.table.rows
+    → IsThere events state.table.rows (with_row me (all_marked true numbers (row_of state.table.rows me)) state.table.rows)
+marked_there n events state me numbers k within = record {
+  calls = λ name start found. calls_there n events state name start k found;
+  same = λ name start found enter. there_is state.table.rows name start (marked_shape state.table.rows me true numbers within name start found enter);
+}
+
 pub knows_took : (n : ℕ) (events : List Event) (state : State) (me : ℕ) (starts : List ℕ) (mode : TakeMode) (items : List Item) → Knows n events state → me < length state.table.rows
     → HandsOut state.table me starts mode items
     → Knows n (events ++ took_event me starts mode items ∷ []) (with_rows (with_row me (all_marked true (items_taken starts items) (row_of state.table.rows me)) state.table.rows) state)
@@ -226,7 +291,7 @@ knows_took n events state me starts mode items k within out =
         | inr apart ↦ rw (not_same at (length events) apart) refl
       ]);
       below = (let f = one_more events event in let b = k.below in omega (arith, f, b));
-      messages = λ name c h. k.messages name c (sym (named-other events event refl name) ∙ h);
+      enters = enters_on n events event rows (with_row me (all_marked true numbers (row_of rows me)) rows) state.table.stages state.table.comms k.enters (marked_there n events state me numbers k within) refl (λ comm members zero_not h. taught n events state me starts mode items k out comm members zero_not h);
     }
 
 -- marks that are taken back

@@ -4,6 +4,7 @@
 mod answer;
 mod collected;
 mod complete;
+mod enter;
 pub mod requests;
 mod rows;
 pub mod start;

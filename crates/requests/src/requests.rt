@@ -1,23 +1,32 @@
 //! What ranks started and what of it was taken.
-ghost use Rattle.std.specs.Prelude.{◌≡◌, ◌<◌, ◌++◌, ◌∷◌, [], ℕ, List, Some, false, length, replicate, IfOk, IsOk, IsTrue, OnErr, OnOk};
+ghost use Rattle.std.specs.Prelude.{◌≡◌, ◌<◌, ◌++◌, ◌∷◌, [], ℕ, List, Some, true, false, length, replicate, IfOk, IsOk, IsTrue, OnErr, OnOk};
+ghost use Rattle.mpi_call.specs.declared.call.Call.{Call};
 ghost use Rattle.mpi_call.specs.declared.call.TakeMode.{TakeMode};
+ghost use Rattle.mpi_call.specs.Calls.{comm_of, is_enter, is_starting};
 ghost use Rattle.run_model.specs.declared.event.Event.{Event};
+ghost use Rattle.mpi_call.specs.Members.{is_member};
+ghost use Rattle.mpi_call.specs.Needs.{IsEnterOf};
 ghost use Rattle.run_model.specs.Choice.{choice};
+ghost use Rattle.run_model.specs.Communicators.{known_in};
 ghost use Rattle.run_model.specs.Pairs.{Name, name_at};
-ghost use Rattle.run_model.specs.Views.{items_taken};
+ghost use Rattle.run_model.specs.Program.{IsInForm};
+ghost use Rattle.run_model.specs.Views.{items_taken, view_of};
 ghost use Rattle.match_core.specs.Starts.{is_message, is_peek, left_by, start_of, AreBelow, IsEarliest};
 ghost use Rattle.match_core.specs.Histories.{event_of, KnowsMore, Knows as MatcherKnows};
 ghost use Rattle.requests.specs.declared.requests.TakeAnswer.TheVariants.{Took};
 ghost use Rattle.requests.specs.Starts.{all_marked, found_in, name_in, row_of, with_row};
-ghost use Rattle.requests.specs.States.{at_first, with_rows, IsAbove, IsStarted, State};
+ghost use Rattle.requests.specs.States.{at_first, with_rows, IsAbove, IsEntered, IsPaired, IsStarted, IsUnchanged, MayEnter, State};
 ghost use Rattle.requests.specs.Taking.{answer_in, hands_out, readiness_of, rows_after};
 ghost use Rattle.requests.specs.Histories.{Answers, IsIdle, IsReadiness, Knows, KnowsStarted, KnowsTaken};
 
 use crate::answer::answer;
+use crate::collected::comm_of;
 use crate::complete::readiness;
+use crate::enter::{entered, joined, left};
 use crate::rows::{add_start, drop_start, mark_in, name_in, pair, put_name, reserve_to};
 use crate::start::{Name, Row};
 use collectives::board::Board;
+use collectives::instances::Entered;
 use comms::communicators::Comms;
 use match_core::matcher::Matcher;
 use mpi_call::call::{Call, TakeMode, copy_of};
@@ -97,13 +106,32 @@ impl Requests {
         })
     }
 
-    /// Adds the Send or Post of a rank that stands at position `at` of the history, and gives it the earliest partner that fits.
-    /// After the want of memory nothing has changed.
+    /// Adds the Send, Post or Enter of a rank that stands at position `at` of the history. A Send or Post gets the earliest
+    /// partner that fits. An Enter that does not agree with an earlier one of its instance is not added, and changes nothing.
     pub fn start(&mut self, at: u32, rank: u8, call: &Call) -> Result<Started, AllocError>
-        requires kind { IsTrue (is_message call.now) }
+        requires kind { IsTrue (is_starting call.now) }
+        requires enter { is_enter call.now ≡ true → MayEnter self.old.table.comms rank call.now }
         requires position { IsAbove at self.old }
         requires rank { rank < length self.old.table.rows }
         ensures ok { IfOk result (λ started. IsStarted self.old self.new at rank call.now started) }
+        ensures err { OnErr result (IsUnchanged self.old self.new) }
+        ensures knows { IfOk result (λ started. (n : ℕ) (events : List Event) → Knows n events self.old → at ≡ length events → IsInForm n (view_of events rank) rank call.now → KnowsStarted n events rank call.now started self.new) }
+
+        // After the want of memory what is known stays known.
+        ensures err_knows { OnErr result ((n : ℕ) (events : List Event) → Knows n events self.old → Knows n events self.new) }
+    {
+        match call {
+            Call::Enter { .. } => self.enter(at, rank, call),
+            _ => self.message(at, rank, call),
+        }
+    }
+
+    /// Adds a Send or Post. After the want of memory nothing has changed.
+    fn message(&mut self, at: u32, rank: u8, call: &Call) -> Result<Started, AllocError>
+        requires kind { IsTrue (is_message call.now) }
+        requires position { IsAbove at self.old }
+        requires rank { rank < length self.old.table.rows }
+        ensures ok { IfOk result (λ started. IsPaired self.old self.new at rank call.now started) }
         ensures err { OnErr result (self.new ≡ self.old) }
         ensures knows { IfOk result (λ started. (n : ℕ) (events : List Event) → Knows n events self.old → at ≡ length events → KnowsStarted n events rank call.now started self.new) }
     {
@@ -117,6 +145,37 @@ impl Requests {
         pair(&mut self.rows, &self.names, (rank, start), mate);
         put_name(&mut self.names, at, (rank, start));
         Ok(Started::Made { start, mate })
+    }
+
+    /// Adds an Enter: first to the board, where the want of memory later takes it back.
+    fn enter(&mut self, at: u32, rank: u8, call: &Call) -> Result<Started, AllocError>
+        requires kind { is_enter call.now ≡ true }
+        requires may { MayEnter self.old.table.comms rank call.now }
+        requires position { IsAbove at self.old }
+        requires rank { rank < length self.old.table.rows }
+        ensures ok { IfOk result (λ started. IsEntered self.old self.new at rank call.now started) }
+        ensures err { OnErr result (IsUnchanged self.old self.new) }
+        ensures knows { IfOk result (λ started. (n : ℕ) (events : List Event) → Knows n events self.old → at ≡ length events → IsInForm n (view_of events rank) rank call.now → KnowsStarted n events rank call.now started self.new) }
+    {
+        reserve_to(&mut self.names, at)?;
+        match entered(&mut self.board, rank, call)? {
+            Entered::Disagrees { other } => Ok(Started::Disagrees { other }),
+            Entered::Joined { instance } => {
+                let Ok(start) = joined(
+                    &mut self.rows,
+                    &self.board,
+                    &mut self.comms,
+                    rank,
+                    call,
+                    instance,
+                ) else {
+                    left(&mut self.board, rank, comm_of(call));
+                    return Err(AllocError);
+                };
+                put_name(&mut self.names, at, (rank, start));
+                Ok(Started::Made { start, mate: None })
+            }
+        }
     }
 
     /// Whether a start can be taken. Takes no memory.
@@ -198,6 +257,9 @@ impl Requests {
     pub fn knows_on(&self)
         ensures idle { (n : ℕ) (events : List Event) (event : Event) → Knows n events self.now → IsIdle event → Knows n (events ++ event ∷ []) self.now }
         ensures above { (n : ℕ) (events : List Event) → Knows n events self.now → IsAbove (length events) self.now }
+
+        // A rank may make an Enter that is in form by the history.
+        ensures enters { (n rank : ℕ) (events : List Event) (call : Call) (members : List ℕ) → Knows n events self.now → known_in n (view_of events rank) (comm_of call) ≡ Some members → is_member members rank ≡ true → IsEnterOf call members rank → MayEnter self.now.table.comms rank call }
     {}
 }
 

@@ -1,11 +1,10 @@
-use Rattle.std.proofs.Common.{◌≡◌, ◌∙◌, Bool, List, None, Option, Some, [], ap, false, map, sym, true, ℕ}
-use Rattle.mpi_call.specs.declared.call.TakeMode.{TakeMode}
+use Rattle.std.proofs.Common.{◌≡◌, ◌∙◌, Bool, List, None, Some, [], ap, false, map, sym, true, ℕ}
 use Rattle.mpi_call.specs.declared.reply.Item.{Item}
 use Rattle.run_model.specs.Allowed.{holds}
 use Rattle.requests.specs.declared.requests.TakeAnswer.{TakeAnswer}
 use Rattle.requests.specs.declared.requests.TakeAnswer.TheVariants.{Took}
 use Rattle.requests.specs.States.{Table, table_of}
-use Rattle.requests.specs.Taking.{answer_in, first_bad, first_long_in, flags_in, hands_out, item_in, items_in, places_from, takes_one}
+use Rattle.requests.specs.Taking.{answer_in, first_bad, first_long_in, flags_in, hands_out, item_in, items_in, places_from}
 use Rattle.requests.proofs.Taking.{answer_long, places_are}
 use Rattle.requests.proofs.answer.answer.Goals as goal
 

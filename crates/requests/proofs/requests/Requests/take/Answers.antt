@@ -1,4 +1,4 @@
-use Rattle.std.proofs.Common.{◌≡◌, ◌<◌, ◌∙◌, ap, length, refl, rules, subst, sym, true, ℕ, List}
+use Rattle.std.proofs.Common.{◌≡◌, ◌<◌, ap, length, refl, rules, subst, sym, true, ℕ, List}
 use Rattle.run_model.specs.Views.{items_taken}
 use Rattle.requests.specs.declared.requests.TakeAnswer.{TakeAnswer}
 use Rattle.requests.specs.Starts.{Rows}

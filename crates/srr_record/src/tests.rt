@@ -1,0 +1,354 @@
+//! Worked examples.
+ghost use Rattle.std.specs.Prelude.{◌≡◌, ◌<◌, All, true};
+
+use crate::recording::Recording;
+use crate::scripts::{Calls, Script, start_all};
+use crate::serial::{finish_record, record_serial};
+use group_plan::{Plan, read_plan};
+use mpi_call::call::{Call, Fault, Halt, Kind, Source, Tag, TakeMode};
+use mpi_call::lists::{Ints, Starts};
+use mpi_machine::machine::Machine;
+use run_model::ending::Ending;
+use srr_entry::entry::{Entry, Mark, Marked};
+use srr_entry::log::Log;
+use std::alloc::{AllocError, Global};
+use std::process::Abort;
+use std::rt::HostRuntime;
+use std::test::Fail;
+use wiz_base::bytes::Bytes;
+
+/// What a rank does: it sends the int 7 to a rank with a tag, receives one int with a tag from any rank, enters a barrier or
+/// another collective without ints, or completes a start.
+#[derive(Clone, Copy)]
+enum Step {
+    Send(u8, u32),
+    Post(u32),
+    Enter(Kind),
+    Take(u32),
+}
+
+fn call_of(alloc: Global, step: Step) -> Result<Call, AllocError> {
+    match step {
+        Step::Send(dest, tag) => Ok(Call::Send {
+            comm: 0,
+            dest,
+            tag,
+            ints: Ints::from_slice(alloc, &[7])?,
+        }),
+        Step::Post(tag) => Ok(Call::Post {
+            comm: 0,
+            source: Source::Any,
+            tag: Tag::Is(tag),
+            room: 1,
+        }),
+        Step::Enter(kind) => Ok(Call::Enter {
+            comm: 0,
+            kind,
+            root: None,
+            op: None,
+            count: 0,
+            ints: Ints::from_slice(alloc, &[])?,
+        }),
+        Step::Take(start) => Ok(Call::Take {
+            starts: Starts::from_slice(alloc, &[start])?,
+            mode: TakeMode::All,
+        }),
+    }
+}
+
+fn calls_of(alloc: Global, steps: &[Step]) -> Result<Calls, AllocError> {
+    let mut values = Vec::new(alloc);
+    for step in steps.iter() {
+        values.push(call_of(alloc, *step)?)?;
+    }
+    Ok(Calls::new(values))
+}
+
+fn script_of(alloc: Global, zeroth: &[Step], others: &[Step]) -> Result<Script, AllocError> {
+    Ok(Script {
+        zeroth: calls_of(alloc, zeroth)?,
+        others: calls_of(alloc, others)?,
+    })
+}
+
+/// An entry in short: of a message from inside its name, of one from outside also its tag and first int.
+#[derive(Clone, Copy, Debug, PartialEq, Eq)]
+enum Short {
+    Sent,
+    Posted,
+    Entered,
+    Ended,
+    Inside(u8, u32),
+    Outside(u8, u32, u32, i32),
+    Inner,
+    Outer,
+    Made(u32),
+    Stopped(Halt),
+    Other,
+}
+
+fn in_short(entry: &Entry) -> Short {
+    match entry {
+        Entry::Sent => Short::Sent,
+        Entry::Posted => Short::Posted,
+        Entry::Entered => Short::Entered,
+        Entry::Ended => Short::Ended,
+        Entry::Stopped(halt) => Short::Stopped(*halt),
+        Entry::Took(items) => match items.as_slice() {
+            [marked] => mark_in_short(marked),
+            _ => Short::Other,
+        },
+        _ => Short::Other,
+    }
+}
+
+fn mark_in_short(marked: &Marked) -> Short {
+    match &marked.mark {
+        Mark::Inside { source, start } => Short::Inside(*source, *start),
+        Mark::Inner => Short::Inner,
+        Mark::Outer { .. } => Short::Outer,
+        Mark::Made { comm } => Short::Made(*comm),
+        Mark::Outside {
+            source,
+            start,
+            tag,
+            ints,
+        } => match ints.as_slice() {
+            [int] => Short::Outside(*source, *start, *tag, *int),
+            _ => Short::Other,
+        },
+        _ => Short::Other,
+    }
+}
+
+fn are_below(ranks: &[u8], n: u8) -> bool
+    ensures { result ≡ true → All (λ rank. rank < n) ranks.now }
+{
+    for rank in ranks {
+        if *rank >= n {
+            return false;
+        }
+    }
+    true
+}
+
+fn record(
+    alloc: Global,
+    script: &Script,
+    plan: &Plan,
+    turns: &[u8],
+) -> Result<Recording, AllocError> {
+    let ranks = plan.n();
+    if !are_below(turns, ranks) {
+        return Err(AllocError);
+    }
+    let runs = start_all(alloc, script, ranks)?;
+    record_serial(alloc, script, b"text", plan, runs, turns)
+}
+
+/// The same without turns, on a machine that has no event yet.
+fn finish(alloc: Global, script: &Script, plan: &Plan) -> Result<Recording, AllocError> {
+    let machine = Machine::new(alloc, script, plan.n())?;
+    let runs = start_all(alloc, script, plan.n())?;
+    finish_record(alloc, machine, b"text", plan, runs)
+}
+
+/// The entries of each rank of each log, one after the other.
+fn entries_in(alloc: Global, logs: &[Log]) -> Result<Vec<Short>, AllocError> {
+    let mut entries = Vec::new(alloc);
+    for log in logs.iter() {
+        for list in log.lists.as_slice().iter() {
+            for entry in list.as_slice().iter() {
+                entries.push(in_short(entry))?;
+            }
+        }
+    }
+    Ok(entries)
+}
+
+fn order_of(alloc: Global, recording: &Recording) -> Result<Vec<u8>, AllocError> {
+    let mut order = Vec::new(alloc);
+    for event in recording.history.as_slice().iter() {
+        order.push(event.rank)?;
+    }
+    Ok(order)
+}
+
+/// Whether rank k printed k and nothing more.
+fn are_printed(outputs: &[Bytes]) -> bool {
+    for (rank, printed) in outputs.iter().enumerate() {
+        match printed.as_slice() {
+            [byte] if *byte as usize == rank => {}
+            _ => return false,
+        }
+    }
+    true
+}
+
+/// What is wanted of a run: the order of its events, the entries of each rank in its log, and how it ends.
+#[derive(Clone, Copy)]
+struct Wanted<'a> {
+    order: &'a [u8],
+    entries: &'a [Short],
+    ending: Ending,
+}
+
+/// The order of a recording's events, where all is as wanted.
+fn check(
+    rt: &(impl Abort + AllocGlobal),
+    recording: &Recording,
+    wanted: Wanted<'_>,
+) -> Result<Vec<u8>, Fail> {
+    let order = order_of(rt.alloc(), recording)?;
+    assert_eq!(rt; order.as_slice(), wanted.order);
+    let entries = entries_in(rt.alloc(), recording.logs.as_slice())?;
+    assert_eq!(rt; entries.as_slice(), wanted.entries);
+    assert_eq!(rt; recording.ending, wanted.ending);
+    assert!(rt; are_printed(recording.outputs.as_slice()));
+    Ok(order)
+}
+
+#[test]
+fn runs_are_recorded(rt: HostRuntime) -> Result<(), Fail> {
+    use Short::*;
+    use Step::*;
+    let trapped = Halt::Trapped {
+        rank: 0,
+        fault: Fault::BadRank,
+    };
+    let mismatched = Halt::Mismatched { rank: 1 };
+    // What the ranks do, the plan, the turns, the order of the events, the entries, and how the run ends.
+    let rows: [(&[Step], &[Step], &[u8], &[u8], &[u8], &[Short], Ending); 9] = [
+        // One message inside a group. Rank 1's second turn makes no event.
+        (
+            &[Send(1, 5)],
+            &[Post(5), Take(0)],
+            b"0 1\n",
+            &[1, 1],
+            &[1, 0, 1, 0, 1],
+            &[Sent, Ended, Posted, Inside(0, 0), Ended],
+            Ending::Finished,
+        ),
+        // The same message between two groups, without turns.
+        (
+            &[Send(1, 5)],
+            &[Post(5), Take(0)],
+            b"0\n1\n",
+            &[],
+            &[0, 1, 0, 1, 1],
+            &[Sent, Ended, Posted, Outside(0, 0, 5, 7), Ended],
+            Ending::Finished,
+        ),
+        // Both receive before anything is sent.
+        (
+            &[Post(5), Take(0)],
+            &[Post(5), Take(0)],
+            b"0 1\n",
+            &[],
+            &[0, 1, 1, 0],
+            &[Posted, Stopped(Halt::Stuck), Posted, Stopped(Halt::Stuck)],
+            Ending::Halted(Halt::Stuck),
+        ),
+        // Tags are received against their order.
+        (
+            &[Send(1, 1), Send(1, 2)],
+            &[Post(2), Take(0), Post(1), Take(1)],
+            b"0 1\n",
+            &[],
+            &[0, 1, 0, 1, 0, 1, 1, 1],
+            &[
+                Sent,
+                Sent,
+                Ended,
+                Posted,
+                Inside(0, 1),
+                Posted,
+                Inside(0, 0),
+                Ended,
+            ],
+            Ending::Finished,
+        ),
+        // A message to oneself.
+        (
+            &[Send(0, 5), Post(5), Take(1)],
+            &[],
+            b"0\n",
+            &[],
+            &[0, 0, 0, 0],
+            &[Sent, Posted, Inside(0, 0), Ended],
+            Ending::Finished,
+        ),
+        // A send to a rank that is not there.
+        (
+            &[Send(2, 5)],
+            &[Post(5), Take(0)],
+            b"0 1\n",
+            &[],
+            &[0, 1],
+            &[Stopped(trapped), Stopped(trapped)],
+            Ending::Halted(trapped),
+        ),
+        // A barrier inside a group, then a copy of the world.
+        (
+            &[Enter(Kind::Barrier), Take(0), Enter(Kind::Dup), Take(1)],
+            &[Enter(Kind::Barrier), Take(0), Enter(Kind::Dup), Take(1)],
+            b"0 1\n",
+            &[1],
+            &[1, 0, 1, 0, 1, 0, 1, 0, 1, 0],
+            &[
+                Entered,
+                Inner,
+                Entered,
+                Made(1),
+                Ended,
+                Entered,
+                Inner,
+                Entered,
+                Made(1),
+                Ended,
+            ],
+            Ending::Finished,
+        ),
+        // A barrier across groups.
+        (
+            &[Enter(Kind::Barrier), Take(0)],
+            &[Enter(Kind::Barrier), Take(0)],
+            b"0\n1\n",
+            &[],
+            &[0, 1, 0, 1, 0, 1],
+            &[Entered, Outer, Ended, Entered, Outer, Ended],
+            Ending::Finished,
+        ),
+        // Two collectives that do not agree.
+        (
+            &[Enter(Kind::Barrier), Take(0)],
+            &[Enter(Kind::Dup), Take(0)],
+            b"0 1\n",
+            &[],
+            &[0, 1, 0],
+            &[Entered, Stopped(mismatched), Stopped(mismatched)],
+            Ending::Halted(mismatched),
+        ),
+    ];
+    for at in 0..rows.len() {
+        let (zeroth, others, plan, turns, order, entries, ending) = rows[at];
+        let script = script_of(rt.alloc(), zeroth, others)?;
+        let plan = read_plan(rt.alloc(), plan).expect(&rt, "a plan");
+        let wanted = Wanted {
+            order,
+            entries,
+            ending,
+        };
+        let recording = record(rt.alloc(), &script, &plan, turns)?;
+        let made = check(&rt, &recording, wanted)?;
+        if turns.is_empty() {
+            check(&rt, &finish(rt.alloc(), &script, &plan)?, wanted)?;
+        }
+        // The written order makes the same run again, where no rank was stuck.
+        if ending != Ending::Halted(Halt::Stuck) {
+            let again = record(rt.alloc(), &script, &plan, made.as_slice())?;
+            check(&rt, &again, wanted)?;
+        }
+    }
+    Ok(())
+}
