@@ -14,15 +14,15 @@ pub returns-in_ok-write_log_file-in-len1-up-clause-ok : goal.returns-in_ok-write
 returns-in_ok-write_log_file-in-len1-up-clause-ok g n c =
     on_ok c.write_logs.result _ _
     (λ second. logs_written c.args.prefix.now c.args.group c.args.logs.now c.log-item.result
-        (g.S.Store.files c.args.store.now) (g.S.Store.files c.write_log_file.new.store) (g.S.Store.files c.write_logs.new.store)
-        c.in-len1-up.len_at_least c.log-item.is c.in_ok-write_log_file-in-len1-up.ensures.ok second)
+    (g.S.Store.files c.args.store.now) (g.S.Store.files c.write_log_file.new.store) (g.S.Store.files c.write_logs.new.store)
+    c.in-len1-up.len_at_least c.log-item.is c.in_ok-write_log_file-in-len1-up.ensures.ok second)
     c.write_logs.ensures.ok
 
 pub returns-in_ok-write_log_file-in-len1-up-clause-stopped : goal.returns-in_ok-write_log_file-in-len1-up-clause-stopped
 returns-in_ok-write_log_file-in-len1-up-clause-stopped g n c =
     if_err c.write_logs.result _ _
     (λ why stopped. logs_stopped c.args.prefix.now c.args.group c.args.logs.now c.log-item.result
-        (g.S.Store.files c.args.store.now) (g.S.Store.files c.write_log_file.new.store) (g.S.Store.files c.write_logs.new.store)
-        (g.S.Store.write_faults c.args.store.now) (g.S.Store.write_faults c.write_log_file.new.store) (g.S.Store.write_faults c.write_logs.new.store) why
-        c.in-len1-up.len_at_least c.log-item.is c.in_ok-write_log_file-in-len1-up.ensures.ok stopped c.in_ok-write_log_file-in-len1-up.ensures.later)
+    (g.S.Store.files c.args.store.now) (g.S.Store.files c.write_log_file.new.store) (g.S.Store.files c.write_logs.new.store)
+    (g.S.Store.write_faults c.args.store.now) (g.S.Store.write_faults c.write_log_file.new.store) (g.S.Store.write_faults c.write_logs.new.store) why
+    c.in-len1-up.len_at_least c.log-item.is c.in_ok-write_log_file-in-len1-up.ensures.ok stopped c.in_ok-write_log_file-in-len1-up.ensures.later)
     c.write_logs.ensures.stopped

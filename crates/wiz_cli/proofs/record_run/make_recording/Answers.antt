@@ -1,4 +1,3 @@
-use Rattle.wiz_cli.proofs.CallLemmas.{no_enters}
 use Rattle.wiz_cli.proofs.InputLemmas.{HasLists-logs, turns_below}
 use Rattle.wiz_cli.proofs.RecordLemmas.{if_ok}
 use Rattle.wiz_cli.proofs.record_run.make_recording.Goals as goal
@@ -6,9 +5,6 @@ use Rattle.wiz_cli.proofs.record_run.make_recording.Goals as goal
 pub record_serial-requires-clause-turns : goal.record_serial-requires-clause-turns
 record_serial-requires-clause-turns c =
     rw c.as_slice-2.ensures (turns_below _ c.args.inputs.now.order c.args.prepared.now.turns c.requires.are_turns)
-
-pub record_serial-requires-clause-built : goal.record_serial-requires-clause-built
-record_serial-requires-clause-built c = no_enters c.args.prepared.now.program
 
 pub returns-clause-lists : goal.returns-clause-lists
 returns-clause-lists c =

@@ -9,8 +9,8 @@ returns-in-Err-Refused-clause-report g c =
     let by = rw c.in-Err-Refused.field-0-is at c.in-Err-Refused.ensures.refused in
     if_ok c.tell_refusal.result _ _
     (λ report told reads.
-        IsRecordReport-refused (names_of c.args.names.now) (outside (g.S.Store.files c.args.store.now) reads (g.S.Store.write_faults c.args.store.now) (g.K.Sink.written c.args.out.now) (g.K.Sink.faults c.args.out.now)) (outside (g.S.Store.files c.args.store.now) (g.S.Store.read_faults c.args.store.now) (g.S.Store.write_faults c.args.store.now) (g.K.Sink.written c.tell_refusal.new.out) (g.K.Sink.faults c.tell_refusal.new.out))
-        report.status report.run report.replayed c.in-Err-Refused.refusal refl refl (inr (c.args.inputs.now, c.requires.inputs, by)) told)
+    IsRecordReport-refused (names_of c.args.names.now) (outside (g.S.Store.files c.args.store.now) reads (g.S.Store.write_faults c.args.store.now) (g.K.Sink.written c.args.out.now) (g.K.Sink.faults c.args.out.now)) (outside (g.S.Store.files c.args.store.now) (g.S.Store.read_faults c.args.store.now) (g.S.Store.write_faults c.args.store.now) (g.K.Sink.written c.tell_refusal.new.out) (g.K.Sink.faults c.tell_refusal.new.out))
+    report.status report.run report.replayed c.in-Err-Refused.refusal refl refl (inr (c.args.inputs.now, c.requires.inputs, by)) told)
     c.tell_refusal.ensures.told
 
 pub returns-in-Err-Refused-clause-short : goal.returns-in-Err-Refused-clause-short
@@ -18,6 +18,6 @@ returns-in-Err-Refused-clause-short g c =
     let by = rw c.in-Err-Refused.field-0-is at c.in-Err-Refused.ensures.refused in
     on_err c.tell_refusal.result _ _
     (λ short reads.
-        IsCutRecord-refused (names_of c.args.names.now) (outside (g.S.Store.files c.args.store.now) reads (g.S.Store.write_faults c.args.store.now) (g.K.Sink.written c.args.out.now) (g.K.Sink.faults c.args.out.now)) (outside (g.S.Store.files c.args.store.now) (g.S.Store.read_faults c.args.store.now) (g.S.Store.write_faults c.args.store.now) (g.K.Sink.written c.tell_refusal.new.out) (g.K.Sink.faults c.tell_refusal.new.out))
-        c.in-Err-Refused.refusal refl refl (inr (c.args.inputs.now, c.requires.inputs, by)) short)
+    IsCutRecord-refused (names_of c.args.names.now) (outside (g.S.Store.files c.args.store.now) reads (g.S.Store.write_faults c.args.store.now) (g.K.Sink.written c.args.out.now) (g.K.Sink.faults c.args.out.now)) (outside (g.S.Store.files c.args.store.now) (g.S.Store.read_faults c.args.store.now) (g.S.Store.write_faults c.args.store.now) (g.K.Sink.written c.tell_refusal.new.out) (g.K.Sink.faults c.tell_refusal.new.out))
+    c.in-Err-Refused.refusal refl refl (inr (c.args.inputs.now, c.requires.inputs, by)) short)
     c.tell_refusal.ensures.short
