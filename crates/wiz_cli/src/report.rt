@@ -5,11 +5,11 @@ use srr_replay::replayed::Replays;
 /// The outcome of a command.
 #[derive(Drop)]
 pub struct Report {
-    /// The exit status: 0 done, 1 words, 2 no such file, 3 read fault, 4 write fault, 5 program refused, 8 log refused,
-    /// 9 diverged, 10 starved, 11 want of memory, 12 too long.
+    /// The exit status: 0 done, 1 words, 2 no such file, 3 read fault, 4 write fault, 5 program refused, 6 plan or order
+    /// refused, 7 halted, 8 log refused, 9 diverged, 10 starved, 11 want of memory, 12 too long.
     pub status: u8,
-    /// The run that was recorded; none yet.
+    /// The run that was recorded; of a recording whose status is 0, 4 or 7.
     pub run: Option<History>,
-    /// The replays that were made; one where the status is 0, 4, 9 or 10.
+    /// The replays that were made; of a replay one where the status is 0, 4, 9 or 10.
     pub replayed: Replays,
 }
