@@ -1,0 +1,1 @@
+int main(void){int r,x=1;MPI_Comm_rank(MPI_COMM_WORLD,&r);if(r==0){MPI_Send(&x,1,MPI_INT,1,1,MPI_COMM_WORLD);x=2;MPI_Send(&x,1,MPI_INT,1,2,MPI_COMM_WORLD);}if(r==1){MPI_Recv(&x,1,MPI_INT,0,2,MPI_COMM_WORLD,MPI_STATUS_IGNORE);printf("%d\n",x);MPI_Recv(&x,1,MPI_INT,0,1,MPI_COMM_WORLD,MPI_STATUS_IGNORE);printf("%d\n",x);}return 0;}
