@@ -18,13 +18,16 @@ use std::test::Fail;
 use wiz_base::bytes::Bytes;
 
 /// What a rank does: it sends the int 7 to a rank with a tag, receives one int with a tag from any rank, enters a barrier or
-/// another collective without ints, or completes a start.
+/// another collective without ints, completes a start or one of two, tests one, or probes for a tag.
 #[derive(Clone, Copy)]
 enum Step {
     Send(u8, u32),
     Post(u32),
     Enter(Kind),
     Take(u32),
+    Test(u32),
+    WaitAny(u32, u32),
+    Probe(u32),
 }
 
 fn call_of(alloc: Global, step: Step) -> Result<Call, AllocError> {
@@ -53,6 +56,20 @@ fn call_of(alloc: Global, step: Step) -> Result<Call, AllocError> {
             starts: Starts::from_slice(alloc, &[start])?,
             mode: TakeMode::All,
         }),
+        Step::Test(start) => Ok(Call::Take {
+            starts: Starts::from_slice(alloc, &[start])?,
+            mode: TakeMode::TestAll,
+        }),
+        Step::WaitAny(one, other) => Ok(Call::Take {
+            starts: Starts::from_slice(alloc, &[one, other])?,
+            mode: TakeMode::Any,
+        }),
+        Step::Probe(tag) => Ok(Call::Peek {
+            comm: 0,
+            source: Source::Any,
+            tag: Tag::Is(tag),
+            wait: true,
+        }),
     }
 }
 
@@ -79,6 +96,10 @@ enum Short {
     Entered,
     Ended,
     Inside(u8, u32),
+    /// The same of the second start of two.
+    Second(u8, u32),
+    NotYet,
+    Found(u8, u32),
     Outside(u8, u32, u32, i32),
     Inner,
     Outer,
@@ -93,6 +114,8 @@ fn in_short(entry: &Entry) -> Short {
         Entry::Posted => Short::Posted,
         Entry::Entered => Short::Entered,
         Entry::Ended => Short::Ended,
+        Entry::NotYet => Short::NotYet,
+        Entry::PeekedInside { source, start } => Short::Found(*source, *start),
         Entry::Stopped(halt) => Short::Stopped(*halt),
         Entry::Took(items) => match items.as_slice() {
             [marked] => mark_in_short(marked),
@@ -104,7 +127,10 @@ fn in_short(entry: &Entry) -> Short {
 
 fn mark_in_short(marked: &Marked) -> Short {
     match &marked.mark {
-        Mark::Inside { source, start } => Short::Inside(*source, *start),
+        Mark::Inside { source, start } => match marked.index {
+            0 => Short::Inside(*source, *start),
+            _ => Short::Second(*source, *start),
+        },
         Mark::Inner => Short::Inner,
         Mark::Outer { .. } => Short::Outer,
         Mark::Made { comm } => Short::Made(*comm),
@@ -218,7 +244,7 @@ fn runs_are_recorded(rt: HostRuntime) -> Result<(), Fail> {
     };
     let mismatched = Halt::Mismatched { rank: 1 };
     // What the ranks do, the plan, the turns, the order of the events, the entries, and how the run ends.
-    let rows: [(&[Step], &[Step], &[u8], &[u8], &[u8], &[Short], Ending); 9] = [
+    let rows: [(&[Step], &[Step], &[u8], &[u8], &[u8], &[Short], Ending); 14] = [
         // One message inside a group. Rank 1's second turn makes no event.
         (
             &[Send(1, 5)],
@@ -328,6 +354,76 @@ fn runs_are_recorded(rt: HostRuntime) -> Result<(), Fail> {
             &[0, 1, 0],
             &[Entered, Stopped(mismatched), Stopped(mismatched)],
             Ending::Halted(mismatched),
+        ),
+        // Two wildcard receives of two senders: the later rank sends first.
+        (
+            &[Post(9), Take(0), Post(9), Take(1)],
+            &[Send(0, 9)],
+            b"0-2\n",
+            &[2],
+            &[2, 0, 1, 2, 0, 1, 0, 0, 0],
+            &[
+                Posted,
+                Inside(2, 0),
+                Posted,
+                Inside(1, 0),
+                Ended,
+                Sent,
+                Ended,
+                Sent,
+                Ended,
+            ],
+            Ending::Finished,
+        ),
+        // The same in the other order.
+        (
+            &[Post(9), Take(0), Post(9), Take(1)],
+            &[Send(0, 9)],
+            b"0-2\n",
+            &[1],
+            &[1, 0, 1, 2, 0, 2, 0, 0, 0],
+            &[
+                Posted,
+                Inside(1, 0),
+                Posted,
+                Inside(2, 0),
+                Ended,
+                Sent,
+                Ended,
+                Sent,
+                Ended,
+            ],
+            Ending::Finished,
+        ),
+        // Tests until the message is there.
+        (
+            &[Post(5), Test(0), Test(0), Test(0)],
+            &[Send(0, 5)],
+            b"0 1\n",
+            &[0, 0],
+            &[0, 0, 0, 1, 0, 1, 0],
+            &[Posted, NotYet, NotYet, Inside(1, 0), Ended, Sent, Ended],
+            Ending::Finished,
+        ),
+        // The second of two receives is complete.
+        (
+            &[Post(1), Post(2), WaitAny(0, 1)],
+            &[Send(0, 2)],
+            b"0 1\n",
+            &[],
+            &[0, 1, 0, 1, 0, 0],
+            &[Posted, Posted, Second(1, 0), Ended, Sent, Ended],
+            Ending::Finished,
+        ),
+        // A probe waits for the message and leaves it.
+        (
+            &[Probe(5), Post(5), Take(0)],
+            &[Send(0, 5)],
+            b"0 1\n",
+            &[],
+            &[1, 0, 1, 0, 0, 0],
+            &[Found(1, 0), Posted, Inside(1, 0), Ended, Sent, Ended],
+            Ending::Finished,
         ),
     ];
     for at in 0..rows.len() {
