@@ -3,16 +3,8 @@ ghost use Rattle.std.specs.Prelude.{◌≡◌};
 ghost use Rattle.c_check.specs.Kinds.{kind_of_word};
 
 use c_grammar::word::Word;
+use c_names::kind::Kind;
 use c_names::predefined::Predefined;
-
-/// What a variable holds.
-#[derive(Clone, Copy)]
-pub enum Kind {
-    Int,
-    Status,
-    Request,
-    Communicator,
-}
 
 /// What a program declares.
 #[derive(Clone, Copy)]

@@ -1,9 +1,9 @@
 //! Typed statements.
 
-use c_calls::expr::{Call, Expr, Place, Right};
-use c_calls::mpi::MpiCall;
-use c_check::thing::Kind;
+use crate::expr::{Call, Expr, Place, Right};
+use crate::mpi::MpiCall;
 use c_names::format::Piece;
+use c_names::kind::Kind;
 use c_names::operator::Operator;
 use wiz_base::Bytes;
 
