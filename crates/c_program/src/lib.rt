@@ -1,9 +1,12 @@
-//! The typed program of a C text.
+//! The typed program of a C text, and what it means: the calls that a rank makes, by the replies that it gets.
 #![tactic(auto)]
 
+pub mod effect;
 pub mod expr;
 pub mod mpi;
 pub mod program;
+pub mod range;
+pub mod state;
 pub mod statement;
 
 pub use program::CProgram;

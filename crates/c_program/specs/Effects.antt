@@ -1,0 +1,403 @@
+-- What the call of an MPI function does: its arguments are evaluated from left to right, and then checked. The checks come
+-- in this order: communicators, counts and colours, ranks, tags, elements; of one kind from left to right.
+-- (MPI 3.1, Point-to-Point Communication; Collective Communication; Groups, Contexts, and Communicators.)
+use Rattle.std.specs.Prelude.{◌+◌, ◌*◌, ◌==◌, ℕ, ℤ, pos, negsuc, Bool, true, false, List, Option, Some, None, Result, Ok, Err, if◌then◌else◌, nat_le, length, slice_get}
+use Rattle.std.specs.List.{list_any, position}
+use Rattle.std.specs.Option.{option_to_list}
+use Rattle.std.specs.Ordering.{int_eq}
+use Rattle.mpi_call.specs.declared.call.Fault.{Fault}
+use Rattle.mpi_call.specs.declared.call.Fault.TheVariants.{OutOfBounds, BadRank, BadTag, BadCount, BadComm}
+use Rattle.mpi_call.specs.declared.call.Kind.{Kind}
+use Rattle.mpi_call.specs.declared.call.Kind.TheVariants.{Barrier, Bcast, Reduce, Allreduce, Gather, Allgather, Scatter, Alltoall, Scan, Split, Dup}
+use Rattle.mpi_call.specs.declared.call.Op.{Op}
+use Rattle.mpi_call.specs.declared.call.Source.{Source}
+use Rattle.mpi_call.specs.declared.call.Source.TheVariants.{Any as AnySource, From as FromRank, Null}
+use Rattle.mpi_call.specs.declared.call.Tag.{Tag}
+use Rattle.mpi_call.specs.declared.call.Tag.TheVariants.{Any as AnyTag, Is}
+use Rattle.mpi_call.specs.declared.call.TakeMode.{TakeMode}
+use Rattle.mpi_call.specs.declared.call.TakeMode.TheVariants.{All, Any as AnyOne, Several, TestAll, TestAny, TestSeveral}
+use Rattle.c_program.specs.declared.effect.Answer.{Answer}
+use Rattle.c_program.specs.declared.effect.Effect.{Effect}
+use Rattle.c_program.specs.declared.effect.Effect.TheVariants.{Nothing, Sets, Starts, Receives, Completes, Probes, Joins, Aborts}
+use Rattle.c_program.specs.declared.effect.Entered.{Entered}
+use Rattle.c_program.specs.declared.effect.Entered.TheVariants.{Nothing as EntersNothing, Cells as EntersCells, Pair}
+use Rattle.c_program.specs.declared.effect.Into.{Into}
+use Rattle.c_program.specs.declared.effect.Into.TheVariants.{Nowhere, Cells as IntoCells, Handle}
+use Rattle.c_program.specs.declared.effect.Message.{Message}
+use Rattle.c_program.specs.declared.effect.Rank.{Rank}
+use Rattle.c_program.specs.declared.effect.Receive.{Receive}
+use Rattle.c_program.specs.declared.effect.Start.TheVariants.{Send as StartSend, Receive as StartReceive}
+use Rattle.c_program.specs.declared.expr.Reference.{Reference}
+use Rattle.c_program.specs.declared.mpi.MpiCall.{MpiCall}
+use Rattle.c_program.specs.declared.mpi.MpiCall.TheVariants as c
+use Rattle.c_program.specs.Cells.{Cells}
+use Rattle.c_program.specs.State.{State, any_source, cell_at, members_of, no_cells, null, undefined}
+use Rattle.c_program.specs.Values.{given, or_fault, range, value}
+
+-- ---- checks
+
+-- a communicator's number and members; the null handle has none, nor has any other that was not made
+pub record Comm : Type 0 where
+  pub number : ℕ
+  pub members : List ℕ
+
+abbrev pub communicator : Rank → State → ℤ → Result Comm Fault
+communicator rank s (negsuc c) = Err BadComm
+communicator rank s (pos c) =
+    given (or_fault BadComm (members_of rank.ranks s c)) (λ members. Ok (record { number = c; members = members }))
+
+abbrev pub count_of : ℤ → Result ℕ Fault
+count_of (negsuc n) = Err BadCount
+count_of (pos n) = if nat_le n 65536 then Ok n else Err BadCount
+
+-- how many handles; their elements alone bound it
+abbrev pub handles_of : ℤ → Result ℕ Fault
+handles_of (negsuc n) = Err BadCount
+handles_of (pos n) = Ok n
+
+-- a second count that has to be the first one
+abbrev pub same_count : ℕ → ℤ → Result ℕ Fault
+same_count n other = given (count_of other) (λ m. if n == m then Ok n else Err BadCount)
+
+-- a colour is from 0 on, or `MPI_UNDEFINED`
+abbrev pub colour : ℤ → Result ℤ Fault
+colour (pos n) = Ok (pos n)
+colour (negsuc n) = if int_eq (negsuc n) undefined then Ok (negsuc n) else Err BadCount
+
+-- a member's rank in the world, by its rank in the communicator
+abbrev pub member : Comm → ℤ → Result ℕ Fault
+member comm (negsuc r) = Err BadRank
+member comm (pos r) = or_fault BadRank (slice_get comm.members r)
+
+-- the same, or nothing for `MPI_PROC_NULL`
+abbrev pub some : Result ℕ Fault → Result (Option ℕ) Fault
+some found = given found (λ rank. Ok (Some rank))
+
+abbrev pub destination : Comm → ℤ → Result (Option ℕ) Fault
+destination comm r = if int_eq r null then Ok None else some (member comm r)
+
+abbrev pub source_of : Comm → ℤ → Result Source Fault
+source_of comm r =
+    if int_eq r null then Ok Null
+    else (if int_eq r any_source then Ok AnySource
+    else given (member comm r) (λ rank. Ok (FromRank rank)))
+
+abbrev pub tag_of : ℤ → Result ℕ Fault
+tag_of (negsuc t) = Err BadTag
+tag_of (pos t) = if nat_le t 2147483647 then Ok t else Err BadTag
+
+abbrev pub wanted_tag : ℤ → Result Tag Fault
+wanted_tag t = if int_eq t null then Ok AnyTag else given (tag_of t) (λ t. Ok (Is t))
+
+-- the first elements of a range, which has to have so many
+abbrev pub first : ℕ → Cells → Result Cells Fault
+first n cells = if nat_le n cells.length then Ok (record cells { length = n }) else Err OutOfBounds
+
+-- the cell of a single answer
+abbrev pub cell : Cells → Result ℕ Fault
+cell cells = given (first 1 cells) (λ one. Ok one.from)
+
+abbrev pub optional : {A B : Type 0} → (A → Result B Fault) → Option A → Result (Option B) Fault
+optional one None = Ok None
+optional one (Some x) = given (one x) (λ y. Ok (Some y))
+
+abbrev pub status : Option Reference → State → Result (Option Cells) Fault
+status given_status s = optional (λ reference. range reference s) given_status
+
+-- a rank of the world as one of the communicator; `MPI_UNDEFINED` where it is no member
+abbrev pub rank_or_undefined : Option ℕ → ℤ
+rank_or_undefined None = undefined
+rank_or_undefined (Some r) = pos r
+
+abbrev pub rank_in : List ℕ → ℕ → ℤ
+rank_in members world_rank = rank_or_undefined (position (λ member. member == world_rank) members)
+
+abbrev pub is_me : Rank → ℕ → Bool
+is_me rank root = root == rank.number
+
+-- the same of a root that isn't checked yet
+abbrev pub is_root : Rank → Comm → ℤ → Bool
+is_root rank comm (negsuc r) = false
+is_root rank comm (pos r) = list_any (is_me rank) (option_to_list (slice_get comm.members r))
+
+-- the count of a status, 0 where it was ignored
+abbrev pub count_in : Option ℕ → State → ℤ
+count_in None s = pos 0
+count_in (Some at) s = cell_at s (at + 2)
+
+-- ---- sends and receives
+
+abbrev pub message : Comm → ℕ → ℕ → Cells → Message
+message comm dest tag ints = record { comm = comm.number; dest = dest; tag = tag; ints = ints }
+
+abbrev pub receive : Comm → Source → Tag → Cells → Receive
+receive comm source tag buffer = record { comm = comm.number; source = source; tag = tag; buffer = buffer }
+
+-- `MPI_Send`: none is made to `MPI_PROC_NULL`
+abbrev pub sends : Comm → Option ℕ → ℕ → Cells → Effect
+sends comm None tag ints = Nothing
+sends comm (Some dest) tag ints = Starts (StartSend (message comm dest tag ints)) None
+
+-- `MPI_Isend`: to `MPI_PROC_NULL` it starts what is complete at once
+abbrev pub sends_from : Comm → Option ℕ → ℕ → Cells → ℕ → Effect
+sends_from comm None tag ints request = Starts (StartReceive (receive comm Null (Is tag) no_cells)) (Some request)
+sends_from comm (Some dest) tag ints request = Starts (StartSend (message comm dest tag ints)) (Some request)
+
+abbrev pub send_after : Comm → Option ℕ → ℕ → Cells → Option Message
+send_after comm None tag ints = None
+send_after comm (Some dest) tag ints = Some (message comm dest tag ints)
+
+-- ---- completion
+
+abbrev pub answers : Answer
+answers = record { flag = None; index = None; outcount = None; indices = None; statuses = None }
+
+abbrev pub completes : Cells → TakeMode → Answer → Result Effect Fault
+completes requests mode answer = Ok (Completes requests mode answer)
+
+-- ---- collectives
+
+-- all that matters of a collective but where its ints come from and go to
+abbrev pub joins : Comm → Kind → Option ℕ → Option Op → ℕ → Entered → Into → Result Effect Fault
+joins comm kind root op count entered into =
+    Ok (Joins (record { comm = comm.number; kind = kind; root = root; op = op; count = count; entered = entered; into = into }))
+
+-- what only the root enters, or gets
+abbrev pub at_root : {A : Type 0} → Bool → A → Result A Fault → Result A Fault
+at_root true other rooted = rooted
+at_root false other rooted = Ok other
+
+abbrev pub enters : ℕ → Cells → Result Entered Fault
+enters n cells = given (first n cells) (λ ints. Ok (EntersCells ints))
+
+abbrev pub gets : ℕ → Cells → Result Into Fault
+gets n cells = given (first n cells) (λ ints. Ok (IntoCells ints))
+
+-- how many pieces of the members
+abbrev pub pieces : Comm → ℕ → ℕ
+pieces comm count = length comm.members * count
+
+-- ---- the functions
+
+abbrev pub effect_of : Rank → MpiCall → State → Result Effect Fault
+effect_of rank c.Init s = Ok Nothing
+effect_of rank c.Finalize s = Ok Nothing
+effect_of rank (c.CommRank comm into) s =
+    given (value comm s) (λ comm. given (range into s) (λ into.
+    given (communicator rank s comm) (λ comm.
+    given (cell into) (λ into.
+    Ok (Sets into (rank_in comm.members rank.number))))))
+effect_of rank (c.CommSize comm into) s =
+    given (value comm s) (λ comm. given (range into s) (λ into.
+    given (communicator rank s comm) (λ comm.
+    given (cell into) (λ into.
+    Ok (Sets into (pos (length comm.members)))))))
+effect_of rank (c.GetCount kept into) s =
+    given (status kept s) (λ kept. given (range into s) (λ into.
+    given (optional cell kept) (λ kept.
+    given (cell into) (λ into.
+    Ok (Sets into (count_in kept s))))))
+effect_of rank (c.CommFree into) s =
+    given (range into s) (λ into.
+    given (cell into) (λ into.
+    Ok (Sets into null)))
+effect_of rank (c.Send buffer dest tag comm) s =
+    given (range buffer.cells s) (λ buffer_cells. given (value buffer.count s) (λ buffer_count. given (value dest s) (λ dest. given (value tag s) (λ tag. given (value comm s) (λ comm.
+    given (communicator rank s comm) (λ comm.
+    given (count_of buffer_count) (λ buffer_count.
+    given (destination comm dest) (λ dest.
+    given (tag_of tag) (λ tag.
+    given (first buffer_count buffer_cells) (λ buffer_cells.
+    Ok (sends comm dest tag buffer_cells)))))))))))
+effect_of rank (c.Recv buffer source tag comm kept) s =
+    given (range buffer.cells s) (λ buffer_cells. given (value buffer.count s) (λ buffer_count. given (value source s) (λ source. given (value tag s) (λ tag. given (value comm s) (λ comm. given (status kept s) (λ kept.
+    given (communicator rank s comm) (λ comm.
+    given (count_of buffer_count) (λ buffer_count.
+    given (source_of comm source) (λ source.
+    given (wanted_tag tag) (λ tag.
+    given (first buffer_count buffer_cells) (λ buffer_cells.
+    given (optional cell kept) (λ kept.
+    Ok (Receives (receive comm source tag buffer_cells) None kept)))))))))))))
+effect_of rank (c.Sendrecv out dest send_tag buffer source tag comm kept) s =
+    given (range out.cells s) (λ out_cells. given (value out.count s) (λ out_count. given (value dest s) (λ dest. given (value send_tag s) (λ send_tag. given (range buffer.cells s) (λ buffer_cells. given (value buffer.count s) (λ buffer_count. given (value source s) (λ source. given (value tag s) (λ tag. given (value comm s) (λ comm. given (status kept s) (λ kept.
+    given (communicator rank s comm) (λ comm.
+    given (count_of out_count) (λ out_count.
+    given (count_of buffer_count) (λ buffer_count.
+    given (destination comm dest) (λ dest.
+    given (source_of comm source) (λ source.
+    given (tag_of send_tag) (λ send_tag.
+    given (wanted_tag tag) (λ tag.
+    given (first out_count out_cells) (λ out_cells.
+    given (first buffer_count buffer_cells) (λ buffer_cells.
+    given (optional cell kept) (λ kept.
+    Ok (Receives (receive comm source tag buffer_cells) (send_after comm dest send_tag out_cells) kept)))))))))))))))))))))
+effect_of rank (c.Isend buffer dest tag comm request) s =
+    given (range buffer.cells s) (λ buffer_cells. given (value buffer.count s) (λ buffer_count. given (value dest s) (λ dest. given (value tag s) (λ tag. given (value comm s) (λ comm. given (range request s) (λ request.
+    given (communicator rank s comm) (λ comm.
+    given (count_of buffer_count) (λ buffer_count.
+    given (destination comm dest) (λ dest.
+    given (tag_of tag) (λ tag.
+    given (first buffer_count buffer_cells) (λ buffer_cells.
+    given (cell request) (λ request.
+    Ok (sends_from comm dest tag buffer_cells request)))))))))))))
+effect_of rank (c.Irecv buffer source tag comm request) s =
+    given (range buffer.cells s) (λ buffer_cells. given (value buffer.count s) (λ buffer_count. given (value source s) (λ source. given (value tag s) (λ tag. given (value comm s) (λ comm. given (range request s) (λ request.
+    given (communicator rank s comm) (λ comm.
+    given (count_of buffer_count) (λ buffer_count.
+    given (source_of comm source) (λ source.
+    given (wanted_tag tag) (λ tag.
+    given (first buffer_count buffer_cells) (λ buffer_cells.
+    given (cell request) (λ request.
+    Ok (Starts (StartReceive (receive comm source tag buffer_cells)) (Some request))))))))))))))
+effect_of rank (c.Wait requests kept) s =
+    given (range requests s) (λ requests. given (status kept s) (λ kept.
+    given (first 1 requests) (λ requests.
+    given (optional (first 1) kept) (λ kept.
+    completes requests All (record answers { statuses = kept })))))
+effect_of rank (c.Waitall count requests kept) s =
+    given (value count s) (λ count. given (range requests s) (λ requests. given (status kept s) (λ kept.
+    given (handles_of count) (λ count.
+    given (first count requests) (λ requests.
+    given (optional (first count) kept) (λ kept.
+    completes requests All (record answers { statuses = kept })))))))
+effect_of rank (c.Waitany count requests index kept) s =
+    given (value count s) (λ count. given (range requests s) (λ requests. given (range index s) (λ index. given (status kept s) (λ kept.
+    given (handles_of count) (λ count.
+    given (first count requests) (λ requests.
+    given (cell index) (λ index.
+    given (optional (first 1) kept) (λ kept.
+    completes requests AnyOne (record answers { index = Some index; statuses = kept })))))))))
+effect_of rank (c.Waitsome count requests outcount indices kept) s =
+    given (value count s) (λ count. given (range requests s) (λ requests. given (range outcount s) (λ outcount. given (range indices s) (λ indices. given (status kept s) (λ kept.
+    given (handles_of count) (λ count.
+    given (first count requests) (λ requests.
+    given (cell outcount) (λ outcount.
+    given (first count indices) (λ indices.
+    given (optional (first count) kept) (λ kept.
+    completes requests Several (record answers { outcount = Some outcount; indices = Some indices; statuses = kept })))))))))))
+effect_of rank (c.Test requests flag kept) s =
+    given (range requests s) (λ requests. given (range flag s) (λ flag. given (status kept s) (λ kept.
+    given (first 1 requests) (λ requests.
+    given (cell flag) (λ flag.
+    given (optional (first 1) kept) (λ kept.
+    completes requests TestAll (record answers { flag = Some flag; statuses = kept })))))))
+effect_of rank (c.Testall count requests flag kept) s =
+    given (value count s) (λ count. given (range requests s) (λ requests. given (range flag s) (λ flag. given (status kept s) (λ kept.
+    given (handles_of count) (λ count.
+    given (first count requests) (λ requests.
+    given (cell flag) (λ flag.
+    given (optional (first count) kept) (λ kept.
+    completes requests TestAll (record answers { flag = Some flag; statuses = kept })))))))))
+effect_of rank (c.Testany count requests index flag kept) s =
+    given (value count s) (λ count. given (range requests s) (λ requests. given (range index s) (λ index. given (range flag s) (λ flag. given (status kept s) (λ kept.
+    given (handles_of count) (λ count.
+    given (first count requests) (λ requests.
+    given (cell index) (λ index.
+    given (cell flag) (λ flag.
+    given (optional (first 1) kept) (λ kept.
+    completes requests TestAny (record answers { flag = Some flag; index = Some index; statuses = kept })))))))))))
+effect_of rank (c.Testsome count requests outcount indices kept) s =
+    given (value count s) (λ count. given (range requests s) (λ requests. given (range outcount s) (λ outcount. given (range indices s) (λ indices. given (status kept s) (λ kept.
+    given (handles_of count) (λ count.
+    given (first count requests) (λ requests.
+    given (cell outcount) (λ outcount.
+    given (first count indices) (λ indices.
+    given (optional (first count) kept) (λ kept.
+    completes requests TestSeveral (record answers { outcount = Some outcount; indices = Some indices; statuses = kept })))))))))))
+effect_of rank (c.Probe source tag comm kept) s =
+    given (value source s) (λ source. given (value tag s) (λ tag. given (value comm s) (λ comm. given (status kept s) (λ kept.
+    given (communicator rank s comm) (λ comm.
+    given (source_of comm source) (λ source.
+    given (wanted_tag tag) (λ tag.
+    given (optional cell kept) (λ kept.
+    Ok (Probes comm.number source tag true None kept)))))))))
+effect_of rank (c.Iprobe source tag comm flag kept) s =
+    given (value source s) (λ source. given (value tag s) (λ tag. given (value comm s) (λ comm. given (range flag s) (λ flag. given (status kept s) (λ kept.
+    given (communicator rank s comm) (λ comm.
+    given (source_of comm source) (λ source.
+    given (wanted_tag tag) (λ tag.
+    given (cell flag) (λ flag.
+    given (optional cell kept) (λ kept.
+    Ok (Probes comm.number source tag false (Some flag) kept)))))))))))
+effect_of rank (c.Barrier comm) s =
+    given (value comm s) (λ comm.
+    given (communicator rank s comm) (λ comm.
+    joins comm Barrier None None 0 EntersNothing Nowhere))
+effect_of rank (c.Bcast buffer root comm) s =
+    given (range buffer.cells s) (λ buffer_cells. given (value buffer.count s) (λ buffer_count. given (value root s) (λ root. given (value comm s) (λ comm.
+    given (communicator rank s comm) (λ comm.
+    given (count_of buffer_count) (λ buffer_count.
+    given (member comm root) (λ root.
+    given (first buffer_count buffer_cells) (λ buffer_cells.
+    joins comm Bcast (Some root) None buffer_count (if is_me rank root then EntersCells buffer_cells else EntersNothing) (IntoCells buffer_cells)))))))))
+effect_of rank (c.Reduce out buffer count op root comm) s =
+    given (range out s) (λ out. given (range buffer s) (λ buffer. given (value count s) (λ count. given (value root s) (λ root. given (value comm s) (λ comm.
+    given (communicator rank s comm) (λ comm.
+    given (count_of count) (λ count.
+    given (member comm root) (λ root.
+    given (enters count out) (λ entered.
+    given (at_root (is_me rank root) Nowhere (gets count buffer)) (λ into.
+    joins comm Reduce (Some root) (Some op) count entered into))))))))))
+effect_of rank (c.Allreduce out buffer count op comm) s =
+    given (range out s) (λ out. given (range buffer s) (λ buffer. given (value count s) (λ count. given (value comm s) (λ comm.
+    given (communicator rank s comm) (λ comm.
+    given (count_of count) (λ count.
+    given (enters count out) (λ entered.
+    given (gets count buffer) (λ into.
+    joins comm Allreduce None (Some op) count entered into))))))))
+effect_of rank (c.Scan out buffer count op comm) s =
+    given (range out s) (λ out. given (range buffer s) (λ buffer. given (value count s) (λ count. given (value comm s) (λ comm.
+    given (communicator rank s comm) (λ comm.
+    given (count_of count) (λ count.
+    given (enters count out) (λ entered.
+    given (gets count buffer) (λ into.
+    joins comm Scan None (Some op) count entered into))))))))
+effect_of rank (c.Gather out buffer root comm) s =
+    given (range out.cells s) (λ out_cells. given (value out.count s) (λ out_count. given (range buffer.cells s) (λ buffer_cells. given (value buffer.count s) (λ buffer_count. given (value root s) (λ root. given (value comm s) (λ comm.
+    given (communicator rank s comm) (λ comm.
+    given (count_of out_count) (λ out_count.
+    given (at_root (is_root rank comm root) out_count (same_count out_count buffer_count)) (λ count.
+    given (member comm root) (λ root.
+    given (enters count out_cells) (λ entered.
+    given (at_root (is_me rank root) Nowhere (gets (pieces comm count) buffer_cells)) (λ into.
+    joins comm Gather (Some root) None count entered into))))))))))))
+effect_of rank (c.Scatter out buffer root comm) s =
+    given (range out.cells s) (λ out_cells. given (value out.count s) (λ out_count. given (range buffer.cells s) (λ buffer_cells. given (value buffer.count s) (λ buffer_count. given (value root s) (λ root. given (value comm s) (λ comm.
+    given (communicator rank s comm) (λ comm.
+    given (count_of buffer_count) (λ buffer_count.
+    given (at_root (is_root rank comm root) buffer_count (same_count buffer_count out_count)) (λ count.
+    given (member comm root) (λ root.
+    given (at_root (is_me rank root) EntersNothing (enters (pieces comm count) out_cells)) (λ entered.
+    given (gets count buffer_cells) (λ into.
+    joins comm Scatter (Some root) None count entered into))))))))))))
+effect_of rank (c.Allgather out buffer comm) s =
+    given (range out.cells s) (λ out_cells. given (value out.count s) (λ out_count. given (range buffer.cells s) (λ buffer_cells. given (value buffer.count s) (λ buffer_count. given (value comm s) (λ comm.
+    given (communicator rank s comm) (λ comm.
+    given (count_of out_count) (λ out_count.
+    given (same_count out_count buffer_count) (λ count.
+    given (enters count out_cells) (λ entered.
+    given (gets (pieces comm count) buffer_cells) (λ into.
+    joins comm Allgather None None count entered into))))))))))
+effect_of rank (c.Alltoall out buffer comm) s =
+    given (range out.cells s) (λ out_cells. given (value out.count s) (λ out_count. given (range buffer.cells s) (λ buffer_cells. given (value buffer.count s) (λ buffer_count. given (value comm s) (λ comm.
+    given (communicator rank s comm) (λ comm.
+    given (count_of out_count) (λ out_count.
+    given (same_count out_count buffer_count) (λ count.
+    given (enters (pieces comm count) out_cells) (λ entered.
+    given (gets (pieces comm count) buffer_cells) (λ into.
+    joins comm Alltoall None None count entered into))))))))))
+effect_of rank (c.CommSplit comm color key into) s =
+    given (value comm s) (λ comm. given (value color s) (λ color. given (value key s) (λ key. given (range into s) (λ into.
+    given (communicator rank s comm) (λ comm.
+    given (colour color) (λ color.
+    given (cell into) (λ into.
+    joins comm Split None None 0 (Pair color key) (Handle into))))))))
+effect_of rank (c.CommDup comm into) s =
+    given (value comm s) (λ comm. given (range into s) (λ into.
+    given (communicator rank s comm) (λ comm.
+    given (cell into) (λ into.
+    joins comm Dup None None 0 EntersNothing (Handle into)))))
+effect_of rank (c.Abort comm code) s =
+    given (value comm s) (λ comm. given (value code s) (λ code.
+    given (communicator rank s comm) (λ comm.
+    Ok (Aborts code))))

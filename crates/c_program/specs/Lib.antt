@@ -1,0 +1,9 @@
+pub mod Cells
+pub mod State
+pub mod Values
+pub mod Prints
+pub mod Courses
+pub mod Effects
+pub mod Performing
+pub mod Meaning
+pub mod Program

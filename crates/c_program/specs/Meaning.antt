@@ -1,0 +1,326 @@
+-- What programs do. (ISO C, "Statements and blocks" and "Function calls".)
+use Rattle.std.specs.Prelude.{◌+◌, ◌-◌, ◌++◌, ℕ, zero, suc, ℤ, pos, Bool, true, false, List, [], ◌∷◌, Option, Some, None, Result, Ok, Err, nat_le, length, slice_get}
+use Rattle.mpi_call.specs.Operations.{is_set}
+use Rattle.mpi_call.specs.declared.call.Fault.{Fault}
+use Rattle.mpi_call.specs.declared.call.Fault.TheVariants.{Budget, OutputFull, Depth, Cells as CellsFault}
+use Rattle.c_program.specs.declared.effect.Rank.{Rank}
+use Rattle.c_program.specs.declared.expr.Argument.{Argument}
+use Rattle.c_program.specs.declared.expr.Argument.TheVariants.{Value as ValueArgument, Reference as ReferenceArgument}
+use Rattle.c_program.specs.declared.expr.Call.{Call as FunctionCall}
+use Rattle.c_program.specs.declared.expr.Expr.{Expr}
+use Rattle.c_program.specs.declared.expr.Right.{Right}
+use Rattle.c_program.specs.declared.expr.Right.TheVariants.{Value as ValueRight, Call as CallRight}
+use Rattle.c_program.specs.declared.program.CProgram.{CProgram}
+use Rattle.c_program.specs.declared.program.Function.{Function}
+use Rattle.c_program.specs.declared.program.Parameter.{Parameter}
+use Rattle.c_program.specs.declared.program.ParameterKind.{ParameterKind}
+use Rattle.c_program.specs.declared.program.ParameterKind.TheVariants.{Array as ArrayParameter, Texts as TextsParameter}
+use Rattle.c_program.specs.declared.statement.Declaration.{Declaration}
+use Rattle.c_program.specs.declared.statement.ForStart.{ForStart}
+use Rattle.c_program.specs.declared.statement.ForStart.TheVariants.{Nothing as NoStart, Declaration as DeclaredStart, Simple as SimpleStart}
+use Rattle.c_program.specs.declared.statement.Initial.{Initial}
+use Rattle.c_program.specs.declared.statement.Initial.TheVariants.{Nothing as NoInitial, Right as RightInitial, Values}
+use Rattle.c_program.specs.declared.statement.Item.{Item}
+use Rattle.c_program.specs.declared.statement.Simple.{Simple}
+use Rattle.c_program.specs.declared.statement.Simple.TheVariants.{Set, Update, Call as CallSimple, Mpi, Print, Flush}
+use Rattle.c_program.specs.declared.statement.Stmt.{Stmt, Block', Empty, Simple as SimpleStmt, Break, Continue, Return, If', IfElse', While', Do', For', Row_of-Part, end_of-Part, more_of-Part}
+use Rattle.c_program.specs.declared.statement.Part.{Part, Declaration as DeclarationPart, Stmt as StmtPart}
+use Rattle.c_program.specs.declared.state.Passed.{Passed}
+use Rattle.c_program.specs.declared.state.Passed.TheVariants.{Number, Cells as Lent}
+use Rattle.c_program.specs.Courses.{Course, ended, trapped}
+use Rattle.c_program.specs.Effects.{effect_of}
+use Rattle.c_program.specs.Performing.{Onward, perform}
+use Rattle.c_program.specs.Prints.{text_of}
+use Rattle.c_program.specs.Cells.{Cells}
+use Rattle.c_program.specs.declared.state.Mark.{Mark}
+use Rattle.c_program.specs.State.{Slot, State, cell_at, first_cells, leave, mark_of, no_cells, put, width_of}
+use Rattle.c_program.specs.Values.{cell_of, given, operated, range, value, values}
+
+-- ---- ways out
+
+-- goes on with a value, or traps
+abbrev pub trying : {A : Type 0} → Result A Fault → State → (A → Course) → Course
+trying (Err fault) s go = trapped fault s
+trying (Ok x) s go = go x
+
+abbrev pub choose : Bool → Course → Course → Course
+choose true a b = a
+choose false a b = b
+
+-- the four ways out of a statement
+pub record Exits : Type 0 where
+  pub next : Onward
+  pub broke : Onward
+  pub again : Onward
+  pub back : ℤ → Onward
+
+abbrev pub Meaning : Type 0
+Meaning = State → Exits → Course
+
+-- what has one way out
+abbrev pub Passing : Type 0
+Passing = State → Onward → Course
+
+-- each way out of a block takes away what was declared in it
+abbrev pub leaving : Mark → Exits → Exits
+leaving mark k = record {
+  next = λ s. k.next (leave mark s);
+  broke = λ s. k.broke (leave mark s);
+  again = λ s. k.again (leave mark s);
+  back = λ v s. k.back v (leave mark s);
+}
+
+-- ---- steps
+
+abbrev pub step_from : ℕ → State → Onward → Course
+step_from zero s go = trapped Budget s
+step_from (suc n) s go = go (record s { left = n })
+
+-- takes a step, or traps where none is left
+abbrev pub step : Passing
+step s go = step_from s.left s go
+
+abbrev pub started : Meaning → Meaning
+started m s k = step s (λ s. m s k)
+
+-- ---- calls of functions of the text
+
+abbrev pub passed : Argument → State → Result Passed Fault
+passed (ValueArgument e) s = given (value e s) (λ v. Ok (Number v))
+passed (ReferenceArgument reference) s = given (range reference s) (λ cells. Ok (Lent cells))
+
+abbrev pub passed_all : List Argument → State → Result (List Passed) Fault
+passed_all [] s = Ok []
+passed_all (argument ∷ arguments) s = given (passed argument s) (λ one. given (passed_all arguments s) (λ others. Ok (one ∷ others)))
+
+-- what a call does, by the function's number and the arguments, and what goes on with what it gives back
+abbrev pub Calls : Type 0
+Calls = ℕ → List Passed → State → (ℤ → Onward) → Course
+
+abbrev pub invoke : Calls → FunctionCall → State → (ℤ → Onward) → Course
+invoke calls call s go = step s (λ s. trying (passed_all call.arguments.items s) s (λ arguments. calls call.function arguments s go))
+
+abbrev pub right : Calls → Right → State → (ℤ → Onward) → Course
+right calls (ValueRight e) s go = trying (value e s) s (λ v. go v s)
+right calls (CallRight call) s go = invoke calls call s go
+
+-- ---- what stands before a `;`
+
+abbrev pub print : List ℕ → Passing
+print text s go =
+    choose (nat_le (length s.printed + length text) 65536) (go (record s { printed = s.printed ++ text })) (trapped OutputFull s)
+
+abbrev pub simple : Rank → Calls → Simple → Passing
+simple rank calls (Set place given_right) s go =
+    trying (cell_of place s) s (λ cell. right calls given_right s (λ v s. go (put cell v s)))
+simple rank calls (Update place operator given_right) s go =
+    trying (cell_of place s) s (λ cell. right calls given_right s (λ v s.
+    trying (operated operator (cell_at s cell) v) s (λ v. go (put cell v s))))
+simple rank calls (CallSimple call) s go = invoke calls call s (λ v s. go s)
+simple rank calls (Mpi call) s go = trying (effect_of rank call s) s (λ effect. perform rank effect s go)
+simple rank calls (Print format arguments) s go =
+    trying (values arguments.items s) s (λ vs. print (text_of format.items vs) s go)
+simple rank calls Flush s go = go s
+
+-- ---- declarations
+
+abbrev pub length_or_one : Option ℕ → ℕ
+length_or_one None = 1
+length_or_one (Some n) = n
+
+abbrev pub repeated : ℕ → List ℤ → List ℤ
+repeated zero cells = []
+repeated (suc n) cells = cells ++ repeated n cells
+
+abbrev pub item_cells : Item → List ℤ
+item_cells item = repeated (length_or_one item.length) (first_cells item.kind)
+
+-- one variable more, on cells of its own
+abbrev pub with_slot : List ℕ → ℕ → ℕ → List ℤ → State → State
+with_slot name n width cells s = record s {
+  cells = s.cells ++ cells;
+  slots = s.slots ++ record {
+    depth = s.opens - 1;
+    name = name;
+    is_listed = true;
+    cells = record { from = length s.cells; length = n; width = width };
+  } ∷ [];
+}
+
+-- at most 262,144 cells stand
+abbrev pub has_room : ℕ → State → Bool
+has_room n s = nat_le (length s.cells + n) 262144
+
+abbrev pub put_values : List Expr → ℕ → Passing
+put_values [] cell s go = go s
+put_values (e ∷ es) cell s go = trying (value e s) s (λ v. put_values es (cell + 1) (put cell v s) go)
+
+abbrev pub begin : Calls → Initial → ℕ → Passing
+begin calls NoInitial cell s go = go s
+begin calls (RightInitial given_right) cell s go = right calls given_right s (λ v s. go (put cell v s))
+begin calls (Values es) cell s go = put_values es.items cell s go
+
+abbrev pub declare : Calls → Item → Passing
+declare calls item s go =
+    choose (has_room (length (item_cells item)) s)
+    (begin calls item.initial (length s.cells) (with_slot item.name (length_or_one item.length) (width_of item.kind) (item_cells item) s) go)
+    (trapped CellsFault s)
+
+abbrev pub declare_all : Calls → List Item → Passing
+declare_all calls [] s go = go s
+declare_all calls (item ∷ items) s go = declare calls item s (λ s. declare_all calls items s go)
+
+abbrev pub declaration : Calls → Declaration → Passing
+declaration calls d s go = declare_all calls d.items.items s go
+
+-- ---- loops
+
+-- a loop without a test goes on
+abbrev pub test : Option Expr → State → Result Bool Fault
+test None s = Ok true
+test (Some e) s = given (value e s) (λ v. Ok (is_set v))
+
+-- the ways out of a turn: behind it what stands in the head of a `for` comes, and then the loop again
+abbrev pub turn_exits : Passing → Onward → Exits → Exits
+turn_exits update go k = record {
+  next = λ s. update s go;
+  broke = k.next;
+  again = λ s. update s go;
+  back = k.back;
+}
+
+-- at most n turns
+abbrev pub turns : ℕ → Option Expr → Passing → Meaning → Meaning
+turns zero e update body s k = trapped Budget s
+turns (suc n) e update body s k =
+    trying (test e s) s (λ holds. choose holds
+    (step s (λ s. body s (turn_exits update (λ s. turns n e update body s k) k)))
+    (k.next s))
+
+-- each turn takes a step: there are at most as many as are left, and one more test
+abbrev pub loop : Option Expr → Passing → Meaning → Meaning
+loop e update body s k = turns (suc s.left) e update body s k
+
+abbrev pub no_update : Passing
+no_update s go = go s
+
+-- a turn before the first test
+abbrev pub loop_after : Expr → Meaning → Meaning
+loop_after e body s k = step s (λ s. body s (turn_exits no_update (λ s. loop (Some e) no_update body s k) k))
+
+-- ---- statements
+
+abbrev pub for_start : Rank → Calls → ForStart → Passing
+for_start rank calls NoStart s go = go s
+for_start rank calls (DeclaredStart d) s go = step s (λ s. declaration calls d s go)
+for_start rank calls (SimpleStart one) s go = simple rank calls one s go
+
+abbrev pub for_update : Rank → Calls → Option Simple → Passing
+for_update rank calls None s go = go s
+for_update rank calls (Some one) s go = simple rank calls one s go
+
+abbrev pub return : Calls → Option Right → Meaning
+return calls None s k = k.back (pos 0) s
+return calls (Some given_right) s k = right calls given_right s (λ v s. k.back v s)
+
+abbrev mutual
+  -- what a statement does once its step is taken
+  pub act : Rank → Calls → Stmt → Meaning
+  act rank calls (Block' shape row) s k = act_row rank calls row s (leaving (mark_of s) k)
+  act rank calls Empty s k = k.next s
+  act rank calls (SimpleStmt one) s k = simple rank calls one s k.next
+  act rank calls Break s k = k.broke s
+  act rank calls Continue s k = k.again s
+  act rank calls (Return given_right) s k = return calls given_right s k
+  act rank calls (If' e p taken) s k = trying (test (Some e) s) s (λ holds. choose holds (started (act rank calls taken) s k) (k.next s))
+  act rank calls (IfElse' e p taken q spared) s k =
+      trying (test (Some e) s) s (λ holds. choose holds (started (act rank calls taken) s k) (started (act rank calls spared) s k))
+  act rank calls (While' e p body) s k = loop (Some e) no_update (started (act rank calls body)) s k
+  act rank calls (Do' p body e) s k = loop_after e (started (act rank calls body)) s k
+  act rank calls (For' start e update p body) s k =
+      for_start rank calls start s (λ t. loop e (for_update rank calls update) (started (act rank calls body)) t (leaving (mark_of s) k))
+
+  -- what stands in a block
+  pub act_part : Rank → Calls → Part → Meaning
+  act_part rank calls (DeclarationPart d) s k = declaration calls d s k.next
+  act_part rank calls (StmtPart one) s k = act rank calls one s k
+
+  pub act_row : Rank → Calls → {m : _} → Row_of-Part m → Meaning
+  act_row rank calls end_of-Part s k = k.next s
+  act_row rank calls (more_of-Part part parts) s k =
+      started (act_part rank calls part) s (record k { next = λ s. act_row rank calls parts s k })
+
+-- the same of a list
+abbrev pub act_list : Rank → Calls → List Part → Meaning
+act_list rank calls [] s k = k.next s
+act_list rank calls (part ∷ parts) s k = started (act_part rank calls part) s (record k { next = λ s. act_list rank calls parts s k })
+
+-- ---- functions
+
+-- a parameter that is an array has a cell of its own, and stands for the cells that were passed
+abbrev pub parameter_cells : List Parameter → ℕ
+parameter_cells [] = 0
+parameter_cells (parameter ∷ parameters) = of_kind parameter.kind + parameter_cells parameters
+  where
+    of_kind : ParameterKind → ℕ
+    of_kind TextsParameter = 0
+    of_kind kind = 1
+
+abbrev pub number_in : Option Passed → ℤ
+number_in (Some (Number v)) = v
+number_in given_one = pos 0
+
+abbrev pub cells_in : Option Passed → Cells
+cells_in (Some (Lent cells)) = cells
+cells_in given_one = no_cells
+
+abbrev pub unlisted : List ℕ → Cells → State → Slot
+unlisted name cells s = record { depth = s.opens - 1; name = name; is_listed = false; cells = cells }
+
+abbrev pub with_parameter : Parameter → Option Passed → State → State
+with_parameter parameter given_one s = by_kind parameter.kind
+  where
+    by_kind : ParameterKind → State
+    by_kind ArrayParameter = record s { cells = s.cells ++ pos 0 ∷ []; slots = s.slots ++ unlisted parameter.name (cells_in given_one) s ∷ [] }
+    by_kind TextsParameter = record s { slots = s.slots ++ unlisted parameter.name no_cells s ∷ [] }
+    by_kind kind = with_slot parameter.name 1 1 (number_in given_one ∷ []) s
+
+abbrev pub with_parameters : List Parameter → List Passed → State → State
+with_parameters [] arguments s = s
+with_parameters (parameter ∷ parameters) [] s = with_parameters parameters [] (with_parameter parameter None s)
+with_parameters (parameter ∷ parameters) (one ∷ others) s = with_parameters parameters others (with_parameter parameter (Some one) s)
+
+-- one call more is open
+abbrev pub opened : State → State
+opened s = record s { base = length s.slots; opens = suc s.opens }
+
+-- a function that ends without a value gives 0
+abbrev pub exits_to : Mark → (ℤ → Onward) → Exits
+exits_to mark go = record {
+  next = λ s. go (pos 0) (leave mark s);
+  broke = λ s. go (pos 0) (leave mark s);
+  again = λ s. go (pos 0) (leave mark s);
+  back = λ v s. go v (leave mark s);
+}
+
+abbrev pub run_function : Rank → Calls → Option Function → List Passed → State → (ℤ → Onward) → Course
+run_function rank calls None arguments s go = trapped Depth s
+run_function rank calls (Some f) arguments s go =
+    choose (has_room (parameter_cells f.parameters.items) s)
+    (act_list rank calls f.body.items (with_parameters f.parameters.items arguments (opened s)) (exits_to (mark_of s) go))
+    (trapped CellsFault s)
+
+-- a call, where at most so many more may be open
+abbrev pub call_at : Rank → List Function → ℕ → Calls
+call_at rank functions zero f arguments s go = trapped Depth s
+call_at rank functions (suc d) f arguments s go = run_function rank (call_at rank functions d) (slice_get functions f) arguments s go
+
+-- ---- programs
+
+-- 10,000,000 steps
+abbrev pub start : State
+start = record { cells = []; slots = []; base = 0; opens = 0; printed = []; left = 10000000; starts = []; made = [] }
+
+-- a rank's course: main, whose first argument is 1; at most 100 calls are open
+abbrev pub course_of : CProgram → Rank → Course
+course_of program rank = call_at rank program.functions.items 100 program.main (Number (pos 1) ∷ []) start (λ v s. ended s)

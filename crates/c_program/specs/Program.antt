@@ -1,0 +1,24 @@
+-- A C program as a program: what its ranks do, have printed and hold, after the replies that they got.
+use Rattle.std.specs.Prelude.{ℕ, List, [], Option}
+use Rattle.mpi_call.specs.declared.call.Call.{Call}
+use Rattle.mpi_call.specs.declared.reply.Reply.{Reply}
+use Rattle.run_model.specs.declared.lists.Variable.{Variable}
+use Rattle.c_program.specs.declared.effect.Rank.{Rank}
+use Rattle.c_program.specs.declared.program.CProgram.{CProgram}
+use Rattle.c_program.specs.Courses.{Course, call_in, shaped_after, state_in, variables_in}
+use Rattle.c_program.specs.Meaning.{course_of}
+
+abbrev pub rank_of : ℕ → ℕ → Rank
+rank_of n me = record { ranks = n; number = me }
+
+abbrev pub course_after : CProgram → ℕ → ℕ → List Reply → Course
+course_after program n me replies = shaped_after n me [] (course_of program (rank_of n me)) replies
+
+abbrev pub next_of : CProgram → ℕ → ℕ → List Reply → Option Call
+next_of program n me replies = call_in (course_after program n me replies)
+
+abbrev pub output_of : CProgram → ℕ → ℕ → List Reply → List ℕ
+output_of program n me replies = (state_in (course_after program n me replies)).printed
+
+abbrev pub variables_of : CProgram → ℕ → ℕ → List Reply → List Variable
+variables_of program n me replies = variables_in (course_after program n me replies)

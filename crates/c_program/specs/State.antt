@@ -1,0 +1,94 @@
+-- What a rank has between two steps of its program: one stack of int cells, and the variables that stand.
+use Rattle.std.specs.Prelude.{◌+◌, ◌==◌, ℕ, ℤ, pos, negsuc, Bool, List, [], ◌∷◌, Option, Some, None, if◌then◌else◌, drop, take, length, slice_index_or, slice_set}
+use Rattle.run_model.specs.Lists.{world}
+use Rattle.c_program.specs.Cells.{Cells}
+use Rattle.c_program.specs.declared.state.Begun.{Begun}
+use Rattle.c_program.specs.declared.state.Known.{Known}
+use Rattle.c_program.specs.declared.state.Mark.{Mark}
+use Rattle.c_names.specs.declared.kind.Kind.{Kind}
+use Rattle.c_names.specs.declared.kind.Kind.TheVariants.{Int, Status, Request, Communicator}
+
+-- ---- cells
+
+-- `NULL`
+abbrev pub no_cells : Cells
+no_cells = record { from = 0; length = 0; width = 1 }
+
+-- `MPI_UNDEFINED`, `MPI_ANY_SOURCE`, and -1: `MPI_PROC_NULL`, `MPI_ANY_TAG`, null handles
+abbrev pub undefined : ℤ
+undefined = negsuc 32765
+
+abbrev pub any_source : ℤ
+any_source = negsuc 1
+
+abbrev pub null : ℤ
+null = negsuc 0
+
+-- how a variable's cells begin; a status has source, tag and count
+abbrev pub first_cells : Kind → List ℤ
+first_cells Int = pos 0 ∷ []
+first_cells Status = any_source ∷ (null ∷ (pos 0 ∷ []))
+first_cells Request = null ∷ []
+first_cells Communicator = null ∷ []
+
+abbrev pub width_of : Kind → ℕ
+width_of Status = 3
+width_of kind = 1
+
+-- ---- the state
+
+-- a variable that stands: how deep its function was called, and its cells; parameters that are arrays or texts aren't
+-- listed
+pub record Slot : Type 0 where
+  pub depth : ℕ
+  pub name : List ℕ
+  pub is_listed : Bool
+  pub cells : Cells
+
+-- the variables of the function that runs stand from `base` on; `opens` calls are open, and `left` steps may be taken
+pub record State : Type 0 where
+  pub cells : List ℤ
+  pub slots : List Slot
+  pub base : ℕ
+  pub opens : ℕ
+  pub printed : List ℕ
+  pub left : ℕ
+  pub starts : List Begun
+  pub made : List Known
+
+abbrev pub cell_at : State → ℕ → ℤ
+cell_at s cell = slice_index_or s.cells cell (pos 0)
+
+abbrev pub put : ℕ → ℤ → State → State
+put cell value s = record s { cells = slice_set s.cells cell value }
+
+abbrev pub put_all : ℕ → List ℤ → State → State
+put_all cell [] s = s
+put_all cell (value ∷ values) s = put_all (cell + 1) values (put cell value s)
+
+abbrev pub put_some : Option ℕ → ℤ → State → State
+put_some None value s = s
+put_some (Some cell) value s = put cell value s
+
+abbrev pub ints_in : Cells → State → List ℤ
+ints_in cells s = take cells.length (drop cells.from s.cells)
+
+-- ---- scopes
+
+-- what stands
+abbrev pub mark_of : State → Mark
+mark_of s = record { cells = length s.cells; slots = length s.slots; base = s.base; opens = s.opens }
+
+-- what was declared since then is gone
+abbrev pub leave : Mark → State → State
+leave mark s = record s { cells = take mark.cells s.cells; slots = take mark.slots s.slots; base = mark.base; opens = mark.opens }
+
+-- ---- communicators
+
+abbrev pub members_among : List Known → ℕ → Option (List ℕ)
+members_among [] comm = None
+members_among (known ∷ others) comm = if known.comm == comm then Some known.members else members_among others comm
+
+-- the members of a communicator: all of the n ranks for 0, else those of the first one made with this number
+abbrev pub members_of : ℕ → State → ℕ → Option (List ℕ)
+members_of n s comm = if comm == 0 then Some (world n 0) else members_among s.made comm
