@@ -1,5 +1,5 @@
 -- What a rank does, by the replies that it gets.
-use Rattle.std.specs.Prelude.{◌++◌, ◌&&◌, not, ℕ, List, [], ◌∷◌, Option, Some, None, if◌then◌else◌}
+use Rattle.std.specs.Prelude.{◌*◌, ◌++◌, ◌&&◌, not, ℕ, List, [], ◌∷◌, Option, Some, None, if◌then◌else◌}
 use Rattle.mpi_call.specs.declared.call.Call.{Call}
 use Rattle.mpi_call.specs.declared.call.Call.TheVariants.{Trap, End}
 use Rattle.mpi_call.specs.declared.call.Fault.{Fault}
@@ -8,7 +8,7 @@ use Rattle.run_model.specs.declared.lists.Variable.{Variable}
 use Rattle.run_model.specs.Program.{ends}
 use Rattle.run_model.specs.Shape.{has_shape}
 use Rattle.run_model.specs.Views.{View}
-use Rattle.c_program.specs.State.{Slot, State, ints_in}
+use Rattle.c_program.specs.State.{Slot, State, values_from}
 
 -- a course: the rank makes a call, here, and goes on by the reply; or it makes none any more
 pub data Course : Type 0 where
@@ -54,7 +54,7 @@ shaped_after n me own (Asks s call go) (reply ∷ replies) =
 -- ---- what stands
 
 abbrev pub variable_of : State → Slot → Variable
-variable_of s slot = record { depth = slot.depth; name = slot.name; values = ints_in slot.cells s }
+variable_of s slot = record { depth = slot.depth; name = slot.name; values = values_from slot.cells.from (slot.cells.length * slot.cells.width) s }
 
 abbrev pub listed_of : State → List Slot → List Variable
 listed_of s [] = []

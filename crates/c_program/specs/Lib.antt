@@ -7,3 +7,4 @@ pub mod Effects
 pub mod Performing
 pub mod Meaning
 pub mod Program
+pub mod Keeping

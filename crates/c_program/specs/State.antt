@@ -1,5 +1,5 @@
 -- What a rank has between two steps of its program: one stack of int cells, and the variables that stand.
-use Rattle.std.specs.Prelude.{◌+◌, ◌==◌, ℕ, ℤ, pos, negsuc, Bool, List, [], ◌∷◌, Option, Some, None, if◌then◌else◌, drop, take, length, slice_index_or, slice_set}
+use Rattle.std.specs.Prelude.{◌+◌, ◌==◌, ℕ, zero, suc, ℤ, pos, negsuc, Bool, List, [], ◌∷◌, Option, Some, None, if◌then◌else◌, take, length, slice_index_or, slice_set}
 use Rattle.run_model.specs.Lists.{world}
 use Rattle.c_program.specs.Cells.{Cells}
 use Rattle.c_program.specs.declared.state.Begun.{Begun}
@@ -70,8 +70,14 @@ abbrev pub put_some : Option ℕ → ℤ → State → State
 put_some None value s = s
 put_some (Some cell) value s = put cell value s
 
+-- the values of n cells from one on
+abbrev pub values_from : ℕ → ℕ → State → List ℤ
+values_from cell zero s = []
+values_from cell (suc n) s = cell_at s cell ∷ values_from (cell + 1) n s
+
+-- the ints, or the handles, in these cells
 abbrev pub ints_in : Cells → State → List ℤ
-ints_in cells s = take cells.length (drop cells.from s.cells)
+ints_in cells s = values_from cells.from cells.length s
 
 -- ---- scopes
 
