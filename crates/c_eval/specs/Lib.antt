@@ -1,0 +1,3 @@
+pub mod Evaluated
+pub mod SlotView
+pub mod Steps

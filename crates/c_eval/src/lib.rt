@@ -1,0 +1,9 @@
+//! The evaluator of C programs that begins again at each call.
+#![tactic(auto)]
+
+pub mod effects;
+pub mod outcome;
+pub mod perform;
+pub mod print;
+pub mod store;
+pub mod values;
