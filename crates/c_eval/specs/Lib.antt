@@ -1,3 +1,4 @@
 pub mod Evaluated
 pub mod SlotView
+pub mod Slots
 pub mod Steps
