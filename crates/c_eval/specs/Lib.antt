@@ -1,3 +1,4 @@
+pub mod Chains
 pub mod Evaluated
 pub mod SlotView
 pub mod Slots

@@ -1,5 +1,5 @@
 //! What a rank holds while its program runs.
-ghost use Rattle.std.specs.Prelude.{◌≡◌, ◌≤◌, ◌<◌, ◌^◌, ◌++◌, ◌∷◌, [], IfOk, OnErr, OnOk, length, option_map, true};
+ghost use Rattle.std.specs.Prelude.{◌≡◌, ◌≤◌, ◌<◌, ◌^◌, ◌+◌, ◌++◌, ◌∷◌, [], IfOk, OnErr, OnOk, length, map, option_map, true};
 ghost use Rattle.run_model.specs.Lists.{world};
 ghost use Rattle.c_program.specs.Courses.{listed_of, variable_of};
 ghost use Rattle.c_program.specs.Meaning.{cells_in, has_room, number_in, opened, repeated, start, with_parameter, with_slot};
@@ -196,9 +196,9 @@ impl<'p> Store<'p> {
             }
             ParameterKind::Array => {
                 self.cells.push(0)?;
-                self.add_unlisted(&parameter.name, cells_in(passed))
+                self.add_slot(&parameter.name, false, cells_in(passed))
             }
-            ParameterKind::Texts => self.add_unlisted(&parameter.name, Range::nothing()),
+            ParameterKind::Texts => self.add_slot(&parameter.name, false, Range::nothing()),
         }
     }
 
@@ -228,15 +228,7 @@ impl<'p> Store<'p> {
     pub fn variables(&self, alloc: Global) -> Result<Variables, AllocError>
         ensures { IfOk result (λ found. found ≡ listed_of self.now self.now.slots) }
     {
-        let mut found = Variables::new(alloc);
-        let mut rest: &[Slot] = &self.slots;
-        while let [slot, after @ ..] = rest {
-            if slot.is_listed {
-                push_variable(&mut found, self.variable_of(alloc, slot)?)?;
-            }
-            rest = after;
-        }
-        Ok(found)
+        self.listed_of(alloc, &self.slots)
     }
 
     /// How many starts were made, fewer than 2^31.
@@ -324,12 +316,13 @@ impl<'p> Store<'p> {
     ) -> Result<(), AllocError>
         ensures { OnOk result (self.new ≡ with_cells name.now is_listed cells self.old) }
     {
-        self.slots.push(Slot {
+        self.slots.reserve(1)?;
+        self.slots.push_reserved(Slot {
             depth: self.opens.saturating_sub(1),
             name,
             is_listed,
             cells,
-        })?;
+        });
         Ok(())
     }
 
@@ -341,6 +334,30 @@ impl<'p> Store<'p> {
         let from = self.cells.len() as u32;
         self.cells.push(value)?;
         self.add_slot(name, true, Range::new(from, 1, 1))
+    }
+
+    /// The listed ones of some variables.
+    fn listed_of(&self, alloc: Global, slots: &[Slot<'p>]) -> Result<Variables, AllocError>
+        ensures { IfOk result (λ found. found ≡ listed_of self.now (map slot_view slots.now)) }
+    {
+        let mut found = Variables::new(alloc);
+        let mut rest = slots;
+        while let [slot, after @ ..] = rest {
+            self.push_listed(&mut found, slot)?;
+            rest = after;
+        }
+        Ok(found)
+    }
+
+    /// Adds a variable, if it is listed.
+    fn push_listed(&self, found: &mut Variables, slot: &Slot<'p>) -> Result<(), AllocError>
+        ensures { OnOk result (found.new ≡ found.old ++ listed_of self.now (slot_view slot.now ∷ [])) }
+    {
+        if slot.is_listed {
+            let variable = self.variable_of(self.alloc, slot)?;
+            push_variable(found, variable)?;
+        }
+        Ok(())
     }
 
     /// A variable's values.
@@ -409,10 +426,10 @@ fn number_in(passed: Option<Passed>) -> i32
 fn cells_in(passed: Option<Passed>) -> Range
     ensures { result ≡ cells_in passed }
 {
-    match passed {
-        Some(Passed::Cells(cells)) => cells,
-        _ => Range::nothing(),
+    if let Some(Passed::Cells(cells)) = passed {
+        return cells;
     }
+    Range::nothing()
 }
 
 fn push_variable(found: &mut Variables, variable: Variable) -> Result<(), AllocError>
