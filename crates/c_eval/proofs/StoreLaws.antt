@@ -2,6 +2,7 @@
 use Rattle.std.proofs.Common.{◌≡◌, ◌+◌, ◌*◌, ◌≤◌, ◌∙◌, ◌++◌, ℕ, zero, suc, List, [], ◌∷◌, length, take, refl, sym, ap, arith, append_assoc, length-append, map}
 use Rattle.std.proofs.lemmas.List.{append-nil, length-map, take-map}
 use Rattle.std.specs.Prelude.{ℤ}
+use Rattle.run_model.proofs.CommunicatorLaws.{world-last}
 use Rattle.run_model.specs.Lists.{world}
 use Rattle.c_names.specs.declared.kind.Kind.{Kind}
 use Rattle.c_names.specs.declared.kind.Kind.TheVariants.{Int, Status, Request, Communicator}
@@ -14,6 +15,9 @@ values_last cell (suc n) s =
     let more : suc n + 1 ≡ suc (n + 1) = omega arith in
     let e : cell + 1 + n ≡ cell + suc n = omega arith in
     rw more (ap (λ xs. cell_at s cell ∷ xs) (values_last (cell + 1) n s ∙ ap (λ at. values_from (cell + 1) n s ++ cell_at s at ∷ []) e))
+
+pub world_last : (n : ℕ) → world (n + 1) 0 ≡ world n 0 ++ n ∷ []
+world_last n = world-last n
 
 pub take_world : (n m from : ℕ) → n ≤ m → take n (world m from) ≡ world n from
 take_world zero zero from h = refl
@@ -41,9 +45,11 @@ length-first Request = refl
 length-first Communicator = refl
 
 length-repeated : (n : ℕ) (xs : List ℤ) → length (repeated n xs) ≡ n * length xs
-length-repeated zero xs = refl
+length-repeated zero xs = omega arith
 length-repeated (suc n) xs = length-append xs (repeated n xs) ∙ ap (λ k. length xs + k) (length-repeated n xs)
 
 -- how many cells a variable has
-pub length-cells : (n : ℕ) (kind : Kind) → length (repeated n (first_cells kind)) ≡ n * width_of kind
-length-cells n kind = length-repeated n (first_cells kind) ∙ ap (λ k. n * k) (length-first kind)
+pub cells_counted : (n : ℕ) (kind : Kind) → length (repeated n (first_cells kind)) ≡ n * width_of kind
+cells_counted n kind = length-repeated n (first_cells kind) ∙ ap (λ k. n * k) (length-first kind)
+
+pub ruleset slots = (take-map, length-map)

@@ -102,12 +102,14 @@ fn size_of(alloc: Global, base: Base, value: i32) -> Result<Bytes, AllocError>
 }
 
 /// Calls itself at most eight deep.
+#[tactic(auto, using(crate::proofs::PrintLaws::hexadecimal_digit, crate::proofs::PrintLaws::hexadecimal_step))]
 fn push_hexadecimal(out: &mut Bytes, n: u32) -> Result<(), AllocError>
     ensures { OnOk result (out.new ≡ out.old ++ hexadecimal_text n) }
 {
-    if n >= 16 {
-        push_hexadecimal(out, n / 16)?;
+    if n < 16 {
+        return push_byte(out, digit_text(n as u8));
     }
+    push_hexadecimal(out, n / 16)?;
     push_byte(out, digit_text((n % 16) as u8))
 }
 

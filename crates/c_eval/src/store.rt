@@ -155,6 +155,7 @@ impl<'p> Store<'p> {
     }
 
     /// Takes away what was declared since then.
+    #[tactic(auto, using(crate::proofs::StoreLaws::slots))]
     pub fn leave(&mut self, mark: Mark)
         ensures { self.new ≡ leave mark self.old }
     {
@@ -172,6 +173,7 @@ impl<'p> Store<'p> {
     }
 
     /// A variable more, of some elements, with cells of its own.
+    #[tactic(auto, using(crate::proofs::StoreLaws::cells_counted))]
     pub fn declare(&mut self, name: &'p Bytes, kind: Kind, elements: u32) -> Result<(), AllocError>
         requires { has_room (length (repeated elements (first_cells kind))) self.old ≡ true }
         ensures { OnOk result (self.new ≡ with_slot name.now elements (width_of kind) (repeated elements (first_cells kind)) self.old) }
@@ -265,6 +267,7 @@ impl<'p> Store<'p> {
     }
 
     /// The members of a communicator.
+    #[tactic(auto, using(crate::proofs::StoreLaws::take_world))]
     pub fn members(&self, rank: Rank, comm: u32) -> Option<&[u8]>
         requires { rank.ranks ≤ 64 }
         ensures { option_map (λ members. members.now) result ≡ members_of rank.ranks self.now comm }
@@ -297,6 +300,7 @@ impl<'p> Store<'p> {
     }
 
     /// The values of `count` cells from one on.
+    #[tactic(auto, using(crate::proofs::StoreLaws::values_last))]
     fn values_from(&self, alloc: Global, from: u32, count: u32) -> Result<Ints, AllocError>
         ensures { IfOk result (λ ints. ints ≡ values_from from count self.now) }
     {
@@ -373,6 +377,7 @@ impl<'p> Store<'p> {
 }
 
 /// The ranks from 0 to 63.
+#[tactic(auto, using(crate::proofs::StoreLaws::world_last))]
 fn all_ranks(alloc: Global) -> Result<Vec<u8>, AllocError>
     ensures { IfOk result (λ all. all.items ≡ world 64 0) }
 {
@@ -404,6 +409,7 @@ fn push_first(cells: &mut Vec<i32>, kind: Kind) -> Result<(), AllocError>
 }
 
 /// Pushes the first cells of some elements.
+#[tactic(auto, using(crate::proofs::StoreLaws::repeated_last, crate::proofs::StoreLaws::repeated_grows))]
 fn push_firsts(cells: &mut Vec<i32>, kind: Kind, elements: u32) -> Result<(), AllocError>
     ensures ok { OnOk result (cells.new.items ≡ cells.old.items ++ repeated elements (first_cells kind)) }
     ensures bound { length cells.new.items ≤ length cells.old.items + length (repeated elements (first_cells kind)) }
@@ -414,6 +420,7 @@ fn push_firsts(cells: &mut Vec<i32>, kind: Kind, elements: u32) -> Result<(), Al
     Ok(())
 }
 
+/// The int of an argument; 0 where it is none.
 fn number_in(passed: Option<Passed>) -> i32
     ensures { result ≡ number_in passed }
 {
@@ -423,13 +430,14 @@ fn number_in(passed: Option<Passed>) -> i32
     }
 }
 
+/// The cells of an argument; none where it is an int.
 fn cells_in(passed: Option<Passed>) -> Range
     ensures { result ≡ cells_in passed }
 {
-    if let Some(Passed::Cells(cells)) = passed {
-        return cells;
+    match &passed {
+        Some(Passed::Cells(cells)) => *cells,
+        _ => Range::nothing(),
     }
-    Range::nothing()
 }
 
 fn push_variable(found: &mut Variables, variable: Variable) -> Result<(), AllocError>
