@@ -38,6 +38,9 @@ repeated_grows (suc n) zero xs h = absurd (omega arith)
 repeated_grows (suc n) (suc m) xs h =
     omega (arith, repeated_grows n m xs (omega arith), length-append xs (repeated n xs), length-append xs (repeated m xs))
 
+pub repeated_bound : (xs ys first : List ℤ) (n m : ℕ) → n ≤ m → ys ≡ xs ++ repeated n first → length ys ≤ length xs + length (repeated m first)
+repeated_bound xs ys first n m h e = rw e (omega (arith, length-append xs (repeated n first), repeated_grows n m first h))
+
 length-first : (kind : Kind) → length (first_cells kind) ≡ width_of kind
 length-first Int = refl
 length-first Status = refl
@@ -46,7 +49,7 @@ length-first Communicator = refl
 
 length-repeated : (n : ℕ) (xs : List ℤ) → length (repeated n xs) ≡ n * length xs
 length-repeated zero xs = omega arith
-length-repeated (suc n) xs = length-append xs (repeated n xs) ∙ ap (λ k. length xs + k) (length-repeated n xs)
+length-repeated (suc n) xs = omega (arith, length-append xs (repeated n xs), length-repeated n xs)
 
 -- how many cells a variable has
 pub cells_counted : (n : ℕ) (kind : Kind) → length (repeated n (first_cells kind)) ≡ n * width_of kind

@@ -110,7 +110,8 @@ fn push_hexadecimal(out: &mut Bytes, n: u32) -> Result<(), AllocError>
         return push_byte(out, digit_text(n as u8));
     }
     push_hexadecimal(out, n / 16)?;
-    push_byte(out, digit_text((n % 16) as u8))
+    push_byte(out, digit_text((n % 16) as u8))?;
+    Ok(())
 }
 
 fn digit_text(digit: u8) -> u8

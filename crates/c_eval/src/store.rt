@@ -267,7 +267,6 @@ impl<'p> Store<'p> {
     }
 
     /// The members of a communicator.
-    #[tactic(auto, using(crate::proofs::StoreLaws::take_world))]
     pub fn members(&self, rank: Rank, comm: u32) -> Option<&[u8]>
         requires { rank.ranks ≤ 64 }
         ensures { option_map (λ members. members.now) result ≡ members_of rank.ranks self.now comm }
@@ -409,7 +408,6 @@ fn push_first(cells: &mut Vec<i32>, kind: Kind) -> Result<(), AllocError>
 }
 
 /// Pushes the first cells of some elements.
-#[tactic(auto, using(crate::proofs::StoreLaws::repeated_last, crate::proofs::StoreLaws::repeated_grows))]
 fn push_firsts(cells: &mut Vec<i32>, kind: Kind, elements: u32) -> Result<(), AllocError>
     ensures ok { OnOk result (cells.new.items ≡ cells.old.items ++ repeated elements (first_cells kind)) }
     ensures bound { length cells.new.items ≤ length cells.old.items + length (repeated elements (first_cells kind)) }
