@@ -9,3 +9,4 @@ pub mod Meaning
 pub mod Program
 pub mod Keeping
 pub mod GoodLaws
+pub mod RangeLaws
