@@ -10,3 +10,4 @@ pub mod Program
 pub mod Keeping
 pub mod GoodLaws
 pub mod RangeLaws
+pub mod StatementLaws
