@@ -11,3 +11,4 @@ pub mod Keeping
 pub mod GoodLaws
 pub mod RangeLaws
 pub mod StatementLaws
+pub mod ProgramLaws
