@@ -76,3 +76,83 @@ module _ (n me : ℕ) (next : Next) where
         | inr fails ↦ rw (shaped_goes_on n me own s asked go reply (replies_in view) shape fails, fails, ← append_assoc own ((asked, reply) ∷ []) view)
             (stands_after (own ++ (asked, reply) ∷ []) view (go reply) (goes_on_behind own s asked go reply same shape fails) (begins (own ++ (asked, reply) ∷ []) s.printed (go reply) (rw fails at follows)) later)
       ])
+
+  -- what is printed behind a state goes on from there
+  prints_from : (own view : View) (printed : List ℕ) (c : Course) → GoesOn own c → Keeps n me own printed c → Along (IsSeen next n me) own view → IsPrefixOf printed (state_in (shaped_after n me own c (replies_in view))).printed
+  prints_from own view printed (Over s) same keeps along = absurd keeps
+  prints_from own [] printed (Asks s asked go) same keeps along = keeps.0
+  prints_from own ((call, reply) ∷ view) printed (Asks s asked go) same keeps along =
+      let call_is : asked ≡ call = same_call own s asked call go reply same along.0 in
+      let shape : has_shape n me own asked reply ≡ true = rw call_is along.0.shaped in
+      let later : Along (IsSeen next n me) (own ++ (asked, reply) ∷ []) view = rw call_is along.1 in
+      let follows : MatchBool (ends (asked, reply)) (Unit {0}) (Keeps n me (own ++ (asked, reply) ∷ []) s.printed (go reply)) = keeps.3 reply shape in
+      elim (test_cases (ends (asked, reply))) [
+        | inl holds ↦ rw (shaped_ends n me own s asked go reply (replies_in view) shape holds) keeps.0
+        | inr fails ↦ rw (shaped_goes_on n me own s asked go reply (replies_in view) shape fails)
+            (prefix_trans printed s.printed _ keeps.0 (prints_from (own ++ (asked, reply) ∷ []) view s.printed (go reply) (goes_on_behind own s asked go reply same shape fails) (rw fails at follows) later))
+      ]
+
+  prints_between : (own view more : View) (c : Course) → GoesOn own c → Keeps n me own [] c → Along (IsSeen next n me) own (view ++ more) → IsPrefixOf (state_in (shaped_after n me own c (replies_in view))).printed (state_in (shaped_after n me own c (replies_in (view ++ more)))).printed
+  prints_between own view more (Over s) same keeps along = absurd keeps
+  prints_between own [] more (Asks s asked go) same keeps along =
+      prints_from own more s.printed (Asks s asked go) same (prefix_same s.printed, keeps.1, keeps.2, keeps.3) along
+  prints_between own ((call, reply) ∷ view) more (Asks s asked go) same keeps along =
+      let call_is : asked ≡ call = same_call own s asked call go reply same along.0 in
+      let shape : has_shape n me own asked reply ≡ true = rw call_is along.0.shaped in
+      let later : Along (IsSeen next n me) (own ++ (asked, reply) ∷ []) (view ++ more) = rw call_is along.1 in
+      let follows : MatchBool (ends (asked, reply)) (Unit {0}) (Keeps n me (own ++ (asked, reply) ∷ []) s.printed (go reply)) = keeps.3 reply shape in
+      elim (test_cases (ends (asked, reply))) [
+        | inl holds ↦ rw (shaped_ends n me own s asked go reply (replies_in view) shape holds, shaped_ends n me own s asked go reply (replies_in (view ++ more)) shape holds) (prefix_same s.printed)
+        | inr fails ↦ rw (shaped_goes_on n me own s asked go reply (replies_in view) shape fails, shaped_goes_on n me own s asked go reply (replies_in (view ++ more)) shape fails)
+            (prints_between (own ++ (asked, reply) ∷ []) view more (go reply) (goes_on_behind own s asked go reply same shape fails) (begins (own ++ (asked, reply) ∷ []) s.printed (go reply) (rw fails at follows)) later)
+      ]
+
+  -- in a view in shape no reply need be tested again
+  same_after : (own view : View) (c : Course) → GoesOn own c → Along (IsSeen next n me) own view → shaped_after n me own c (replies_in view) ≡ after c (replies_in view)
+  same_after own [] c same along = refl
+  same_after own ((call, reply) ∷ view) (Over s) same along = sym (after_over s (replies_in ((call, reply) ∷ view)))
+  same_after own ((call, reply) ∷ view) (Asks s asked go) same along =
+      let call_is : asked ≡ call = same_call own s asked call go reply same along.0 in
+      let shape : has_shape n me own asked reply ≡ true = rw call_is along.0.shaped in
+      let later : Along (IsSeen next n me) (own ++ (asked, reply) ∷ []) view = rw call_is along.1 in
+      elim (test_cases (ends (asked, reply))) [
+        | inl holds ↦ shaped_ends n me own s asked go reply (replies_in view) shape holds ∙ sym (after_ends s asked go reply (replies_in view) holds)
+        | inr fails ↦ shaped_goes_on n me own s asked go reply (replies_in view) shape fails
+            ∙ same_after (own ++ (asked, reply) ∷ []) view (go reply) (goes_on_behind own s asked go reply same shape fails) later
+            ∙ sym (after_goes_on s asked go reply (replies_in view) fails)
+      ]
+
+  ends_where : (own : View) (ended : Bool) (c : Course) → Stands own ended c → (call_in c ≡ None) ↔ (ended ≡ true)
+  ends_where own true c stands = (λ none. refl, λ t. stands)
+  ends_where own false (Over s) stands = absurd stands
+  ends_where own false (Asks s call go) stands = (λ none. absurd (cc), λ t. absurd (cc))
+
+  -- a call that is made is in bounds and in form
+  proper_call : (own : View) (ended : Bool) (c : Course) (call : Call) → Stands own ended c → call_in c ≡ Some call → IsInBounds n (length own) call × IsInForm n own me call
+  proper_call own true c call stands made = absurd (cc)
+  proper_call own false (Over s) call stands made = absurd stands
+  proper_call own false (Asks s asked go) call stands made =
+      let same : asked ≡ call = cc in
+      subst (λ call. IsInBounds n (length own) call × IsInForm n own me call) same (stands.1, stands.2)
+
+-- ---- the laws of the program
+
+-- a view in shape leads where its replies lead
+pub after_in_shape : (program : CProgram) (n me : ℕ) (view : View) → IsViewOf (next_of program) n me view → shaped_after n me [] (course_of program (rank_of n me)) (replies_in view) ≡ after (course_of program (rank_of n me)) (replies_in view)
+after_in_shape program n me view along = same_after n me (next_of program) [] view (course_of program (rank_of n me)) (λ replies. refl) along
+
+module _ (performs : (n me : ℕ) → PerformKeeps n me) (program : CProgram) where
+  stands_at : (n me : ℕ) (view : View) → IsRankOf n me → IsViewOf (next_of program) n me view → Stands n me (next_of program) view (list_any ends view) (shaped_after n me [] (course_of program (rank_of n me)) (replies_in view))
+  stands_at n me view is along = stands_after n me (next_of program) [] view (course_of program (rank_of n me)) (λ replies. refl) (course_keeps performs program n me is) along
+
+  pub ends_exactly : EndsExactly (next_of program)
+  ends_exactly n me view is along = ends_where n me (next_of program) view (list_any ends view) _ (stands_at n me view is along)
+
+  pub prints_on : PrintsOn (next_of program) (output_of program)
+  prints_on n me view more is along = prints_between n me (next_of program) [] view more (course_of program (rank_of n me)) (λ replies. refl) (course_keeps performs program n me is) along
+
+  pub asks_in_bounds : AsksInBounds (next_of program)
+  asks_in_bounds n me view call is along made = (proper_call n me (next_of program) view (list_any ends view) _ call (stands_at n me view is along) made).0
+
+  pub enters_in_form : EntersInForm (next_of program)
+  enters_in_form n me view call is along made = (proper_call n me (next_of program) view (list_any ends view) _ call (stands_at n me view is along) made).1
