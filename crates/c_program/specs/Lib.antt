@@ -8,3 +8,4 @@ pub mod Performing
 pub mod Meaning
 pub mod Program
 pub mod Keeping
+pub mod ProperEffects
