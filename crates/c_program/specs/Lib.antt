@@ -8,4 +8,5 @@ pub mod Performing
 pub mod Meaning
 pub mod Program
 pub mod Keeping
+pub mod Proper
 pub mod ProperEffects
