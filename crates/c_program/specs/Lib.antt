@@ -10,3 +10,4 @@ pub mod Program
 pub mod Keeping
 pub mod Proper
 pub mod ProperEffects
+pub mod EffectLaws

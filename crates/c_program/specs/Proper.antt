@@ -65,7 +65,7 @@ entered_length EntersNothing = 0
 entered_length (EntersCells cells) = cells.length
 entered_length (Pair colour key) = 2
 
-length-values_from : (cell n : ℕ) (s : State) → length (values_from cell n s) ≡ n
+pub length-values_from : (cell n : ℕ) (s : State) → length (values_from cell n s) ≡ n
 length-values_from cell zero s = refl
 length-values_from cell (suc n) s = ap suc (length-values_from (cell + 1) n s)
 
