@@ -8,6 +8,10 @@ pub mod Performing
 pub mod Meaning
 pub mod Program
 pub mod Keeping
+pub mod GoodLaws
+pub mod RangeLaws
 pub mod Proper
 pub mod ProperEffects
 pub mod EffectLaws
+pub mod StatementLaws
+pub mod ProgramLaws

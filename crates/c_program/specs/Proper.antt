@@ -37,6 +37,7 @@ use Rattle.c_program.specs.Effects.{Comm, communicator, count_of, destination, e
 use Rattle.c_program.specs.Keeping.{Good}
 use Rattle.c_program.specs.Performing.{enter_call, entered_ints}
 use Rattle.c_program.specs.Program.{rank_of}
+use Rattle.c_program.specs.RangeLaws.{SlotsFit, range_fits}
 use Rattle.c_program.specs.State.{Slot, State, any_source, ints_in, members_of, null, values_from}
 use Rattle.c_program.specs.Values.{cells_of, elements_from, given, or_fault, range, value}
 
@@ -101,6 +102,10 @@ given_free P (Err fault) go on = tt
 pub of_holds : {A : Type 0} (P : A → Type 0) (r : Result A Fault) (x : A) → Holds P r → r ≡ Ok x → P x
 of_holds P r x holds is = let F : Result _ Fault → Type 0 = λ r. Holds P r in subst F is holds
 
+holds_from : {A : Type 0} (P : A → Type 0) (r : Result A Fault) → ((x : A) → r ≡ Ok x → P x) → Holds P r
+holds_from P (Ok x) from = from x refl
+holds_from P (Err fault) from = tt
+
 pub or_fault_holds : {A : Type 0} (P : A → Type 0) (fault : Fault) (o : Option A) → ((x : A) → o ≡ Some x → P x) → Holds P (or_fault fault o)
 or_fault_holds P fault None on = tt
 or_fault_holds P fault (Some x) on = on x refl
@@ -114,27 +119,8 @@ if_holds P false x y holds fails = fails refl
 abbrev pub IsFew : Cells → Type 0
 IsFew cells = cells.length ≤ 262144
 
-abbrev pub AreFew : State → Type 0
-AreFew s = All (λ (slot : Slot). slot.cells.length ≤ 262144) s.slots
-
-cells_few : (variable : ℕ) (s : State) → AreFew s → Holds IsFew (cells_of variable s)
-cells_few variable s few =
-    given_holds IsFew (λ (slot : Slot). slot.cells.length ≤ 262144) (or_fault OutOfBounds (slice_get s.slots (s.base + variable))) (λ (slot : Slot). Ok slot.cells)
-    (or_fault_holds (λ (slot : Slot). slot.cells.length ≤ 262144) OutOfBounds (slice_get s.slots (s.base + variable)) (λ slot is.
-    let at = few (s.base + variable) slot (slice_get_within s.slots (s.base + variable) slot is) in
-    rw (get_or_from_slice_get s.slots (s.base + variable) slot slot is) at at))
-    (λ slot small. small)
-
-elements_few : (cells : Cells) (i : ℤ) → IsFew cells → Holds IsFew (elements_from cells i)
-elements_few cells (negsuc i) few = tt
-elements_few cells (pos i) few = if_holds IsFew (nat_le i cells.length) _ _ (λ t. omega (arith, few)) (λ f. tt)
-
-pub range_few : (reference : Reference) (s : State) → AreFew s → Holds IsFew (range reference s)
-range_few NoReference s few = omega arith
-range_few (Whole variable) s few = cells_few variable s few
-range_few (From variable index) s few =
-    given_free IsFew (value index s) _ (λ i.
-    given_holds IsFew IsFew (cells_of variable s) _ (cells_few variable s few) (λ cells small. elements_few cells i small))
+pub range_few : (reference : Reference) (s : State) → SlotsFit s → Holds IsFew (range reference s)
+range_few reference s fit = holds_from IsFew (range reference s) (λ cells is. range_fits reference s cells fit is)
 
 -- ---- checks
 
@@ -199,7 +185,7 @@ first_is n cells = if_holds (IsFirst n cells) (nat_le n cells.length) _ _ (λ t.
 
 -- ---- going on behind a check
 
-pub on_range : {B : Type 0} (P : B → Type 0) (s : State) (few : AreFew s) (reference : Reference) (go : Cells → Result B Fault) → ((cells : Cells) → IsFew cells → Holds P (go cells)) → Holds P (given (range reference s) go)
+pub on_range : {B : Type 0} (P : B → Type 0) (s : State) (few : SlotsFit s) (reference : Reference) (go : Cells → Result B Fault) → ((cells : Cells) → IsFew cells → Holds P (go cells)) → Holds P (given (range reference s) go)
 on_range P s few reference go on = given_holds P IsFew (range reference s) go (range_few reference s few) on
 
 pub on_comm : {B : Type 0} (P : B → Type 0) (n me : ℕ) (own : View) (s : State) (good : Good n me own s) (v : ℤ) (go : Comm → Result B Fault) → ((comm : Comm) → IsKnown n me own comm → Holds P (go comm)) → Holds P (given (communicator (rank_of n me) s v) go)

@@ -1,6 +1,7 @@
 //! Ranges of cells.
 ghost use Rattle.std.specs.Prelude.{◌≡◌};
 
+use mpi_call::call::Fault;
 use std::marker::Model;
 
 /// Elements in the stack of cells: which cell is the first one's, how many they are, and how many cells each has: 3 for
@@ -23,4 +24,100 @@ impl Model for Range {
     ghost inverse = { λ d. record { from = d.from; length = d.length; width = d.width } };
 
     ghost invariant = { λ r. r.from + r.length * r.width ≤ 262144 };
+}
+
+impl Range {
+    ghost use Rattle.std.specs.Prelude.{◌≡◌, ◌+◌, ◌*◌, ◌≤◌};
+    ghost use Rattle.c_program.specs.State.{no_cells};
+    ghost use Rattle.c_program.specs.Effects.{first as first_of};
+    ghost use Rattle.c_program.specs.Values.{element as element_of, elements_from as elements_of};
+
+    /// `NULL`: no cells.
+    pub fn nothing() -> Range
+        ensures { result ≡ no_cells }
+    {
+        Range {
+            from: 0,
+            length: 0,
+            width: 1,
+        }
+    }
+
+    /// The elements from a cell on. At most 262,144 cells stand.
+    pub fn new(from: u32, length: u32, width: u32) -> Range
+        requires { from + length * width ≤ 262144 }
+        ensures { result ≡ record { from = from; length = length; width = width } }
+    {
+        Range {
+            from,
+            length,
+            width,
+        }
+    }
+
+    /// The first element's cell.
+    pub fn from(&self) -> u32
+        ensures { result ≡ self.now.from }
+    {
+        self.from
+    }
+
+    /// How many elements they are.
+    pub fn length(&self) -> u32
+        ensures { result ≡ self.now.length }
+    {
+        self.length
+    }
+
+    /// How many cells each element has.
+    pub fn width(&self) -> u32
+        ensures { result ≡ self.now.width }
+    {
+        self.width
+    }
+
+    /// The cell of element `i`; OutOfBounds where there is none.
+    pub fn element(&self, i: i32) -> Result<u32, Fault>
+        ensures { result ≡ element_of self.now i }
+    {
+        if i < 0 {
+            return Err(Fault::OutOfBounds);
+        }
+        let place = i as u32;
+        if place < self.length {
+            Ok(self.from + place * self.width)
+        } else {
+            Err(Fault::OutOfBounds)
+        }
+    }
+
+    /// The elements from element `i` on, or none where it is the length; OutOfBounds beyond.
+    pub fn elements_from(&self, i: i32) -> Result<Range, Fault>
+        ensures { result ≡ elements_of self.now i }
+    {
+        if i < 0 {
+            return Err(Fault::OutOfBounds);
+        }
+        let place = i as u32;
+        if place <= self.length {
+            Ok(Range::new(
+                self.from + place * self.width,
+                self.length - place,
+                self.width,
+            ))
+        } else {
+            Err(Fault::OutOfBounds)
+        }
+    }
+
+    /// The first `n` elements; OutOfBounds where there are fewer.
+    pub fn first(&self, n: u32) -> Result<Range, Fault>
+        ensures { result ≡ first_of n self.now }
+    {
+        if n <= self.length {
+            Ok(Range::new(self.from, n, self.width))
+        } else {
+            Err(Fault::OutOfBounds)
+        }
+    }
 }
