@@ -1,7 +1,7 @@
 -- What courses keep over the effect of an MPI call.
 use Rattle.std.proofs.Common.{◌≡◌, ◌<◌, ◌≤◌, ◌+◌, ◌++◌, ◌==◌, ◌⊎◌, ℕ, zero, suc, ℤ, pos, negsuc, Bool, true, false, List, [], ◌∷◌, Option, Some, None, Ok, if◌then◌else◌, nat_lt, length, map, refl, ap, sym, ◌∙◌, subst, inl, inr, arith, All, append-nil, length-append}
 use Rattle.std.specs.Prelude.{IfSome, MatchBool}
-use Rattle.std.proofs.lemmas.Bool.{ltb-true}
+use Rattle.std.proofs.lemmas.Bool.{eq-eqb, eqb-true, ltb-true}
 use Rattle.std.proofs.lemmas.List.{length-map}
 use Rattle.std.proofs.lemmas.List.Elements.{All-append, All-cons, All-map, All-nil, All-weaker}
 use Rattle.mpi_call.specs.Calls.{is_starting}
@@ -16,7 +16,7 @@ use Rattle.mpi_call.specs.declared.reply.Got.TheVariants.{Sent, Nothing as GotNo
 use Rattle.mpi_call.specs.declared.reply.Item.{Item}
 use Rattle.mpi_call.specs.declared.reply.Reply.{Reply}
 use Rattle.mpi_call.specs.declared.reply.Reply.TheVariants.{Done, Took, NotYet, Peeked, Stopped}
-use Rattle.run_model.specs.Communicators.{known_first, known_in, learned as taught, made_in_items, or_members}
+use Rattle.run_model.specs.Communicators.{known_first, known_in, learned as taught, made_in_got, made_in_items, or_members}
 use Rattle.run_model.specs.Program.{IsInBounds, IsInForm, ends}
 use Rattle.run_model.specs.Shape.{has_shape}
 use Rattle.run_model.specs.Views.{View}
@@ -125,3 +125,101 @@ alike_probed n comm flag status Done s = alike_put_some flag _ s
 alike_probed n comm flag status (Took items) s = alike_put_some flag _ s
 alike_probed n comm flag status NotYet s = alike_put_some flag _ s
 alike_probed n comm flag status (Stopped halt) s = alike_put_some flag _ s
+
+-- ---- good states behind a reply
+
+among-append : (made more : List Known) (comm : ℕ) → members_among (made ++ more) comm ≡ or_members (members_among made comm) (members_among more comm)
+among-append [] more comm = refl
+among-append (known ∷ made) more comm =
+    elim (test_cases (known.comm == comm)) [
+      | inl t ↦ rw t refl
+      | inr f ↦ rw f (among-append made more comm)
+    ]
+
+other_than_world : (comm : ℕ) → (comm == 0) ≡ false → (0 == comm) ≡ false
+other_than_world comm real =
+    elim (test_cases (0 == comm)) [
+      | inl t ↦ (
+          let yes : (comm == 0) ≡ true = eq-eqb comm 0 (sym (eqb-true 0 comm t)) in
+          let no : true ≡ false = sym yes ∙ real in
+          absurd (cc))
+      | inr f ↦ f
+    ]
+
+-- a Made with number 0 tells of no communicator
+among-made_by : (got : Got) (rest : List Known) (comm : ℕ) → (comm == 0) ≡ false → members_among (made_by got ++ rest) comm ≡ or_members (made_in_got comm got) (members_among rest comm)
+among-made_by (Made made members) rest comm real =
+    elim (test_cases (made == 0)) [
+      | inl t ↦ (
+          let other : (made == comm) ≡ false = rw (eqb-true made 0 t) (other_than_world comm real) in
+          rw (t, other) refl)
+      | inr f ↦ elim (test_cases (made == comm)) [
+        | inl same ↦ rw (f, same) refl
+        | inr other ↦ rw (f, other) refl
+      ]
+    ]
+among-made_by got rest comm real = refl
+
+among-made_by_all : (items : List Item) (comm : ℕ) → (comm == 0) ≡ false → members_among (made_by_all items) comm ≡ made_in_items comm items
+among-made_by_all [] comm real = refl
+among-made_by_all (item ∷ items) comm real = among-made_by item.got (made_by_all items) comm real ∙ ap (or_members (made_in_got comm item.got)) (among-made_by_all items comm real)
+
+taught_items : (comm : ℕ) (known : Option (List ℕ)) (reply : Reply) → taught comm known reply ≡ or_members known (made_in_items comm (items_of reply))
+taught_items comm (Some members) reply = refl
+taught_items comm None Done = refl
+taught_items comm None (Took items) = refl
+taught_items comm None NotYet = refl
+taught_items comm None (Peeked source start tag count) = refl
+taught_items comm None (Stopped halt) = refl
+
+-- a state learns what its view does
+learned_known : (n : ℕ) (s : State) (reply : Reply) (comm : ℕ) → members_of n (learned (items_of reply) s) comm ≡ taught comm (members_of n s comm) reply
+learned_known n s reply comm =
+    elim (test_cases (comm == 0)) [
+      | inl t ↦ rw t refl
+      | inr f ↦ rw f (among-append s.made (made_by_all (items_of reply)) comm ∙ ap (or_members (members_among s.made comm)) (among-made_by_all (items_of reply) comm f) ∙ sym (taught_items comm (members_among s.made comm) reply))
+    ]
+
+-- behind any reply in shape
+good_reply : (n me : ℕ) (own : View) (call : Call) (reply : Reply) (s : State) → Good n me own s → IsInForm n own me call → has_shape n me own call reply ≡ true → Good n me (own ++ (call, reply) ∷ []) (learned (items_of reply) s)
+good_reply n me own call reply s good form shape = record {
+  order = in_order_more n me own call reply good.order form shape;
+  starts = (let more = length-append own ((call, reply) ∷ []) in let few = good.starts in omega (arith, more, few));
+  known = λ comm.
+      learned_known n s reply comm ∙ ap (λ known. taught comm known reply) (good.known comm)
+      ∙ sym (known_after-append comm (known_first n comm) own ((call, reply) ∷ []));
+  slots = good.slots;
+}
+
+-- a reply without items teaches nothing
+alike_learned : (s : State) → Alike (learned [] s) s
+alike_learned s = record { starts = refl; made = sym (append-nil s.made); slots = refl; printed = refl }
+
+good_untaught : (n me : ℕ) (own : View) (call : Call) (reply : Reply) (s : State) → Good n me own s → IsInForm n own me call → has_shape n me own call reply ≡ true → items_of reply ≡ [] → Good n me (own ++ (call, reply) ∷ []) s
+good_untaught n me own call reply s good form shape none =
+    good_alike n me (own ++ (call, reply) ∷ []) (learned (items_of reply) s) s (rw none (alike_learned s)) (good_reply n me own call reply s good form shape)
+
+-- a start
+done_fits : (n me : ℕ) (own : View) (call : Call) → is_starting call ≡ true → has_shape n me own call Done ≡ true
+done_fits n me own (Send comm dest tag ints) starting = refl
+done_fits n me own (Post comm source tag room) starting = refl
+done_fits n me own (Enter comm kind root op count ints) starting = refl
+done_fits n me own (Take starts mode) starting = absurd (cc)
+done_fits n me own (Peek comm source tag wait) starting = absurd (cc)
+done_fits n me own (Abort code) starting = absurd (cc)
+done_fits n me own (Trap fault) starting = absurd (cc)
+done_fits n me own End starting = absurd (cc)
+
+good_begun : (n me : ℕ) (own : View) (call : Call) (start : Begun) (s : State) → Good n me own s → IsInForm n own me call → is_starting call ≡ true → Good n me (own ++ (call, Done) ∷ []) (begun start s)
+good_begun n me own call start s good form starting =
+    let next : Good n me (own ++ (call, Done) ∷ []) s = good_untaught n me own call Done s good form (done_fits n me own call starting) refl in
+    record {
+      order = next.order;
+      starts = (
+          let more = length-append own ((call, Done) ∷ []) in
+          let one = length-append s.starts (start ∷ []) in
+          let few = good.starts in
+          omega (arith, more, one, few));
+      known = next.known;
+      slots = next.slots;
+    }
