@@ -10,5 +10,8 @@ pub mod Program
 pub mod Keeping
 pub mod GoodLaws
 pub mod RangeLaws
+pub mod Proper
+pub mod ProperEffects
+pub mod EffectLaws
 pub mod StatementLaws
 pub mod ProgramLaws
