@@ -1,7 +1,6 @@
 -- Programs of one text mean the same.
-use Rattle.std.proofs.Common.{◌≡◌, ◌∙◌, ℕ, ℤ, pos, zero, suc, List, [], ◌∷◌, Option, Some, None, refl, sym, ap, subst, slice_get}
+use Rattle.std.proofs.Common.{◌≡◌, ◌∙◌, ℕ, ℤ, pos, zero, suc, List, [], ◌∷◌, Some, refl, sym, ap, subst, slice_get}
 use Rattle.mpi_call.specs.declared.call.Fault.TheVariants.{Cells as CellsFault}
-use Rattle.mpi_call.specs.declared.reply.Reply.{Reply}
 use Rattle.c_grammar.specs.Tree as t
 use Rattle.c_check.specs.Scopes.{Env, cut}
 use Rattle.c_program.specs.Courses.{call_in, ended, shaped_after, state_in, trapped, variables_in}

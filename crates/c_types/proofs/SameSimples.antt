@@ -1,14 +1,12 @@
 -- Typed statements that stand before a `;`, and declarations, of one tree mean the same.
-use Rattle.std.proofs.Common.{◌≡◌, ◌∙◌, ◌+◌, ℕ, ℤ, List, [], ◌∷◌, Option, Some, None, Result, Ok, refl, sym, subst, length}
+use Rattle.std.proofs.Common.{◌≡◌, ◌∙◌, ◌+◌, ℕ, ℤ, List, ◌∷◌, Option, Ok, refl, sym, subst, length}
 use Rattle.mpi_call.specs.Operations.{is_set}
 use Rattle.mpi_call.specs.declared.call.Fault.TheVariants.{Cells as CellsFault}
 use Rattle.c_grammar.specs.Tree as t
-use Rattle.c_names.specs.declared.format.Piece.{Piece}
 use Rattle.c_names.specs.declared.kind.Kind.{Kind}
 use Rattle.c_check.specs.Calls.{arguments_of}
 use Rattle.c_check.specs.Scopes.{Env}
 use Rattle.c_program.specs.Courses.{trapped}
-use Rattle.c_program.specs.Effects.{effect_of}
 use Rattle.c_program.specs.Meaning as m
 use Rattle.c_program.specs.Meaning.{Calls, Exits}
 use Rattle.c_program.specs.Performing.{Onward, perform}
@@ -18,7 +16,6 @@ use Rattle.c_program.specs.Values.{given, operated, values}
 use Rattle.c_program.specs.declared.effect.Rank.{Rank}
 use Rattle.c_program.specs.declared.expr.Call.{Call}
 use Rattle.c_program.specs.declared.expr.Expr.{Expr}
-use Rattle.c_program.specs.declared.mpi.MpiCall.{MpiCall}
 use Rattle.c_program.specs.declared.expr.Right.{Right}
 use Rattle.c_program.specs.declared.statement.Declaration.{Declaration}
 use Rattle.c_program.specs.declared.statement.ForStart.{ForStart}

@@ -1,5 +1,5 @@
 -- Typed statements of one tree mean the same.
-use Rattle.std.proofs.Common.{◌≡◌, ◌∙◌, ℕ, zero, suc, List, Option, Some, None, Ok, refl, sym}
+use Rattle.std.proofs.Common.{◌≡◌, ◌∙◌, ℕ, zero, suc, List, Option, Some, Ok, refl, sym}
 use Rattle.mpi_call.specs.Operations.{is_set}
 use Rattle.c_grammar.specs.Tree as t
 use Rattle.c_check.specs.Scopes.{Env}
@@ -60,9 +60,9 @@ module _ (rank : Rank) (calls : Calls) where
         λ i. m.step s (λ s. m.started (λ s k. same_stmt one other s k i) s (m.turn_exits m.no_update (λ s.
         same_loop (Some e) (Some f) m.no_update m.no_update (m.started (act rank calls a.value)) (m.started (act rank calls b.value))
         (λ s i. given (same_value env test second s i) (λ v. Ok (is_set v))) (λ s go. refl) (λ s k i. m.started (λ s k. same_stmt one other s k i) s k) s k i) k))
-    same_stmt (x.for {typed_test = e} {typed_step = u} {a = a} start test step one) (x.for {typed_test = f} {typed_step = w} {a = b} begin second last other) s k =
+    same_stmt (x.for {typed_test = e} {typed_step = u} {a = a} start first turn one) (x.for {typed_test = f} {typed_step = w} {a = b} begin second last other) s k =
         λ i. same_start rank calls start begin s (λ t. same_loop e f (m.for_update rank calls u) (m.for_update rank calls w)
-        (m.started (act rank calls a.value)) (m.started (act rank calls b.value)) (same_test test second) (same_step rank calls step last)
+        (m.started (act rank calls a.value)) (m.started (act rank calls b.value)) (same_test first second) (same_step rank calls turn last)
         (λ s k i. m.started (λ s k. same_stmt one other s k i) s k) t (leaving (mark_of s) k) i) i
 
     same_part : {env : Env} {one : t.Part} {a b : Part} → IsPart env one a → IsPart env one b
