@@ -1,4 +1,3 @@
-pub mod Chains
 pub mod Evaluated
 pub mod SlotView
 pub mod Slots
