@@ -42,7 +42,6 @@ impl Board {
     /// not agree.
     pub fn enter(&mut self, rank: u8, call: &Call) -> Result<Entered, AllocError>
         requires call { IsTrue (is_enter call.now) }
-        requires count { enters_on self.old (comm_of call.now) rank < 4000000000 }
         ensures answer { IfOk result (λ entered. entered ≡ entered_by self.old rank call.now) }
 
         // An Enter that disagrees takes no memory.

@@ -1,18 +1,19 @@
 //! Entering collectives.
-ghost use Rattle.std.specs.Prelude.{◌≡◌, ◌<◌, ◌++◌, ◌∷◌, [], ℕ, length, map, true, IfOk, IsNone, OnErr, OnOk};
+ghost use Rattle.std.specs.Prelude.{◌≡◌, ◌<◌, ◌++◌, ◌∷◌, ◌≤◌, [], ℕ, length, map, true, vec_capacity, vec_len, IfOk, IsNone, IsOk, OnErr, OnOk};
 ghost use Rattle.mpi_call.specs.declared.call.Call.{Call};
 ghost use Rattle.mpi_call.specs.Calls.{comm_of, is_enter};
 ghost use Rattle.mpi_call.specs.Members.{is_member};
 ghost use Rattle.collectives.specs.Boards.{entered_by, enters_of, enters_on, GainsEnter, IsBoardAfter, IsOrderly, Stages};
 ghost use Rattle.collectives.specs.Entrants.{has_entered, ints_by};
+ghost use Rattle.collectives.specs.declared.instances.Entered.TheVariants.{Disagrees};
 ghost use Rattle.comms.specs.Communicators.{given_in, old_members};
 ghost use Rattle.requests.specs.Enters.{has_all};
 ghost use Rattle.requests.specs.Starts.{fresh, row_of, with_start};
 ghost use Rattle.requests.specs.States.{IsCommsAfter, IsDupWhen, IsSplitWhen, MayMake};
 
 use crate::collected::comm_of;
-use crate::rows::{add_start, drop_start};
-use crate::start::Row;
+use crate::rows::{add_start, drop_start, reserve_to};
+use crate::start::{Name, Row};
 use collectives::board::Board;
 use collectives::instances::Entered;
 use comms::communicators::Comms;
@@ -24,16 +25,16 @@ use std::alloc::AllocError;
 pub fn entered(board: &mut Board, rank: u8, call: &Call) -> Result<Entered, AllocError>
     requires { is_enter call.now ≡ true }
     ensures answer { IfOk result (λ entered. entered ≡ entered_by board.old rank call.now) }
+
+    // An Enter that does not agree takes no memory.
+    ensures disagrees { (other : ℕ) → entered_by board.old rank call.now ≡ Disagrees other → IsOk result }
     ensures after { IfOk result (λ entered. IsBoardAfter board.old board.new rank call.now entered) }
     ensures err { OnErr result (board.new ≡ board.old) }
     ensures before { IsOrderly board.old (comm_of call.now) rank }
     ensures orderly { OnOk result (IsOrderly board.new (comm_of call.now) rank) }
 {
     let comm = comm_of(call);
-    // No memory holds so many Enters.
-    if board.enters_on(comm, rank) >= 4_000_000_000 {
-        return Err(AllocError);
-    }
+    board.enters_on(comm, rank);
     let entered = board.enter(rank, call)?;
     board.enters_on(comm, rank);
     Ok(entered)
@@ -48,24 +49,31 @@ pub fn left(board: &mut Board, rank: u8, comm: Comm)
     }
 }
 
-/// Adds the start of an Enter that is on the board, and makes communicators where it is the last one. After the want of
-/// memory nothing has changed.
+/// Adds the start of an Enter that is on the board, makes communicators where it is the last one, and makes room for its name.
+/// After the want of memory nothing has changed.
 pub fn joined(
     rows: &mut Vec<Row>,
+    names: &mut Vec<Option<Name>>,
     board: &Board,
     comms: &mut Comms,
+    at: u32,
     rank: u8,
     call: &Call,
     instance: u32,
 ) -> Result<u32, AllocError>
     requires rank { rank < length rows.old.items }
     requires may { MayMake board.now comms.old call.now instance }
+    requires behind { vec_len names.old ≤ at }
     ensures number { IfOk result (λ number. number ≡ length (row_of rows.old.items rank)) }
     ensures ok { OnOk result (rows.new.items ≡ with_start rank (fresh call.now instance) rows.old.items) }
     ensures made { OnOk result (IsCommsAfter comms.old comms.new call.now instance (enters_of board.now (comm_of call.now) instance)) }
     ensures err { OnErr result (rows.new.items ≡ rows.old.items) }
     ensures err_made { OnErr result (comms.new ≡ comms.old) }
+    ensures same { names.new.items ≡ names.old.items }
+    ensures many { vec_len names.new ≡ vec_len names.old }
+    ensures room { OnOk result (at < vec_capacity names.new) }
 {
+    reserve_to(names, at)?;
     let copied = copy_of(call)?;
     let start = add_start(rows, rank, copied, instance)?;
     let Ok(()) = make(board, comms, call, instance) else {

@@ -1,19 +1,12 @@
-use Rattle.std.proofs.Common.{◌≡◌, ◌∙◌, ◌<◌, ap, sym, subst, List, [], ℕ, refl, rules}
+use Rattle.std.proofs.Common.{◌≡◌, ◌∙◌, ap, List, [], ℕ, refl, rules}
 use Rattle.std.proofs.lemmas.Result.{IfOk-weaker, on_err_weaker}
 use Rattle.mpi_call.specs.Calls.{comm_of}
 use Rattle.collectives.proofs.BoardLemmas.{board_after, board_after_first, first_joins, known, same_written, sets_at, sets_is, unknown, Sets}
 use Rattle.collectives.specs.Boards.{instances_on, Stages}
 use Rattle.std.specs.BTreeMap.{BTreeMap}
-use Rattle.collectives.specs.Instances.{answer_of, enters_by}
+use Rattle.collectives.specs.Instances.{answer_of}
 use Rattle.collectives.specs.declared.entrants.Entrant.{Entrant}
 use Rattle.collectives.proofs.board.Board.enter.Goals as goal
-
-pub enter-requires-clause-count : goal.enter-requires-clause-count
-enter-requires-clause-count c =
-    let is : c.in-Some.instances.now ≡ instances_on c.args.self.now (comm_of c.args.call.now) =
-    known c.self.inside.stages.entries c.args.self.now c.comm_of-comm.result (comm_of c.args.call.now) c.in-Some.instances.now c.in-Some.ensures.value c.self.view_is c.comm_of-comm.ensures in
-    let P : List (List Entrant) → Type 0 = λ all. enters_by all c.args.rank < 4000000000 in
-    subst P (sym is) c.requires.count
 
 pub returns-in-Some-clause-answer : goal.returns-in-Some-clause-answer
 returns-in-Some-clause-answer c =

@@ -1,7 +1,7 @@
 use Rattle.std.proofs.Common.{◌∙◌, ap, List, refl, subst}
 use Rattle.collectives.proofs.BoardLemmas.{known, unknown}
 use Rattle.collectives.proofs.InstanceLemmas.{orderly_first}
-use Rattle.collectives.specs.Boards.{IsOrderly, instances_on}
+use Rattle.collectives.specs.Boards.{instances_on}
 use Rattle.collectives.specs.Instances.{AreOrderly, enters_by}
 use Rattle.collectives.specs.declared.entrants.Entrant.{Entrant}
 use Rattle.collectives.proofs.board.Board.enters_on.Goals as goal
