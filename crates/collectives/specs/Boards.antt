@@ -1,5 +1,6 @@
 -- The collectives of all communicators.
-use Rattle.std.specs.Prelude.{◌≡◌, ℕ, List, [], ◌∷◌, ◌++◌, ◌&&◌, ◌==◌, if◌then◌else◌, nat_lt}
+use Rattle.std.specs.Prelude.{◌≡◌, ℕ, List, [], ◌∷◌, ◌++◌, ◌&&◌, ◌==◌, if◌then◌else◌, map, nat_lt}
+use Rattle.std.specs.List.{slice_index_or}
 use Rattle.mpi_call.specs.Calls.{comm_of}
 use Rattle.mpi_call.specs.declared.call.Call.{Call}
 use Rattle.collectives.specs.Entrants.{AllAgree, has_entered, without}
@@ -8,17 +9,33 @@ use Rattle.collectives.specs.declared.entrants.Entrant.{Entrant}
 use Rattle.collectives.specs.declared.instances.Entered.{Entered}
 use Rattle.collectives.specs.declared.instances.Entered.TheVariants.{Joined, Disagrees}
 
--- each communicator's number and instances
+-- the instances of each communicator, by its number
 abbrev pub Stages : Type 0
-Stages = List (ℕ × List (List Entrant))
+Stages = List (List (List Entrant))
 
 abbrev pub instances_on : Stages → ℕ → List (List Entrant)
-instances_on [] comm = []
-instances_on (stage ∷ stages) comm = if stage.0 == comm then stage.1 else instances_on stages comm
+instances_on stages comm = slice_index_or stages comm []
 
 -- the Enters of an instance, in the order made
 abbrev pub enters_of : Stages → ℕ → ℕ → List Entrant
 enters_of stages comm instance = instance_at (instances_on stages comm) instance
+
+-- without the empty lists at the end
+abbrev pub trim_before : {A : Type 0} → List A → List (List A) → List (List A)
+trim_before [] [] = []
+trim_before [] (list ∷ lists) = [] ∷ list ∷ lists
+trim_before (a ∷ front) lists = (a ∷ front) ∷ lists
+
+abbrev pub trim : {A : Type 0} → List (List A) → List (List A)
+trim [] = []
+trim (list ∷ lists) = trim_before list (trim lists)
+
+-- without the instances at the end that nobody has entered, and without the communicators at the end that have none
+abbrev pub stages_of : Stages → Stages
+stages_of stages = trim (map trim stages)
+
+abbrev pub IsTrimmed : Stages → Type 0
+IsTrimmed stages = stages_of stages ≡ stages
 
 -- how many Enters a rank has made on a communicator: the instance of its next one
 abbrev pub enters_on : Stages → ℕ → ℕ → ℕ

@@ -1,7 +1,8 @@
 //! The collectives of all communicators.
-ghost use Rattle.std.specs.Prelude.{◌≡◌, ◌-◌, ◌<◌, [], ℕ, map, IfOk, IsOk, IsTrue, OnErr};
+ghost use Rattle.std.specs.Prelude.{◌≡◌, ◌-◌, ◌<◌, ◌≤◌, [], ℕ, map, vec_len, IfOk, IsOk, IsTrue, OnErr, OnOk};
+ghost use Rattle.std.specs.List.{slice_index_or};
 ghost use Rattle.mpi_call.specs.Calls.{comm_of, is_enter};
-ghost use Rattle.collectives.specs.Boards.{entered_by, enters_of, enters_on, IsBoardAfter, IsOrderly, LosesEnter};
+ghost use Rattle.collectives.specs.Boards.{entered_by, enters_of, enters_on, IsBoardAfter, IsOrderly, IsTrimmed, LosesEnter};
 ghost use Rattle.collectives.specs.Entrants.{has_entered, ints_by};
 ghost use Rattle.collectives.specs.declared.instances.Entered.TheVariants.{Disagrees};
 
@@ -9,22 +10,22 @@ use crate::instances::{Entered, Instances};
 use mpi_call::call::{Call, Comm};
 use mpi_call::lists::{Inputs, Ranks};
 use std::alloc::{AllocError, Global};
-use std::collections::BTreeMap;
 use std::marker::Model;
 
-/// Who has entered which collective; contracts see each communicator's instances, with their Enters in the order made.
+/// Who has entered which collective; contracts see each communicator's instances, with their Enters in the order made, without
+/// empty ones at the end.
 #[derive(Drop)]
 pub struct Board {
-    stages: BTreeMap<Comm, Instances>,
+    stages: Vec<Instances>,
     alloc: Global,
 }
 
 impl Model for Board {
-    ghost use Rattle.collectives.specs.Boards.{Stages};
+    ghost use Rattle.collectives.specs.Boards.{Stages, stages_of};
 
     ghost Value = { Stages };
 
-    ghost view = { λ s. s.stages.entries };
+    ghost view = { λ s. stages_of s.stages.items };
 }
 
 impl Board {
@@ -33,7 +34,7 @@ impl Board {
         ensures { result ≡ [] }
     {
         Board {
-            stages: BTreeMap::new(alloc),
+            stages: Vec::new(alloc),
             alloc,
         }
     }
@@ -42,7 +43,6 @@ impl Board {
     /// not agree.
     pub fn enter(&mut self, rank: u8, call: &Call) -> Result<Entered, AllocError>
         requires call { IsTrue (is_enter call.now) }
-        requires count { enters_on self.old (comm_of call.now) rank < 4000000000 }
         ensures answer { IfOk result (λ entered. entered ≡ entered_by self.old rank call.now) }
 
         // An Enter that disagrees takes no memory.
@@ -51,22 +51,17 @@ impl Board {
         ensures err { OnErr result (self.new ≡ self.old) }
     {
         let comm = comm_of(call);
-        match self.stages.get_mut(&comm) {
-            Some(instances) => return instances.enter(self.alloc, rank, call),
-            None => {}
-        }
-        let mut instances = Instances::new(self.alloc);
-        let entered = instances.enter(self.alloc, rank, call)?;
-        self.stages.insert(comm, instances)?;
-        Ok(entered)
+        reserve(self.alloc, &mut self.stages, comm)?;
+        self.stages[comm as usize].enter(self.alloc, rank, call)
     }
 
     /// How many Enters a rank has made on a communicator: the instance of its next one. Takes no memory.
     pub fn enters_on(&self, comm: Comm, rank: u8) -> u32
         ensures value { result ≡ enters_on self.now comm rank }
         ensures orderly { IsOrderly self.now comm rank }
+        ensures trimmed { IsTrimmed self.now }
     {
-        match self.stages.get(&comm) {
+        match self.stages.get(comm as usize) {
             Some(instances) => instances.enters_by(rank),
             None => 0,
         }
@@ -76,7 +71,7 @@ impl Board {
     pub fn entered(&self, comm: Comm, instance: u32, who: u8) -> bool
         ensures { result ≡ has_entered (enters_of self.now comm instance) who }
     {
-        match self.stages.get(&comm) {
+        match self.stages.get(comm as usize) {
             Some(instances) => instances.entered(instance, who),
             None => false,
         }
@@ -86,7 +81,7 @@ impl Board {
     pub fn inputs(&self, comm: Comm, instance: u32, members: &Ranks) -> Result<Inputs, AllocError>
         ensures { IfOk result (λ inputs. inputs ≡ map (ints_by (enters_of self.now comm instance)) members.now) }
     {
-        match self.stages.get(&comm) {
+        match self.stages.get(comm as usize) {
             Some(instances) => instances.inputs(self.alloc, instance, members.as_slice()),
             None => Instances::new(self.alloc).inputs(self.alloc, instance, members.as_slice()),
         }
@@ -95,13 +90,23 @@ impl Board {
     /// Takes a rank's latest Enter on a communicator out. Takes no memory.
     pub fn leave(&mut self, rank: u8, comm: Comm)
         requires { 0 < enters_on self.old comm rank }
-        ensures { LosesEnter self.old self.new comm (enters_on self.old comm rank - 1) rank }
+        ensures loses { LosesEnter self.old self.new comm (enters_on self.old comm rank - 1) rank }
+        ensures trimmed { IsTrimmed self.new }
     {
-        match self.stages.get_mut(&comm) {
-            Some(instances) => instances.leave(rank),
-            None => {}
-        }
+        self.stages[comm as usize].leave(rank);
     }
+}
+
+/// Makes a place for a communicator's instances, where nobody has entered.
+fn reserve(alloc: Global, stages: &mut Vec<Instances>, comm: Comm) -> Result<(), AllocError>
+    ensures same { (other : ℕ) → slice_index_or stages.new.items other [] ≡ slice_index_or stages.old.items other [] }
+    ensures ok { OnOk result (comm < vec_len stages.new) }
+    ensures past { OnErr result (vec_len stages.old ≤ comm) }
+{
+    while stages.len() <= comm as usize {
+        stages.push(Instances::new(alloc))?;
+    }
+    Ok(())
 }
 
 /// The communicator of an Enter.

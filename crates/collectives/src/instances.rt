@@ -79,7 +79,6 @@ impl Instances {
     /// Adds an Enter of a rank to that rank's next instance, or answers the earliest rank whose Enter there does not agree.
     pub fn enter(&mut self, alloc: Global, rank: u8, call: &Call) -> Result<Entered, AllocError>
         requires call { IsTrue (is_enter call.now) }
-        requires count { enters_by self.old rank < 4000000000 }
         ensures answer { IfOk result (λ entered. entered ≡ answer_of self.old rank call.now) }
 
         // An Enter that disagrees takes no memory.
@@ -91,6 +90,10 @@ impl Instances {
         match first_against(&self.lists, instance, call) {
             Some(other) => return Ok(Entered::Disagrees { other }),
             None => {}
+        }
+        // No memory holds so many Enters.
+        if instance == u32::MAX {
+            return Err(AllocError);
         }
         let call = call::copy_of(call)?;
         reserve(&mut self.counts, rank)?;

@@ -3,11 +3,11 @@ ghost use Rattle.std.specs.Prelude.{◌≡◌, ◌&&◌, length, nat_le, nat_lt,
 ghost use Rattle.std.specs.List.{list_all, list_any};
 ghost use Rattle.run_model.specs.Serial.{call_after};
 ghost use Rattle.run_model.specs.Views.{replies_in, view_of};
-ghost use Rattle.mpi_machine.specs.Scripts.{call_at, fine_call, is_fine, is_fine_tag, is_open_source, is_plain, is_stopped, next_of};
+ghost use Rattle.mpi_machine.specs.Scripts.{call_at, fine_call, gives, has_parts, is_cast, is_fine, is_fine_tag, is_made, is_open_source, is_stopped, next_of, two_lists};
 
 use mpi_call::call;
-use mpi_call::call::{Call, Fault, Kind, Source, Tag};
-use mpi_call::reply::Reply;
+use mpi_call::call::{Call, Comm, Fault, Kind, Op, Source, Tag};
+use mpi_call::reply::{Got, Item, Reply};
 use run_model::event::Event;
 use run_model::program::Program;
 use std::alloc::AllocError;
@@ -53,22 +53,22 @@ pub struct Script {
 
 impl Program for Script {
     ghost use Rattle.std.specs.Prelude.{[], refl};
-    ghost use Rattle.mpi_machine.specs.Scripts.{next_of};
+    ghost use Rattle.mpi_machine.specs.Scripts.{next_of, two_lists};
     ghost use Rattle.mpi_machine.specs.ScriptLaws.{asks_in_bounds, ends_exactly, enters_in_form};
 
-    ghost next = { λ p. next_of p.zeroth p.first };
+    ghost next = { λ p. next_of (two_lists p.zeroth p.first) };
 
     ghost output = { λ p n rank replies. [] };
 
     ghost variables = { λ p n rank replies. [] };
 
-    ghost ends_exactly = { λ p. ends_exactly p.zeroth p.first };
+    ghost ends_exactly = { λ p. ends_exactly (two_lists p.zeroth p.first) };
 
     ghost prints_on = { λ p n rank view more is_rank came. ([], refl) };
 
-    ghost asks_in_bounds = { λ p. asks_in_bounds p.zeroth p.first };
+    ghost asks_in_bounds = { λ p. asks_in_bounds (two_lists p.zeroth p.first) };
 
-    ghost enters_in_form = { λ p. enters_in_form p.zeroth p.first };
+    ghost enters_in_form = { λ p. enters_in_form (two_lists p.zeroth p.first) };
 }
 
 fn is_open_source(source: &Source) -> bool
@@ -89,16 +89,96 @@ fn is_fine_tag(tag: &Tag) -> bool
     }
 }
 
-/// Whether a collective has no root, operation and ints.
-fn is_plain(kind: Kind) -> bool
-    ensures { result ≡ is_plain kind }
+/// Whether a communicator was made by this.
+fn is_made(got: &Got, comm: Comm) -> bool
+    ensures { result ≡ is_made comm got.now }
 {
-    matches!(kind, Kind::Barrier | Kind::Dup)
+    match got {
+        Got::Made { comm: made, .. } => *made == comm,
+        _ => false,
+    }
 }
 
-/// Whether a call may stand in a script for so many ranks.
-fn is_fine(ranks: u8, call: &Call) -> bool
-    ensures { result ≡ is_fine ranks call.now }
+fn are_made(items: &[Item], comm: Comm) -> bool
+    ensures { result ≡ list_any (λ item. is_made comm item.got) items.now }
+{
+    let mut rest = items;
+    while let [item, after @ ..] = rest {
+        if is_made(&item.got, comm) {
+            return true;
+        }
+        rest = after;
+    }
+    false
+}
+
+/// Whether a reply gives a communicator.
+fn gives(reply: &Reply, comm: Comm) -> bool
+    ensures { result ≡ gives comm reply.now }
+{
+    match reply {
+        Reply::Took(items) => are_made(items.as_slice(), comm),
+        _ => false,
+    }
+}
+
+fn is_given(events: &[Event], rank: u8, comm: Comm) -> bool
+    ensures { result ≡ list_any (gives comm) (replies_in (view_of events.now rank)) }
+{
+    let mut rest = events;
+    while let [event, after @ ..] = rest {
+        if event.rank == rank && gives(&event.reply, comm) {
+            return true;
+        }
+        rest = after;
+    }
+    false
+}
+
+/// Whether a broadcast of a rank has a root and as many ints as it wants.
+fn is_cast(ranks: u8, rank: u8, root: Option<u8>, count: u32, ints: usize) -> bool
+    ensures { result ≡ is_cast ranks rank root count ints }
+{
+    let Some(root) = root else {
+        return false;
+    };
+    let sent = if root == rank { count } else { 0 };
+    root < ranks && (ints == sent as usize && count <= 262_144)
+}
+
+/// What a collective has beside its kind and communicator.
+#[derive(Clone, Copy)]
+struct Parts {
+    root: Option<u8>,
+    op: Option<Op>,
+    count: u32,
+    ints: usize,
+}
+
+/// Whether a collective of a rank has what its kind wants.
+fn has_parts(ranks: u8, rank: u8, comm: Comm, kind: Kind, parts: Parts) -> bool
+    ensures { result ≡ has_parts ranks rank comm kind parts.root parts.op parts.count parts.ints }
+{
+    let Parts {
+        root,
+        op,
+        count,
+        ints,
+    } = parts;
+    match kind {
+        Kind::Barrier | Kind::Dup => root.is_none() && (op.is_none() && (count == 0 && ints == 0)),
+        Kind::Split => root.is_none() && (op.is_none() && (count == 0 && ints == 2)),
+        Kind::Allreduce => {
+            root.is_none() && (op.is_some() && (ints == count as usize && count <= 262_144))
+        }
+        Kind::Bcast => op.is_none() && (comm == 0 && is_cast(ranks, rank, root, count, ints)),
+        _ => false,
+    }
+}
+
+/// Whether a call may stand in a script of a rank for so many ranks after these events.
+fn is_fine(ranks: u8, rank: u8, events: &[Event], call: &Call) -> bool
+    ensures { result ≡ is_fine ranks rank (replies_in (view_of events.now rank)) call.now }
 {
     match call {
         Call::Send {
@@ -118,10 +198,14 @@ fn is_fine(ranks: u8, call: &Call) -> bool
             count,
             ints,
         } => {
-            *comm == 0
-                && (is_plain(*kind)
-                    && (root.is_none()
-                        && (op.is_none() && (*count == 0 && ints.as_slice().len() == 0))))
+            let parts = Parts {
+                root: *root,
+                op: *op,
+                count: *count,
+                ints: ints.as_slice().len(),
+            };
+            (*comm == 0 || is_given(events, rank, *comm))
+                && has_parts(ranks, rank, *comm, *kind, parts)
         }
         Call::Abort { .. } | Call::Trap { .. } => true,
         Call::End => false,
@@ -148,10 +232,10 @@ fn are_low(starts: &[u32]) -> bool
 }
 
 /// A call of a script; one that may not stand there is a trap.
-fn fine_call(ranks: u8, call: &Call) -> Result<Call, AllocError>
-    ensures { IfOk result (λ fine. fine ≡ fine_call ranks call.now) }
+fn fine_call(ranks: u8, rank: u8, events: &[Event], call: &Call) -> Result<Call, AllocError>
+    ensures { IfOk result (λ fine. fine ≡ fine_call ranks rank (replies_in (view_of events.now rank)) call.now) }
 {
-    if is_fine(ranks, call) {
+    if is_fine(ranks, rank, events, call) {
         return call::copy_of(call);
     }
     Ok(Call::Trap {
@@ -159,11 +243,17 @@ fn fine_call(ranks: u8, call: &Call) -> Result<Call, AllocError>
     })
 }
 
-fn call_at(ranks: u8, calls: &[Call], at: usize) -> Result<Option<Call>, AllocError>
-    ensures { IfOk result (λ call. call ≡ call_at ranks calls.now at) }
+fn call_at(
+    ranks: u8,
+    rank: u8,
+    events: &[Event],
+    calls: &[Call],
+    at: usize,
+) -> Result<Option<Call>, AllocError>
+    ensures { IfOk result (λ call. call ≡ call_at ranks rank (replies_in (view_of events.now rank)) calls.now at) }
 {
     if at < calls.len() {
-        return Ok(Some(fine_call(ranks, &calls[at])?));
+        return Ok(Some(fine_call(ranks, rank, events, &calls[at])?));
     }
     if at == calls.len() {
         return Ok(Some(Call::End));
@@ -206,14 +296,14 @@ pub fn next_call(
     events: &[Event],
     rank: u8,
 ) -> Result<Option<Call>, AllocError>
-    ensures { IfOk result (λ call. call ≡ call_after (next_of script.now.zeroth script.now.first) ranks events.now rank) }
+    ensures { IfOk result (λ call. call ≡ call_after (next_of (two_lists script.now.zeroth script.now.first)) ranks events.now rank) }
 {
     if is_stopped(events, rank) {
         return Ok(None);
     }
     let at = count_of(events, rank);
     if rank == 0 {
-        return call_at(ranks, script.zeroth.as_slice(), at);
+        return call_at(ranks, rank, events, script.zeroth.as_slice(), at);
     }
-    call_at(ranks, script.first.as_slice(), at)
+    call_at(ranks, rank, events, script.first.as_slice(), at)
 }

@@ -12,10 +12,12 @@ ghost use Rattle.run_model.specs.Pairs.{Name, name_at};
 ghost use Rattle.run_model.specs.Program.{IsInForm};
 ghost use Rattle.run_model.specs.Views.{items_taken, view_of};
 ghost use Rattle.match_core.specs.Starts.{is_message, is_peek, left_by, start_of, AreBelow, IsEarliest};
+ghost use Rattle.collectives.specs.Boards.{entered_by};
+ghost use Rattle.collectives.specs.declared.instances.Entered.TheVariants.{Disagrees as DisagreesWith};
 ghost use Rattle.match_core.specs.Histories.{event_of, KnowsMore, Knows as MatcherKnows};
 ghost use Rattle.requests.specs.declared.requests.TakeAnswer.TheVariants.{Took};
 ghost use Rattle.requests.specs.Starts.{all_marked, found_in, name_in, row_of, with_row};
-ghost use Rattle.requests.specs.States.{at_first, with_rows, IsAbove, IsEntered, IsPaired, IsStarted, IsUnchanged, MayEnter, State};
+ghost use Rattle.requests.specs.States.{at_first, with_rows, IsAbove, IsEntered, IsPaired, IsStarted, MayEnter, State};
 ghost use Rattle.requests.specs.Taking.{answer_in, hands_out, readiness_of, rows_after};
 ghost use Rattle.requests.specs.Histories.{Answers, IsIdle, IsReadiness, Knows, KnowsStarted, KnowsTaken};
 
@@ -107,18 +109,19 @@ impl Requests {
     }
 
     /// Adds the Send, Post or Enter of a rank that stands at position `at` of the history. A Send or Post gets the earliest
-    /// partner that fits. An Enter that does not agree with an earlier one of its instance is not added, and changes nothing.
+    /// partner that fits. An Enter that does not agree with an earlier one of its instance is not added, changes nothing and
+    /// takes no memory. After the want of memory nothing has changed.
     pub fn start(&mut self, at: u32, rank: u8, call: &Call) -> Result<Started, AllocError>
         requires kind { IsTrue (is_starting call.now) }
         requires enter { is_enter call.now ≡ true → MayEnter self.old.table.comms rank call.now }
         requires position { IsAbove at self.old }
         requires rank { rank < length self.old.table.rows }
         ensures ok { IfOk result (λ started. IsStarted self.old self.new at rank call.now started) }
-        ensures err { OnErr result (IsUnchanged self.old self.new) }
-        ensures knows { IfOk result (λ started. (n : ℕ) (events : List Event) → Knows n events self.old → at ≡ length events → IsInForm n (view_of events rank) rank call.now → KnowsStarted n events rank call.now started self.new) }
+        ensures err { OnErr result (self.new ≡ self.old) }
 
-        // After the want of memory what is known stays known.
-        ensures err_knows { OnErr result ((n : ℕ) (events : List Event) → Knows n events self.old → Knows n events self.new) }
+        // An Enter that does not agree takes no memory.
+        ensures disagrees { (other : ℕ) → is_enter call.now ≡ true → entered_by self.old.table.stages rank call.now ≡ DisagreesWith other → IsOk result }
+        ensures knows { IfOk result (λ started. (n : ℕ) (events : List Event) → Knows n events self.old → at ≡ length events → IsInForm n (view_of events rank) rank call.now → KnowsStarted n events rank call.now started self.new) }
     {
         match call {
             Call::Enter { .. } => self.enter(at, rank, call),
@@ -147,24 +150,26 @@ impl Requests {
         Ok(Started::Made { start, mate })
     }
 
-    /// Adds an Enter: first to the board, where the want of memory later takes it back.
+    /// Adds an Enter: first to the board, from which the want of memory later takes it back. Then nothing has changed.
     fn enter(&mut self, at: u32, rank: u8, call: &Call) -> Result<Started, AllocError>
         requires kind { is_enter call.now ≡ true }
         requires may { MayEnter self.old.table.comms rank call.now }
         requires position { IsAbove at self.old }
         requires rank { rank < length self.old.table.rows }
         ensures ok { IfOk result (λ started. IsEntered self.old self.new at rank call.now started) }
-        ensures err { OnErr result (IsUnchanged self.old self.new) }
+        ensures err { OnErr result (self.new ≡ self.old) }
+        ensures disagrees { (other : ℕ) → entered_by self.old.table.stages rank call.now ≡ DisagreesWith other → IsOk result }
         ensures knows { IfOk result (λ started. (n : ℕ) (events : List Event) → Knows n events self.old → at ≡ length events → IsInForm n (view_of events rank) rank call.now → KnowsStarted n events rank call.now started self.new) }
     {
-        reserve_to(&mut self.names, at)?;
         match entered(&mut self.board, rank, call)? {
             Entered::Disagrees { other } => Ok(Started::Disagrees { other }),
             Entered::Joined { instance } => {
                 let Ok(start) = joined(
                     &mut self.rows,
+                    &mut self.names,
                     &self.board,
                     &mut self.comms,
+                    at,
                     rank,
                     call,
                     instance,

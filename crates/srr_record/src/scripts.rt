@@ -1,11 +1,11 @@
-//! Programs of two lists of calls, and the ranks that run them.
-ghost use Rattle.std.specs.Prelude.{◌≡◌, ◌&&◌, ◌++◌, ◌∷◌, [], false, if◌then◌else◌, length, nat_le, nat_lt, replicate, true, IfOk, OnErr, OnOk, ◌==◌};
-ghost use Rattle.std.specs.List.{list_all};
-ghost use Rattle.mpi_machine.specs.Scripts.{call_at, fine_call, is_fine, is_fine_tag, is_open_source, is_plain, is_stopped};
+//! Programs of three lists of calls, and the ranks that run them.
+ghost use Rattle.std.specs.Prelude.{◌≡◌, ◌&&◌, ◌++◌, ◌∷◌, [], false, length, nat_le, nat_lt, replicate, true, IfOk, OnErr, OnOk};
+ghost use Rattle.std.specs.List.{list_all, list_any};
+ghost use Rattle.mpi_machine.specs.Scripts.{call_at, fine_call, gives, has_parts, is_cast, is_fine, is_fine_tag, is_made, is_open_source, is_stopped, three_lists};
 ghost use Rattle.srr_record.specs.Recordings.{AreRuns};
 
-use mpi_call::call::{Call, Fault, Kind, Source, Tag};
-use mpi_call::reply::Reply;
+use mpi_call::call::{Call, Comm, Fault, Kind, Op, Source, Tag};
+use mpi_call::reply::{Got, Item, Reply};
 use mpi_call::{call, reply};
 use run_model::lists::Variables;
 use run_model::program::{Program, RankRun, Want};
@@ -44,31 +44,32 @@ impl Calls {
     }
 }
 
-/// What rank 0 calls and what every other rank calls, whatever is answered. Each rank prints its number before its first call.
+/// What rank 0, rank 1 and every other rank calls, whatever is answered. Each rank prints its number before its first call.
 #[derive(Drop)]
 pub struct Script {
     pub zeroth: Calls,
+    pub first: Calls,
     pub others: Calls,
 }
 
 impl Program for Script {
     ghost use Rattle.std.specs.Prelude.{◌∷◌, [], refl};
-    ghost use Rattle.mpi_machine.specs.Scripts.{next_of};
+    ghost use Rattle.mpi_machine.specs.Scripts.{next_of, three_lists};
     ghost use Rattle.mpi_machine.specs.ScriptLaws.{asks_in_bounds, ends_exactly, enters_in_form};
 
-    ghost next = { λ p. next_of p.zeroth p.others };
+    ghost next = { λ p. next_of (three_lists p.zeroth p.first p.others) };
 
     ghost output = { λ p n rank replies. rank ∷ [] };
 
     ghost variables = { λ p n rank replies. [] };
 
-    ghost ends_exactly = { λ p. ends_exactly p.zeroth p.others };
+    ghost ends_exactly = { λ p. ends_exactly (three_lists p.zeroth p.first p.others) };
 
     ghost prints_on = { λ p n rank view more is_rank came. ([], refl) };
 
-    ghost asks_in_bounds = { λ p. asks_in_bounds p.zeroth p.others };
+    ghost asks_in_bounds = { λ p. asks_in_bounds (three_lists p.zeroth p.first p.others) };
 
-    ghost enters_in_form = { λ p. enters_in_form p.zeroth p.others };
+    ghost enters_in_form = { λ p. enters_in_form (three_lists p.zeroth p.first p.others) };
 }
 
 /// A rank that runs a script. Contracts see what it stands for.
@@ -142,7 +143,8 @@ impl<'a> RankRun for ScriptRank<'a> {
             return Ok(Want::Ended);
         }
         let calls = calls_of(self.script, self.rank);
-        let call = call_at(self.ranks, calls, self.replies.len())?;
+        let replies = self.replies.as_slice();
+        let call = call_at(self.ranks, self.rank, replies, calls, replies.len())?;
         self.asked = true;
         match call {
             Some(call) => Ok(Want::Ask(call)),
@@ -183,20 +185,27 @@ fn is_stopped(reply: &Reply) -> bool
 }
 
 fn calls_of(script: &Script, rank: u8) -> &[Call]
-    ensures { result.now ≡ (if rank == 0 then script.now.zeroth else script.now.others) }
+    ensures { result.now ≡ three_lists script.now.zeroth script.now.first script.now.others rank }
 {
-    if rank == 0 {
-        return script.zeroth.as_slice();
+    match rank {
+        0 => script.zeroth.as_slice(),
+        1 => script.first.as_slice(),
+        _ => script.others.as_slice(),
     }
-    script.others.as_slice()
 }
 
-/// A rank's call with this number: its End comes behind its last one.
-fn call_at(ranks: u8, calls: &[Call], at: usize) -> Result<Option<Call>, AllocError>
-    ensures { IfOk result (λ call. call ≡ call_at ranks calls.now at) }
+/// A rank's call with this number, after these replies: its End comes behind its last one.
+fn call_at(
+    ranks: u8,
+    rank: u8,
+    replies: &[Reply],
+    calls: &[Call],
+    at: usize,
+) -> Result<Option<Call>, AllocError>
+    ensures { IfOk result (λ call. call ≡ call_at ranks rank replies.now calls.now at) }
 {
     if at < calls.len() {
-        return Ok(Some(fine_call(ranks, &calls[at])?));
+        return Ok(Some(fine_call(ranks, rank, replies, &calls[at])?));
     }
     if at == calls.len() {
         return Ok(Some(Call::End));
@@ -205,10 +214,10 @@ fn call_at(ranks: u8, calls: &[Call], at: usize) -> Result<Option<Call>, AllocEr
 }
 
 /// A call of a script; one that may not stand there is a trap.
-fn fine_call(ranks: u8, call: &Call) -> Result<Call, AllocError>
-    ensures { IfOk result (λ fine. fine ≡ fine_call ranks call.now) }
+fn fine_call(ranks: u8, rank: u8, replies: &[Reply], call: &Call) -> Result<Call, AllocError>
+    ensures { IfOk result (λ fine. fine ≡ fine_call ranks rank replies.now call.now) }
 {
-    if is_fine(ranks, call) {
+    if is_fine(ranks, rank, replies, call) {
         return call::copy_of(call);
     }
     Ok(Call::Trap {
@@ -216,16 +225,96 @@ fn fine_call(ranks: u8, call: &Call) -> Result<Call, AllocError>
     })
 }
 
-/// Whether a collective has no root, operation and ints.
-fn is_plain(kind: Kind) -> bool
-    ensures { result ≡ is_plain kind }
+/// Whether a communicator was made by this.
+fn is_made(got: &Got, comm: Comm) -> bool
+    ensures { result ≡ is_made comm got.now }
 {
-    matches!(kind, Kind::Barrier | Kind::Dup)
+    match got {
+        Got::Made { comm: made, .. } => *made == comm,
+        _ => false,
+    }
 }
 
-/// Whether a call may stand in a script for so many ranks.
-fn is_fine(ranks: u8, call: &Call) -> bool
-    ensures { result ≡ is_fine ranks call.now }
+fn are_made(items: &[Item], comm: Comm) -> bool
+    ensures { result ≡ list_any (λ item. is_made comm item.got) items.now }
+{
+    let mut rest = items;
+    while let [item, after @ ..] = rest {
+        if is_made(&item.got, comm) {
+            return true;
+        }
+        rest = after;
+    }
+    false
+}
+
+/// Whether a reply gives a communicator.
+fn gives(reply: &Reply, comm: Comm) -> bool
+    ensures { result ≡ gives comm reply.now }
+{
+    match reply {
+        Reply::Took(items) => are_made(items.as_slice(), comm),
+        _ => false,
+    }
+}
+
+fn is_given(replies: &[Reply], comm: Comm) -> bool
+    ensures { result ≡ list_any (gives comm) replies.now }
+{
+    let mut rest = replies;
+    while let [reply, after @ ..] = rest {
+        if gives(reply, comm) {
+            return true;
+        }
+        rest = after;
+    }
+    false
+}
+
+/// Whether a broadcast of a rank has a root and as many ints as it wants.
+fn is_cast(ranks: u8, rank: u8, root: Option<u8>, count: u32, ints: usize) -> bool
+    ensures { result ≡ is_cast ranks rank root count ints }
+{
+    let Some(root) = root else {
+        return false;
+    };
+    let sent = if root == rank { count } else { 0 };
+    root < ranks && (ints == sent as usize && count <= 262_144)
+}
+
+/// What a collective has beside its kind and communicator.
+#[derive(Clone, Copy)]
+struct Parts {
+    root: Option<u8>,
+    op: Option<Op>,
+    count: u32,
+    ints: usize,
+}
+
+/// Whether a collective of a rank has what its kind wants.
+fn has_parts(ranks: u8, rank: u8, comm: Comm, kind: Kind, parts: Parts) -> bool
+    ensures { result ≡ has_parts ranks rank comm kind parts.root parts.op parts.count parts.ints }
+{
+    let Parts {
+        root,
+        op,
+        count,
+        ints,
+    } = parts;
+    match kind {
+        Kind::Barrier | Kind::Dup => root.is_none() && (op.is_none() && (count == 0 && ints == 0)),
+        Kind::Split => root.is_none() && (op.is_none() && (count == 0 && ints == 2)),
+        Kind::Allreduce => {
+            root.is_none() && (op.is_some() && (ints == count as usize && count <= 262_144))
+        }
+        Kind::Bcast => op.is_none() && (comm == 0 && is_cast(ranks, rank, root, count, ints)),
+        _ => false,
+    }
+}
+
+/// Whether a call may stand in a script of a rank for so many ranks after these replies.
+fn is_fine(ranks: u8, rank: u8, replies: &[Reply], call: &Call) -> bool
+    ensures { result ≡ is_fine ranks rank replies.now call.now }
 {
     match call {
         Call::Send {
@@ -245,10 +334,13 @@ fn is_fine(ranks: u8, call: &Call) -> bool
             count,
             ints,
         } => {
-            *comm == 0
-                && (is_plain(*kind)
-                    && (root.is_none()
-                        && (op.is_none() && (*count == 0 && ints.as_slice().len() == 0))))
+            let parts = Parts {
+                root: *root,
+                op: *op,
+                count: *count,
+                ints: ints.as_slice().len(),
+            };
+            (*comm == 0 || is_given(replies, *comm)) && has_parts(ranks, rank, *comm, *kind, parts)
         }
         Call::Abort { .. } | Call::Trap { .. } => true,
         Call::End => false,

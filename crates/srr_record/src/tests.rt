@@ -5,7 +5,7 @@ use crate::recording::Recording;
 use crate::scripts::{Calls, Script, start_all};
 use crate::serial::{finish_record, record_serial};
 use group_plan::{Plan, read_plan};
-use mpi_call::call::{Call, Fault, Halt, Kind, Source, Tag, TakeMode};
+use mpi_call::call::{Call, Comm, Fault, Halt, Kind, Op, Source, Tag, TakeMode};
 use mpi_call::lists::{Ints, Starts};
 use mpi_machine::machine::Machine;
 use run_model::ending::Ending;
@@ -18,12 +18,16 @@ use std::test::Fail;
 use wiz_base::bytes::Bytes;
 
 /// What a rank does: it sends the int 7 to a rank with a tag, receives one int with a tag from any rank, enters a barrier or
-/// another collective without ints, completes a start or one of two, tests one, or probes for a tag.
+/// another collective without ints on a communicator, splits the world with a colour and key 0, broadcasts an int from rank 0
+/// or gets it, sums an int over all ranks, completes a start or one of two, tests one, or probes for a tag.
 #[derive(Clone, Copy)]
 enum Step {
     Send(u8, u32),
     Post(u32),
-    Enter(Kind),
+    Enter(Comm, Kind),
+    Split(i32),
+    Cast(Option<i32>),
+    Sum(i32),
     Take(u32),
     Test(u32),
     WaitAny(u32, u32),
@@ -44,13 +48,37 @@ fn call_of(alloc: Global, step: Step) -> Result<Call, AllocError> {
             tag: Tag::Is(tag),
             room: 1,
         }),
-        Step::Enter(kind) => Ok(Call::Enter {
-            comm: 0,
+        Step::Enter(comm, kind) => Ok(Call::Enter {
+            comm,
             kind,
             root: None,
             op: None,
             count: 0,
             ints: Ints::from_slice(alloc, &[])?,
+        }),
+        Step::Split(colour) => Ok(Call::Enter {
+            comm: 0,
+            kind: Kind::Split,
+            root: None,
+            op: None,
+            count: 0,
+            ints: Ints::from_slice(alloc, &[colour, 0])?,
+        }),
+        Step::Cast(int) => Ok(Call::Enter {
+            comm: 0,
+            kind: Kind::Bcast,
+            root: Some(0),
+            op: None,
+            count: 1,
+            ints: Ints::from_slice(alloc, int.as_slice())?,
+        }),
+        Step::Sum(int) => Ok(Call::Enter {
+            comm: 0,
+            kind: Kind::Allreduce,
+            root: None,
+            op: Some(Op::Sum),
+            count: 1,
+            ints: Ints::from_slice(alloc, &[int])?,
         }),
         Step::Take(start) => Ok(Call::Take {
             starts: Starts::from_slice(alloc, &[start])?,
@@ -81,14 +109,18 @@ fn calls_of(alloc: Global, steps: &[Step]) -> Result<Calls, AllocError> {
     Ok(Calls::new(values))
 }
 
-fn script_of(alloc: Global, zeroth: &[Step], others: &[Step]) -> Result<Script, AllocError> {
+/// What rank 0, rank 1 and every other rank does.
+fn script_of(alloc: Global, steps: [&[Step]; 3]) -> Result<Script, AllocError> {
+    let [zeroth, first, others] = steps;
     Ok(Script {
         zeroth: calls_of(alloc, zeroth)?,
+        first: calls_of(alloc, first)?,
         others: calls_of(alloc, others)?,
     })
 }
 
-/// An entry in short: of a message from inside its name, of one from outside also its tag and first int.
+/// An entry in short: of a message from inside its name, of one from outside also its tag and first int; of a collective's
+/// result from outside its int, where it has one; of a communicator made outside its number and its one or two members.
 #[derive(Clone, Copy, Debug, PartialEq, Eq)]
 enum Short {
     Sent,
@@ -103,7 +135,9 @@ enum Short {
     Outside(u8, u32, u32, i32),
     Inner,
     Outer,
-    Made(u32),
+    OuterOf(i32),
+    Made(Comm),
+    MadeOutside(Comm, u8, Option<u8>),
     Stopped(Halt),
     Other,
 }
@@ -132,8 +166,17 @@ fn mark_in_short(marked: &Marked) -> Short {
             _ => Short::Second(*source, *start),
         },
         Mark::Inner => Short::Inner,
-        Mark::Outer { .. } => Short::Outer,
+        Mark::Outer { ints } => match ints.as_slice() {
+            [] => Short::Outer,
+            [int] => Short::OuterOf(*int),
+            _ => Short::Other,
+        },
         Mark::Made { comm } => Short::Made(*comm),
+        Mark::MadeOutside { comm, members } => match members.as_slice() {
+            [one] => Short::MadeOutside(*comm, *one, None),
+            [one, two] => Short::MadeOutside(*comm, *one, Some(*two)),
+            _ => Short::Other,
+        },
         Mark::Outside {
             source,
             start,
@@ -316,8 +359,18 @@ fn runs_are_recorded(rt: HostRuntime) -> Result<(), Fail> {
         ),
         // A barrier inside a group, then a copy of the world.
         (
-            &[Enter(Kind::Barrier), Take(0), Enter(Kind::Dup), Take(1)],
-            &[Enter(Kind::Barrier), Take(0), Enter(Kind::Dup), Take(1)],
+            &[
+                Enter(0, Kind::Barrier),
+                Take(0),
+                Enter(0, Kind::Dup),
+                Take(1),
+            ],
+            &[
+                Enter(0, Kind::Barrier),
+                Take(0),
+                Enter(0, Kind::Dup),
+                Take(1),
+            ],
             b"0 1\n",
             &[1],
             &[1, 0, 1, 0, 1, 0, 1, 0, 1, 0],
@@ -337,8 +390,8 @@ fn runs_are_recorded(rt: HostRuntime) -> Result<(), Fail> {
         ),
         // A barrier across groups.
         (
-            &[Enter(Kind::Barrier), Take(0)],
-            &[Enter(Kind::Barrier), Take(0)],
+            &[Enter(0, Kind::Barrier), Take(0)],
+            &[Enter(0, Kind::Barrier), Take(0)],
             b"0\n1\n",
             &[],
             &[0, 1, 0, 1, 0, 1],
@@ -347,8 +400,8 @@ fn runs_are_recorded(rt: HostRuntime) -> Result<(), Fail> {
         ),
         // Two collectives that do not agree.
         (
-            &[Enter(Kind::Barrier), Take(0)],
-            &[Enter(Kind::Dup), Take(0)],
+            &[Enter(0, Kind::Barrier), Take(0)],
+            &[Enter(0, Kind::Dup), Take(0)],
             b"0 1\n",
             &[],
             &[0, 1, 0],
@@ -428,23 +481,143 @@ fn runs_are_recorded(rt: HostRuntime) -> Result<(), Fail> {
     ];
     for at in 0..rows.len() {
         let (zeroth, others, plan, turns, order, entries, ending) = rows[at];
-        let script = script_of(rt.alloc(), zeroth, others)?;
-        let plan = read_plan(rt.alloc(), plan).expect(&rt, "a plan");
         let wanted = Wanted {
             order,
             entries,
             ending,
         };
-        let recording = record(rt.alloc(), &script, &plan, turns)?;
-        let made = check(&rt, &recording, wanted)?;
-        if turns.is_empty() {
-            check(&rt, &finish(rt.alloc(), &script, &plan)?, wanted)?;
-        }
-        // The written order makes the same run again, where no rank was stuck.
-        if ending != Ending::Halted(Halt::Stuck) {
-            let again = record(rt.alloc(), &script, &plan, made.as_slice())?;
-            check(&rt, &again, wanted)?;
-        }
+        check_row(&rt, [zeroth, others, others], plan, turns, wanted)?;
+    }
+    Ok(())
+}
+
+/// The recording of these steps by a plan and turns is as wanted, and so is that by the written order.
+fn check_row(
+    rt: &(impl Abort + AllocGlobal),
+    steps: [&[Step]; 3],
+    plan: &[u8],
+    turns: &[u8],
+    wanted: Wanted<'_>,
+) -> Result<(), Fail> {
+    let script = script_of(rt.alloc(), steps)?;
+    let plan = read_plan(rt.alloc(), plan).expect(rt, "a plan");
+    let recording = record(rt.alloc(), &script, &plan, turns)?;
+    let made = check(rt, &recording, wanted)?;
+    if turns.is_empty() {
+        check(rt, &finish(rt.alloc(), &script, &plan)?, wanted)?;
+    }
+    // The written order makes the same run again, where no rank was stuck.
+    if wanted.ending != Ending::Halted(Halt::Stuck) {
+        let again = record(rt.alloc(), &script, &plan, made.as_slice())?;
+        check(rt, &again, wanted)?;
+    }
+    Ok(())
+}
+
+#[test]
+fn splits_are_recorded(rt: HostRuntime) -> Result<(), Fail> {
+    use Short::*;
+    use Step::*;
+    let barrier = Kind::Barrier;
+    // `MPI_UNDEFINED`
+    let undefined = -32_766;
+    let apart = MadeOutside(1, 0, Some(2));
+    let low = MadeOutside(2, 0, Some(1));
+    let high = MadeOutside(1, 2, None);
+    // What the three ranks do, the plan, the order of the events, and the entries.
+    let rows: [([&[Step]; 3], &[u8], &[u8], &[Short]); 4] = [
+        // Rank 1 gets no communicator of a split.
+        (
+            [
+                &[Split(1), Take(0)],
+                &[Split(undefined), Take(0)],
+                &[Split(1), Take(0)],
+            ],
+            b"0-2\n",
+            &[0, 1, 2, 0, 1, 2, 0, 1, 2],
+            &[
+                Entered,
+                Made(1),
+                Ended,
+                Entered,
+                Made(0),
+                Ended,
+                Entered,
+                Made(1),
+                Ended,
+            ],
+        ),
+        // The same in three groups.
+        (
+            [
+                &[Split(1), Take(0)],
+                &[Split(undefined), Take(0)],
+                &[Split(1), Take(0)],
+            ],
+            b"0\n1\n2\n",
+            &[0, 1, 2, 0, 1, 2, 0, 1, 2],
+            &[
+                Entered,
+                apart,
+                Ended,
+                Entered,
+                Made(0),
+                Ended,
+                Entered,
+                apart,
+                Ended,
+            ],
+        ),
+        // Communicators are numbered by colours, and a barrier on the new one is inside each group.
+        (
+            [
+                &[Split(1), Take(0), Enter(2, barrier), Take(1)],
+                &[Split(1), Take(0), Enter(2, barrier), Take(1)],
+                &[Split(0), Take(0), Enter(1, barrier), Take(1)],
+            ],
+            b"0 1\n2\n",
+            &[0, 1, 2, 0, 1, 2, 0, 1, 2, 0, 1, 2, 0, 1, 2],
+            &[
+                Entered, low, Entered, Inner, Ended, Entered, low, Entered, Inner, Ended, Entered,
+                high, Entered, Inner, Ended,
+            ],
+        ),
+        // A broadcast needs its root alone, a sum all.
+        (
+            [
+                &[Cast(Some(5)), Take(0), Sum(1), Take(1)],
+                &[Cast(None), Take(0), Sum(2), Take(1)],
+                &[Cast(None), Take(0), Sum(3), Take(1)],
+            ],
+            b"0 1\n2\n",
+            &[0, 1, 2, 0, 1, 2, 0, 1, 2, 0, 1, 2, 0, 1, 2],
+            &[
+                Entered,
+                Inner,
+                Entered,
+                OuterOf(6),
+                Ended,
+                Entered,
+                Inner,
+                Entered,
+                OuterOf(6),
+                Ended,
+                Entered,
+                OuterOf(5),
+                Entered,
+                OuterOf(6),
+                Ended,
+            ],
+        ),
+    ];
+    for at in 0..rows.len() {
+        let (steps, plan, order, entries) = rows[at];
+        let wanted = Wanted {
+            order,
+            entries,
+            ending: Ending::Finished,
+        };
+        check_row(&rt, steps, plan, &[], wanted)?;
     }
     Ok(())
 }

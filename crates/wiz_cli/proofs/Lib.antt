@@ -3,6 +3,7 @@ pub mod FileNames
 pub mod InputLemmas
 pub mod LogFiles
 pub mod LogLemmas
+pub mod ReadableLogs
 pub mod RecordLemmas
 pub mod ReportLemmas
 pub mod WordLemmas

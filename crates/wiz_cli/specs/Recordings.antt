@@ -1,8 +1,11 @@
 -- What comes of a recording's words: the first input file that is not read, why what the files hold is refused, or a run.
 use Rattle.std.specs.Prelude.{◌≡◌, ◌<◌, ◌≤◌, ◌⊎◌, ℕ, List, [], Option, Some, None, IfSome, length}
+use Rattle.std.specs.List.{AllByRecursion}
 use Rattle.group_plan.specs.OrderText.{IsOrderText, IsFault as IsOrderFault}
 use Rattle.group_plan.specs.Plans.{number_of_ranks}
 use Rattle.group_plan.specs.PlanText.{IsPlanText, IsFault as IsPlanFault}
+use Rattle.srr_entry.specs.declared.log.Log.{Log}
+use Rattle.srr_log.specs.LogText.{IsLogText, log_text}
 use Rattle.small_c.specs.declared.small_program.SmallProgram.{SmallProgram}
 use Rattle.small_c.specs.Courses.{next_of, output_of}
 use Rattle.small_c.specs.SmallTexts.{IsSmallText}
@@ -108,10 +111,12 @@ IsRefusal files reads reads' names refused =
     IsFirstUnread files reads reads' names refused.input refused.refusal
     ⊎ ((inputs : Inputs) × AreInputs files names inputs × IsRefusedBy inputs refused.input refused.refusal)
 
--- the recording of the program that the input files hold: its serial run by the plan and the turns
+-- the recording of the program that the input files hold: its serial run by the plan and the turns; each of its logs can be read
+-- back from its text
 pub record IsRecordingOf (inputs : Inputs) (recording : Recording) : Type 0 where
   pub program : SmallProgram
   pub groups : List (List ℕ)
   pub turns : List ℕ
   pub prepared : ArePrepared inputs program groups turns
   pub recording_is : IsRecording (next_of program) (output_of program) (number_of_ranks groups) inputs.program groups turns recording
+  pub readable : AllByRecursion (λ (log : Log). IsLogText (log_text log) log) recording.logs

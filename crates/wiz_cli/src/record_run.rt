@@ -12,6 +12,8 @@ use crate::record_outcome::{Inputs, Prepared, Unrecorded};
 use crate::record_tell::{tell_recording, tell_refusal, tell_unwritten};
 use crate::record_words::RecordWords;
 use crate::report::Report;
+use log_bounds::laws::run_logs_are_in_bounds;
+use log_bounds::words::replies_fit;
 use small_c::small_program::SmallProgram;
 use small_c::small_rank::SmallRank;
 use srr_record::{Recording, record_serial};
@@ -82,20 +84,25 @@ fn make_recording(
     inputs: &Inputs,
     prepared: &Prepared,
 ) -> Result<Recording, AllocError>
-    requires { ArePrepared inputs.now prepared.now.program prepared.now.plan prepared.now.turns }
+    requires short { length inputs.now.program ≤ 65536 }
+    requires prepared { ArePrepared inputs.now prepared.now.program prepared.now.plan prepared.now.turns }
     ensures recording { IfOk result (λ recording. IsRecordingOf inputs.now recording) }
     ensures lists { IfOk result (λ recording. HasLists recording.logs) }
     ensures few { IfOk result (λ recording. length recording.logs ≤ 64) }
 {
     let runs = start_all(alloc, &prepared.program, prepared.plan.n())?;
-    record_serial(
+    let recording = record_serial(
         alloc,
         &prepared.program,
         inputs.program.as_slice(),
         &prepared.plan,
         runs,
         prepared.turns.as_slice(),
-    )
+    )?;
+    // So each of its logs is within the bounds of the log text.
+    replies_fit(recording.history.as_slice());
+    run_logs_are_in_bounds(&prepared.program, prepared.plan.n());
+    Ok(recording)
 }
 
 /// One run for each of n ranks, before its first call.

@@ -147,6 +147,13 @@ fn faults_of_files_are_told(rt: HostRuntime) {
         assert!(&rt; store.file("A.0.srr").is_some() == (call > 2));
         assert!(&rt; store.file("A.order").is_none());
     }
+    // The output fails at its first put, and all files are written.
+    let mut store = files(alloc, FIRST, b"0\n1\n", b"1").expect(&rt, "files");
+    let mut full = MemorySink::new(alloc);
+    full.fail(0).expect(&rt, "a put");
+    let report = wiz_serial(alloc, SERIAL, &mut store, &mut full);
+    assert!(&rt; report.status == 4 && full.bytes().is_empty());
+    assert!(&rt; ends_with(&store, "A.order", b"0\n1\n0\n1\n1\n"));
     let mut store = MemoryStore::new(alloc);
     assert!(&rt; answers(alloc, &mut store, SERIAL, 2, b"no file P\n"));
     let both: &[&str] = &["record", "P", "Q", "A", "--order", "F", "--serial"];

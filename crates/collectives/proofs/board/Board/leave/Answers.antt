@@ -1,32 +1,26 @@
-use Rattle.std.proofs.Common.{◌≡◌, ◌-◌, ◌<◌, sym, subst, List, [], refl, arith, rules}
-use Rattle.collectives.proofs.BoardLemmas.{known, loses_enter, sets_at, sets_is, unknown, Sets}
-use Rattle.collectives.specs.Boards.{enters_on, instances_on, Stages}
-use Rattle.collectives.specs.Instances.{enters_by, Loses}
-use Rattle.collectives.specs.declared.entrants.Entrant.{Entrant}
-use Rattle.collectives.proofs.board.Board.leave.Goals.{in-Some, in-None}
+use Rattle.std.proofs.Common.{◌≡◌, ◌<◌, arith, length, set, subst, sym, ℕ}
+use Rattle.collectives.proofs.BoardLemmas.{at_place, board_left, seen_count, trimmed, within}
+use Rattle.collectives.specs.Boards.{instances_on}
 use Rattle.collectives.proofs.board.Board.leave.Goals as goal
+
+pub index_mut-requires : goal.index_mut-requires
+index_mut-requires c =
+    let there : c.args.comm < length c.self.inside.stages.items = within c.self.inside.stages.items c.args.self.now c.args.comm c.args.rank c.self.view_is c.requires in
+    let counted : c.self.inside.stages.len ≡ length c.self.inside.stages.items = c.self.inside.stages.ok.0 in
+    omega (arith, there, counted)
 
 pub leave-requires : goal.leave-requires
 leave-requires c =
-    let is : c.in-Some.instances.now ≡ _ = known c.self.inside.stages.entries c.args.self.now c.args.comm c.args.comm c.in-Some.instances.now c.in-Some.ensures.value c.self.view_is refl in
-    let P : List (List Entrant) → Type 0 = λ all. 0 < enters_by all c.args.rank in
-    subst P (sym is) c.requires
+    let there : c.args.comm < length c.self.inside.stages.items = within c.self.inside.stages.items c.args.self.now c.args.comm c.args.rank c.self.view_is c.requires in
+    let is : c.index_mut.result.now ≡ instances_on c.self.inside.stages.items c.args.comm = at_place c.self.inside.stages.items c.args.comm c.index_mut.result.now there c.index_mut.ensures.value in
+    let P : ℕ → Type 0 = λ k. 0 < k in
+    subst P (sym (seen_count c.self.inside.stages.items c.args.self.now c.args.comm c.args.rank c.index_mut.result.now c.self.view_is is)) c.requires
 
-pub returns : goal.returns
-returns c = elim c.match-get_mut.branch [
-  | in-Some w ↦
-      let new : Stages = (c.get_mut.follows.lender w.leave.new.self).entries in
-      let is : w.in-Some.instances.now ≡ instances_on c.args.self.now c.args.comm =
-      known c.self.inside.stages.entries c.args.self.now c.args.comm c.args.comm w.in-Some.instances.now w.in-Some.ensures.value c.self.view_is refl in
-      let sets : Sets c.args.self.now new c.args.comm w.leave.new.self =
-      sets_at c.self.inside.stages.entries c.args.self.now new c.args.comm w.leave.new.self c.self.view_is
-      (sets_is c.self.inside.stages.entries new c.args.comm w.leave.new.self ((c.get_mut.follows.holds w.leave.new.self).3 (search rules)).0) in
-      let P : List (List Entrant) → Type 0 = λ all. Loses all w.leave.new.self (enters_by all c.args.rank - 1) c.args.rank in
-      rw w.self-inside-is
-      (loses_enter c.args.self.now new c.args.comm (enters_on c.args.self.now c.args.comm c.args.rank - 1) c.args.rank w.leave.new.self sets (subst P is w.leave.ensures))
-  | in-None w ↦
-      let is : [] ≡ instances_on c.args.self.now c.args.comm =
-      unknown c.self.inside.stages.entries c.args.self.now c.args.comm c.args.comm w.in-None.ensures.value c.self.view_is refl in
-      let P : List (List Entrant) → Type 0 = λ all. 0 < enters_by all c.args.rank in
-      absurd (let some : 0 < 0 = subst P (sym is) c.requires in omega arith)
-]
+pub returns-clause-loses : goal.returns-clause-loses
+returns-clause-loses c =
+    let there : c.args.comm < length c.self.inside.stages.items = within c.self.inside.stages.items c.args.self.now c.args.comm c.args.rank c.self.view_is c.requires in
+    let is : c.index_mut.result.now ≡ instances_on c.self.inside.stages.items c.args.comm = at_place c.self.inside.stages.items c.args.comm c.index_mut.result.now there c.index_mut.ensures.value in
+    board_left c.self.inside.stages.items c.args.self.now c.args.comm c.args.rank c.index_mut.result.now c.leave.new.self c.self.view_is there is c.leave.ensures
+
+pub returns-clause-trimmed : goal.returns-clause-trimmed
+returns-clause-trimmed c = trimmed (set c.self.inside.stages.items c.args.comm c.leave.new.self)

@@ -43,6 +43,12 @@ returns-clause-answer c =
     joins_is c.self.inside.lists.items c.args.self.now c.self.inside.counts.items c.deref-2.result.now c.args.rank c.args.call.now c.count_of-instance.result None
     c.self.invariant c.self.view_is c.deref-2.ensures.value count c.in-None.ensures
 
+pub returns-then-instance-clause-disagrees : goal.returns-then-instance-clause-disagrees
+returns-then-instance-clause-disagrees c = λ other disagrees. absurd (
+    let count : c.count_of-instance.result ≡ get_or c.self.inside.counts.items c.args.rank 0 = c.count_of-instance.ensures ∙ ap (λ (counts : List ℕ). get_or counts c.args.rank 0) c.deref.ensures.value in
+    joins_not c.self.inside.lists.items c.args.self.now c.self.inside.counts.items c.deref-2.result.now c.args.rank c.args.call.now c.count_of-instance.result
+    c.self.invariant c.self.view_is c.deref-2.ensures.value count c.in-None.ensures other disagrees)
+
 pub returns-in_err-call-clause-disagrees : goal.returns-in_err-call-clause-disagrees
 returns-in_err-call-clause-disagrees c = λ other disagrees. absurd (
     let count : c.count_of-instance.result ≡ get_or c.self.inside.counts.items c.args.rank 0 = c.count_of-instance.ensures ∙ ap (λ (counts : List ℕ). get_or counts c.args.rank 0) c.deref.ensures.value in
