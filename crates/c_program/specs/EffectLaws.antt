@@ -1,38 +1,36 @@
 -- What courses keep over the effect of an MPI call.
-use Rattle.std.proofs.Common.{◌≡◌, ◌<◌, ◌≤◌, ◌+◌, ◌++◌, ◌==◌, ◌⊎◌, ℕ, zero, suc, ℤ, pos, negsuc, Bool, true, false, List, [], ◌∷◌, Option, Some, None, Ok, if◌then◌else◌, nat_lt, length, map, refl, ap, sym, ◌∙◌, subst, inl, inr, arith, All, append-nil, length-append}
+use Rattle.std.proofs.Common.{◌≡◌, ◌<◌, ◌≤◌, ◌+◌, ◌++◌, ◌==◌, ℕ, suc, ℤ, pos, negsuc, Bool, true, false, List, [], ◌∷◌, Option, Some, None, Ok, if◌then◌else◌, nat_lt, length, refl, ap, sym, ◌∙◌, subst, inl, inr, arith, All, append-nil, length-append}
 use Rattle.std.specs.Prelude.{IfSome, MatchBool}
 use Rattle.std.proofs.lemmas.Bool.{eq-eqb, eqb-true, ltb-true}
 use Rattle.std.proofs.lemmas.List.{length-map}
-use Rattle.std.proofs.lemmas.List.Elements.{All-append, All-cons, All-map, All-nil, All-weaker}
+use Rattle.std.proofs.lemmas.List.Elements.{All-cons, All-map, All-nil, All-weaker}
 use Rattle.mpi_call.specs.Calls.{is_starting}
 use Rattle.mpi_call.specs.declared.call.Call.{Call}
 use Rattle.mpi_call.specs.declared.call.Call.TheVariants.{Send, Post, Enter, Take, Peek, Abort, Trap, End}
-use Rattle.mpi_call.specs.declared.call.Fault.{Fault}
 use Rattle.mpi_call.specs.declared.call.Fault.TheVariants.{OutOfBounds}
 use Rattle.mpi_call.specs.declared.call.Source.{Source}
 use Rattle.mpi_call.specs.declared.call.Tag.{Tag}
 use Rattle.mpi_call.specs.declared.call.Source.TheVariants.{Any as AnySource, From as FromRank, Null}
 use Rattle.mpi_call.specs.declared.call.TakeMode.{TakeMode}
-use Rattle.mpi_call.specs.declared.call.TakeMode.TheVariants.{All as TakeAll, Any as AnyOne, Several, TestAll, TestAny, TestSeveral}
+use Rattle.mpi_call.specs.declared.call.TakeMode.TheVariants.{Any as AnyOne, TestAny}
 use Rattle.mpi_call.specs.declared.reply.Got.{Got}
 use Rattle.mpi_call.specs.declared.reply.Got.TheVariants.{Sent, Nothing as GotNothing, Message as GotMessage, Joined, Made}
 use Rattle.mpi_call.specs.declared.reply.Item.{Item}
 use Rattle.mpi_call.specs.declared.reply.Reply.{Reply}
 use Rattle.mpi_call.specs.declared.reply.Reply.TheVariants.{Done, Took, NotYet, Peeked, Stopped}
-use Rattle.run_model.specs.Communicators.{known_first, known_in, learned as taught, made_in_got, made_in_items, or_members}
+use Rattle.run_model.specs.Communicators.{known_first, learned as taught, made_in_got, made_in_items, or_members}
 use Rattle.run_model.specs.Program.{IsInBounds, IsInForm, ends}
 use Rattle.run_model.specs.Shape.{has_shape}
 use Rattle.run_model.specs.Views.{View}
 use Rattle.run_model.proofs.Enters.{known_after-append}
 use Rattle.run_model.proofs.Orders.{in_order_more}
-use Rattle.run_model.proofs.Prefixes.{prefix_refl}
 use Rattle.run_model.proofs.Views.{test_cases}
 use Rattle.c_program.specs.declared.effect.Answer.{Answer}
 use Rattle.c_program.specs.declared.effect.Collective.{Collective}
 use Rattle.c_program.specs.declared.effect.Effect.{Effect}
 use Rattle.c_program.specs.declared.effect.Effect.TheVariants.{Nothing, Sets, Starts, Receives, Completes, Probes, Joins, Aborts}
 use Rattle.c_program.specs.declared.effect.Into.{Into}
-use Rattle.c_program.specs.declared.effect.Into.TheVariants.{Nowhere, Cells as IntoCells, Handle}
+use Rattle.c_program.specs.declared.effect.Into.TheVariants.{Cells as IntoCells, Handle}
 use Rattle.c_program.specs.declared.effect.Message.{Message}
 use Rattle.c_program.specs.declared.effect.Receive.{Receive}
 use Rattle.c_program.specs.declared.effect.Start.{Start}
@@ -41,13 +39,13 @@ use Rattle.c_program.specs.declared.mpi.MpiCall.{MpiCall}
 use Rattle.c_program.specs.declared.state.Begun.{Begun}
 use Rattle.c_program.specs.declared.state.Known.{Known}
 use Rattle.c_program.specs.Cells.{Cells}
-use Rattle.c_program.specs.Courses.{Course, Asks, Over, asks_last, trapped}
+use Rattle.c_program.specs.Courses.{Course, Asks}
 use Rattle.c_program.specs.Effects.{effect_of}
 use Rattle.c_program.specs.GoodLaws.{Alike, alike_put, alike_put_all, alike_put_some, alike_same, alike_trans, good_alike, keeps_aborted, keeps_alike, keeps_trapped, prefix_same}
 use Rattle.c_program.specs.Keeping.{Good, Keeps, KeepsOn}
-use Rattle.c_program.specs.Performing.{Active, Onward, active_at, active_from, active_in, active_or_none, after_take, answered, begun, completed, completing, empties, enter_call, first_got, first_place, item_completed, items_of, learned, made_by, made_by_all, none_active, number_of_next, or_trap, perform, places_of, post_call, probed, put_empties, put_empty, put_items, put_message, put_nothing, put_only_empty, put_places, put_result, put_status, receiving, send_call, sending, sent, source_in, stands, start_at, starts_in, status_at, status_place, take_one, taking_message}
+use Rattle.c_program.specs.Performing.{Active, Onward, active_from, active_in, active_or_none, after_take, answered, begun, completed, completing, empties, enter_call, first_got, first_place, item_completed, items_of, learned, made_by, made_by_all, none_active, number_of_next, or_trap, perform, places_of, post_call, probed, put_empties, put_empty, put_items, put_message, put_nothing, put_only_empty, put_places, put_result, put_status, receiving, send_call, sending, sent, source_in, stands, start_at, starts_in, status_at, status_place, take_one, taking_message}
 use Rattle.c_program.specs.Program.{rank_of}
-use Rattle.c_program.specs.Proper.{IsJoin, IsMessage, IsProper, IsWanted, length-values_from}
+use Rattle.c_program.specs.Proper.{IsMessage, IsProper, IsWanted, length-values_from}
 use Rattle.c_program.specs.ProperEffects.{effect_proper}
 use Rattle.c_program.specs.State.{State, ints_in, members_among, members_of, null, put, put_all, put_some, undefined}
 
@@ -274,9 +272,12 @@ starting_keeps n me own call start s go starting bounds form good on =
 taking_keeps : (n me : ℕ) (own : View) (number : ℕ) (s : State) (go : Reply → Course) → Good n me own s → number < length s.starts
     → ((reply : Reply) → Good n me (own ++ (take_one number, reply) ∷ []) (learned (items_of reply) s) → Keeps n me (own ++ (take_one number, reply) ∷ []) s.printed (go reply))
     → Keeps n me own s.printed (Asks s (take_one number) go)
-taking_keeps n me own number s go good below on =
-    (prefix_same s.printed, (omega arith, omega arith, λ few. All-cons (λ k. k < 1000000) number [] (let starts = good.starts in omega (arith, starts, below, few)) (All-nil (λ k. k < 1000000))), tt,
-    λ reply shape. unless_ends (ends (take_one number, reply)) _ (on reply (good_reply n me own (take_one number) reply s good tt shape)))
+taking_keeps n me own number s go good below on = (
+  prefix_same s.printed,
+  (omega arith, omega arith, λ few. All-cons (λ k. k < 1000000) number [] (let starts = good.starts in omega (arith, starts, below, few)) (All-nil (λ k. k < 1000000))),
+  tt,
+  λ reply shape. unless_ends (ends (take_one number, reply)) _ (on reply (good_reply n me own (take_one number) reply s good tt shape)),
+)
 
 put_message_keeps : (n me : ℕ) (own : View) (start : Begun) (status : Option ℕ) (got : Option Got) (s : State) (go : Onward) → Good n me own s → KeepsOn n me go → Keeps n me own s.printed (put_message n start status got s go)
 put_message_keeps n me own start status None s go good on = on own s good
@@ -332,9 +333,9 @@ active_from_is starts place (pos v ∷ handles) =
     let rest = active_from_is starts (suc place) handles in
     elim (test_cases (nat_lt v starts)) [
       | inl t ↦ rw t (record {
-          few = (let few = rest.few in omega (arith, few));
-          below = All-cons (λ (one : Active). one.start < starts) (record { place = place; start = v }) (active_from starts (suc place) handles) (ltb-true v starts t) rest.below;
-        })
+        few = (let few = rest.few in omega (arith, few));
+        below = All-cons (λ (one : Active). one.start < starts) (record { place = place; start = v }) (active_from starts (suc place) handles) (ltb-true v starts t) rest.below;
+      })
       | inr f ↦ rw f (record { few = (let few = rest.few in omega (arith, few)); below = rest.below })
     ]
 
@@ -346,10 +347,13 @@ completing_keeps n me own requests mode answer (one ∷ more) s go good are on =
     let count : length (starts_in active) ≡ length active = length-map active (λ (one : Active). one.start) in
     let few : length active ≤ 262144 = are.few in
     let starts : length s.starts ≤ length own = good.starts in
-    let below : All (λ k. k < length s.starts) (starts_in active) = All-map (λ k. k < length s.starts) (λ (one : Active). one.start) active are.below in
-    (prefix_same s.printed, (omega arith, omega (arith, count, few), λ got. All-weaker (λ k. k < length s.starts) (λ k. k < 1000000) (λ k low. omega (arith, low, starts, got)) (starts_in active) below), tt,
-    λ reply shape. unless_ends (ends (call, reply)) _
-    (after_take_keeps n me (own ++ (call, reply) ∷ []) requests mode answer active reply s go (good_reply n me own call reply s good tt shape) on))
+    let below : All (λ k. k < length s.starts) (starts_in active) = All-map (λ k. k < length s.starts) (λ (one : Active). one.start) active are.below in (
+      prefix_same s.printed,
+      (omega arith, omega (arith, count, few), λ got. All-weaker (λ k. k < length s.starts) (λ k. k < 1000000) (λ k low. omega (arith, low, starts, got)) (starts_in active) below),
+      tt,
+      λ reply shape. unless_ends (ends (call, reply)) _
+          (after_take_keeps n me (own ++ (call, reply) ∷ []) requests mode answer active reply s go (good_reply n me own call reply s good tt shape) on),
+    )
 
 -- ---- effects
 
@@ -400,10 +404,14 @@ untaught n me own comm source tag waits reply shape = refl
 peek_keeps : (n me : ℕ) (own : View) (comm : ℕ) (source : Source) (tag : Tag) (waits : Bool) (flag status : Option ℕ) (s : State) (go : Onward) → Good n me own s → IsWanted n source tag → KeepsOn n me go
     → Keeps n me own s.printed (Asks s (Peek comm source tag waits) (λ reply. go (probed n comm flag status reply s)))
 peek_keeps n me own comm source tag waits flag status s go good is on =
-    let call : Call = Peek comm source tag waits in
-    (prefix_same s.printed, (is.source, is.tag), tt, λ reply shape. unless_ends (ends (call, reply)) _
-    (go_keeps n me (own ++ (call, reply) ∷ []) s (probed n comm flag status reply s) go
-    (good_untaught n me own call reply s good tt shape (untaught n me own comm source tag waits reply shape)) (alike_probed n comm flag status reply s) on))
+    let call : Call = Peek comm source tag waits in (
+      prefix_same s.printed,
+      (is.source, is.tag),
+      tt,
+      λ reply shape. unless_ends (ends (call, reply)) _
+          (go_keeps n me (own ++ (call, reply) ∷ []) s (probed n comm flag status reply s) go
+          (good_untaught n me own call reply s good tt shape (untaught n me own comm source tag waits reply shape)) (alike_probed n comm flag status reply s) on),
+    )
 
 probes_keep : (comm : ℕ) (source : Source) (tag : Tag) (waits : Bool) (flag status : Option ℕ) → IsPerformed (Probes comm source tag waits flag status)
 probes_keep comm Null tag waits flag status n me own s go good is on =

@@ -1,46 +1,34 @@
 -- What the effect of an MPI call keeps, where its checks have passed.
-use Rattle.std.proofs.Common.{◌≡◌, ◌<◌, ◌≤◌, ◌+◌, ◌*◌, ◌-◌, ◌^◌, ◌==◌, ℕ, zero, suc, ℤ, pos, negsuc, Bool, true, false, List, [], ◌∷◌, Option, Some, None, Result, Ok, Err, if◌then◌else◌, nat_lt, nat_le, length, slice_get, refl, ap, sym, ◌∙◌, subst, inl, inr, arith, All, get_or}
+use Rattle.std.proofs.Common.{◌≡◌, ◌<◌, ◌≤◌, ◌+◌, ◌^◌, ◌==◌, ℕ, zero, suc, ℤ, pos, negsuc, Bool, true, false, List, [], ◌∷◌, Option, Some, None, Result, Ok, Err, if◌then◌else◌, nat_le, length, slice_get, refl, ap, sym, ◌∙◌, subst, arith}
 use Rattle.std.specs.Prelude.{IfSome}
 use Rattle.std.specs.Ordering.{int_eq}
-use Rattle.std.proofs.lemmas.Bool.{leb-true, ltb-true, eqb-true, eq-eqb, or_left, or_right}
-use Rattle.std.proofs.lemmas.Option.{slice_get_within, get_or_from_slice_get}
-use Rattle.mpi_call.specs.declared.call.Call.{Call}
-use Rattle.mpi_call.specs.declared.call.Call.TheVariants.{Enter}
+use Rattle.std.proofs.lemmas.Bool.{leb-true, ltb-true, eq-eqb, or_left, or_right}
 use Rattle.mpi_call.specs.declared.call.Fault.{Fault}
-use Rattle.mpi_call.specs.declared.call.Fault.TheVariants.{OutOfBounds, BadRank, BadComm}
+use Rattle.mpi_call.specs.declared.call.Fault.TheVariants.{BadRank, BadComm}
 use Rattle.mpi_call.specs.declared.call.Source.{Source}
-use Rattle.mpi_call.specs.declared.call.Source.TheVariants.{Any as AnySource, From as FromRank, Null}
 use Rattle.mpi_call.specs.declared.call.Tag.{Tag}
-use Rattle.mpi_call.specs.declared.call.Tag.TheVariants.{Any as AnyTag, Is}
 use Rattle.mpi_call.specs.Collectives.{is_member}
 use Rattle.run_model.specs.Communicators.{known_in}
 use Rattle.run_model.specs.Forms.{AreMembers}
 use Rattle.run_model.specs.Program.{IsInForm, IsSourceBelow, IsTagInBounds}
 use Rattle.run_model.specs.Views.{View}
 use Rattle.run_model.proofs.MemberLists.{below_member}
-use Rattle.run_model.proofs.Views.{option_cases, test_cases}
 use Rattle.c_program.specs.declared.effect.Collective.{Collective}
 use Rattle.c_program.specs.declared.effect.Effect.{Effect}
-use Rattle.c_program.specs.declared.effect.Effect.TheVariants.{Nothing, Sets, Starts, Receives, Completes, Probes, Joins, Aborts}
+use Rattle.c_program.specs.declared.effect.Effect.TheVariants.{Starts, Receives, Completes, Probes, Joins}
 use Rattle.c_program.specs.declared.effect.Entered.{Entered}
 use Rattle.c_program.specs.declared.effect.Entered.TheVariants.{Nothing as EntersNothing, Cells as EntersCells, Pair}
 use Rattle.c_program.specs.declared.effect.Message.{Message}
 use Rattle.c_program.specs.declared.effect.Start.TheVariants.{Send as StartSend, Receive as StartReceive}
 use Rattle.c_program.specs.declared.expr.Reference.{Reference}
-use Rattle.c_program.specs.declared.expr.Reference.TheVariants.{Nothing as NoReference, Whole, From}
-use Rattle.c_program.specs.declared.expr.Expr.{Expr}
-use Rattle.c_program.specs.declared.mpi.Buffer.{Buffer}
-use Rattle.c_program.specs.declared.mpi.MpiCall.{MpiCall}
-use Rattle.c_program.specs.declared.mpi.MpiCall.TheVariants as c
 use Rattle.c_program.specs.Cells.{Cells}
-use Rattle.c_program.specs.Effects.{Comm, communicator, count_of, destination, effect_of, first, member, message, receive, send_after, sends, sends_from, source_of, some, tag_of, wanted_tag}
+use Rattle.c_program.specs.Effects.{Comm, communicator, count_of, destination, first, member, source_of, tag_of, wanted_tag}
 use Rattle.c_program.specs.Keeping.{Good}
 use Rattle.c_program.specs.Performing.{enter_call, entered_ints}
 use Rattle.c_program.specs.Program.{rank_of}
 use Rattle.c_program.specs.RangeLaws.{SlotsFit, range_fits}
-use Rattle.c_program.specs.State.{Slot, State, any_source, ints_in, members_of, null, values_from}
-use Rattle.c_program.specs.Values.{cells_of, elements_from, given, or_fault, range, value}
-
+use Rattle.c_program.specs.State.{State, any_source, members_of, null, values_from}
+use Rattle.c_program.specs.Values.{given, or_fault, range}
 
 -- ---- what is kept
 

@@ -1,5 +1,5 @@
 -- The effect of each MPI function keeps what effects have to.
-use Rattle.std.proofs.Common.{◌≡◌, ◌<◌, ◌≤◌, ◌*◌, ◌^◌, ◌==◌, ℕ, zero, suc, ℤ, Bool, true, false, List, [], ◌∷◌, Option, Some, None, Result, Ok, Err, if◌then◌else◌, length, refl, sym, ◌∙◌, arith}
+use Rattle.std.proofs.Common.{◌≡◌, ◌<◌, ◌≤◌, ◌^◌, ◌==◌, ℕ, ℤ, Bool, true, false, List, Option, Some, None, Result, Ok, if◌then◌else◌, refl, sym, ◌∙◌, arith}
 use Rattle.std.specs.Prelude.{IfSome}
 use Rattle.mpi_call.specs.declared.call.Call.TheVariants.{Enter}
 use Rattle.mpi_call.specs.declared.call.Fault.{Fault}
@@ -7,7 +7,6 @@ use Rattle.mpi_call.specs.declared.call.Kind.{Kind}
 use Rattle.mpi_call.specs.declared.call.Kind.TheVariants.{Barrier, Bcast, Reduce, Allreduce, Gather, Allgather, Scatter, Alltoall, Scan, Split, Dup}
 use Rattle.mpi_call.specs.declared.call.Op.{Op}
 use Rattle.mpi_call.specs.declared.call.Source.{Source}
-use Rattle.mpi_call.specs.declared.call.Source.TheVariants.{Null}
 use Rattle.mpi_call.specs.declared.call.Tag.{Tag}
 use Rattle.mpi_call.specs.declared.call.TakeMode.{TakeMode}
 use Rattle.mpi_call.specs.declared.call.TakeMode.TheVariants.{All, Any as AnyOne, Several, TestAll, TestAny, TestSeveral}
@@ -30,11 +29,11 @@ use Rattle.c_program.specs.declared.mpi.Buffer.{Buffer}
 use Rattle.c_program.specs.declared.mpi.MpiCall.{MpiCall}
 use Rattle.c_program.specs.declared.mpi.MpiCall.TheVariants as c
 use Rattle.c_program.specs.Cells.{Cells}
-use Rattle.c_program.specs.Effects.{Comm, answers, at_root, cell, colour, count_of, effect_of, enters, first, gets, handles_of, is_me, is_root, joins, optional, pieces, receive, same_count, send_after, sends, sends_from, status}
+use Rattle.c_program.specs.Effects.{Comm, answers, at_root, cell, colour, effect_of, enters, first, gets, handles_of, is_me, is_root, joins, optional, pieces, receive, same_count, send_after, sends, sends_from, status}
 use Rattle.c_program.specs.Keeping.{Good}
 use Rattle.c_program.specs.Performing.{entered_ints}
 use Rattle.c_program.specs.Program.{rank_of}
-use Rattle.c_program.specs.Proper.{Holds, IsFirst, IsJoin, IsKnown, IsMessage, IsProper, IsWanted, below, first_is, given_free, given_holds, if_holds, length-entered, entered_length, of_holds, on_comm, on_count, on_destination, on_first, on_member, on_range, on_source, on_tag, on_wanted}
+use Rattle.c_program.specs.Proper.{Holds, IsKnown, IsMessage, IsProper, below, given_free, given_holds, if_holds, length-entered, entered_length, of_holds, on_comm, on_count, on_destination, on_first, on_member, on_range, on_source, on_tag, on_wanted}
 use Rattle.c_program.specs.State.{State}
 use Rattle.c_program.specs.Values.{given, range, value}
 
