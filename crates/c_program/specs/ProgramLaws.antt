@@ -1,5 +1,5 @@
 -- The laws of programs, for C programs: along what a rank has seen, its course goes on as the program's next call says.
-use Rattle.std.proofs.Common.{◌≡◌, ◌∙◌, ◌++◌, ◌⊎◌, ◌↔◌, inl, inr, ℕ, Bool, true, false, List, [], ◌∷◌, Option, Some, None, MatchBool, length, refl, sym, ap, subst, append_assoc, append-nil}
+use Rattle.std.proofs.Common.{◌≡◌, ◌∙◌, ◌++◌, ◌↔◌, inl, inr, ℕ, Bool, true, false, List, [], ◌∷◌, Some, None, MatchBool, length, refl, sym, ap, subst, append_assoc, append-nil}
 use Rattle.std.proofs.lemmas.List.{map-append}
 use Rattle.std.specs.List.{list_any}
 use Rattle.mpi_call.specs.declared.call.Call.{Call}
@@ -16,7 +16,7 @@ use Rattle.c_program.specs.Keeping.{Keeps}
 use Rattle.c_program.specs.Meaning.{course_of}
 use Rattle.c_program.specs.Program.{next_of, output_of, rank_of}
 use Rattle.c_program.specs.State.{State}
-use Rattle.c_program.specs.StatementLaws.{PerformKeeps, course_keeps}
+use Rattle.c_program.specs.StatementLaws.{course_keeps}
 
 -- ---- a reply in shape
 
@@ -52,7 +52,7 @@ module _ (n me : ℕ) (next : Next) where
   goes_on_behind : (own : View) (s : State) (call : Call) (go : Reply → Course) (reply : Reply) → GoesOn own (Asks s call go) → has_shape n me own call reply ≡ true → ends (call, reply) ≡ false → GoesOn (own ++ (call, reply) ∷ []) (go reply)
   goes_on_behind own s call go reply same shape ending replies =
       let longer : next n me (replies_in own ++ reply ∷ replies) ≡ call_in (shaped_after n me (own ++ (call, reply) ∷ []) (go reply) replies) =
-          same (reply ∷ replies) ∙ ap call_in (shaped_goes_on n me own s call go reply replies shape ending) in
+      same (reply ∷ replies) ∙ ap call_in (shaped_goes_on n me own s call go reply replies shape ending) in
       rw (map-append, append_assoc) longer
 
   -- where a rank stands after a view: it has ended, or its course keeps the laws
@@ -141,15 +141,15 @@ module _ (n me : ℕ) (next : Next) where
 pub after_in_shape : (program : CProgram) (n me : ℕ) (view : View) → IsViewOf (next_of program) n me view → shaped_after n me [] (course_of program (rank_of n me)) (replies_in view) ≡ after (course_of program (rank_of n me)) (replies_in view)
 after_in_shape program n me view along = same_after n me (next_of program) [] view (course_of program (rank_of n me)) (λ replies. refl) along
 
-module _ (performs : (n me : ℕ) → PerformKeeps n me) (program : CProgram) where
+module _ (program : CProgram) where
   stands_at : (n me : ℕ) (view : View) → IsRankOf n me → IsViewOf (next_of program) n me view → Stands n me (next_of program) view (list_any ends view) (shaped_after n me [] (course_of program (rank_of n me)) (replies_in view))
-  stands_at n me view is along = stands_after n me (next_of program) [] view (course_of program (rank_of n me)) (λ replies. refl) (course_keeps performs program n me is) along
+  stands_at n me view is along = stands_after n me (next_of program) [] view (course_of program (rank_of n me)) (λ replies. refl) (course_keeps program n me is) along
 
   pub ends_exactly : EndsExactly (next_of program)
   ends_exactly n me view is along = ends_where n me (next_of program) view (list_any ends view) _ (stands_at n me view is along)
 
   pub prints_on : PrintsOn (next_of program) (output_of program)
-  prints_on n me view more is along = prints_between n me (next_of program) [] view more (course_of program (rank_of n me)) (λ replies. refl) (course_keeps performs program n me is) along
+  prints_on n me view more is along = prints_between n me (next_of program) [] view more (course_of program (rank_of n me)) (λ replies. refl) (course_keeps program n me is) along
 
   pub asks_in_bounds : AsksInBounds (next_of program)
   asks_in_bounds n me view call is along made = (proper_call n me (next_of program) view (list_any ends view) _ call (stands_at n me view is along) made).0

@@ -53,7 +53,7 @@ elements_from_fit whole cells (pos i) fits is =
 
 pub range_fits : (reference : Reference) (s : State) (cells : Cells) → SlotsFit s → range reference s ≡ Ok cells → cells.length ≤ 262144
 range_fits Nothing s cells all is =
-    let same : 0 ≡ cells.length = ap (λ (o : Result Cells Fault). elim o [ | Ok cells ↦ cells.length | Err fault ↦ 0 ]) is in
+    let same : 0 ≡ cells.length = ap (λ (o : Result Cells Fault). elim o [ Ok cells ↦ cells.length | Err fault ↦ 0 ]) is in
     omega arith
 range_fits (WholeReference variable) s cells all is = cells_of_fits variable s cells all is
 range_fits (From variable index) s cells all is =

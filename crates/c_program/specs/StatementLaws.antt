@@ -9,12 +9,10 @@ use Rattle.c_names.specs.declared.kind.Kind.TheVariants.{Int, Status, Request, C
 use Rattle.run_model.specs.Program.{IsRankOf}
 use Rattle.run_model.specs.Views.{View}
 use Rattle.run_model.proofs.Orders.{in_order_first}
-use Rattle.c_program.specs.declared.effect.Effect.{Effect}
 use Rattle.c_program.specs.declared.expr.Call.{Call as FunctionCall}
 use Rattle.c_program.specs.declared.expr.Expr.{Expr}
 use Rattle.c_program.specs.declared.expr.Right.{Right}
 use Rattle.c_program.specs.declared.expr.Right.TheVariants.{Value as ValueRight, Call as CallRight}
-use Rattle.c_program.specs.declared.mpi.MpiCall.{MpiCall}
 use Rattle.c_program.specs.declared.program.CProgram.{CProgram}
 use Rattle.c_program.specs.declared.program.Function.{Function}
 use Rattle.c_program.specs.declared.program.Parameter.{Parameter}
@@ -35,6 +33,7 @@ use Rattle.c_program.specs.declared.state.Passed.{Passed}
 use Rattle.c_program.specs.declared.state.Passed.TheVariants.{Number, Cells as Lent}
 use Rattle.c_program.specs.Courses.{Course, ended, trapped}
 use Rattle.c_program.specs.Effects.{effect_of}
+use Rattle.c_program.specs.EffectLaws.{perform_keeps}
 use Rattle.c_program.specs.GoodLaws.{good_put, keeps_ended, keeps_prefix, keeps_trapped, prefix_more}
 use Rattle.c_program.specs.Keeping.{Good, IsPassable, KeepCalls, Keeps, KeepsExits, KeepsOn}
 use Rattle.c_program.specs.Meaning as m
@@ -45,13 +44,6 @@ use Rattle.c_program.specs.Program.{rank_of}
 use Rattle.c_program.specs.RangeLaws.{passed_all_are_passable}
 use Rattle.c_program.specs.State.{Slot, State, cell_at, first_cells, leave, mark_of, no_cells, put, width_of}
 use Rattle.c_program.specs.Values.{cell_of, operated, value, values}
-
--- what an MPI call does keeps them
-abbrev pub PerformKeeps : ℕ → ℕ → Type 0
-PerformKeeps n me =
-    (call : MpiCall) (effect : Effect) (own : View) (s : State) (go : Onward)
-    → Good n me own s → effect_of (rank_of n me) call s ≡ Ok effect → KeepsOn n me go
-    → Keeps n me own s.printed (perform (rank_of n me) effect s go)
 
 -- what goes on one way, and what has four ways out
 abbrev KeepPassing : ℕ → ℕ → Passing → Type 0
@@ -257,100 +249,99 @@ module _ (n me : ℕ) where
     return_keeps None own s k good exits = exits.back (pos 0) own s good
     return_keeps (Some given_right) own s k good exits = right_keeps given_right own s (λ v s. k.back v s) good (λ v own s good. exits.back v own s good)
 
-    module _ (performs : PerformKeeps n me) where
-      simple_keeps : (one : Simple) → KeepPassing n me (m.simple (rank_of n me) calls one)
-      simple_keeps (Set place given_right) own s go good keep =
-          trying_keeps own (cell_of place s) s (λ cell. m.right calls given_right s (λ v s. go (put cell v s))) (λ cell is.
-          right_keeps given_right own s (λ v s. go (put cell v s)) good (λ v own s good. keep own (put cell v s) (good_put n me own cell v s good)))
-      simple_keeps (Update place operator given_right) own s go good keep =
-          trying_keeps own (cell_of place s) s (λ cell. m.right calls given_right s (λ v s. m.trying (operated operator (cell_at s cell) v) s (λ v. go (put cell v s)))) (λ cell is.
-          right_keeps given_right own s (λ v s. m.trying (operated operator (cell_at s cell) v) s (λ v. go (put cell v s))) good (λ v own s good.
-          trying_keeps own (operated operator (cell_at s cell) v) s (λ v. go (put cell v s)) (λ v is. keep own (put cell v s) (good_put n me own cell v s good))))
-      simple_keeps (CallSimple call) own s go good keep = invoke_keeps call own s (λ v s. go s) good (λ v own s good. keep own s good)
-      simple_keeps (Mpi call) own s go good keep =
-          trying_keeps own (effect_of (rank_of n me) call s) s (λ effect. perform (rank_of n me) effect s go) (λ effect is. performs call effect own s go good is keep)
-      simple_keeps (Print format arguments) own s go good keep =
-          trying_keeps own (values arguments.items s) s (λ vs. m.print (text_of format.items vs) s go) (λ vs is. print_keeps (text_of format.items vs) own s go good keep)
-      simple_keeps Flush own s go good keep = keep own s good
+    simple_keeps : (one : Simple) → KeepPassing n me (m.simple (rank_of n me) calls one)
+    simple_keeps (Set place given_right) own s go good keep =
+        trying_keeps own (cell_of place s) s (λ cell. m.right calls given_right s (λ v s. go (put cell v s))) (λ cell is.
+        right_keeps given_right own s (λ v s. go (put cell v s)) good (λ v own s good. keep own (put cell v s) (good_put n me own cell v s good)))
+    simple_keeps (Update place operator given_right) own s go good keep =
+        trying_keeps own (cell_of place s) s (λ cell. m.right calls given_right s (λ v s. m.trying (operated operator (cell_at s cell) v) s (λ v. go (put cell v s)))) (λ cell is.
+        right_keeps given_right own s (λ v s. m.trying (operated operator (cell_at s cell) v) s (λ v. go (put cell v s))) good (λ v own s good.
+        trying_keeps own (operated operator (cell_at s cell) v) s (λ v. go (put cell v s)) (λ v is. keep own (put cell v s) (good_put n me own cell v s good))))
+    simple_keeps (CallSimple call) own s go good keep = invoke_keeps call own s (λ v s. go s) good (λ v own s good. keep own s good)
+    simple_keeps (Mpi call) own s go good keep =
+        trying_keeps own (effect_of (rank_of n me) call s) s (λ effect. perform (rank_of n me) effect s go) (λ effect is. perform_keeps n me call effect own s go good is keep)
+    simple_keeps (Print format arguments) own s go good keep =
+        trying_keeps own (values arguments.items s) s (λ vs. m.print (text_of format.items vs) s go) (λ vs is. print_keeps (text_of format.items vs) own s go good keep)
+    simple_keeps Flush own s go good keep = keep own s good
 
-      for_start_keeps : (start : ForStart) → KeepPassing n me (m.for_start (rank_of n me) calls start)
-      for_start_keeps NoStart own s go good keep = keep own s good
-      for_start_keeps (DeclaredStart d) own s go good keep = step_keeps own s (λ s. m.declaration calls d s go) good (λ own s good. declaration_keeps d own s go good keep)
-      for_start_keeps (SimpleStart one) own s go good keep = simple_keeps one own s go good keep
+    for_start_keeps : (start : ForStart) → KeepPassing n me (m.for_start (rank_of n me) calls start)
+    for_start_keeps NoStart own s go good keep = keep own s good
+    for_start_keeps (DeclaredStart d) own s go good keep = step_keeps own s (λ s. m.declaration calls d s go) good (λ own s good. declaration_keeps d own s go good keep)
+    for_start_keeps (SimpleStart one) own s go good keep = simple_keeps one own s go good keep
 
-      for_update_keeps : (update : Option Simple) → KeepPassing n me (m.for_update (rank_of n me) calls update)
-      for_update_keeps None own s go good keep = keep own s good
-      for_update_keeps (Some one) own s go good keep = simple_keeps one own s go good keep
+    for_update_keeps : (update : Option Simple) → KeepPassing n me (m.for_update (rank_of n me) calls update)
+    for_update_keeps None own s go good keep = keep own s good
+    for_update_keeps (Some one) own s go good keep = simple_keeps one own s go good keep
 
-      mutual
-        act_keeps : (stmt : Stmt) → KeepMeaning n me (m.act (rank_of n me) calls stmt)
-        act_keeps (Block' shape row) own s k good exits = act_row_keeps row own s (m.leaving (mark_of s) k) good (leaving_keeps (mark_of s) k exits)
-        act_keeps Empty own s k good exits = exits.next own s good
-        act_keeps (SimpleStmt one) own s k good exits = simple_keeps one own s k.next good exits.next
-        act_keeps Break own s k good exits = exits.broke own s good
-        act_keeps Continue own s k good exits = exits.again own s good
-        act_keeps (Return given_right) own s k good exits = return_keeps given_right own s k good exits
-        act_keeps (If' e p taken) own s k good exits =
-            trying_keeps own (m.test (Some e) s) s (λ holds. m.choose holds (m.started (m.act (rank_of n me) calls taken) s k) (k.next s)) (λ holds is.
-            choose_keeps own holds s.printed (m.started (m.act (rank_of n me) calls taken) s k) (k.next s)
-            (λ true_now. started_keeps (m.act (rank_of n me) calls taken) (act_keeps taken) own s k good exits)
-            (exits.next own s good))
-        act_keeps (IfElse' e p taken q spared) own s k good exits =
-            trying_keeps own (m.test (Some e) s) s (λ holds. m.choose holds (m.started (m.act (rank_of n me) calls taken) s k) (m.started (m.act (rank_of n me) calls spared) s k)) (λ holds is.
-            choose_keeps own holds s.printed (m.started (m.act (rank_of n me) calls taken) s k) (m.started (m.act (rank_of n me) calls spared) s k)
-            (λ true_now. started_keeps (m.act (rank_of n me) calls taken) (act_keeps taken) own s k good exits)
-            (started_keeps (m.act (rank_of n me) calls spared) (act_keeps spared) own s k good exits))
-        act_keeps (While' e p body) own s k good exits =
-            loop_keeps (Some e) m.no_update (m.started (m.act (rank_of n me) calls body)) no_update_keeps (started_keeps (m.act (rank_of n me) calls body) (act_keeps body)) own s k good exits
-        act_keeps (Do' p body e) own s k good exits =
-            loop_after_keeps e (m.started (m.act (rank_of n me) calls body)) (started_keeps (m.act (rank_of n me) calls body) (act_keeps body)) own s k good exits
-        act_keeps (For' start e update p body) own s k good exits =
-            for_start_keeps start own s (λ t. m.loop e (m.for_update (rank_of n me) calls update) (m.started (m.act (rank_of n me) calls body)) t (m.leaving (mark_of s) k)) good (λ own t good.
-            loop_keeps e (m.for_update (rank_of n me) calls update) (m.started (m.act (rank_of n me) calls body)) (for_update_keeps update) (started_keeps (m.act (rank_of n me) calls body) (act_keeps body)) own t (m.leaving (mark_of s) k) good (leaving_keeps (mark_of s) k exits))
+    mutual
+      act_keeps : (stmt : Stmt) → KeepMeaning n me (m.act (rank_of n me) calls stmt)
+      act_keeps (Block' shape row) own s k good exits = act_row_keeps row own s (m.leaving (mark_of s) k) good (leaving_keeps (mark_of s) k exits)
+      act_keeps Empty own s k good exits = exits.next own s good
+      act_keeps (SimpleStmt one) own s k good exits = simple_keeps one own s k.next good exits.next
+      act_keeps Break own s k good exits = exits.broke own s good
+      act_keeps Continue own s k good exits = exits.again own s good
+      act_keeps (Return given_right) own s k good exits = return_keeps given_right own s k good exits
+      act_keeps (If' e p taken) own s k good exits =
+          trying_keeps own (m.test (Some e) s) s (λ holds. m.choose holds (m.started (m.act (rank_of n me) calls taken) s k) (k.next s)) (λ holds is.
+          choose_keeps own holds s.printed (m.started (m.act (rank_of n me) calls taken) s k) (k.next s)
+          (λ true_now. started_keeps (m.act (rank_of n me) calls taken) (act_keeps taken) own s k good exits)
+          (exits.next own s good))
+      act_keeps (IfElse' e p taken q spared) own s k good exits =
+          trying_keeps own (m.test (Some e) s) s (λ holds. m.choose holds (m.started (m.act (rank_of n me) calls taken) s k) (m.started (m.act (rank_of n me) calls spared) s k)) (λ holds is.
+          choose_keeps own holds s.printed (m.started (m.act (rank_of n me) calls taken) s k) (m.started (m.act (rank_of n me) calls spared) s k)
+          (λ true_now. started_keeps (m.act (rank_of n me) calls taken) (act_keeps taken) own s k good exits)
+          (started_keeps (m.act (rank_of n me) calls spared) (act_keeps spared) own s k good exits))
+      act_keeps (While' e p body) own s k good exits =
+          loop_keeps (Some e) m.no_update (m.started (m.act (rank_of n me) calls body)) no_update_keeps (started_keeps (m.act (rank_of n me) calls body) (act_keeps body)) own s k good exits
+      act_keeps (Do' p body e) own s k good exits =
+          loop_after_keeps e (m.started (m.act (rank_of n me) calls body)) (started_keeps (m.act (rank_of n me) calls body) (act_keeps body)) own s k good exits
+      act_keeps (For' start e update p body) own s k good exits =
+          for_start_keeps start own s (λ t. m.loop e (m.for_update (rank_of n me) calls update) (m.started (m.act (rank_of n me) calls body)) t (m.leaving (mark_of s) k)) good (λ own t good.
+          loop_keeps e (m.for_update (rank_of n me) calls update) (m.started (m.act (rank_of n me) calls body)) (for_update_keeps update) (started_keeps (m.act (rank_of n me) calls body) (act_keeps body)) own t (m.leaving (mark_of s) k) good (leaving_keeps (mark_of s) k exits))
 
-        act_part_keeps : (part : Part) → KeepMeaning n me (m.act_part (rank_of n me) calls part)
-        act_part_keeps (DeclarationPart d) own s k good exits = declaration_keeps d own s k.next good exits.next
-        act_part_keeps (StmtPart one) own s k good exits = act_keeps one own s k good exits
+      act_part_keeps : (part : Part) → KeepMeaning n me (m.act_part (rank_of n me) calls part)
+      act_part_keeps (DeclarationPart d) own s k good exits = declaration_keeps d own s k.next good exits.next
+      act_part_keeps (StmtPart one) own s k good exits = act_keeps one own s k good exits
 
-        act_row_keeps : {i : _} (row : Row_of-Part i) → KeepMeaning n me (m.act_row (rank_of n me) calls row)
-        act_row_keeps end_of-Part own s k good exits = exits.next own s good
-        act_row_keeps (more_of-Part part parts) own s k good exits =
-            let others : Onward = λ s. m.act_row (rank_of n me) calls parts s k in
-            started_keeps (m.act_part (rank_of n me) calls part) (act_part_keeps part) own s (record k { next = others }) good
-            (record { next = λ own s good. act_row_keeps parts own s k good exits; broke = exits.broke; again = exits.again; back = exits.back })
-
-      act_list_keeps : (parts : List Part) → KeepMeaning n me (m.act_list (rank_of n me) calls parts)
-      act_list_keeps [] own s k good exits = exits.next own s good
-      act_list_keeps (part ∷ parts) own s k good exits =
-          let others : Onward = λ s. m.act_list (rank_of n me) calls parts s k in
+      act_row_keeps : {i : _} (row : Row_of-Part i) → KeepMeaning n me (m.act_row (rank_of n me) calls row)
+      act_row_keeps end_of-Part own s k good exits = exits.next own s good
+      act_row_keeps (more_of-Part part parts) own s k good exits =
+          let others : Onward = λ s. m.act_row (rank_of n me) calls parts s k in
           started_keeps (m.act_part (rank_of n me) calls part) (act_part_keeps part) own s (record k { next = others }) good
-          (record { next = λ own s good. act_list_keeps parts own s k good exits; broke = exits.broke; again = exits.again; back = exits.back })
+          (record { next = λ own s good. act_row_keeps parts own s k good exits; broke = exits.broke; again = exits.again; back = exits.back })
 
-      exits_to_keep : (mark : Mark) (go : ℤ → Onward) → ((v : ℤ) → KeepsOn n me (go v)) → KeepsExits n me (m.exits_to mark go)
-      exits_to_keep mark go keep = record {
-        next = λ own s good. keep (pos 0) own (leave mark s) (good_leave own mark s good);
-        broke = λ own s good. keep (pos 0) own (leave mark s) (good_leave own mark s good);
-        again = λ own s good. keep (pos 0) own (leave mark s) (good_leave own mark s good);
-        back = λ v own s good. keep v own (leave mark s) (good_leave own mark s good);
-      }
+    act_list_keeps : (parts : List Part) → KeepMeaning n me (m.act_list (rank_of n me) calls parts)
+    act_list_keeps [] own s k good exits = exits.next own s good
+    act_list_keeps (part ∷ parts) own s k good exits =
+        let others : Onward = λ s. m.act_list (rank_of n me) calls parts s k in
+        started_keeps (m.act_part (rank_of n me) calls part) (act_part_keeps part) own s (record k { next = others }) good
+        (record { next = λ own s good. act_list_keeps parts own s k good exits; broke = exits.broke; again = exits.again; back = exits.back })
 
-      run_function_keeps : (found : Option Function) (arguments : List Passed) (own : View) (s : State) (go : ℤ → Onward) → All IsPassable arguments → Good n me own s → ((v : ℤ) → KeepsOn n me (go v)) → Keeps n me own s.printed (m.run_function (rank_of n me) calls found arguments s go)
-      run_function_keeps None arguments own s go fit good keep = keeps_trapped n me own Depth s
-      run_function_keeps (Some f) arguments own s go fit good keep =
-          let inside : State = m.with_parameters f.parameters.items arguments (m.opened s) in
-          let runs : Course = m.act_list (rank_of n me) calls f.body.items inside (m.exits_to (mark_of s) go) in
-          let keeps : Keeps n me own inside.printed runs =
-              act_list_keeps f.body.items own inside (m.exits_to (mark_of s) go) (good_parameters own f.parameters.items arguments (m.opened s) fit (good_opened own s good)) (exits_to_keep (mark_of s) go keep) in
-          choose_keeps own (m.has_room (m.parameter_cells f.parameters.items) s) s.printed runs (trapped CellsFault s)
-          (λ room. subst (λ printed. Keeps n me own printed runs) (printed_parameters f.parameters.items arguments (m.opened s)) keeps)
-          (keeps_trapped n me own CellsFault s)
+    exits_to_keep : (mark : Mark) (go : ℤ → Onward) → ((v : ℤ) → KeepsOn n me (go v)) → KeepsExits n me (m.exits_to mark go)
+    exits_to_keep mark go keep = record {
+      next = λ own s good. keep (pos 0) own (leave mark s) (good_leave own mark s good);
+      broke = λ own s good. keep (pos 0) own (leave mark s) (good_leave own mark s good);
+      again = λ own s good. keep (pos 0) own (leave mark s) (good_leave own mark s good);
+      back = λ v own s good. keep v own (leave mark s) (good_leave own mark s good);
+    }
+
+    run_function_keeps : (found : Option Function) (arguments : List Passed) (own : View) (s : State) (go : ℤ → Onward) → All IsPassable arguments → Good n me own s → ((v : ℤ) → KeepsOn n me (go v)) → Keeps n me own s.printed (m.run_function (rank_of n me) calls found arguments s go)
+    run_function_keeps None arguments own s go fit good keep = keeps_trapped n me own Depth s
+    run_function_keeps (Some f) arguments own s go fit good keep =
+        let inside : State = m.with_parameters f.parameters.items arguments (m.opened s) in
+        let runs : Course = m.act_list (rank_of n me) calls f.body.items inside (m.exits_to (mark_of s) go) in
+        let keeps : Keeps n me own inside.printed runs =
+        act_list_keeps f.body.items own inside (m.exits_to (mark_of s) go) (good_parameters own f.parameters.items arguments (m.opened s) fit (good_opened own s good)) (exits_to_keep (mark_of s) go keep) in
+        choose_keeps own (m.has_room (m.parameter_cells f.parameters.items) s) s.printed runs (trapped CellsFault s)
+        (λ room. subst (λ printed. Keeps n me own printed runs) (printed_parameters f.parameters.items arguments (m.opened s)) keeps)
+        (keeps_trapped n me own CellsFault s)
 
   -- ---- programs
 
-  call_at_keeps : PerformKeeps n me → (functions : List Function) (depth : ℕ) → KeepCalls n me (m.call_at (rank_of n me) functions depth)
-  call_at_keeps performs functions zero function arguments own s go fit good keep = keeps_trapped n me own Depth s
-  call_at_keeps performs functions (suc depth) function arguments own s go fit good keep =
-      run_function_keeps (m.call_at (rank_of n me) functions depth) (call_at_keeps performs functions depth) performs (slice_get functions function) arguments own s go fit good keep
+  call_at_keeps : (functions : List Function) (depth : ℕ) → KeepCalls n me (m.call_at (rank_of n me) functions depth)
+  call_at_keeps functions zero function arguments own s go fit good keep = keeps_trapped n me own Depth s
+  call_at_keeps functions (suc depth) function arguments own s go fit good keep =
+      run_function_keeps (m.call_at (rank_of n me) functions depth) (call_at_keeps functions depth) (slice_get functions function) arguments own s go fit good keep
 
   good_start : me < n → Good n me [] m.start
   good_start low = record {
@@ -360,7 +351,7 @@ module _ (n me : ℕ) where
     slots = All-nil Fits;
   }
 
-pub course_keeps : ((n me : ℕ) → PerformKeeps n me) → (program : CProgram) (n me : ℕ) → IsRankOf n me → Keeps n me [] [] (m.course_of program (rank_of n me))
-course_keeps performs program n me is =
-    call_at_keeps n me (performs n me) program.functions.items 100 program.main (Number (pos 1) ∷ []) [] m.start (λ v s. ended s)
+pub course_keeps : (program : CProgram) (n me : ℕ) → IsRankOf n me → Keeps n me [] [] (m.course_of program (rank_of n me))
+course_keeps program n me is =
+    call_at_keeps n me program.functions.items 100 program.main (Number (pos 1) ∷ []) [] m.start (λ v s. ended s)
     (All-cons IsPassable (Number (pos 1)) [] tt (All-nil IsPassable)) (good_start n me is.2) (λ v own s good. keeps_ended n me own s)
