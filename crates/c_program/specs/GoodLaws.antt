@@ -97,6 +97,3 @@ keeps_alike n me own s t c alike keeps = subst (λ printed. Keeps n me own print
 
 pub good_put : (n me : ℕ) (own : View) (cell : ℕ) (value : ℤ) (s : State) → Good n me own s → Good n me own (put cell value s)
 good_put n me own cell value s good = good_alike n me own s (put cell value s) (alike_put cell value s) good
-
-pub good_put_all : (n me : ℕ) (own : View) (cell : ℕ) (values : List ℤ) (s : State) → Good n me own s → Good n me own (put_all cell values s)
-good_put_all n me own cell values s good = good_alike n me own s (put_all cell values s) (alike_put_all cell values s) good
