@@ -41,7 +41,8 @@ use Rattle.c_program.specs.declared.state.Known.{Known}
 use Rattle.c_program.specs.Cells.{Cells}
 use Rattle.c_program.specs.Courses.{Course, Asks}
 use Rattle.c_program.specs.Effects.{effect_of}
-use Rattle.c_program.specs.GoodLaws.{Alike, alike_put, alike_put_all, alike_put_some, alike_same, alike_trans, good_alike, keeps_aborted, keeps_alike, keeps_trapped, prefix_same}
+use Rattle.c_program.specs.GoodLaws.{Alike, alike_put, alike_put_all, alike_put_some, alike_same, alike_trans, good_alike, keeps_aborted, keeps_alike, keeps_trapped}
+use Rattle.run_model.proofs.Prefixes.{prefix_refl}
 use Rattle.c_program.specs.Keeping.{Good, Keeps, KeepsOn}
 use Rattle.c_program.specs.Performing.{Active, Onward, active_from, active_in, active_or_none, after_take, answered, begun, completed, completing, empties, enter_call, first_got, first_place, item_completed, items_of, learned, made_by, made_by_all, none_active, number_of_next, or_trap, perform, places_of, post_call, probed, put_empties, put_empty, put_items, put_message, put_nothing, put_only_empty, put_places, put_result, put_status, receiving, send_call, sending, sent, source_in, stands, start_at, starts_in, status_at, status_place, take_one, taking_message}
 use Rattle.c_program.specs.Program.{rank_of}
@@ -265,7 +266,7 @@ starting_keeps : (n me : ℕ) (own : View) (call : Call) (start : Begun) (s : St
     → Keeps n me own s.printed (Asks s call (λ reply. go (begun start s)))
 starting_keeps n me own call start s go starting bounds form good on =
     let keeps : Keeps n me (own ++ (call, Done) ∷ []) s.printed (go (begun start s)) = on (own ++ (call, Done) ∷ []) (begun start s) (good_begun n me own call start s good form starting) refl refl in
-    (prefix_same s.printed, bounds, form, λ reply shape. behind_start n me own s.printed (go (begun start s)) call reply starting keeps shape)
+    (prefix_refl s.printed, bounds, form, λ reply shape. behind_start n me own s.printed (go (begun start s)) call reply starting keeps shape)
 
 -- ---- one start until it is complete
 
@@ -273,7 +274,7 @@ taking_keeps : (n me : ℕ) (own : View) (number : ℕ) (s : State) (go : Reply 
     → ((reply : Reply) → Good n me (own ++ (take_one number, reply) ∷ []) (learned (items_of reply) s) → Keeps n me (own ++ (take_one number, reply) ∷ []) s.printed (go reply))
     → Keeps n me own s.printed (Asks s (take_one number) go)
 taking_keeps n me own number s go good below on = (
-  prefix_same s.printed,
+  prefix_refl s.printed,
   (omega arith, omega arith, λ few. All-cons (λ k. k < 1000000) number [] (let starts = good.starts in omega (arith, starts, below, few)) (All-nil (λ k. k < 1000000))),
   tt,
   λ reply shape. unless_ends (ends (take_one number, reply)) _ (on reply (good_reply n me own (take_one number) reply s good tt shape)),
@@ -348,7 +349,7 @@ completing_keeps n me own requests mode answer (one ∷ more) s go good are on =
     let few : length active ≤ 262144 = are.few in
     let starts : length s.starts ≤ length own = good.starts in
     let below : All (λ k. k < length s.starts) (starts_in active) = All-map (λ k. k < length s.starts) (λ (one : Active). one.start) active are.below in (
-      prefix_same s.printed,
+      prefix_refl s.printed,
       (omega arith, omega (arith, count, few), λ got. All-weaker (λ k. k < length s.starts) (λ k. k < 1000000) (λ k low. omega (arith, low, starts, got)) (starts_in active) below),
       tt,
       λ reply shape. unless_ends (ends (call, reply)) _
@@ -405,7 +406,7 @@ peek_keeps : (n me : ℕ) (own : View) (comm : ℕ) (source : Source) (tag : Tag
     → Keeps n me own s.printed (Asks s (Peek comm source tag waits) (λ reply. go (probed n comm flag status reply s)))
 peek_keeps n me own comm source tag waits flag status s go good is on =
     let call : Call = Peek comm source tag waits in (
-      prefix_same s.printed,
+      prefix_refl s.printed,
       (is.source, is.tag),
       tt,
       λ reply shape. unless_ends (ends (call, reply)) _

@@ -1,5 +1,5 @@
 -- States that stay good, and courses that end.
-use Rattle.std.proofs.Common.{◌≡◌, ◌∙◌, ◌+◌, ◌++◌, ℕ, ℤ, true, List, [], ◌∷◌, Option, Some, None, length, refl, sym, ap, subst, append_assoc, append-nil}
+use Rattle.std.proofs.Common.{◌≡◌, ◌∙◌, ◌+◌, ℕ, ℤ, true, List, [], ◌∷◌, Option, Some, None, length, refl, subst}
 use Rattle.mpi_call.specs.declared.call.Call.{Call}
 use Rattle.mpi_call.specs.declared.call.Call.TheVariants.{Abort, Trap, End}
 use Rattle.mpi_call.specs.declared.call.Fault.{Fault}
@@ -9,20 +9,10 @@ use Rattle.run_model.specs.Lists.{IsPrefixOf}
 use Rattle.run_model.specs.Program.{IsInBounds, IsInForm, ends}
 use Rattle.run_model.specs.Shape.{has_shape}
 use Rattle.run_model.specs.Views.{View}
+use Rattle.run_model.proofs.Prefixes.{prefix_refl, prefix_trans}
 use Rattle.c_program.specs.Courses.{Course, Asks, Over, asks_last, ended, trapped}
 use Rattle.c_program.specs.Keeping.{Good, Keeps}
 use Rattle.c_program.specs.State.{State, members_of, put, put_all, put_some}
-
--- ---- prefixes
-
-pub prefix_same : (xs : List ℕ) → IsPrefixOf xs xs
-prefix_same xs = ([], append-nil xs)
-
-pub prefix_more : (xs ys : List ℕ) → IsPrefixOf xs (xs ++ ys)
-prefix_more xs ys = (ys, refl)
-
-pub prefix_trans : (xs ys zs : List ℕ) → IsPrefixOf xs ys → IsPrefixOf ys zs → IsPrefixOf xs zs
-prefix_trans xs ys zs one two = (one.0 ++ two.0, sym (append_assoc xs one.0 two.0) ∙ ap (λ front. front ++ two.0) one.1 ∙ two.1)
 
 -- ---- courses that end
 
@@ -31,7 +21,7 @@ keeps_prefix n me own short long (Over s) prefix keeps = absurd keeps
 keeps_prefix n me own short long (Asks s call go) prefix keeps = (prefix_trans short long s.printed prefix keeps.0, keeps.1, keeps.2, keeps.3)
 
 pub keeps_last : (n me : ℕ) (own : View) (call : Call) (s : State) → IsInBounds n (length own) call → IsInForm n own me call → ((reply : Reply) → has_shape n me own call reply ≡ true → ends (call, reply) ≡ true) → Keeps n me own s.printed (asks_last call s)
-keeps_last n me own call s bounds form ending = (prefix_same s.printed, bounds, form, λ reply shape. rw (ending reply shape) tt)
+keeps_last n me own call s bounds form ending = (prefix_refl s.printed, bounds, form, λ reply shape. rw (ending reply shape) tt)
 
 trap_ends : (n me : ℕ) (own : View) (fault : Fault) (reply : Reply) → has_shape n me own (Trap fault) reply ≡ true → ends (Trap fault, reply) ≡ true
 trap_ends n me own fault Done shape = absurd (cc)
@@ -107,6 +97,3 @@ keeps_alike n me own s t c alike keeps = subst (λ printed. Keeps n me own print
 
 pub good_put : (n me : ℕ) (own : View) (cell : ℕ) (value : ℤ) (s : State) → Good n me own s → Good n me own (put cell value s)
 good_put n me own cell value s good = good_alike n me own s (put cell value s) (alike_put cell value s) good
-
-pub good_put_all : (n me : ℕ) (own : View) (cell : ℕ) (values : List ℤ) (s : State) → Good n me own s → Good n me own (put_all cell values s)
-good_put_all n me own cell values s good = good_alike n me own s (put_all cell values s) (alike_put_all cell values s) good

@@ -11,7 +11,8 @@ use Rattle.run_model.specs.Views.{View, Next, replies_in}
 use Rattle.run_model.proofs.Views.{test_cases}
 use Rattle.c_program.specs.declared.program.CProgram.{CProgram}
 use Rattle.c_program.specs.Courses.{Course, Asks, Over, after, call_in, shaped_after, state_in}
-use Rattle.c_program.specs.GoodLaws.{keeps_prefix, prefix_same, prefix_trans}
+use Rattle.c_program.specs.GoodLaws.{keeps_prefix}
+use Rattle.run_model.proofs.Prefixes.{prefix_refl, prefix_trans}
 use Rattle.c_program.specs.Keeping.{Keeps}
 use Rattle.c_program.specs.Meaning.{course_of}
 use Rattle.c_program.specs.Program.{next_of, output_of, rank_of}
@@ -95,14 +96,14 @@ module _ (n me : ℕ) (next : Next) where
   prints_between : (own view more : View) (c : Course) → GoesOn own c → Keeps n me own [] c → Along (IsSeen next n me) own (view ++ more) → IsPrefixOf (state_in (shaped_after n me own c (replies_in view))).printed (state_in (shaped_after n me own c (replies_in (view ++ more)))).printed
   prints_between own view more (Over s) same keeps along = absurd keeps
   prints_between own [] more (Asks s asked go) same keeps along =
-      prints_from own more s.printed (Asks s asked go) same (prefix_same s.printed, keeps.1, keeps.2, keeps.3) along
+      prints_from own more s.printed (Asks s asked go) same (prefix_refl s.printed, keeps.1, keeps.2, keeps.3) along
   prints_between own ((call, reply) ∷ view) more (Asks s asked go) same keeps along =
       let call_is : asked ≡ call = same_call own s asked call go reply same along.0 in
       let shape : has_shape n me own asked reply ≡ true = rw call_is along.0.shaped in
       let later : Along (IsSeen next n me) (own ++ (asked, reply) ∷ []) (view ++ more) = rw call_is along.1 in
       let follows : MatchBool (ends (asked, reply)) (Unit {0}) (Keeps n me (own ++ (asked, reply) ∷ []) s.printed (go reply)) = keeps.3 reply shape in
       elim (test_cases (ends (asked, reply))) [
-        | inl holds ↦ rw (shaped_ends n me own s asked go reply (replies_in view) shape holds, shaped_ends n me own s asked go reply (replies_in (view ++ more)) shape holds) (prefix_same s.printed)
+        | inl holds ↦ rw (shaped_ends n me own s asked go reply (replies_in view) shape holds, shaped_ends n me own s asked go reply (replies_in (view ++ more)) shape holds) (prefix_refl s.printed)
         | inr fails ↦ rw (shaped_goes_on n me own s asked go reply (replies_in view) shape fails, shaped_goes_on n me own s asked go reply (replies_in (view ++ more)) shape fails)
             (prints_between (own ++ (asked, reply) ∷ []) view more (go reply) (goes_on_behind own s asked go reply same shape fails) (begins (own ++ (asked, reply) ∷ []) s.printed (go reply) (rw fails at follows)) later)
       ]

@@ -34,7 +34,8 @@ use Rattle.c_program.specs.declared.state.Passed.TheVariants.{Number, Cells as L
 use Rattle.c_program.specs.Courses.{Course, ended, trapped}
 use Rattle.c_program.specs.Effects.{effect_of}
 use Rattle.c_program.specs.EffectLaws.{perform_keeps}
-use Rattle.c_program.specs.GoodLaws.{good_put, keeps_ended, keeps_prefix, keeps_trapped, prefix_more}
+use Rattle.c_program.specs.GoodLaws.{good_put, keeps_ended, keeps_prefix, keeps_trapped}
+use Rattle.run_model.proofs.Prefixes.{prefix_append}
 use Rattle.c_program.specs.Keeping.{Good, IsPassable, KeepCalls, Keeps, KeepsExits, KeepsOn}
 use Rattle.c_program.specs.Meaning as m
 use Rattle.c_program.specs.Meaning.{Calls, Exits, Meaning, Passing}
@@ -148,7 +149,7 @@ module _ (n me : ℕ) where
   print_keeps text own s go good keep =
       let longer : State = record s { printed = s.printed ++ text } in
       choose_keeps own (nat_le (length s.printed + length text) 65536) s.printed (go longer) (trapped OutputFull s)
-      (λ room. keeps_prefix n me own s.printed (s.printed ++ text) (go longer) (prefix_more s.printed text) (keep own longer (good_printed own s (s.printed ++ text) good)))
+      (λ room. keeps_prefix n me own s.printed (s.printed ++ text) (go longer) (prefix_append s.printed text) (keep own longer (good_printed own s (s.printed ++ text) good)))
       (keeps_trapped n me own OutputFull s)
 
   put_values_keep : (es : List Expr) (cell : ℕ) → KeepPassing n me (m.put_values es cell)
