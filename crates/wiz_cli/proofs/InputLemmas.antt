@@ -8,15 +8,16 @@ use Rattle.srr_entry.specs.Entries.{log_of}
 use Rattle.group_plan.specs.OrderText.{IsRankLine}
 use Rattle.group_plan.specs.Plans.{number_of_ranks}
 use Rattle.group_plan.specs.PlanText.{IsPlanText}
-use Rattle.small_c.specs.declared.small_program.SmallProgram.{SmallProgram}
+use Rattle.c_program.specs.declared.program.CProgram.{CProgram}
+use Rattle.c_types.specs.Checks.{IsProgramOf}
 use Rattle.wiz_cli.specs.declared.outcome.Refusal.{Refusal}
-use Rattle.wiz_cli.specs.declared.outcome.Refusal.TheVariants.{Words, Missing, ReadFault, Program as BadProgram, NotBuilt, Plan as BadPlan, Order as BadOrder, Log, TooLong}
+use Rattle.wiz_cli.specs.declared.outcome.Refusal.TheVariants.{Words, Missing, ReadFault, Program as BadProgram, Plan as BadPlan, Order as BadOrder, Log, TooLong}
 use Rattle.wiz_cli.specs.declared.record_outcome.InputFile.{InputFile}
 use Rattle.wiz_cli.specs.declared.record_outcome.InputFile.TheVariants.{Program, Plan, Order}
 use Rattle.wiz_cli.specs.declared.record_outcome.Inputs.{Inputs}
 use Rattle.wiz_cli.specs.declared.record_outcome.Unrecorded.{Unrecorded}
 use Rattle.wiz_cli.specs.declared.record_outcome.Unrecorded.TheVariants.{Refused, NoMemory as Wanting}
-use Rattle.wiz_cli.specs.Recordings.{AreTurns, IsFirstUnread, IsOrderRefusal, IsPlanRefusal, IsProgramText, IsRefusedBy, IsThere, IsUnread, IsUnreadOrder}
+use Rattle.wiz_cli.specs.Recordings.{AreTurns, IsFirstUnread, IsOrderRefusal, IsPlanRefusal, IsRefusedBy, IsThere, IsUnread, IsUnreadOrder}
 use Rattle.wiz_cli.specs.RecordSteps.{HasLists, IsAt, IsStop}
 use Rattle.wiz_cli.specs.RecordWords.{RecordNames}
 use Rattle.wiz_cli.specs.Reports.{IsProgramRefusal}
@@ -28,7 +29,6 @@ IsUnread-earlier files reads mid reads' name limit Words later unread = unread
 IsUnread-earlier files reads mid reads' name limit Missing later unread = unread
 IsUnread-earlier files reads mid reads' name limit ReadFault later unread = omega (arith, later, unread)
 IsUnread-earlier files reads mid reads' name limit (BadProgram fault) later unread = unread
-IsUnread-earlier files reads mid reads' name limit NotBuilt later unread = unread
 IsUnread-earlier files reads mid reads' name limit (BadPlan fault) later unread = unread
 IsUnread-earlier files reads mid reads' name limit (BadOrder fault) later unread = unread
 IsUnread-earlier files reads mid reads' name limit (Log fault) later unread = unread
@@ -61,11 +61,11 @@ pub program_refused : (inputs : Inputs) (why : Unrecorded) → IsStop (IsAt Prog
 program_refused inputs (Refused refused) stop = rw stop.0 stop.1
 program_refused inputs Wanting stop = tt
 
-pub plan_refused : (inputs : Inputs) (program : SmallProgram) (why : Unrecorded) → IsProgramText inputs.program program → IsStop (IsAt Plan (IsPlanRefusal inputs.plan)) why → IsStop (IsRefusedBy inputs) why
+pub plan_refused : (inputs : Inputs) (program : CProgram) (why : Unrecorded) → IsProgramOf inputs.program program → IsStop (IsAt Plan (IsPlanRefusal inputs.plan)) why → IsStop (IsRefusedBy inputs) why
 plan_refused inputs program (Refused refused) text stop = rw stop.0 ((program, text), stop.1)
 plan_refused inputs program Wanting text stop = tt
 
-pub order_refused : (inputs : Inputs) (program : SmallProgram) (groups : List (List ℕ)) (why : Unrecorded) → IsProgramText inputs.program program → IsPlanText inputs.plan groups
+pub order_refused : (inputs : Inputs) (program : CProgram) (groups : List (List ℕ)) (why : Unrecorded) → IsProgramOf inputs.program program → IsPlanText inputs.plan groups
     → IsStop (IsAt Order (IsOrderRefusal (number_of_ranks groups) inputs.order)) why → IsStop (IsRefusedBy inputs) why
 order_refused inputs program groups (Refused refused) text plan stop = rw stop.0 ((program, text), (groups, plan, stop.1))
 order_refused inputs program groups Wanting text plan stop = tt

@@ -8,10 +8,10 @@ use Rattle.srr_entry.specs.declared.log.Log.{Log}
 use Rattle.srr_replay.specs.declared.replayed.Replayed.{Replayed}
 use Rattle.srr_replay.specs.declared.replayed.Stand.{Stand}
 use Rattle.srr_replay.specs.Laws.{IsDone, IsRunWith}
-use Rattle.wiz_cli.specs.declared.outcome.Refusal.TheVariants.{Words, Missing, ReadFault, Program, NotBuilt, Plan, Order, Log as LogRefused, TooLong}
+use Rattle.wiz_cli.specs.declared.outcome.Refusal.TheVariants.{Words, Missing, ReadFault, Program, Plan, Order, Log as LogRefused, TooLong}
 use Rattle.wiz_cli.specs.declared.outcome.Outcome.{Outcome}
 use Rattle.wiz_cli.specs.declared.outcome.Outcome.TheVariants.{Refused, Replayed as WasReplayed}
-use Rattle.small_c.specs.Courses.{next_of, output_of}
+use Rattle.c_program.specs.Program.{next_of, output_of}
 use Rattle.wiz_cli.specs.Reports.{GrewBy, GrewByPart, IsBytesOutcome, IsFileOutcome, IsOutcome, IsReplayOfLog, IsReport, IsShown, IsTold, IsTrace, ReplaysShowEveryRun, ShowsEveryRun, is_diverged, is_starved}
 use Rattle.wiz_trace.specs.TraceTexts.{trace_text}
 use Rattle.wiz_cli.specs.Words.{IsReplayOf}
@@ -24,7 +24,6 @@ IsFileOutcome-bytes files name before after bytes (Refused Words) is short h = a
 IsFileOutcome-bytes files name before after bytes (Refused Missing) is short h = absurd h.2
 IsFileOutcome-bytes files name before after bytes (Refused ReadFault) is short h = absurd h.2
 IsFileOutcome-bytes files name before after bytes (Refused (Program fault)) is short h = (bytes, is, short, h)
-IsFileOutcome-bytes files name before after bytes (Refused NotBuilt) is short h = (bytes, is, short, h)
 IsFileOutcome-bytes files name before after bytes (Refused (Plan fault)) is short h = (bytes, is, short, h)
 IsFileOutcome-bytes files name before after bytes (Refused (Order fault)) is short h = (bytes, is, short, h)
 IsFileOutcome-bytes files name before after bytes (Refused (LogRefused fault)) is short h = (bytes, is, short, h)
@@ -37,7 +36,6 @@ IsOutcome-file words files before after name (Refused Words) is h = absurd h
 IsOutcome-file words files before after name (Refused Missing) is h = (is, h)
 IsOutcome-file words files before after name (Refused ReadFault) is h = (is, h)
 IsOutcome-file words files before after name (Refused (Program fault)) is h = (is, h)
-IsOutcome-file words files before after name (Refused NotBuilt) is h = (is, h)
 IsOutcome-file words files before after name (Refused (Plan fault)) is h = (is, h)
 IsOutcome-file words files before after name (Refused (Order fault)) is h = (is, h)
 IsOutcome-file words files before after name (Refused (LogRefused fault)) is h = (is, h)

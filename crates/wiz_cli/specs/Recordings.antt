@@ -6,9 +6,9 @@ use Rattle.group_plan.specs.Plans.{number_of_ranks}
 use Rattle.group_plan.specs.PlanText.{IsPlanText, IsFault as IsPlanFault}
 use Rattle.srr_entry.specs.declared.log.Log.{Log}
 use Rattle.srr_log.specs.LogText.{IsLogText, log_text}
-use Rattle.small_c.specs.declared.small_program.SmallProgram.{SmallProgram}
-use Rattle.small_c.specs.Courses.{next_of, output_of}
-use Rattle.small_c.specs.SmallTexts.{IsSmallText}
+use Rattle.c_program.specs.declared.program.CProgram.{CProgram}
+use Rattle.c_program.specs.Program.{next_of, output_of}
+use Rattle.c_types.specs.Checks.{IsProgramOf}
 use Rattle.srr_record.specs.declared.recording.Recording.{Recording}
 use Rattle.srr_record.specs.Recordings.{IsRecording}
 use Rattle.wiz_cli.specs.declared.outcome.Refusal.{Refusal}
@@ -18,7 +18,7 @@ use Rattle.wiz_cli.specs.declared.record_outcome.InputFile.TheVariants.{Program,
 use Rattle.wiz_cli.specs.declared.record_outcome.Inputs.{Inputs}
 use Rattle.wiz_cli.specs.declared.record_outcome.RecordRefusal.{RecordRefusal}
 use Rattle.wiz_cli.specs.RecordWords.{RecordNames}
-use Rattle.wiz_cli.specs.Reports.{IsAccepted, IsProgramRefusal}
+use Rattle.wiz_cli.specs.Reports.{IsProgramRefusal}
 use Rattle.wiz_io.specs.Files.{Files, HasRisen}
 
 -- where files are told, this one has these bytes; they are not more than its limit
@@ -73,14 +73,9 @@ abbrev pub AreTurns : ℕ → Option (List ℕ) → List ℕ → Type 0
 AreTurns n None turns = turns ≡ []
 AreTurns n (Some text) turns = IsOrderText n text turns
 
--- the text is accepted, and is a program of the small form
-pub record IsProgramText (text : List ℕ) (program : SmallProgram) : Type 0 where
-  pub accepted : IsAccepted text
-  pub small : IsSmallText text program
-
 -- the input files hold a program, a plan, and turns of its ranks
-pub record ArePrepared (inputs : Inputs) (program : SmallProgram) (groups : List (List ℕ)) (turns : List ℕ) : Type 0 where
-  pub is_program : IsProgramText inputs.program program
+pub record ArePrepared (inputs : Inputs) (program : CProgram) (groups : List (List ℕ)) (turns : List ℕ) : Type 0 where
+  pub is_program : IsProgramOf inputs.program program
   pub is_plan : IsPlanText inputs.plan groups
   pub are_turns : AreTurns (number_of_ranks groups) inputs.order turns
 
@@ -100,9 +95,9 @@ IsOrderRefusal n (Some text) refusal = IsOrderRefusalOf n text refusal
 -- what an input file holds is refused, and what those before it hold is not
 abbrev pub IsRefusedBy : Inputs → InputFile → Refusal → Type 0
 IsRefusedBy inputs Program refusal = IsProgramRefusal inputs.program refusal
-IsRefusedBy inputs Plan refusal = ((program : SmallProgram) × IsProgramText inputs.program program) × IsPlanRefusal inputs.plan refusal
+IsRefusedBy inputs Plan refusal = ((program : CProgram) × IsProgramOf inputs.program program) × IsPlanRefusal inputs.plan refusal
 IsRefusedBy inputs Order refusal =
-    ((program : SmallProgram) × IsProgramText inputs.program program)
+    ((program : CProgram) × IsProgramOf inputs.program program)
     × ((groups : List (List ℕ)) × IsPlanText inputs.plan groups × IsOrderRefusal (number_of_ranks groups) inputs.order refusal)
 
 -- why nothing is recorded: an input file is not read, or all are and what one holds is refused
@@ -114,7 +109,7 @@ IsRefusal files reads reads' names refused =
 -- the recording of the program that the input files hold: its serial run by the plan and the turns; each of its logs can be read
 -- back from its text
 pub record IsRecordingOf (inputs : Inputs) (recording : Recording) : Type 0 where
-  pub program : SmallProgram
+  pub program : CProgram
   pub groups : List (List ℕ)
   pub turns : List ℕ
   pub prepared : ArePrepared inputs program groups turns

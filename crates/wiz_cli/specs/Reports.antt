@@ -23,34 +23,26 @@ use Rattle.srr_replay.specs.declared.replayed.Stand.TheVariants.{AtBreak, Diverg
 use Rattle.srr_replay.specs.Laws.{IsReplayOfEveryRun, IsRunWith}
 use Rattle.srr_replay.specs.Stands.{IsReplayed, printed_of}
 use Rattle.wiz_cli.specs.declared.outcome.Refusal.{Refusal}
-use Rattle.wiz_cli.specs.declared.outcome.Refusal.TheVariants.{Words, Missing, ReadFault, Program, NotBuilt, Plan, Order, Log as LogRefused, TooLong}
+use Rattle.wiz_cli.specs.declared.outcome.Refusal.TheVariants.{Words, Missing, ReadFault, Program, Plan, Order, Log as LogRefused, TooLong}
 use Rattle.wiz_cli.specs.declared.outcome.Outcome.{Outcome}
 use Rattle.wiz_cli.specs.declared.outcome.Outcome.TheVariants.{Refused, Replayed as WasReplayed}
-use Rattle.small_c.specs.declared.small_program.SmallProgram.{SmallProgram}
-use Rattle.small_c.specs.Courses.{next_of, output_of, variables_of}
-use Rattle.small_c.specs.SmallTexts.{IsSmallText}
+use Rattle.c_program.specs.Program.{next_of, output_of, variables_of}
 use Rattle.wiz_trace.specs.TraceTexts.{trace_text}
 use Rattle.wiz_cli.specs.Words.{IsReplayOf}
 use Rattle.wiz_base.specs.Decimals.{decimal_text}
 use Rattle.c_program.specs.declared.program.CProgram.{CProgram}
 use Rattle.wiz_io.specs.Files.{Files, HasRisen}
 
--- the text is a program
-abbrev pub IsAccepted : List ℕ → Type 0
-IsAccepted text = (program : CProgram) × IsProgramOf text program
-
 -- a whole replay of a log's group with the program whose text stands in it, beside every run of that program with that log
 pub record IsReplayOfLog (log : Log) (replayed : Replayed) : Type 0 where
-  pub accepted : IsAccepted log.program
-  pub program : SmallProgram
-  pub is_program : IsSmallText log.program program
+  pub program : CProgram
+  pub is_program : IsProgramOf log.program program
   pub replay : IsReplayed (next_of program) (output_of program) (variables_of program) log None replayed
   pub runs : IsReplayOfEveryRun (next_of program) (output_of program) log None replayed
 
--- why a program is not run: it has a first fault, or is accepted and not of the small form
+-- why a program is not run: it has a first fault
 abbrev pub IsProgramRefusal : List ℕ → Refusal → Type 0
 IsProgramRefusal text (Program fault) = IsFaultOf text fault
-IsProgramRefusal text NotBuilt = IsAccepted text × ((program : SmallProgram) → IsSmallText text program → ⊥)
 IsProgramRefusal text refusal = ⊥
 
 -- what comes of a log: its program is refused, or its group is replayed
@@ -85,7 +77,6 @@ refusal_status Words = 1
 refusal_status Missing = 2
 refusal_status ReadFault = 3
 refusal_status (Program fault) = 5
-refusal_status NotBuilt = 5
 refusal_status (Plan fault) = 6
 refusal_status (Order fault) = 6
 refusal_status (LogRefused fault) = 8
@@ -140,7 +131,6 @@ message_text Missing name = codes "no file " ++ name ++ codes "\n"
 message_text ReadFault name = codes "cannot read " ++ name ++ codes "\n"
 message_text (Program fault) name =
     codes "program " ++ decimal_text fault.line ++ (58 ∷ decimal_text fault.column) ++ (32 ∷ fault_why fault.why) ++ codes "\n"
-message_text NotBuilt name = codes "program 1:1 not built\n"
 message_text (Plan fault) name = plan_message fault
 message_text (Order fault) name = order_message fault
 message_text (LogRefused fault) name = codes "log " ++ decimal_text fault.at ++ (32 ∷ why_text fault.why) ++ codes "\n"
@@ -225,11 +215,11 @@ pub record ShowsEveryRun (words : List (List ℕ)) (files : Option Files) (repla
   pub name : List ℕ
   pub bytes : List ℕ
   pub log : Log
-  pub program : SmallProgram
+  pub program : CProgram
   pub is_named : IsReplayOf words name
   pub is_there : IfSome files (λ told. told name ≡ Some bytes)
   pub is_text : IsLogText bytes log
-  pub is_program : IsSmallText log.program program
+  pub is_program : IsProgramOf log.program program
   pub shown : (run : List Event) → IsRunWith (next_of program) log run → IsShown (output_of program) log run replayed status
 
 -- the replays of a report, at most one, show every run

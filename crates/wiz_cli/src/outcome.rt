@@ -15,8 +15,6 @@ pub enum Refusal {
     ReadFault,
     /// The program is refused.
     Program(SourceFault),
-    /// The program is accepted, but not of the form that is run.
-    NotBuilt,
     /// The plan file holds no plan.
     Plan(PlanFault),
     /// The order file holds no order of the plan's ranks.

@@ -1,22 +1,21 @@
 //! The input files of a recording.
 ghost use Rattle.std.specs.Prelude.{◌≡◌, ◌≤◌, IfOk, IfErr, length};
 ghost use Rattle.std.specs.Option.{option_copied};
+ghost use Rattle.c_types.specs.Checks.{IsProgramOf};
 ghost use Rattle.group_plan.specs.PlanText.{IsPlanText};
 ghost use Rattle.wiz_cli.specs.declared.record_outcome.InputFile.{InputFile};
-ghost use Rattle.wiz_cli.specs.Recordings.{AreInputs, ArePrepared, AreTurns, Holds, HoldsOrder, IsFirstUnread, IsOrderRefusal, IsPlanRefusal, IsProgramText, IsRefusedBy, IsUnread, IsUnreadOrder};
+ghost use Rattle.wiz_cli.specs.Recordings.{AreInputs, ArePrepared, AreTurns, Holds, HoldsOrder, IsFirstUnread, IsOrderRefusal, IsPlanRefusal, IsRefusedBy, IsUnread, IsUnreadOrder};
 ghost use Rattle.wiz_cli.specs.RecordSteps.{IsAt, IsStop};
-ghost use Rattle.wiz_cli.specs.Reports.{IsAccepted, IsProgramRefusal};
+ghost use Rattle.wiz_cli.specs.Reports.{IsProgramRefusal};
 ghost use Rattle.wiz_cli.specs.WordNames.{names_of};
 
 use crate::outcome::Refusal;
 use crate::record_outcome::{InputFile, Inputs, Prepared, RecordRefusal, Unrecorded};
 use crate::record_words::RecordWords;
 use c_lex::Why;
+use c_program::CProgram;
 use c_types::read_program;
 use group_plan::{OrderFault, Plan, PlanFault, read_order, read_plan};
-use small_c::small_fault::SmallFault;
-use small_c::small_program::SmallProgram;
-use small_c::small_source::read_small;
 use std::alloc::Global;
 use wiz_base::Bytes;
 use wiz_io::{ReadFault, Store};
@@ -107,31 +106,17 @@ pub fn prepare(alloc: Global, inputs: &Inputs) -> Result<Prepared, Unrecorded>
 }
 
 /// The program with this text.
-fn program_in(alloc: Global, text: &[u8]) -> Result<SmallProgram, Unrecorded>
+fn program_in(alloc: Global, text: &[u8]) -> Result<CProgram, Unrecorded>
     requires { length text.now ≤ 65536 }
-    ensures program { IfOk result (λ program. IsProgramText text.now program) }
+    ensures program { IfOk result (λ program. IsProgramOf text.now program) }
     ensures refused { IfErr result (λ why. IsStop (IsAt InputFile.Program (IsProgramRefusal text.now)) why) }
 {
     match read_program(alloc, text) {
-        Ok(_) => small_program_in(alloc, text),
+        Ok(program) => Ok(program),
         Err(fault) => match fault.why {
             Why::NoMemory => Err(Unrecorded::NoMemory),
             _ => Err(refused(InputFile::Program, Refusal::Program(fault))),
         },
-    }
-}
-
-/// The program of the small form with this text, which is accepted.
-fn small_program_in(alloc: Global, text: &[u8]) -> Result<SmallProgram, Unrecorded>
-    requires short { length text.now ≤ 65536 }
-    requires accepted { IsAccepted text.now }
-    ensures program { IfOk result (λ program. IsProgramText text.now program) }
-    ensures refused { IfErr result (λ why. IsStop (IsAt InputFile.Program (IsProgramRefusal text.now)) why) }
-{
-    match read_small(alloc, text) {
-        Ok(program) => Ok(program),
-        Err(SmallFault::NotBuilt) => Err(refused(InputFile::Program, Refusal::NotBuilt)),
-        Err(SmallFault::NoMemory) => Err(Unrecorded::NoMemory),
     }
 }
 

@@ -1,7 +1,7 @@
 //! Why nothing is recorded, and what the input files of a recording hold.
 use crate::outcome::Refusal;
+use c_program::CProgram;
 use group_plan::Plan;
-use small_c::small_program::SmallProgram;
 use std::alloc::AllocError;
 use wiz_base::Bytes;
 
@@ -38,7 +38,7 @@ pub struct Inputs {
 /// What is recorded: a program, the groups of its ranks, and the ranks that have the first turns.
 #[derive(Drop)]
 pub struct Prepared {
-    pub program: SmallProgram,
+    pub program: CProgram,
     pub plan: Plan,
     pub turns: Bytes,
 }

@@ -12,10 +12,10 @@ use crate::record_outcome::{Inputs, Prepared, Unrecorded};
 use crate::record_tell::{tell_recording, tell_refusal, tell_unwritten};
 use crate::record_words::RecordWords;
 use crate::report::Report;
+use c_eval::rank::EvalRank;
+use c_program::CProgram;
 use log_bounds::laws::run_logs_are_in_bounds;
 use log_bounds::words::replies_fit;
-use small_c::small_program::SmallProgram;
-use small_c::small_rank::SmallRank;
 use srr_record::{Recording, record_serial};
 use std::alloc::{AllocError, Global};
 use wiz_io::{Sink, Store};
@@ -108,15 +108,15 @@ fn make_recording(
 /// One run for each of n ranks, before its first call.
 fn start_all<'a>(
     alloc: Global,
-    program: &'a SmallProgram,
+    program: &'a CProgram,
     n: u8,
-) -> Result<Vec<SmallRank<'a>>, AllocError>
+) -> Result<Vec<EvalRank<'a>>, AllocError>
     requires { n ≤ 64 }
     ensures { IfOk result (λ runs. AreRuns (λ run. run) program.now n [] runs.items) }
 {
     let mut runs = Vec::new(alloc);
     for rank in 0..n {
-        runs.push(SmallRank::start(alloc, program, n, rank)?)?;
+        runs.push(EvalRank::start(alloc, program, n, rank)?)?;
     }
     Ok(runs)
 }

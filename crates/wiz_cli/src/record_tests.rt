@@ -107,13 +107,7 @@ fn inputs_are_refused(rt: HostRuntime) {
     let alloc = rt.alloc();
     let rows: [(&[u8], &[u8], &[u8], u8, &[u8]); 8] = [
         (b"int x;", b"2-1", b"2", 5, b"program 1:6 unexpected\n"),
-        (
-            b"int main(void){return 0;}",
-            b"",
-            b"",
-            5,
-            b"program 1:1 not built\n",
-        ),
+        (b"float f;", b"", b"", 5, b"program 1:1 left out\n"),
         (FIRST, b"0-2,4", b"2", 6, b"plan gap 3\n"),
         (FIRST, b"0 0", b"2", 6, b"plan repeated 0\n"),
         (FIRST, b"", b"2", 6, b"plan empty\n"),

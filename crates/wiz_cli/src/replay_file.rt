@@ -4,16 +4,14 @@ ghost use Rattle.srr_entry.specs.declared.log.Log.{Log};
 ghost use Rattle.srr_replay.specs.Laws.{IsReplayOfEveryRun};
 ghost use Rattle.srr_replay.specs.Rounds.{IsReplayable, RunAll};
 ghost use Rattle.srr_replay.specs.Stands.{IsReplayed};
-ghost use Rattle.small_c.specs.Courses.{next_of, output_of, variables_of};
-ghost use Rattle.wiz_cli.specs.Reports.{IsAccepted, IsBytesOutcome, IsFileOutcome, IsLogOutcome};
+ghost use Rattle.c_program.specs.Program.{next_of, output_of, variables_of};
+ghost use Rattle.wiz_cli.specs.Reports.{IsBytesOutcome, IsFileOutcome, IsLogOutcome};
 
 use crate::outcome::{Outcome, Refusal};
+use c_eval::rank::EvalRank;
 use c_lex::Why;
+use c_program::CProgram;
 use c_types::read_program;
-use small_c::small_fault::SmallFault;
-use small_c::small_program::SmallProgram;
-use small_c::small_rank::SmallRank;
-use small_c::small_source::read_small;
 use srr_entry::log::Log;
 use srr_log::fault::LogWhy;
 use srr_log::read_log::read_log;
@@ -68,7 +66,7 @@ fn replay_log(alloc: Global, log: &Log) -> Result<Outcome, AllocError>
     ensures { IfOk result (λ outcome. IsLogOutcome log.now outcome) }
 {
     match read_program(alloc, log.program.as_slice()) {
-        Ok(_) => replay_accepted(alloc, log),
+        Ok(program) => Ok(Outcome::Replayed(replay_group(alloc, &program, log, None)?)),
         Err(fault) => match fault.why {
             Why::NoMemory => Err(AllocError),
             _ => Ok(Outcome::Refused(Refusal::Program(fault))),
@@ -76,24 +74,10 @@ fn replay_log(alloc: Global, log: &Log) -> Result<Outcome, AllocError>
     }
 }
 
-/// Replays a log whose program is accepted.
-fn replay_accepted(alloc: Global, log: &Log) -> Result<Outcome, AllocError>
-    requires log { IsReplayable log.now }
-    requires program { length log.now.program ≤ 65536 }
-    requires accepted { IsAccepted log.now.program }
-    ensures { IfOk result (λ outcome. IsLogOutcome log.now outcome) }
-{
-    match read_small(alloc, log.program.as_slice()) {
-        Ok(program) => Ok(Outcome::Replayed(replay_group(alloc, &program, log, None)?)),
-        Err(SmallFault::NotBuilt) => Ok(Outcome::Refused(Refusal::NotBuilt)),
-        Err(SmallFault::NoMemory) => Err(AllocError),
-    }
-}
-
 /// The replay of a log's group with a program; a rank stops before the call that `stop` names.
 pub fn replay_group(
     alloc: Global,
-    program: &SmallProgram,
+    program: &CProgram,
     log: &Log,
     stop: Option<(u8, u32)>,
 ) -> Result<Replayed, AllocError>
@@ -108,15 +92,15 @@ pub fn replay_group(
 /// One run for each rank of the group, before its first call. No other rank is run.
 fn start_all<'a>(
     alloc: Global,
-    program: &'a SmallProgram,
+    program: &'a CProgram,
     log: &Log,
-) -> Result<Vec<SmallRank<'a>>, AllocError>
+) -> Result<Vec<EvalRank<'a>>, AllocError>
     requires { IsReplayable log.now }
     ensures { IfOk result (λ runs. RunAll (λ run. run) program.now log.now [] runs.items) }
 {
     let mut runs = Vec::new(alloc);
     for rank in log.group.as_slice() {
-        runs.push(SmallRank::start(alloc, program, log.ranks, *rank)?)?;
+        runs.push(EvalRank::start(alloc, program, log.ranks, *rank)?)?;
     }
     Ok(runs)
 }

@@ -4,7 +4,7 @@ use crate::outcome::Outcome;
 use crate::replay_file::replay_group;
 use crate::tell::tell;
 use crate::top::wiz;
-use small_c::small_source::read_small;
+use c_types::read_program;
 use srr_log::read_log::read_log;
 use std::alloc::{AllocError, Global};
 use std::sync::Wait;
@@ -59,7 +59,8 @@ const TWICE: &[u8] =
 const CUT_OFF: &[u8] =
     b"srr 1\nranks 1\ngroup 0\nprogram 23\nint main(void){return 0\nrank 0 0\nend\n";
 
-const NOT_BUILT: &[u8] =
+/// A program that makes no call but the last, and none in the log.
+const SHORT: &[u8] =
     b"srr 1\nranks 1\ngroup 0\nprogram 25\nint main(void){return 0;}\nrank 0 0\nend\n";
 
 /// Runs a command where the one file `L` holds a log, and compares its status and output.
@@ -95,7 +96,7 @@ fn commands_have_their_status_and_output(rt: HostRuntime) {
         (replay, NO_MAIN, 5, b"program 1:1 no main\n"),
         (replay, TWICE, 5, b"program 1:26 twice\n"),
         (replay, CUT_OFF, 5, b"program 1:24 unexpected\n"),
-        (replay, NOT_BUILT, 5, b"program 1:1 not built\n"),
+        (replay, SHORT, 0, b"rank 0\noutput 0\n\nlog ended\n"),
         (replay, &FIRST[..270], 8, b"log 270 short\n"),
         (replay, b"srr 2\n", 8, b"log 0 bad version\n"),
         (&["replay", "L9", "--serial"], FIRST, 2, b"no file L9\n"),
@@ -194,7 +195,7 @@ fn stops_with(alloc: Global, stop: (u8, u32), trace: &[u8]) -> bool {
     let Ok(log) = read_log(alloc, FIRST) else {
         return false;
     };
-    let Ok(program) = read_small(alloc, log.program.as_slice()) else {
+    let Ok(program) = read_program(alloc, log.program.as_slice()) else {
         return false;
     };
     let Ok(replayed) = replay_group(alloc, &program, &log, Some(stop)) else {

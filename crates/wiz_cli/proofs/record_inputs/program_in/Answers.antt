@@ -6,7 +6,7 @@ use Rattle.wiz_cli.proofs.record_inputs.program_in.Goals.{in-Ok, in-Err+in-NoMem
 pub returns-clause-refused : goal.returns-clause-refused
 returns-clause-refused c =
     elim c.match-read_program.branch [
-      | in-Ok w ↦ rw w.result-is w.small_program_in.ensures.refused
+      | in-Ok w ↦ rw w.result-is tt
       | in-Err+in-NoMemory w ↦ rw w.result-is tt
       | in-Err+in_default w ↦
           rw (w.result-is, w.refused.ensures) (

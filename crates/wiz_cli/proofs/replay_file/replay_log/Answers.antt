@@ -3,13 +3,10 @@ use Rattle.c_lex.specs.declared.fault.SourceFault.{SourceFault}
 use Rattle.wiz_cli.proofs.replay_file.replay_log.Goals as goal
 use Rattle.wiz_cli.proofs.replay_file.replay_log.Goals.{in-Ok, in-Err+in-NoMemory, in-Err+in_default}
 
-pub replay_accepted-requires-clause-accepted : goal.replay_accepted-requires-clause-accepted
-replay_accepted-requires-clause-accepted c = (c.in-Ok.field-0, rw c.as_slice.ensures at c.in-Ok.ensures.program)
-
 pub returns : goal.returns
 returns c =
     elim c.match-read_program.branch [
-      | in-Ok w ↦ rw w.result-is w.replay_accepted.ensures
+      | in-Ok w ↦ rw w.result-is (record { program = w.in-Ok.program; is_program = rw c.as_slice.ensures at w.in-Ok.ensures.program; replay = w.in_ok-field-0.ensures.replay; runs = w.in_ok-field-0.ensures.runs })
       | in-Err+in-NoMemory w ↦ rw w.result-is tt
       | in-Err+in_default w ↦
           rw w.result-is

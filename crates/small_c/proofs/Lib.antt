@@ -1,4 +1,0 @@
-pub mod FirstRowLaws
-pub mod ReadingLaws
-pub mod FirstText
-pub mod PieceLaws
