@@ -1,6 +1,7 @@
 //! The evaluator of C programs that begins again at each call.
 #![tactic(auto)]
 
+pub mod checks;
 pub mod effects;
 pub mod outcome;
 pub mod perform;

@@ -1,5 +1,5 @@
 //! What a rank holds while its program runs.
-ghost use Rattle.std.specs.Prelude.{◌≡◌, ◌≤◌, ◌<◌, ◌^◌, ◌++◌, IfOk, OnOk, length, option_map, true};
+ghost use Rattle.std.specs.Prelude.{◌≡◌, ◌≤◌, ◌<◌, ◌^◌, ◌++◌, IfOk, IfSome, OnOk, length, option_map, true};
 ghost use Rattle.c_program.specs.Courses.{listed_of};
 ghost use Rattle.c_program.specs.Meaning.{has_room, opened, repeated, start, with_parameter, with_slot};
 ghost use Rattle.c_program.specs.Performing.{begun, learned, start_at};
@@ -207,7 +207,8 @@ impl<'p> Store<'p> {
     /// The members of a communicator.
     pub fn members(&self, rank: Rank, comm: u32) -> Option<&[u8]>
         requires { rank.ranks ≤ 64 }
-        ensures { option_map (λ members. members.now) result ≡ members_of rank.ranks self.now comm }
+        ensures members { option_map (λ members. members.now) result ≡ members_of rank.ranks self.now comm }
+        ensures bound { IfSome result (λ members. length members.now < 2 ^ 31) }
     {
         unreachable!()
     }
