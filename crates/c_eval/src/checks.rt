@@ -1,5 +1,6 @@
 //! The checks of an MPI call's arguments.
-ghost use Rattle.std.specs.Prelude.{◌≡◌, ◌≤◌, ◌<◌, ◌^◌, IfOk, IfSome, length};
+ghost use Rattle.std.specs.Prelude.{◌≡◌, ◌≤◌, ◌<◌, ◌==◌, IfOk, IfSome, length};
+ghost use Rattle.std.specs.List.{position};
 ghost use Rattle.c_program.specs.Effects.{at_root, cell, colour, communicator, count_in, count_of, destination, enters, first, gets, handles_of, is_me, is_root, member, optional, pieces, same_count, source_of, status, tag_of, wanted_tag};
 
 use crate::store::Store;
@@ -107,7 +108,16 @@ pub fn colour(number: i32) -> Result<i32, Fault>
 
 // ---- ranks
 
-fn is_me(rank: Rank, root: u8) -> bool
+/// The first place of a rank of the world among members.
+fn place_of(members: &[u8], rank: u8) -> Option<usize>
+    ensures place { result ≡ position (λ member. member == rank) members.now }
+    ensures bound { IfSome result (λ place. place < length members.now) }
+{
+    members.iter().position(|member| *member == rank)
+}
+
+/// Whether the rank that runs is this one.
+pub fn is_me(rank: Rank, root: u8) -> bool
     ensures { result ≡ is_me rank root }
 {
     root == rank.number
@@ -134,7 +144,7 @@ impl<'a> Comm<'a> {
     pub fn rank_of(&self, world_rank: u8) -> i32
         ensures { result ≡ effects.rank_in self.now.members world_rank }
     {
-        match self.members.iter().position(|member| *member == world_rank) {
+        match place_of(self.members, world_rank) {
             Some(place) => place as i32,
             None => UNDEFINED,
         }

@@ -2,7 +2,10 @@
 #![tactic(auto)]
 
 pub mod checks;
+pub mod collectives;
+pub mod completions;
 pub mod effects;
+pub mod messages;
 pub mod outcome;
 pub mod perform;
 pub mod print;
