@@ -1,3 +1,5 @@
+pub mod Chains
 pub mod Evaluated
 pub mod SlotView
+pub mod Slots
 pub mod Steps
