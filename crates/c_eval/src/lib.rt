@@ -10,4 +10,6 @@ pub mod outcome;
 pub mod perform;
 pub mod print;
 pub mod store;
+#[cfg(test)]
+mod tests;
 pub mod values;
