@@ -4,6 +4,8 @@
 pub mod checks;
 pub mod collectives;
 pub mod completions;
+#[cfg(test)]
+mod effect_tests;
 pub mod effects;
 pub mod messages;
 pub mod outcome;

@@ -288,7 +288,11 @@ impl<'p> Store<'p> {
     fn at(&self, cell: usize) -> i32
         ensures { result ≡ cell_at self.now cell }
     {
-        if cell < self.cells.len() { self.cells[cell] } else { 0 }
+        if cell < self.cells.len() {
+            self.cells[cell]
+        } else {
+            0
+        }
     }
 
     fn set(&mut self, cell: usize, value: i32)
@@ -312,12 +316,7 @@ impl<'p> Store<'p> {
     }
 
     /// A variable more, on cells that stand.
-    fn add_slot(
-        &mut self,
-        name: &'p Bytes,
-        is_listed: bool,
-        cells: Range,
-    ) -> Result<(), AllocError>
+    fn add_slot(&mut self, name: &'p Bytes, is_listed: bool, cells: Range) -> Result<(), AllocError>
         ensures { OnOk result (self.new ≡ with_cells name.now is_listed cells self.old) }
     {
         self.slots.reserve(1)?;

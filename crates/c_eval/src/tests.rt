@@ -1,126 +1,98 @@
-//! MPI calls of rank 1 of 3, with one array of eight ints.
-use crate::effects::effect_of;
+//! Values worked out by hand, and what C's `printf` prints.
+use crate::print::text_of;
 use crate::store::Store;
+use c_names::format::pieces;
 use c_names::kind::Kind;
-use c_program::effect::{Effect, Entered, Into, Rank, Start};
-use c_program::expr::{Expr, Reference};
-use c_program::mpi::{Buffer, MpiCall};
+use c_names::operator::Operator;
+use c_program::expr::{Expr, Link, Place};
 use mpi_call::call::Fault;
-use std::rt::HostRuntime;
+use std::alloc::{AllocError, Global};
 use std::test::Fail;
 use wiz_base::Bytes;
 
-const RANK: Rank = Rank {
-    ranks: 3,
-    number: 1,
-};
-
-fn array(count: i32) -> Buffer {
-    Buffer {
-        cells: Reference::Whole(0),
-        count: Expr::Number(count),
-    }
-}
-
-fn send(count: i32, dest: i32, tag: i32, comm: i32) -> MpiCall {
-    MpiCall::Send {
-        buffer: array(count),
-        dest: Expr::Number(dest),
-        tag: Expr::Number(tag),
-        comm: Expr::Number(comm),
-    }
-}
-
-fn gather(count: i32, receive_count: i32, root: i32) -> MpiCall {
-    MpiCall::Gather {
-        send: array(count),
-        receive: array(receive_count),
-        root: Expr::Number(root),
-        comm: Expr::Number(0),
-    }
-}
-
 #[test]
-fn the_first_fault_counts(rt: HostRuntime) -> Result<(), Fail> {
-    let alloc = rt.alloc();
-    let name = Bytes::from_slice(alloc, b"a")?;
-    let mut store = Store::new(alloc)?;
-    store.declare(&name, Kind::Int, 8)?;
-    for (count, dest, tag, comm, want) in [
-        (2, 2, 7, 3, Fault::BadComm),
-        (-1, 3, -1, -1, Fault::BadComm),
-        (-1, 3, -1, 0, Fault::BadCount),
-        (65537, 3, -1, 0, Fault::BadCount),
-        (9, 3, -1, 0, Fault::BadRank),
-        (9, -2, -1, 0, Fault::BadRank),
-        (9, 2, -1, 0, Fault::BadTag),
-        (9, 2, 7, 0, Fault::OutOfBounds),
+fn ints_are_printed(rt: HostRuntime) -> Result<(), Fail> {
+    for (format, value, expected) in [
+        ("%d\\n", 5, "5\n"),
+        ("%5d|", -42, "  -42|"),
+        ("%-5d|", -42, "-42  |"),
+        ("%05d", -42, "-0042"),
+        ("%2d", 12345, "12345"),
+        ("%d%%", -2147483648, "-2147483648%"),
+        ("%x", 0, "0"),
+        ("%x", -1, "ffffffff"),
+        ("%08x", 48879, "0000beef"),
+        ("%4x", 16, "  10"),
     ] {
-        match effect_of(RANK, &send(count, dest, tag, comm), &store) {
-            Err(fault) => assert_eq!(rt; fault, want),
-            Ok(_) => assert!(rt; false, "{count} {dest} {tag} {comm}"),
-        }
+        let Some(format) = pieces(rt.alloc(), format.as_bytes())? else {
+            return Err(Fail::from(expected));
+        };
+        let text = text_of(rt.alloc(), &format, &[value])?;
+        assert_eq!(rt; text.as_slice(), expected.as_bytes(), "{expected}");
     }
     Ok(())
 }
 
-#[test]
-fn a_send_is_to_a_member(rt: HostRuntime) -> Result<(), Fail> {
-    let alloc = rt.alloc();
-    let name = Bytes::from_slice(alloc, b"a")?;
-    let mut store = Store::new(alloc)?;
-    store.declare(&name, Kind::Int, 8)?;
-    match effect_of(RANK, &send(5, 2, 7, 0), &store) {
-        Ok(
-            Effect::Starts {
-                start: Start::Send(message),
-                request: None,
-            },
-        ) => {
-            assert_eq!(rt; message.comm, 0);
-            assert_eq!(rt; message.dest, 2);
-            assert_eq!(rt; message.tag, 7);
-            assert_eq!(rt; message.ints.length(), 5);
-        }
-        _ => assert!(rt; false),
-    }
-    match effect_of(RANK, &send(5, -1, 7, 0), &store) {
-        Ok(Effect::Nothing) => {}
-        _ => assert!(rt; false),
-    }
-    Ok(())
+/// An operator between an int and an operand.
+fn chain(alloc: Global, first: i32, operator: Operator, operand: Expr) -> Result<Expr, AllocError> {
+    let first = Box::new(alloc, Expr::Number(first))?;
+    let mut links = Vec::new(alloc);
+    links.push(Link { operator, operand })?;
+    Ok(Expr::Chain { first, links })
+}
+
+fn element(alloc: Global, index: i32) -> Result<Expr, AllocError> {
+    let index = Box::new(alloc, Expr::Number(index))?;
+    Ok(Expr::Read(Place::Element { variable: 0, index }))
 }
 
 #[test]
-fn only_the_root_of_a_gather_gives_a_receive(rt: HostRuntime) -> Result<(), Fail> {
-    let alloc = rt.alloc();
-    let name = Bytes::from_slice(alloc, b"a")?;
-    let mut store = Store::new(alloc)?;
-    store.declare(&name, Kind::Int, 8)?;
-    for (count, receive_count, root, want) in [
-        (2, 2, 1, None),
-        (2, 5, 0, None),
-        (2, 5, 1, Some(Fault::BadCount)),
-        (3, 3, 1, Some(Fault::OutOfBounds)),
-        (3, 3, 0, None),
-        (9, 9, 0, Some(Fault::OutOfBounds)),
+fn operands_are_evaluated_from_left_to_right(rt: HostRuntime) -> Result<(), Fail> {
+    let store = Store::new(rt.alloc())?;
+    for (first, operator, second, expected) in [
+        (7, Operator::Minus, 2, Ok(5)),
+        (7, Operator::Divide, 0, Err(Fault::DivideByZero)),
+        (0, Operator::LogicalAnd, 0, Ok(0)),
+        (7, Operator::LogicalOr, 0, Ok(1)),
+        (0, Operator::LogicalOr, 7, Err(Fault::DivideByZero)),
     ] {
-        match effect_of(RANK, &gather(count, receive_count, root), &store) {
-            Err(fault) => assert_eq!(rt; Some(fault), want),
-            Ok(Effect::Joins(collective)) => {
-                assert!(rt; want.is_none());
-                match (collective.entered, collective.into) {
-                    (Entered::Cells(entered), Into::Cells(into)) => {
-                        assert_eq!(rt; root, 1);
-                        assert_eq!(rt; entered.length(), 2);
-                        assert_eq!(rt; into.length(), 6);
-                    }
-                    (Entered::Cells(_), Into::Nowhere) => assert_eq!(rt; root, 0),
-                    _ => assert!(rt; false),
-                }
+        // behind `&&` and `||` the second operand is one that has no value
+        let operand = match operator {
+            Operator::LogicalAnd | Operator::LogicalOr => {
+                chain(rt.alloc(), second, Operator::Remainder, Expr::Number(0))?
             }
-            Ok(_) => assert!(rt; false),
-        }
+            _ => Expr::Number(second),
+        };
+        let expr = chain(rt.alloc(), first, operator, operand)?;
+        let value = store.value(&expr);
+        assert!(rt; value == expected, "{first} {second}");
     }
+    Ok(())
+}
+
+#[test]
+fn variables_stand_in_their_block(rt: HostRuntime) -> Result<(), Fail> {
+    let name = Bytes::from_slice(rt.alloc(), b"x")?;
+    let mut store = Store::new(rt.alloc())?;
+    let outside = store.mark();
+    if !store.has_room(3) {
+        return Err(Fail::from("room"));
+    }
+    store.declare(&name, Kind::Int, 3)?;
+    store.put(2, 7);
+    for (index, expected) in [
+        (2, Ok(7)),
+        (0, Ok(0)),
+        (3, Err(Fault::OutOfBounds)),
+        (-1, Err(Fault::OutOfBounds)),
+    ] {
+        let value = store.value(&element(rt.alloc(), index)?);
+        assert!(rt; value == expected, "{index}");
+    }
+    let variables = store.variables(rt.alloc())?;
+    assert_eq!(rt; variables.as_slice().len(), 1);
+    store.leave(outside);
+    assert_eq!(rt; store.height(), 0);
+    assert!(rt; store.value(&element(rt.alloc(), 2)?) == Err(Fault::OutOfBounds));
     Ok(())
 }

@@ -38,7 +38,11 @@ impl<'p> Store<'p> {
             }
             Expr::Choice { test, then, other } => {
                 let v = self.value(test)?;
-                if is_set(v) { self.value(then) } else { self.value(other) }
+                if is_set(v) {
+                    self.value(then)
+                } else {
+                    self.value(other)
+                }
             }
         }
     }

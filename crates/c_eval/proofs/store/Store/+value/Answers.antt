@@ -37,7 +37,7 @@ chained-returns t c =
 pub value-returns-in_ok-v-in-Chain : goal.value-returns-in_ok-v-in-Chain
 value-returns-in_ok-v-in-Chain t c =
     let e : value c.in-Chain.first.value c.args.self.now ≡ Ok c.in_ok-v-in-Chain.v =
-        ap (λ (x : Expr). value x c.args.self.now) (sym c.deref-in-Chain.ensures) ∙ sym c.value-in-Chain.ensures ∙ c.in_ok-v-in-Chain.was in
+    ap (λ (x : Expr). value x c.args.self.now) (sym c.deref-in-Chain.ensures) ∙ sym c.value-in-Chain.ensures ∙ c.in_ok-v-in-Chain.was in
     let fits : FitsSigned w32 c.in_ok-v-in-Chain.v = search rules in
     rw (c.in-Chain.is, chain-list c.in-Chain.first c.in-Chain.links c.args.self.now, e)
     (c.chained.ensures
