@@ -1,5 +1,6 @@
 pub mod Chains
 pub mod Evaluated
 pub mod SlotView
+pub mod Sizes
 pub mod Slots
 pub mod Steps
