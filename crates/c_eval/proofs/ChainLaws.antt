@@ -3,7 +3,7 @@ use Rattle.std.proofs.Common.{◌≡◌, ◌+◌, ◌<◌, ◌≤◌, ◌∙◌,
 use Rattle.std.specs.Prelude.{Result, Ok, Err}
 use Rattle.std.proofs.Math.Seq.{drop-cons}
 use Rattle.mpi_call.specs.declared.call.Fault.{Fault}
-use Rattle.c_program.specs.declared.expr.Expr.{Expr, Row_of-Link, end_of-Link, more_of-Link, items-the_row-Link, items_hidden-the_row-Link-0}
+use Rattle.c_program.specs.declared.expr.Expr.{Row_of-Link, end_of-Link, more_of-Link, items-the_row-Link, items_hidden-the_row-Link-0}
 use Rattle.c_program.specs.declared.expr.Expr.TheBlock.{hidden-the_row-Link-0}
 use Rattle.c_program.specs.declared.expr.Expr.TheVariants.{Chain}
 use Rattle.c_program.specs.declared.expr.Link.{Link}

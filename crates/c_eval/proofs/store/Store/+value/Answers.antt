@@ -1,4 +1,4 @@
-use Rattle.std.proofs.Common.{◌≡◌, ◌∙◌, ℤ, List, w32, FitsSigned, to_z, of_z, rules, refl, sym, ap, Ok, Err}
+use Rattle.std.proofs.Common.{◌≡◌, ◌∙◌, ℤ, List, w32, FitsSigned, rules, refl, sym, ap, Ok}
 use Rattle.std.proofs.lemmas.Int.{to_z-of_z}
 use Rattle.std.proofs.lemmas.Result.{err_from_is_err_and}
 use Rattle.c_program.specs.declared.expr.Expr.{Expr}

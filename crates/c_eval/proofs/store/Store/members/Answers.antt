@@ -1,5 +1,4 @@
 use Rattle.std.proofs.Common.{◌≡◌, ◌∙◌, ap, List, ℕ, Some, take, rules}
-use Rattle.run_model.specs.Lists.{world}
 use Rattle.c_eval.proofs.StoreLaws.{take_world}
 use Rattle.c_eval.proofs.store.Store.members.Goals as goal
 
