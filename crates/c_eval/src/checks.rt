@@ -1,7 +1,7 @@
 //! The checks of an MPI call's arguments.
 ghost use Rattle.std.specs.Prelude.{◌≡◌, ◌≤◌, ◌<◌, ◌==◌, IfOk, IfSome, length};
 ghost use Rattle.std.specs.List.{position};
-ghost use Rattle.c_program.specs.Effects.{at_root, cell, colour, communicator, count_in, count_of, destination, enters, first, gets, handles_of, is_me, is_root, member, optional, pieces, same_count, source_of, status, tag_of, wanted_tag};
+ghost use Rattle.c_program.specs.Effects.{cell, colour, communicator, count_in, count_of, enters, first, gets, handles_of, is_me, optional, same_count, status, tag_of, wanted_tag};
 
 use crate::store::Store;
 use c_program::effect::{Entered, Into, Rank};
@@ -124,7 +124,7 @@ pub fn is_me(rank: Rank, root: u8) -> bool
 }
 
 impl<'a> Comm<'a> {
-    ghost use Rattle.std.specs.Prelude.{◌≡◌, ◌≤◌, ◌<◌, ◌^◌, length, pos};
+    ghost use Rattle.std.specs.Prelude.{◌≡◌, length, pos};
     ghost use Rattle.c_program.specs.Effects as effects;
 
     pub fn number(&self) -> u32

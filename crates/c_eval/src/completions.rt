@@ -1,5 +1,5 @@
 //! The Wait and Test families.
-ghost use Rattle.std.specs.Prelude.{◌≡◌, Option};
+ghost use Rattle.std.specs.Prelude.{◌≡◌};
 ghost use Rattle.c_program.specs.declared.effect.Rank.{Rank};
 ghost use Rattle.c_program.specs.declared.mpi.MpiCall.TheVariants as c;
 ghost use Rattle.c_program.specs.Effects.{answers, effect_of};
