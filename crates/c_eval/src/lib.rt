@@ -1,6 +1,8 @@
 //! The evaluator of C programs that begins again at each call.
 #![tactic(auto)]
 
+pub mod answers;
+pub mod asking;
 pub mod effects;
 pub mod outcome;
 pub mod perform;

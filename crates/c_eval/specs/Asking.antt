@@ -1,0 +1,28 @@
+-- Meanings with a value: one call, and the completion of one start.
+use Rattle.std.specs.Prelude.{◌≡◌, ℕ, Bool, true, false, Option, Some, None}
+use Rattle.mpi_call.specs.declared.call.Call.{Call}
+use Rattle.mpi_call.specs.declared.reply.Got.{Got}
+use Rattle.mpi_call.specs.declared.reply.Reply.{Reply}
+use Rattle.c_program.specs.Courses.{Course, Asks}
+use Rattle.c_program.specs.Performing.{Onward, first_got, items_of, learned, take_one}
+use Rattle.c_program.specs.State.{State}
+use Rattle.c_eval.specs.declared.outcome.Outcome.{Outcome}
+use Rattle.c_eval.specs.declared.outcome.Outcome.TheVariants.{Goes, Waits, Over}
+
+-- goes on by the reply
+abbrev pub asking : Call → State → (Reply → Onward) → Course
+asking call s go = Asks s call (λ reply. go reply s)
+
+-- goes on by what one start gave, with the communicators that the reply tells of
+abbrev pub taking : ℕ → State → (Option Got → Onward) → Course
+taking number s go = Asks s (take_one number) (λ reply. go (first_got (items_of reply)) (learned (items_of reply) s))
+
+abbrev pub outcome_map : {A B : Type 0} → (A → B) → Outcome A → Outcome B
+outcome_map f (Goes v) = Goes (f v)
+outcome_map f (Waits call) = Waits call
+outcome_map f Over = Over
+
+-- whether there is a state that a change leads to; else the state stays as it was
+abbrev pub IsLeft : Option State → State → State → Bool → Type 0
+IsLeft None s t done = (done ≡ false) × (t ≡ s)
+IsLeft (Some u) s t done = (done ≡ true) × (t ≡ u)
