@@ -1,1 +1,3 @@
 pub mod CameLaws
+pub mod CellLaws
+pub mod CompletionLaws

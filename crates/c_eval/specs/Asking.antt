@@ -1,11 +1,14 @@
 -- Meanings with a value: one call, and the completion of one start.
-use Rattle.std.specs.Prelude.{◌≡◌, ℕ, Bool, true, false, Option, Some, None}
+use Rattle.std.specs.Prelude.{◌≡◌, ◌+◌, ℕ, Bool, true, false, Option, Some, None, option_map}
 use Rattle.mpi_call.specs.declared.call.Call.{Call}
+use Rattle.mpi_call.specs.declared.call.TakeMode.{TakeMode}
 use Rattle.mpi_call.specs.declared.reply.Got.{Got}
 use Rattle.mpi_call.specs.declared.reply.Reply.{Reply}
 use Rattle.c_program.specs.Courses.{Course, Asks}
-use Rattle.c_program.specs.Performing.{Onward, first_got, items_of, learned, take_one}
-use Rattle.c_program.specs.State.{State}
+use Rattle.c_program.specs.declared.effect.Answer.{Answer}
+use Rattle.c_program.specs.Cells.{Cells}
+use Rattle.c_program.specs.Performing.{Active, Onward, first_got, item_completed, items_of, learned, take_one}
+use Rattle.c_program.specs.State.{State, null, put}
 use Rattle.c_eval.specs.declared.outcome.Outcome.{Outcome}
 use Rattle.c_eval.specs.declared.outcome.Outcome.TheVariants.{Goes, Waits, Over}
 
@@ -26,3 +29,7 @@ outcome_map f Over = Over
 abbrev pub IsLeft : Option State → State → State → Bool → Type 0
 IsLeft None s t done = (done ≡ false) × (t ≡ s)
 IsLeft (Some u) s t done = (done ≡ true) × (t ≡ u)
+
+-- an item's message and status, and null in its handle
+abbrev pub item_put : ℕ → Cells → TakeMode → Answer → Active → ℕ → Got → State → Option State
+item_put n requests mode answer one number got s = option_map (put (requests.from + one.place) null) (item_completed n mode answer one number got s)

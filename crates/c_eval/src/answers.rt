@@ -1,8 +1,9 @@
 //! What the replies to an effect's calls change.
-ghost use Rattle.std.specs.Prelude.{◌≡◌, ◌≤◌, ◌==◌, IfOk, OnOk, option_map, pos};
+ghost use Rattle.std.specs.Prelude.{◌≡◌, ◌≤◌, ◌==◌, IfOk, OnOk, Some, if◌then◌else◌, option_map, pos};
 ghost use Rattle.std.specs.List.{position};
 ghost use Rattle.c_program.specs.Performing.{completed, probed, put_empty, put_nothing, put_result, put_status, source_in, stands};
-ghost use Rattle.c_program.specs.State.{put, put_all, put_some};
+ghost use Rattle.c_program.specs.State.{null, put, put_all, put_some};
+ghost use Rattle.c_program.specs.declared.effect.Into.TheVariants.{Cells as IntoCells, Handle};
 ghost use Rattle.c_eval.specs.Asking.{IsLeft};
 
 use crate::store::Store;
@@ -164,18 +165,47 @@ pub fn completed(
 pub fn put_result(into: Into, got: Option<&Got>, store: &mut Store) -> Result<(), AllocError>
     ensures { OnOk result (store.new ≡ put_result into (option_map (λ got. got.now) got.entry) store.old) }
 {
-    match (into, got) {
-        (Into::Cells(cells), Some(Got::Joined { ints })) => {
-            store.put_all(cells.from(), ints.as_slice());
+    let Some(got) = got else {
+        return Ok(());
+    };
+    match into {
+        Into::Nowhere => Ok(()),
+        Into::Cells(cells) => {
+            put_joined(cells, got, store);
             Ok(())
         }
-        (Into::Handle(at), Some(Got::Made { comm, members: _ })) => {
-            let handle = if *comm == 0 { NULL } else { int_of(*comm as usize)? };
-            store.put(at, handle);
-            Ok(())
-        }
-        _ => Ok(()),
+        Into::Handle(at) => put_made(at, got, store),
     }
+}
+
+/// Puts the ints of a result.
+fn put_joined(cells: Range, got: &Got, store: &mut Store)
+    ensures { store.new ≡ put_result (IntoCells cells) (Some got.now) store.old }
+{
+    if let Got::Joined { ints } = got {
+        store.put_all(cells.from(), ints.as_slice());
+    }
+}
+
+/// Puts the handle of a communicator that was made.
+fn put_made(at: u32, got: &Got, store: &mut Store) -> Result<(), AllocError>
+    ensures { OnOk result (store.new ≡ put_result (Handle at) (Some got.now) store.old) }
+{
+    if let Got::Made { comm, members: _ } = got {
+        let handle = handle_of(*comm)?;
+        store.put(at, handle);
+    }
+    Ok(())
+}
+
+/// The handle of a communicator; that of 0 is null.
+fn handle_of(comm: u32) -> Result<i32, AllocError>
+    ensures { IfOk result (λ handle. handle ≡ (if comm == 0 then null else pos comm)) }
+{
+    if comm == 0 {
+        return Ok(NULL);
+    }
+    int_of(comm as usize)
 }
 
 /// Puts what a probe found, or that it found nothing.

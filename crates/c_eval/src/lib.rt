@@ -3,6 +3,7 @@
 
 pub mod answers;
 pub mod asking;
+pub mod completion;
 pub mod effects;
 pub mod outcome;
 pub mod perform;

@@ -1,0 +1,1 @@
+-- Steps of the loops over handles and items.
