@@ -1,8 +1,8 @@
 //! Completion calls: the starts that handles name, and what their completion changes.
 ghost use Rattle.std.specs.Prelude.{◌≡◌, ◌≤◌, ◌<◌, ◌^◌, ◌*◌, [], IfOk, OnOk, length, negsuc, pos};
 ghost use Rattle.std.specs.Option.{option_to_list};
-ghost use Rattle.c_program.specs.Performing.{active_at, active_in, active_or_none, after_take, answered, completing, empties, first_place, none_active, places_of, put_empties, put_items, put_only_empty, put_places, starts_in, status_at, status_place, takes_all};
-ghost use Rattle.c_program.specs.State.{State, undefined};
+ghost use Rattle.c_program.specs.Performing.{active_at, active_from, active_in, active_or_none, after_take, answered, completing, empties, first_place, none_active, places_of, put_empties, put_items, put_only_empty, put_places, starts_in, status_at, status_place, takes_all};
+ghost use Rattle.c_program.specs.State.{ints_in};
 ghost use Rattle.c_eval.specs.Asking.{IsLeft, item_put};
 ghost use Rattle.c_eval.specs.Evaluated.{Came, plain};
 
@@ -14,7 +14,7 @@ use crate::store::Store;
 use c_program::effect::{Answer, Rank};
 use c_program::range::Range;
 use mpi_call::call::{Call, Fault, TakeMode};
-use mpi_call::lists::Starts;
+use mpi_call::lists::{Ints, Starts};
 use mpi_call::reply::{Got, Item, Reply};
 use std::alloc::{AllocError, Global};
 use std::marker::Model;
@@ -66,15 +66,31 @@ fn active_at(starts: u32, place: u32, handle: i32) -> Option<Active>
 fn active_in(alloc: Global, requests: Range, store: &Store) -> Result<Vec<Active>, AllocError>
     ensures { IfOk result (λ active. active.items ≡ active_in requests store.now) }
 {
-    let starts = store.start_count();
-    let handles = store.ints_in(alloc, requests)?;
+    let handles = handles_in(alloc, requests, store)?;
+    active_among(alloc, store.start_count(), handles.as_slice())
+}
+
+/// Those of some handles, by how many starts there are.
+fn active_among(alloc: Global, starts: u32, handles: &[i32]) -> Result<Vec<Active>, AllocError>
+    requires { length handles.now < 2 ^ 32 }
+    ensures { IfOk result (λ active. active.items ≡ active_from starts 0 handles.now) }
+{
     let mut active = Vec::new(alloc);
-    for (place, handle) in handles.as_slice().iter().enumerate() {
+    for (place, handle) in handles.iter().enumerate() {
         if let Some(one) = active_at(starts, place as u32, *handle) {
             active.push(one)?;
         }
     }
     Ok(active)
+}
+
+/// The handles of a call.
+fn handles_in(alloc: Global, requests: Range, store: &Store) -> Result<Ints, AllocError>
+    ensures handles { IfOk result (λ handles. handles ≡ ints_in requests store.now) }
+    ensures few { IfOk result (λ handles. length handles < 2 ^ 32) }
+{
+    let _few = requests.length();
+    store.ints_in(alloc, requests)
 }
 
 /// The numbers of their starts.
@@ -128,14 +144,14 @@ fn takes_all(mode: TakeMode) -> bool
 }
 
 /// The empty status for each handle that names no start.
-fn put_empties(statuses: Option<Range>, starts: u32, handles: &[i32], store: &mut Store)
+fn put_empties(answer: &Answer, starts: u32, handles: &[i32], store: &mut Store)
     requires { length handles.now < 2 ^ 32 }
-    ensures { store.new ≡ put_empties statuses starts 0 handles.now store.old }
+    ensures { store.new ≡ put_empties answer.now.statuses starts 0 handles.now store.old }
 {
-    for (place, handle) in handles.iter().enumerate() {
-        let place = place as u32;
+    for (index, handle) in handles.iter().enumerate() {
+        let place = index as u32;
         if active_at(starts, place, *handle).is_none() {
-            put_empty(store, status_at(statuses, place));
+            put_empty(store, status_at(answer.statuses, place));
         }
     }
 }
@@ -148,8 +164,8 @@ fn empties(alloc: Global, call: &Completion, store: &mut Store) -> Result<(), Al
         return Ok(());
     }
     let starts = store.start_count();
-    let handles = store.ints_in(alloc, call.requests)?;
-    put_empties(call.answer.statuses, starts, handles.as_slice(), store);
+    let handles = handles_in(alloc, call.requests, store)?;
+    put_empties(&call.answer, starts, handles.as_slice(), store);
     Ok(())
 }
 
