@@ -1,9 +1,11 @@
 -- What changes of cells leave as it was.
-use Rattle.std.proofs.Common.{◌≡◌, ℕ, ℤ, suc, ◌+◌, ◌≤◌, Bool, true, false, List, [], ◌∷◌, Option, Some, None, length, refl, sym, ◌∙◌, ap, arith}
+use Rattle.std.proofs.Common.{◌≡◌, ℕ, ℤ, suc, ◌+◌, ◌≤◌, Bool, true, false, List, [], ◌∷◌, Option, Some, None, if◌then◌else◌, length, refl, sym, ◌∙◌, ap, arith}
 use Rattle.std.proofs.lemmas.List.{set_past, length-set}
 use Rattle.mpi_call.specs.declared.reply.Got.{Got}
 use Rattle.mpi_call.specs.declared.reply.Got.TheVariants.{Sent, Nothing, Message, Joined, Made}
-use Rattle.c_program.specs.Performing.{completed, put_status, stands}
+use Rattle.mpi_call.specs.declared.call.Fault.TheVariants.{OutOfBounds}
+use Rattle.c_program.specs.Courses.{trapped}
+use Rattle.c_program.specs.Performing.{Onward, completed, or_trap, put_status, stands}
 use Rattle.c_program.specs.State.{State, put, put_all, put_some}
 use Rattle.c_program.specs.declared.state.Begun.{Begun}
 use Rattle.c_eval.specs.Asking.{IsLeft}
@@ -28,3 +30,35 @@ left-put_some (Some cell) value s = refl
 pub left-put_status : (at : Option ℕ) (source tag count : ℤ) (s : State) → (put_status at source tag count s).left ≡ s.left
 left-put_status None source tag count s = refl
 left-put_status (Some at) source tag count s = refl
+
+-- the same of a change that may fail
+pub left-is : (o : Option State) (s t : State) (done : Bool) → ((u : State) → o ≡ Some u → u.left ≡ s.left) → IsLeft o s t done → t.left ≡ s.left
+left-is None s t done keeps h = ap (λ s. s.left) h.1
+left-is (Some u) s t done keeps h = ap (λ s. s.left) h.1 ∙ keeps u refl
+
+if-some : (b : Bool) (v u : State) (n : ℕ) → (if b then Some v else None) ≡ Some u → v.left ≡ n → u.left ≡ n
+if-some true v u n e h = let same : v ≡ u = cc in rw (← same) h
+if-some false v u n e h = absurd (cc)
+
+some-is : (v u : State) (n : ℕ) → Some v ≡ Some u → v.left ≡ n → u.left ≡ n
+some-is v u n e h = let same : v ≡ u = cc in rw (← same) h
+
+left-completed : (n : ℕ) (start : Begun) (status : Option ℕ) (got : Got) (s u : State) → completed n start status got s ≡ Some u → u.left ≡ s.left
+left-completed n start status Sent s u e = some-is _ u s.left e (left-put_status status _ _ _ s)
+left-completed n start status Nothing s u e = some-is _ u s.left e (left-put_status status _ _ _ s)
+left-completed n start status (Message source number tag ints) s u e =
+    if-some (stands start.buffer ints s) _ u s.left e (left-put_status status _ _ _ (put_all start.buffer.from ints s) ∙ left-put_all start.buffer.from ints s)
+left-completed n start status (Joined ints) s u e = some-is _ u s.left e (left-put_status status _ _ _ s)
+left-completed n start status (Made comm members) s u e = some-is _ u s.left e (left-put_status status _ _ _ s)
+
+pub completed-left : (n : ℕ) (start : Begun) (status : Option ℕ) (got : Got) (s t : State) (done : Bool) → IsLeft (completed n start status got s) s t done → t.left ≡ s.left
+completed-left n start status got s t done h = left-is (completed n start status got s) s t done (λ u e. left-completed n start status got s u e) h
+
+-- going on where the change is done, and the trap where it is not
+pub done-goes : (o : Option State) (s t : State) (done : Bool) (go : Onward) → IsLeft o s t done → done ≡ true → or_trap o s go ≡ go t
+done-goes None s t done go h e = absurd (cc)
+done-goes (Some u) s t done go h e = ap go (sym h.1)
+
+pub fails-trapped : (o : Option State) (s t : State) (done : Bool) (go : Onward) → IsLeft o s t done → done ≡ false → or_trap o s go ≡ trapped OutOfBounds t
+fails-trapped None s t done go h e = ap (λ s. trapped OutOfBounds s) (sym h.1)
+fails-trapped (Some u) s t done go h e = absurd (cc)

@@ -1,7 +1,70 @@
 -- Steps of the loops over handles and items.
-use Rattle.std.proofs.Common.{◌≡◌, ℕ, zero, suc, ◌+◌, ◌<◌, ℤ, List, [], ◌∷◌, length, refl, ap}
-use Rattle.c_program.specs.State.{State, values_from}
+use Rattle.std.proofs.Common.{◌≡◌, ℕ, zero, suc, ◌+◌, ◌<◌, ◌==◌, ℤ, pos, Bool, true, false, List, [], ◌∷◌, Option, Some, None, option_map, length, drop, drop-cons, add-one, get_or, refl, sym, ◌∙◌, ap, arith}
+use Rattle.mpi_call.specs.declared.call.Call.TheVariants.{Take}
+use Rattle.mpi_call.specs.declared.call.Fault.TheVariants.{OutOfBounds}
+use Rattle.mpi_call.specs.declared.call.TakeMode.{TakeMode}
+use Rattle.mpi_call.specs.declared.call.TakeMode.TheVariants.{All, Any, Several, TestAll, TestAny, TestSeveral}
+use Rattle.mpi_call.specs.declared.reply.Got.{Got}
+use Rattle.mpi_call.specs.declared.reply.Item.{Item}
+use Rattle.mpi_call.specs.declared.reply.Reply.{Reply}
+use Rattle.c_program.specs.declared.effect.Answer.{Answer}
+use Rattle.c_program.specs.Cells.{Cells}
+use Rattle.c_program.specs.Courses.{Asks, trapped}
+use Rattle.c_program.specs.Performing.{Active, Onward, active_at, active_or_none, after_take, answered, completing, empties, item_completed, none_active, or_trap, put_empties, put_items, put_only_empty, put_places, start_at, starts_in, status_at, status_place, takes_all}
+use Rattle.c_program.specs.State.{State, ints_in, null, put, put_some, values_from}
+use Rattle.c_eval.specs.Asking.{IsLeft, item_put}
+use Rattle.c_eval.proofs.CellLaws.{done-goes, fails-trapped, left-completed, left-is, left-put_all, left-put_some, left-put_status}
 
 pub length-values_from : (cell n : ℕ) (s : State) → length (values_from cell n s) ≡ n
 length-values_from cell zero s = refl
 length-values_from cell (suc n) s = ap suc (length-values_from (cell + 1) n s)
+
+-- ---- items
+
+-- a change after one that may fail
+mapped : (o : Option State) (f : State → State) (s : State) (go : Onward) → or_trap (option_map f o) s go ≡ or_trap o s (λ t. go (f t))
+mapped None f s go = refl
+mapped (Some u) f s go = refl
+
+map-left : (o : Option State) (cell : ℕ) (n : ℕ) → ((u : State) → o ≡ Some u → u.left ≡ n) → (u : State) → option_map (put cell null) o ≡ Some u → u.left ≡ n
+map-left None cell n keeps u e = absurd (cc)
+map-left (Some v) cell n keeps u e = let same : put cell null v ≡ u = cc in rw (← same) (keeps v refl)
+
+module _ (n : ℕ) (requests : Cells) (mode : TakeMode) (answer : Answer) where
+  pub item_put-left : (one : Active) (number : ℕ) (got : Got) (s t : State) (done : Bool) → IsLeft (item_put n requests mode answer one number got s) s t done → t.left ≡ s.left
+  item_put-left one number got s t done h = left-is (item_put n requests mode answer one number got s) s t done
+      (map-left (item_completed n mode answer one number got s) (requests.from + one.place) s.left (λ u e. left-completed n (start_at one.start s) (status_at answer.statuses (status_place mode one.place number)) got s u e)) h
+
+  items-item : (active : List Active) (i : ℕ) (item : Item) (items : List Item) (s : State) (go : Onward)
+      → put_items n requests mode answer active i (item ∷ items) s go ≡ or_trap (item_put n requests mode answer (active_or_none active item.index) i item.got s) s (λ t. put_items n requests mode answer active (suc i) items t go)
+  items-item active i item items s go = sym (mapped (item_completed n mode answer (active_or_none active item.index) i item.got s) (put (requests.from + (active_or_none active item.index).place) null) s (λ t. put_items n requests mode answer active (suc i) items t go))
+
+  pub items-next : (active : List Active) (items : List Item) (i : ℕ) (item : Item) (one : Active) (s t : State) (done : Bool) → i < length items → item ≡ get_or items i item → one ≡ active_or_none active item.index
+      → IsLeft (item_put n requests mode answer one i item.got s) s t done → done ≡ true → (go : Onward)
+      → put_items n requests mode answer active i (drop i items) s go ≡ put_items n requests mode answer active (i + 1) (drop (i + 1) items) t go
+  items-next active items i item one s t done lt is one-is h d go =
+      rw (add-one, drop-cons items i item, ← is) (items-item active i item (drop (suc i) items) s go ∙ rw (← one-is) (done-goes (item_put n requests mode answer one i item.got s) s t done _ h d))
+
+  pub items-trap : (active : List Active) (items : List Item) (i : ℕ) (item : Item) (one : Active) (s t : State) (done : Bool) → i < length items → item ≡ get_or items i item → one ≡ active_or_none active item.index
+      → IsLeft (item_put n requests mode answer one i item.got s) s t done → done ≡ false → (go : Onward)
+      → put_items n requests mode answer active i (drop i items) s go ≡ trapped OutOfBounds t
+  items-trap active items i item one s t done lt is one-is h d go =
+      rw (drop-cons items i item, ← is) (items-item active i item (drop (suc i) items) s go ∙ rw (← one-is) (fails-trapped (item_put n requests mode answer one i item.got s) s t done _ h d))
+
+-- ---- the steps that are left
+
+left-put_places : (indices : Option Cells) (places : List ℤ) (s : State) → (put_places indices places s).left ≡ s.left
+left-put_places None places s = refl
+left-put_places (Some cells) places s = left-put_all cells.from places s
+
+pub left-answered : (answer : Answer) (flag index outcount : ℤ) (places : List ℤ) (s : State) → (answered answer flag index outcount places s).left ≡ s.left
+left-answered answer flag index outcount places s =
+    left-put_places answer.indices places _ ∙ left-put_some answer.outcount outcount _ ∙ left-put_some answer.index index _ ∙ left-put_some answer.flag flag s
+
+left-put_empties : (statuses : Option Cells) (starts place : ℕ) (handles : List ℤ) (s : State) → (put_empties statuses starts place handles s).left ≡ s.left
+left-put_empties statuses starts place [] s = refl
+left-put_empties statuses starts place (handle ∷ handles) s = elim (test_active (active_at starts place handle)) [ | inl h ↦ rw h (left-put_empties statuses starts (suc place) handles _ ∙ left-put_status (status_at statuses place) _ _ _ s) | inr h ↦ rw h.2 (left-put_empties statuses starts (suc place) handles s) ]
+  where
+    test_active : (active : List Active) → (active ≡ []) ⊎ ((one : Active) × (more : List Active) × (active ≡ one ∷ more))
+    test_active [] = inl refl
+    test_active (one ∷ more) = inr (one, more, refl)

@@ -90,7 +90,8 @@ fn handles_in(alloc: Global, requests: Range, store: &Store) -> Result<Ints, All
     ensures few { IfOk result (λ handles. length handles < 2 ^ 32) }
 {
     let _few = requests.length();
-    store.ints_in(alloc, requests)
+    let handles = store.ints_in(alloc, requests)?;
+    Ok(handles)
 }
 
 /// The numbers of their starts.
@@ -317,18 +318,19 @@ pub fn completing(
     requires { call.now.rank.ranks ≤ 64 }
     ensures { IfOk result (λ outcome. Came (plain (λ s. completing call.now.rank.ranks call.now.requests call.now.mode call.now.answer (active_in call.now.requests s) s)) store.old replies.old outcome store.new replies.new) }
 {
-    let active = active_in(alloc, call.requests, store)?;
+    let found = active_in(alloc, call.requests, store)?;
+    let active = found.as_slice();
     if active.is_empty() {
         none_active(alloc, call, store)?;
         return Ok(Outcome::Goes(()));
     }
-    let starts = starts_in(alloc, &active)?;
+    let starts = starts_in(alloc, active)?;
     let take = Call::Take {
         starts,
         mode: call.mode,
     };
     match asked(take, replies) {
-        Outcome::Goes(reply) => after_take(alloc, call, &active, reply, store, replies),
+        Outcome::Goes(reply) => after_take(alloc, call, active, reply, store, replies),
         Outcome::Waits(call) => Ok(Outcome::Waits(call)),
         Outcome::Over => Ok(Outcome::Over),
     }
