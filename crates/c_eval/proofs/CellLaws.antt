@@ -43,7 +43,7 @@ if-some false v u n e h = absurd (cc)
 some-is : (v u : State) (n : ℕ) → Some v ≡ Some u → v.left ≡ n → u.left ≡ n
 some-is v u n e h = let same : v ≡ u = cc in rw (← same) h
 
-left-completed : (n : ℕ) (start : Begun) (status : Option ℕ) (got : Got) (s u : State) → completed n start status got s ≡ Some u → u.left ≡ s.left
+pub left-completed : (n : ℕ) (start : Begun) (status : Option ℕ) (got : Got) (s u : State) → completed n start status got s ≡ Some u → u.left ≡ s.left
 left-completed n start status Sent s u e = some-is _ u s.left e (left-put_status status _ _ _ s)
 left-completed n start status Nothing s u e = some-is _ u s.left e (left-put_status status _ _ _ s)
 left-completed n start status (Message source number tag ints) s u e =

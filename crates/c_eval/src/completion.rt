@@ -1,7 +1,8 @@
 //! Completion calls: the starts that handles name, and what their completion changes.
 ghost use Rattle.std.specs.Prelude.{◌≡◌, ◌≤◌, ◌<◌, ◌^◌, ◌*◌, [], IfOk, OnOk, length, negsuc, pos};
 ghost use Rattle.std.specs.Option.{option_to_list};
-ghost use Rattle.c_program.specs.Performing.{active_at, active_from, active_in, active_or_none, after_take, answered, completing, empties, first_place, none_active, places_of, put_empties, put_items, put_only_empty, put_places, starts_in, status_at, status_place, takes_all};
+ghost use Rattle.c_program.specs.Performing.{active_at, active_from, active_in, active_or_none, after_take, answered, completing, empties, first_place, learned, none_active, places_of, put_empties, put_items, put_only_empty, put_places, starts_in, status_at, status_place, takes_all};
+ghost use Rattle.mpi_call.specs.declared.reply.Reply.TheVariants.{Took};
 ghost use Rattle.c_program.specs.State.{ints_in};
 ghost use Rattle.c_eval.specs.Asking.{IsLeft, item_put};
 ghost use Rattle.c_eval.specs.Evaluated.{Came, plain};
@@ -276,7 +277,53 @@ fn none_active(alloc: Global, call: &Completion, store: &mut Store) -> Result<()
     Ok(())
 }
 
-/// What follows on the reply. The want of memory comes also where it has 2^31 items, as none of a run has.
+/// Puts what a call asks for besides, once starts are complete.
+fn answered_took(answer: &Answer, count: i32, places: &[i32], store: &mut Store)
+    ensures { store.new ≡ answered answer.now (pos 1) (first_place places.now) count places.now store.old }
+{
+    let first = first_place(places);
+    answered(answer, 1, first, count, places, store);
+}
+
+/// Notes communicators that items made, and puts the statuses of handles that name no start.
+fn noted(
+    alloc: Global,
+    call: &Completion,
+    items: &[Item],
+    store: &mut Store,
+) -> Result<(), AllocError>
+    ensures { OnOk result (store.new ≡ empties call.now.requests call.now.mode call.now.answer (learned items.now store.old)) }
+{
+    store.learn(items)?;
+    empties(alloc, call, store)
+}
+
+/// What follows on items. The want of memory comes also where they are 2^31, as none of a run are.
+fn took(
+    alloc: Global,
+    call: &Completion,
+    active: &[Active],
+    items: &[Item],
+    store: &mut Store,
+    replies: &mut Replies,
+) -> Result<Outcome<()>, AllocError>
+    requires { call.now.rank.ranks ≤ 64 }
+    ensures { IfOk result (λ outcome. Came (plain (after_take call.now.rank.ranks call.now.requests call.now.mode call.now.answer active.now (Took items.now))) store.old replies.old outcome store.new replies.new) }
+{
+    let count = int_of(items.len())?;
+    let places = places_of(alloc, active, items)?;
+    noted(alloc, call, items, store)?;
+    match put_items(call, active, items, store, replies)? {
+        Outcome::Goes(()) => {
+            answered_took(&call.answer, count, &places, store);
+            Ok(Outcome::Goes(()))
+        }
+        Outcome::Waits(call) => Ok(Outcome::Waits(call)),
+        Outcome::Over => Ok(Outcome::Over),
+    }
+}
+
+/// What follows on the reply.
 fn after_take(
     alloc: Global,
     call: &Completion,
@@ -288,24 +335,11 @@ fn after_take(
     requires { call.now.rank.ranks ≤ 64 }
     ensures { IfOk result (λ outcome. Came (plain (after_take call.now.rank.ranks call.now.requests call.now.mode call.now.answer active.now reply.now)) store.old replies.old outcome store.new replies.new) }
 {
-    let Reply::Took(items) = reply else {
-        answered(&call.answer, 0, UNDEFINED, 0, &[], store);
-        return Ok(Outcome::Goes(()));
-    };
-    let items = items.as_slice();
-    let count = int_of(items.len())?;
-    let places = places_of(alloc, active, items)?;
-    store.learn(items)?;
-    empties(alloc, call, store)?;
-    match put_items(call, active, items, store, replies)? {
-        Outcome::Goes(()) => {
-            let first = first_place(&places);
-            answered(&call.answer, 1, first, count, &places, store);
-            Ok(Outcome::Goes(()))
-        }
-        Outcome::Waits(call) => Ok(Outcome::Waits(call)),
-        Outcome::Over => Ok(Outcome::Over),
+    if let Reply::Took(items) = reply {
+        return took(alloc, call, active, items.as_slice(), store, replies);
     }
+    answered(&call.answer, 0, UNDEFINED, 0, &[], store);
+    Ok(Outcome::Goes(()))
 }
 
 /// Performs a completion call.
