@@ -112,10 +112,10 @@ take-goes n requests mode answer active items s u go is = rw is refl
 pub take-left : (requests : Cells) (mode : TakeMode) (answer : Answer) (items : List Item) (s u : State) → u ≡ empties requests mode answer (learned items s) → u.left ≤ s.left
 take-left requests mode answer items s u is = let same : u.left ≡ s.left = ap (λ s. s.left) is ∙ left-empties requests mode answer (learned items s) in omega arith
 
-pub answered-is : (answer : Answer) (active : List Active) (items : List Item) (count : ℤ) (places : List ℤ) (s u : State)
-    → places ≡ places_of active items → count ≡ pos (length items) → u ≡ answered answer (pos 1) (first_place places) count places s
+pub answered-is : (answer : Answer) (active : List Active) (items : List Item) (places : List ℤ) (s u : State)
+    → places ≡ places_of active items → u ≡ answered answer (pos 1) (first_place places) (pos (length items)) places s
     → answered answer (pos 1) (first_place (places_of active items)) (pos (length items)) (places_of active items) s ≡ u
-answered-is answer active items count places s u p n e = rw (e, p, n) refl
+answered-is answer active items places s u p e = rw (e, p) refl
 
 pub answered-left : (answer : Answer) (flag index outcount : ℤ) (places : List ℤ) (s u : State) → u ≡ answered answer flag index outcount places s → u.left ≤ s.left
 answered-left answer flag index outcount places s u e = let same : u.left ≡ s.left = ap (λ s. s.left) e ∙ left-answered answer flag index outcount places s in omega arith

@@ -6,8 +6,11 @@ use Rattle.mpi_call.specs.declared.reply.Got.{Got}
 use Rattle.mpi_call.specs.declared.reply.Reply.{Reply}
 use Rattle.c_program.specs.Courses.{Course, Asks}
 use Rattle.c_program.specs.declared.effect.Answer.{Answer}
+use Rattle.c_program.specs.declared.effect.Into.{Into}
+use Rattle.c_program.specs.declared.effect.Message.{Message}
+use Rattle.c_program.specs.declared.effect.Receive.{Receive}
 use Rattle.c_program.specs.Cells.{Cells}
-use Rattle.c_program.specs.Performing.{Active, Onward, first_got, item_completed, items_of, learned, take_one}
+use Rattle.c_program.specs.Performing.{Active, Onward, first_got, item_completed, items_of, learned, put_result, sending, take_one, taking_message}
 use Rattle.c_program.specs.State.{State, null, put}
 use Rattle.c_eval.specs.declared.outcome.Outcome.{Outcome}
 use Rattle.c_eval.specs.declared.outcome.Outcome.TheVariants.{Goes, Waits, Over}
@@ -33,3 +36,11 @@ IsLeft (Some u) s t done = (done ≡ true) × (t ≡ u)
 -- an item's message and status, and null in its handle
 abbrev pub item_put : ℕ → Cells → TakeMode → Answer → Active → ℕ → Got → State → Option State
 item_put n requests mode answer one number got s = option_map (put (requests.from + one.place) null) (item_completed n mode answer one number got s)
+
+-- what follows once a receive has started
+abbrev pub receiving_then : ℕ → Receive → ℕ → Option Message → Option ℕ → State → Onward → Course
+receiving_then n receive number send status s go = sending send s (λ t. taking_message n receive number status t go)
+
+-- takes the result of a collective
+abbrev pub joined : Into → ℕ → State → Onward → Course
+joined into number s go = taking number s (λ got t. go (put_result into got t))

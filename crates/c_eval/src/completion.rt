@@ -277,12 +277,19 @@ fn none_active(alloc: Global, call: &Completion, store: &mut Store) -> Result<()
     Ok(())
 }
 
-/// Puts what a call asks for besides, once starts are complete.
-fn answered_took(answer: &Answer, count: i32, places: &[i32], store: &mut Store)
-    ensures { store.new ≡ answered answer.now (pos 1) (first_place places.now) count places.now store.old }
+/// Puts what a call asks for besides, once starts are complete. The want of memory comes also where they are 2^31, as none
+/// of a run are.
+fn answered_took(
+    answer: &Answer,
+    items: &[Item],
+    places: &[i32],
+    store: &mut Store,
+) -> Result<(), AllocError>
+    ensures { OnOk result (store.new ≡ answered answer.now (pos 1) (first_place places.now) (pos (length items.now)) places.now store.old) }
 {
-    let first = first_place(places);
-    answered(answer, 1, first, count, places, store);
+    let count = int_of(items.len())?;
+    answered(answer, 1, first_place(places), count, places, store);
+    Ok(())
 }
 
 /// Notes communicators that items made, and puts the statuses of handles that name no start.
@@ -310,12 +317,14 @@ fn took(
     requires { call.now.rank.ranks ≤ 64 }
     ensures { IfOk result (λ outcome. Came (plain (after_take call.now.rank.ranks call.now.requests call.now.mode call.now.answer active.now (Took items.now))) store.old replies.old outcome store.new replies.new) }
 {
-    let count = int_of(items.len())?;
+    if items.len() >= 2147483648 {
+        return Err(AllocError);
+    }
     let places = places_of(alloc, active, items)?;
     noted(alloc, call, items, store)?;
     match put_items(call, active, items, store, replies)? {
         Outcome::Goes(()) => {
-            answered_took(&call.answer, count, &places, store);
+            answered_took(&call.answer, items, &places, store)?;
             Ok(Outcome::Goes(()))
         }
         Outcome::Waits(call) => Ok(Outcome::Waits(call)),
@@ -364,7 +373,10 @@ pub fn completing(
         mode: call.mode,
     };
     match asked(take, replies) {
-        Outcome::Goes(reply) => after_take(alloc, call, active, reply, store, replies),
+        Outcome::Goes(reply) => {
+            let outcome = after_take(alloc, call, active, reply, store, replies)?;
+            Ok(outcome)
+        }
         Outcome::Waits(call) => Ok(Outcome::Waits(call)),
         Outcome::Over => Ok(Outcome::Over),
     }

@@ -15,12 +15,6 @@ returns-then-is_empty c =
         (λ go. rw (active-is, c.in_ok-none_active.ensures) (completing-none c.args.call.now.rank.ranks c.args.call.now.requests c.args.call.now.mode c.args.call.now.answer c.as_slice-active.result.now c.args.store.now (go tt) (sym c.is_empty.ensures ∙ c.if-is_empty.true)))
         (omega arith)
 
-pub returns-in-Goes : goal.returns-in-Goes
-returns-in-Goes c =
-    let active-is : active_in c.args.call.now.requests c.args.store.now ≡ c.as_slice-active.result.now = sym (c.as_slice-active.ensures.value ∙ c.in_ok-found.ensures) in
-    let h = c.in-Goes.ensures in
-    ?
-
 pub returns-in-Waits : goal.returns-in-Waits
 returns-in-Waits c =
     let active-is : active_in c.args.call.now.requests c.args.store.now ≡ c.as_slice-active.result.now = sym (c.as_slice-active.ensures.value ∙ c.in_ok-found.ensures) in
@@ -31,4 +25,11 @@ returns-in-Waits c =
         (omega arith) (rw c.in_ok-starts.ensures at (c.in-Waits.ensures c.args.store.now))
 
 pub returns : goal.returns
-returns c = let h = c.in-Over.ensures in ?
+returns c =
+    let active-is : active_in c.args.call.now.requests c.args.store.now ≡ c.as_slice-active.result.now = sym (c.as_slice-active.ensures.value ∙ c.in_ok-found.ensures) in
+    came-over (asking (Take (starts_in c.as_slice-active.result.now) c.args.call.now.mode))
+        (λ go reply t. after_take c.args.call.now.rank.ranks c.args.call.now.requests c.args.call.now.mode c.args.call.now.answer c.as_slice-active.result.now reply t (go tt)) _
+        c.args.store.now c.args.store.now c.args.store.now c.args.replies.now c.asked.new.replies
+        (λ go. rw active-is (completing-asks c.args.call.now.rank.ranks c.args.call.now.requests c.args.call.now.mode c.args.call.now.answer c.as_slice-active.result.now c.args.store.now (go tt) (sym c.is_empty.ensures ∙ c.if-is_empty.false)))
+        (omega arith) (rw c.in_ok-starts.ensures at (c.in-Over.ensures c.args.store.now))
+
