@@ -1,11 +1,15 @@
 -- What changes of cells leave as it was.
-use Rattle.std.proofs.Common.{◌≡◌, ℕ, ℤ, suc, ◌+◌, ◌≤◌, Bool, true, false, List, [], ◌∷◌, Option, Some, None, if◌then◌else◌, length, refl, sym, ◌∙◌, ap, arith}
+use Rattle.std.proofs.Common.{◌≡◌, ℕ, ℤ, pos, suc, ◌+◌, ◌≤◌, Bool, true, false, List, [], ◌∷◌, Option, Some, None, if◌then◌else◌, length, refl, sym, ◌∙◌, ap, arith}
 use Rattle.std.proofs.lemmas.List.{set_past, length-set}
 use Rattle.mpi_call.specs.declared.reply.Got.{Got}
 use Rattle.mpi_call.specs.declared.reply.Got.TheVariants.{Sent, Nothing, Message, Joined, Made}
 use Rattle.mpi_call.specs.declared.call.Fault.TheVariants.{OutOfBounds}
+use Rattle.mpi_call.specs.declared.reply.Reply.{Reply}
+use Rattle.mpi_call.specs.declared.reply.Reply.TheVariants.{Done, Took, NotYet, Peeked, Stopped}
 use Rattle.c_program.specs.Courses.{trapped}
-use Rattle.c_program.specs.Performing.{Onward, completed, or_trap, put_status, stands}
+use Rattle.c_program.specs.declared.effect.Into.{Into}
+use Rattle.c_program.specs.declared.effect.Into.TheVariants.{Nowhere, Cells as IntoCells, Handle}
+use Rattle.c_program.specs.Performing.{Onward, begun, completed, or_trap, probed, put_result, put_status, stands}
 use Rattle.c_program.specs.State.{State, put, put_all, put_some}
 use Rattle.c_program.specs.declared.state.Begun.{Begun}
 use Rattle.c_eval.specs.Asking.{IsLeft}
@@ -62,3 +66,36 @@ done-goes (Some u) s t done go h e = ap go (sym h.1)
 pub fails-trapped : (o : Option State) (s t : State) (done : Bool) (go : Onward) → IsLeft o s t done → done ≡ false → or_trap o s go ≡ trapped OutOfBounds t
 fails-trapped None s t done go h e = ap (λ s. trapped OutOfBounds s) (sym h.1)
 fails-trapped (Some u) s t done go h e = absurd (cc)
+
+-- ---- the steps that are left, of what an effect changes
+
+pub begin-left : (request : Option ℕ) (number : ℤ) (start : Begun) (s t : State) → t ≡ put_some request number (begun start s) → t.left ≤ s.left
+begin-left request number start s t e = let same : t.left ≡ s.left = ap (λ s. s.left) e ∙ left-put_some request number (begun start s) in omega arith
+
+left-put_result : (into : Into) (got : Option Got) (s : State) → (put_result into got s).left ≡ s.left
+left-put_result Nowhere got s = refl
+left-put_result (IntoCells cells) None s = refl
+left-put_result (IntoCells cells) (Some Sent) s = refl
+left-put_result (IntoCells cells) (Some Nothing) s = refl
+left-put_result (IntoCells cells) (Some (Message source number tag ints)) s = refl
+left-put_result (IntoCells cells) (Some (Joined ints)) s = left-put_all cells.from ints s
+left-put_result (IntoCells cells) (Some (Made comm members)) s = refl
+left-put_result (Handle at) None s = refl
+left-put_result (Handle at) (Some Sent) s = refl
+left-put_result (Handle at) (Some Nothing) s = refl
+left-put_result (Handle at) (Some (Message source number tag ints)) s = refl
+left-put_result (Handle at) (Some (Joined ints)) s = refl
+left-put_result (Handle at) (Some (Made comm members)) s = refl
+
+pub put_result-left : (into : Into) (got : Option Got) (s t : State) → t ≡ put_result into got s → t.left ≤ s.left
+put_result-left into got s t e = let same : t.left ≡ s.left = ap (λ s. s.left) e ∙ left-put_result into got s in omega arith
+
+left-probed : (n comm : ℕ) (flag status : Option ℕ) (reply : Reply) (s : State) → (probed n comm flag status reply s).left ≡ s.left
+left-probed n comm flag status Done s = left-put_some flag (pos 0) s
+left-probed n comm flag status (Took items) s = left-put_some flag (pos 0) s
+left-probed n comm flag status NotYet s = left-put_some flag (pos 0) s
+left-probed n comm flag status (Peeked source start tag count) s = left-put_some flag (pos 1) _ ∙ left-put_status status _ _ _ s
+left-probed n comm flag status (Stopped halt) s = left-put_some flag (pos 0) s
+
+pub probed-left : (n comm : ℕ) (flag status : Option ℕ) (reply : Reply) (s t : State) → t ≡ probed n comm flag status reply s → t.left ≤ s.left
+probed-left n comm flag status reply s t e = let same : t.left ≡ s.left = ap (λ s. s.left) e ∙ left-probed n comm flag status reply s in omega arith

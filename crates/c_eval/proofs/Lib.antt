@@ -1,3 +1,4 @@
 pub mod CameLaws
 pub mod CellLaws
 pub mod CompletionLaws
+pub mod PerformLaws

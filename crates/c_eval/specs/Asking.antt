@@ -1,6 +1,8 @@
 -- Meanings with a value: one call, and the completion of one start.
 use Rattle.std.specs.Prelude.{◌≡◌, ◌+◌, ℕ, Bool, true, false, Option, Some, None, option_map}
 use Rattle.mpi_call.specs.declared.call.Call.{Call}
+use Rattle.mpi_call.specs.declared.call.Source.{Source}
+use Rattle.mpi_call.specs.declared.call.Source.TheVariants.{Null}
 use Rattle.mpi_call.specs.declared.call.TakeMode.{TakeMode}
 use Rattle.mpi_call.specs.declared.reply.Got.{Got}
 use Rattle.mpi_call.specs.declared.reply.Reply.{Reply}
@@ -36,6 +38,10 @@ IsLeft (Some u) s t done = (done ≡ true) × (t ≡ u)
 -- an item's message and status, and null in its handle
 abbrev pub item_put : ℕ → Cells → TakeMode → Answer → Active → ℕ → Got → State → Option State
 item_put n requests mode answer one number got s = option_map (put (requests.from + one.place) null) (item_completed n mode answer one number got s)
+
+abbrev pub is_null : Source → Bool
+is_null Null = true
+is_null source = false
 
 -- what follows once a receive has started
 abbrev pub receiving_then : ℕ → Receive → ℕ → Option Message → Option ℕ → State → Onward → Course

@@ -5,7 +5,7 @@ ghost use Rattle.c_program.specs.declared.effect.Rank.{Rank};
 ghost use Rattle.c_program.specs.Courses.{asks_last, trapped};
 ghost use Rattle.c_program.specs.Performing.{begun, enter_call, entered_ints, number_of_next, perform, post_call, put_message, receiving, send_call, sending, sent, start_call, start_of, taking_message};
 ghost use Rattle.c_program.specs.State.{State, put_some};
-ghost use Rattle.c_eval.specs.Asking.{joined, receiving_then};
+ghost use Rattle.c_eval.specs.Asking.{is_null, joined, receiving_then};
 ghost use Rattle.c_eval.specs.Evaluated.{Came, plain};
 
 use crate::answers::{completed, probed, put_nothing, put_result, put_some, status_cell};
@@ -190,7 +190,7 @@ fn starts(
     store: &mut Store,
     replies: &mut Replies,
 ) -> Result<Outcome<()>, AllocError>
-    ensures { (rank : Rank) → IfOk result (λ outcome. Came (plain (perform rank (Starts start.now request))) store.old replies.old outcome store.new replies.new) }
+    ensures { IfOk result (λ outcome. (rank : Rank) → Came (plain (perform rank (Starts start.now request))) store.old replies.old outcome store.new replies.new) }
 {
     let call = start_call(alloc, start, store)?;
     match asked(call, replies) {
@@ -335,6 +335,13 @@ struct Probe {
     status: Option<u32>,
 }
 
+/// Whether a source is `MPI_PROC_NULL`.
+fn is_null(source: Source) -> bool
+    ensures { result ≡ is_null source }
+{
+    matches!(source, Source::Null)
+}
+
 /// Probes for a message.
 fn probes(
     rank: Rank,
@@ -345,7 +352,7 @@ fn probes(
     requires { rank.ranks ≤ 64 }
     ensures { IfOk result (λ outcome. Came (plain (perform rank (Probes probe.now.comm probe.now.source probe.now.tag probe.now.waits probe.now.flag probe.now.status))) store.old replies.old outcome store.new replies.new) }
 {
-    if matches!(probe.source, Source::Null) {
+    if is_null(probe.source) {
         put_nothing(store, status_cell(probe.status));
         put_some(store, probe.flag, 1);
         return Ok(Outcome::Goes(()));
@@ -424,7 +431,7 @@ fn joins(
     store: &mut Store,
     replies: &mut Replies,
 ) -> Result<Outcome<()>, AllocError>
-    ensures { (rank : Rank) → IfOk result (λ outcome. Came (plain (perform rank (Joins collective.now))) store.old replies.old outcome store.new replies.new) }
+    ensures { IfOk result (λ outcome. (rank : Rank) → Came (plain (perform rank (Joins collective.now))) store.old replies.old outcome store.new replies.new) }
 {
     let number = store.start_count();
     let call = enter_call(alloc, collective, store)?;
