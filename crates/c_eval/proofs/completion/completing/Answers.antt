@@ -33,3 +33,11 @@ returns c =
         (λ go. rw active-is (completing-asks c.args.call.now.rank.ranks c.args.call.now.requests c.args.call.now.mode c.args.call.now.answer c.as_slice-active.result.now c.args.store.now (go tt) (sym c.is_empty.ensures ∙ c.if-is_empty.false)))
         (omega arith) (rw c.in_ok-starts.ensures at (c.in-Over.ensures c.args.store.now))
 
+pub returns-in-Goes : goal.returns-in-Goes
+returns-in-Goes c =
+    let active-is : active_in c.args.call.now.requests c.args.store.now ≡ c.as_slice-active.result.now = sym (c.as_slice-active.ensures.value ∙ c.in_ok-found.ensures) in
+    came-then (asking (Take (starts_in c.as_slice-active.result.now) c.args.call.now.mode))
+        (λ reply t go. after_take c.args.call.now.rank.ranks c.args.call.now.requests c.args.call.now.mode c.args.call.now.answer c.as_slice-active.result.now reply t (go tt)) _
+        c.args.store.now c.args.store.now c.args.store.now c.after_take.new.store c.args.replies.now c.asked.new.replies c.after_take.new.replies c.in-Goes.reply.now c.in_ok-outcome-in-Goes.outcome
+        (λ go. rw active-is (completing-asks c.args.call.now.rank.ranks c.args.call.now.requests c.args.call.now.mode c.args.call.now.answer c.as_slice-active.result.now c.args.store.now (go tt) (sym c.is_empty.ensures ∙ c.if-is_empty.false)))
+        (omega arith) (rw c.in_ok-starts.ensures at (c.in-Goes.ensures c.args.store.now)) (came-from _ _ c.args.store.now c.args.store.now c.after_take.new.store c.asked.new.replies c.after_take.new.replies c.in_ok-outcome-in-Goes.outcome (λ go. refl) (omega arith) c.in_ok-outcome-in-Goes.ensures)

@@ -32,3 +32,13 @@ returns-in-Waits c =
         (λ go. take-goes c.args.call.now.rank.ranks c.args.call.now.requests c.args.call.now.mode c.args.call.now.answer c.args.active.now c.args.items.now c.args.store.now c.noted.new.store (go tt) prepared)
         (take-left c.args.call.now.requests c.args.call.now.mode c.args.call.now.answer c.args.items.now c.args.store.now c.noted.new.store prepared)
         (rw c.in-Waits.is at c.in_ok-put_items.ensures)
+
+pub returns : goal.returns
+returns c =
+    let prepared : c.noted.new.store ≡ empties c.args.call.now.requests c.args.call.now.mode c.args.call.now.answer (learned c.args.items.now c.args.store.now) = c.in_ok-noted.ensures in
+    came-over (plain (put_items c.args.call.now.rank.ranks c.args.call.now.requests c.args.call.now.mode c.args.call.now.answer c.args.active.now 0 c.args.items.now))
+        (λ go v s. go tt (answered c.args.call.now.answer (pos 1) (first_place (places_of c.args.active.now c.args.items.now)) (pos (length c.args.items.now)) (places_of c.args.active.now c.args.items.now) s)) _
+        c.args.store.now c.noted.new.store c.put_items.new.store c.args.replies.now c.put_items.new.replies
+        (λ go. take-goes c.args.call.now.rank.ranks c.args.call.now.requests c.args.call.now.mode c.args.call.now.answer c.args.active.now c.args.items.now c.args.store.now c.noted.new.store (go tt) prepared)
+        (take-left c.args.call.now.requests c.args.call.now.mode c.args.call.now.answer c.args.items.now c.args.store.now c.noted.new.store prepared)
+        (rw c.in-Over.is at c.in_ok-put_items.ensures)
