@@ -1,18 +1,17 @@
 -- Steps of the loops over handles and items.
-use Rattle.std.proofs.Common.{◌≡◌, ℕ, zero, suc, ◌+◌, ◌<◌, ◌≤◌, ◌==◌, ℤ, pos, negsuc, Bool, true, false, List, [], ◌∷◌, Option, Some, None, if◌then◌else◌, option_map, length, drop, drop-cons, add-one, eqb-true, get_or, refl, sym, ◌∙◌, ap, arith}
+use Rattle.std.proofs.Common.{◌≡◌, ℕ, zero, suc, ◌+◌, ◌<◌, ◌≤◌, ◌==◌, ℤ, pos, Bool, true, false, List, [], ◌∷◌, Option, Some, None, if◌then◌else◌, option_map, length, drop, drop-cons, add-one, eqb-true, get_or, refl, sym, ◌∙◌, ap, arith}
 use Rattle.mpi_call.specs.declared.call.Call.TheVariants.{Take}
 use Rattle.mpi_call.specs.declared.call.Fault.TheVariants.{OutOfBounds}
 use Rattle.mpi_call.specs.declared.call.TakeMode.{TakeMode}
 use Rattle.mpi_call.specs.declared.call.TakeMode.TheVariants.{All, Any, Several, TestAll, TestAny, TestSeveral}
 use Rattle.mpi_call.specs.declared.reply.Got.{Got}
 use Rattle.mpi_call.specs.declared.reply.Item.{Item}
-use Rattle.mpi_call.specs.declared.reply.Reply.{Reply}
 use Rattle.mpi_call.specs.declared.reply.Reply.TheVariants.{Took}
 use Rattle.c_program.specs.declared.effect.Answer.{Answer}
 use Rattle.c_program.specs.Cells.{Cells}
 use Rattle.c_program.specs.Courses.{Asks, trapped}
 use Rattle.c_program.specs.Performing.{Active, Onward, active_at, active_or_none, after_take, answered, completing, empties, first_place, item_completed, learned, none_active, or_trap, places_of, put_empties, put_empty, put_items, put_only_empty, put_places, start_at, starts_in, status_at, status_place, takes_all}
-use Rattle.c_program.specs.State.{State, any_source, ints_in, null, put, put_some, undefined, values_from}
+use Rattle.c_program.specs.State.{State, any_source, ints_in, null, put, undefined, values_from}
 use Rattle.c_eval.specs.Asking.{IsLeft, item_put}
 use Rattle.c_eval.proofs.CellLaws.{done-goes, fails-trapped, left-completed, left-is, left-put_all, left-put_some, left-put_status}
 

@@ -1,5 +1,5 @@
 -- Cases of effects.
-use Rattle.std.proofs.Common.{◌≡◌, ℕ, Bool, true, false, Option, refl}
+use Rattle.std.proofs.Common.{◌≡◌, ℕ, Bool, false, Option, refl}
 use Rattle.mpi_call.specs.declared.call.Call.TheVariants.{Peek}
 use Rattle.mpi_call.specs.declared.call.Source.{Source}
 use Rattle.mpi_call.specs.declared.call.Source.TheVariants.{Any, From, Null}

@@ -13,8 +13,10 @@ use c_program::state::Begun;
 use mpi_call::reply::{Got, Reply};
 use std::alloc::AllocError;
 
-/// `MPI_ANY_SOURCE`, and `MPI_UNDEFINED`.
+/// `MPI_ANY_SOURCE`.
 const ANY_SOURCE: i32 = -2;
+
+/// `MPI_UNDEFINED`.
 pub const UNDEFINED: i32 = -32766;
 
 /// -1: `MPI_PROC_NULL`, `MPI_ANY_TAG`, null handles.

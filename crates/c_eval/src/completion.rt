@@ -199,7 +199,8 @@ fn put_item(
     if !completed(call.rank, start, status, got, store)? {
         return Ok(false);
     }
-    put(store, call.requests.from() as usize + one.place as usize, NULL);
+    let handle = call.requests.from() as usize + one.place as usize;
+    put(store, handle, NULL);
     Ok(true)
 }
 

@@ -313,8 +313,7 @@ fn receives(
     match asked(post_call(receive), replies) {
         Outcome::Goes(_) => {
             store.begin(receiving(receive))?;
-            let outcome =
-                received(alloc, rank, receive, number, send, status, store, replies)?;
+            let outcome = received(alloc, rank, receive, number, send, status, store, replies)?;
             Ok(outcome)
         }
         Outcome::Waits(call) => Ok(Outcome::Waits(call)),
@@ -386,11 +385,7 @@ fn entered_ints(alloc: Global, entered: &Entered, store: &Store) -> Result<Ints,
     }
 }
 
-fn enter_call(
-    alloc: Global,
-    collective: &Collective,
-    store: &Store,
-) -> Result<Call, AllocError>
+fn enter_call(alloc: Global, collective: &Collective, store: &Store) -> Result<Call, AllocError>
     ensures { IfOk result (λ call. call ≡ enter_call collective.now store.now) }
 {
     let ints = entered_ints(alloc, &collective.entered, store)?;

@@ -1,4 +1,4 @@
-use Rattle.std.proofs.Common.{sym, length, ◌≤◌, arith}
+use Rattle.std.proofs.Common.{sym, arith}
 use Rattle.c_eval.proofs.CellLaws.{put_all-beyond}
 use Rattle.c_eval.proofs.answers.put_all.Goals as goal
 

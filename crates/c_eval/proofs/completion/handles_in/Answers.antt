@@ -1,4 +1,4 @@
-use Rattle.std.proofs.Common.{◌≡◌, ◌<◌, ◌^◌, length, ◌∙◌, ap, arith, rules}
+use Rattle.std.proofs.Common.{◌≡◌, ◌<◌, length, ◌∙◌, ap, arith, rules}
 use Rattle.c_eval.proofs.CompletionLaws.{length-values_from}
 use Rattle.c_eval.proofs.completion.handles_in.Goals as goal
 

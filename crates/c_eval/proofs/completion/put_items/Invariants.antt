@@ -7,4 +7,5 @@ invariant-loop-number l = record {
   comes : (go : Onward) → put_items l.call.rank.ranks l.call.requests l.call.mode l.call.answer l.active 0 l.items l.initial.store go
       ≡ put_items l.call.rank.ranks l.call.requests l.call.mode l.call.answer l.active l.number (drop l.number l.items) l.store go;
   replies : l.replies ≡ l.initial.replies;
-  left : l.store.left ≤ l.initial.store.left }
+  left : l.store.left ≤ l.initial.store.left;
+}

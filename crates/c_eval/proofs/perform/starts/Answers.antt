@@ -1,13 +1,12 @@
-use Rattle.std.proofs.Common.{◌≡◌, ◌≤◌, length, option_map, ◌∙◌, ap, refl, sym, arith, rules, pos, Some, None}
-use Rattle.c_program.specs.Performing.{begun, enter_call, first_got, items_of, learned, number_of_next, perform, post_call, probed, put_message, put_result, receiving, send_call, sending, sent, start_call, start_of, take_one, taking_message}
+use Rattle.std.proofs.Common.{◌∙◌, ap, refl, sym, arith, pos}
+use Rattle.c_program.specs.Performing.{begun, number_of_next, perform, start_call, start_of}
 use Rattle.c_program.specs.State.{put_some}
-use Rattle.c_program.specs.declared.effect.Effect.TheVariants.{Joins, Probes, Receives, Starts}
+use Rattle.c_program.specs.declared.effect.Effect.TheVariants.{Starts}
 use Rattle.c_eval.specs.declared.outcome.Outcome.TheVariants.{Goes}
-use Rattle.c_eval.specs.Asking.{asking, taking, joined, receiving_then}
-use Rattle.c_eval.specs.Evaluated.{Came, plain}
-use Rattle.c_eval.proofs.CameLaws.{came-from, came-so, came-then, came-waits, came-over}
-use Rattle.c_eval.proofs.CellLaws.{begin-left, completed-left, done-goes, fails-trapped, put_result-left, probed-left}
-use Rattle.c_eval.proofs.PerformLaws.{probes-asks}
+use Rattle.c_eval.specs.Asking.{asking}
+use Rattle.c_eval.specs.Evaluated.{plain}
+use Rattle.c_eval.proofs.CameLaws.{came-so, came-then, came-waits, came-over}
+use Rattle.c_eval.proofs.CellLaws.{begin-left}
 use Rattle.c_eval.proofs.perform.starts.Goals as goal
 
 pub returns-in_ok-begin-in-Goes : goal.returns-in_ok-begin-in-Goes
