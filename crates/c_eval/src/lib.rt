@@ -6,6 +6,9 @@ pub mod collectives;
 pub mod completions;
 #[cfg(test)]
 mod effect_tests;
+pub mod answers;
+pub mod asking;
+pub mod completion;
 pub mod effects;
 pub mod messages;
 pub mod outcome;
