@@ -1,3 +1,6 @@
+pub mod Depths
 pub mod Evaluated
+pub mod Parts
+pub mod Replies
 pub mod SlotView
 pub mod Steps

@@ -1,8 +1,11 @@
 //! The evaluator of C programs that begins again at each call.
 #![tactic(auto)]
 
+mod calls;
 pub mod effects;
+mod evaluate;
 pub mod outcome;
+mod parts;
 pub mod perform;
 pub mod print;
 pub mod store;

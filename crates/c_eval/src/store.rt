@@ -1,7 +1,7 @@
 //! What a rank holds while its program runs.
-ghost use Rattle.std.specs.Prelude.{◌≡◌, ◌≤◌, ◌<◌, ◌^◌, ◌++◌, IfOk, OnOk, length, option_map, true};
+ghost use Rattle.std.specs.Prelude.{◌≡◌, ◌≤◌, ◌<◌, ◌^◌, ◌++◌, [], ◌∷◌, IfOk, OnOk, length, option_map, true};
 ghost use Rattle.c_program.specs.Courses.{listed_of};
-ghost use Rattle.c_program.specs.Meaning.{has_room, opened, repeated, start, with_parameter, with_slot};
+ghost use Rattle.c_program.specs.Meaning.{has_room, opened, parameter_cells, repeated, start, with_parameter, with_slot};
 ghost use Rattle.c_program.specs.Performing.{begun, learned, start_at};
 ghost use Rattle.c_program.specs.Values.{cells_of};
 ghost use Rattle.c_program.specs.State.{cell_at, first_cells, ints_in, leave, mark_of, members_of, put, put_all, width_of};
@@ -149,16 +149,15 @@ impl<'p> Store<'p> {
         parameter: &'p Parameter,
         passed: Option<Passed>,
     ) -> Result<(), AllocError>
-        requires { length self.old.cells < 262144 }
+        requires { has_room (parameter_cells (parameter.now ∷ [])) self.old ≡ true }
         ensures { OnOk result (self.new ≡ with_parameter parameter.now passed self.old) }
     {
         unreachable!()
     }
 
-    /// One call more is open.
-    pub fn open(&mut self)
-        requires { self.old.opens < 100 }
-        ensures { self.new ≡ opened self.old }
+    /// One call more is open. The want of memory comes also where there would be 2^32.
+    pub fn open(&mut self) -> Result<(), AllocError>
+        ensures { OnOk result (self.new ≡ opened self.old) }
     {
         unreachable!()
     }
