@@ -17,9 +17,9 @@ use mpi_call::call::Fault;
 
 /// A call of a function of the text, which takes a step.
 #[cycle(statements)]
-fn invoke<'p>(calls: Calls<'p>, call: &'p Call, store: &mut Store<'p>, replies: &mut Replies) -> Result<i32, Stop>
-    requires { calls.rank.ranks ≤ 64 }
-    ensures { Gives (invoke (calls_of calls) call.now) store.old replies.old result store.new replies.new }
+fn invoke<'p>(calls: &Calls<'p>, call: &'p Call, store: &mut Store<'p>, replies: &mut Replies) -> Result<i32, Stop>
+    requires { calls.now.rank.ranks ≤ 64 }
+    ensures { Gives (invoke (calls_of calls.now) call.now) store.old replies.old result store.new replies.new }
 {
     take_step(store)?;
     let arguments = arguments_of(calls.alloc, &call.arguments, store)?;
@@ -28,9 +28,9 @@ fn invoke<'p>(calls: Calls<'p>, call: &'p Call, store: &mut Store<'p>, replies: 
 
 /// The call of a function by its number, once its arguments are evaluated.
 #[cycle(statements)]
-pub fn call_function<'p>(calls: Calls<'p>, number: usize, arguments: &[Passed], store: &mut Store<'p>, replies: &mut Replies) -> Result<i32, Stop>
-    requires { calls.rank.ranks ≤ 64 }
-    ensures { Gives (calls_of calls number arguments.now) store.old replies.old result store.new replies.new }
+pub fn call_function<'p>(calls: &Calls<'p>, number: usize, arguments: &[Passed], store: &mut Store<'p>, replies: &mut Replies) -> Result<i32, Stop>
+    requires { calls.now.rank.ranks ≤ 64 }
+    ensures { Gives (calls_of calls.now number arguments.now) store.old replies.old result store.new replies.new }
 {
     if calls.depth == 0 {
         return Err(Stop::Trapped(Fault::Depth));
@@ -46,7 +46,7 @@ pub fn call_function<'p>(calls: Calls<'p>, number: usize, arguments: &[Passed], 
         functions: calls.functions,
         depth: calls.depth - 1,
     };
-    let flow = run_list(inner, &function.body, store, replies)?;
+    let flow = run_list(&inner, &function.body, store, replies)?;
     store.leave(mark);
     match flow {
         Flow::Back(value) => Ok(value),
@@ -56,9 +56,9 @@ pub fn call_function<'p>(calls: Calls<'p>, number: usize, arguments: &[Passed], 
 
 /// A right side.
 #[cycle(statements)]
-fn value_of<'p>(calls: Calls<'p>, one: &'p Right, store: &mut Store<'p>, replies: &mut Replies) -> Result<i32, Stop>
-    requires { calls.rank.ranks ≤ 64 }
-    ensures { Gives (right (calls_of calls) one.now) store.old replies.old result store.new replies.new }
+fn value_of<'p>(calls: &Calls<'p>, one: &'p Right, store: &mut Store<'p>, replies: &mut Replies) -> Result<i32, Stop>
+    requires { calls.now.rank.ranks ≤ 64 }
+    ensures { Gives (right (calls_of calls.now) one.now) store.old replies.old result store.new replies.new }
 {
     match one {
         Right::Value(expression) => Ok(store.value(expression)?),
@@ -68,9 +68,9 @@ fn value_of<'p>(calls: Calls<'p>, one: &'p Right, store: &mut Store<'p>, replies
 
 /// A statement that stands before a `;`.
 #[cycle(statements)]
-fn run_simple<'p>(calls: Calls<'p>, one: &'p Simple, store: &mut Store<'p>, replies: &mut Replies) -> Result<(), Stop>
-    requires { calls.rank.ranks ≤ 64 }
-    ensures { Passes (simple calls.rank (calls_of calls) one.now) store.old replies.old result store.new replies.new }
+fn run_simple<'p>(calls: &Calls<'p>, one: &'p Simple, store: &mut Store<'p>, replies: &mut Replies) -> Result<(), Stop>
+    requires { calls.now.rank.ranks ≤ 64 }
+    ensures { Passes (simple calls.now.rank (calls_of calls.now) one.now) store.old replies.old result store.new replies.new }
 {
     match one {
         Simple::Set { place, right } => {
@@ -98,9 +98,9 @@ fn run_simple<'p>(calls: Calls<'p>, one: &'p Simple, store: &mut Store<'p>, repl
 
 /// A variable, with its initial value.
 #[cycle(statements)]
-fn declare<'p>(calls: Calls<'p>, item: &'p Item, store: &mut Store<'p>, replies: &mut Replies) -> Result<(), Stop>
-    requires { calls.rank.ranks ≤ 64 }
-    ensures { Passes (declare (calls_of calls) item.now) store.old replies.old result store.new replies.new }
+fn declare<'p>(calls: &Calls<'p>, item: &'p Item, store: &mut Store<'p>, replies: &mut Replies) -> Result<(), Stop>
+    requires { calls.now.rank.ranks ≤ 64 }
+    ensures { Passes (declare (calls_of calls.now) item.now) store.old replies.old result store.new replies.new }
 {
     let cell = add(item, store)?;
     match &item.initial {
@@ -116,9 +116,9 @@ fn declare<'p>(calls: Calls<'p>, item: &'p Item, store: &mut Store<'p>, replies:
 
 /// Variables, in order.
 #[cycle(statements)]
-fn declare_all<'p>(calls: Calls<'p>, items: &'p [Item], store: &mut Store<'p>, replies: &mut Replies) -> Result<(), Stop>
-    requires { calls.rank.ranks ≤ 64 }
-    ensures { Passes (declare_all (calls_of calls) items.now) store.old replies.old result store.new replies.new }
+fn declare_all<'p>(calls: &Calls<'p>, items: &'p [Item], store: &mut Store<'p>, replies: &mut Replies) -> Result<(), Stop>
+    requires { calls.now.rank.ranks ≤ 64 }
+    ensures { Passes (declare_all (calls_of calls.now) items.now) store.old replies.old result store.new replies.new }
 {
     for item in items {
         declare(calls, item, store, replies)?;
@@ -130,9 +130,9 @@ fn declare_all<'p>(calls: Calls<'p>, items: &'p [Item], store: &mut Store<'p>, r
 
 /// What stands before the first `;` of a `for`.
 #[cycle(statements)]
-fn start_for<'p>(calls: Calls<'p>, start: &'p ForStart, store: &mut Store<'p>, replies: &mut Replies) -> Result<(), Stop>
-    requires { calls.rank.ranks ≤ 64 }
-    ensures { Passes (for_start calls.rank (calls_of calls) start.now) store.old replies.old result store.new replies.new }
+fn start_for<'p>(calls: &Calls<'p>, start: &'p ForStart, store: &mut Store<'p>, replies: &mut Replies) -> Result<(), Stop>
+    requires { calls.now.rank.ranks ≤ 64 }
+    ensures { Passes (for_start calls.now.rank (calls_of calls.now) start.now) store.old replies.old result store.new replies.new }
 {
     match start {
         ForStart::Nothing => Ok(()),
@@ -146,9 +146,9 @@ fn start_for<'p>(calls: Calls<'p>, start: &'p ForStart, store: &mut Store<'p>, r
 
 /// A turn of a loop. `None` where the loop goes on.
 #[cycle(statements)]
-fn take_turn<'p>(calls: Calls<'p>, update: Option<&'p Simple>, body: &'p Stmt, store: &mut Store<'p>, replies: &mut Replies) -> Result<Option<Flow>, Stop>
-    requires { calls.rank.ranks ≤ 64 }
-    ensures { Evaluated way (turn (for_update calls.rank (calls_of calls) (option_map (λ one. one.now) update)) (started (act calls.rank (calls_of calls) body.now))) store.old replies.old result store.new replies.new }
+fn take_turn<'p>(calls: &Calls<'p>, update: Option<&'p Simple>, body: &'p Stmt, store: &mut Store<'p>, replies: &mut Replies) -> Result<Option<Flow>, Stop>
+    requires { calls.now.rank.ranks ≤ 64 }
+    ensures { Evaluated way (turn (for_update calls.now.rank (calls_of calls.now) (option_map (λ one. one.now) update)) (started (act calls.now.rank (calls_of calls.now) body.now))) store.old replies.old result store.new replies.new }
 {
     take_step(store)?;
     match run(calls, body, store, replies)? {
@@ -164,9 +164,9 @@ fn take_turn<'p>(calls: Calls<'p>, update: Option<&'p Simple>, body: &'p Stmt, s
 
 /// A loop with its test before each turn.
 #[cycle(statements)]
-fn repeat<'p>(calls: Calls<'p>, test: Option<&'p Expr>, update: Option<&'p Simple>, body: &'p Stmt, store: &mut Store<'p>, replies: &mut Replies) -> Result<Flow, Stop>
-    requires { calls.rank.ranks ≤ 64 }
-    ensures { Leaves (loop (option_map (λ e. e.now) test) (for_update calls.rank (calls_of calls) (option_map (λ one. one.now) update)) (started (act calls.rank (calls_of calls) body.now))) store.old replies.old result store.new replies.new }
+fn repeat<'p>(calls: &Calls<'p>, test: Option<&'p Expr>, update: Option<&'p Simple>, body: &'p Stmt, store: &mut Store<'p>, replies: &mut Replies) -> Result<Flow, Stop>
+    requires { calls.now.rank.ranks ≤ 64 }
+    ensures { Leaves (loop (option_map (λ e. e.now) test) (for_update calls.now.rank (calls_of calls.now) (option_map (λ one. one.now) update)) (started (act calls.now.rank (calls_of calls.now) body.now))) store.old replies.old result store.new replies.new }
 {
     loop {
         if !store.test(test)? {
@@ -180,9 +180,9 @@ fn repeat<'p>(calls: Calls<'p>, test: Option<&'p Expr>, update: Option<&'p Simpl
 
 /// A loop with a turn before its first test.
 #[cycle(statements)]
-fn repeat_after<'p>(calls: Calls<'p>, test: &'p Expr, body: &'p Stmt, store: &mut Store<'p>, replies: &mut Replies) -> Result<Flow, Stop>
-    requires { calls.rank.ranks ≤ 64 }
-    ensures { Leaves (loop_after test.now (started (act calls.rank (calls_of calls) body.now))) store.old replies.old result store.new replies.new }
+fn repeat_after<'p>(calls: &Calls<'p>, test: &'p Expr, body: &'p Stmt, store: &mut Store<'p>, replies: &mut Replies) -> Result<Flow, Stop>
+    requires { calls.now.rank.ranks ≤ 64 }
+    ensures { Leaves (loop_after test.now (started (act calls.now.rank (calls_of calls.now) body.now))) store.old replies.old result store.new replies.new }
 {
     match take_turn(calls, None, body, store, replies)? {
         Some(flow) => Ok(flow),
@@ -192,9 +192,9 @@ fn repeat_after<'p>(calls: Calls<'p>, test: &'p Expr, body: &'p Stmt, store: &mu
 
 /// A `for`, which is a block of its own.
 #[cycle(statements)]
-fn run_for<'p>(calls: Calls<'p>, start: &'p ForStart, test: Option<&'p Expr>, update: Option<&'p Simple>, body: &'p Stmt, store: &mut Store<'p>, replies: &mut Replies) -> Result<Flow, Stop>
-    requires { calls.rank.ranks ≤ 64 }
-    ensures { Leaves (for_of calls.rank (calls_of calls) start.now (option_map (λ e. e.now) test) (option_map (λ one. one.now) update) (started (act calls.rank (calls_of calls) body.now))) store.old replies.old result store.new replies.new }
+fn run_for<'p>(calls: &Calls<'p>, start: &'p ForStart, test: Option<&'p Expr>, update: Option<&'p Simple>, body: &'p Stmt, store: &mut Store<'p>, replies: &mut Replies) -> Result<Flow, Stop>
+    requires { calls.now.rank.ranks ≤ 64 }
+    ensures { Leaves (for_of calls.now.rank (calls_of calls.now) start.now (option_map (λ e. e.now) test) (option_map (λ one. one.now) update) (started (act calls.now.rank (calls_of calls.now) body.now))) store.old replies.old result store.new replies.new }
 {
     let mark = store.mark();
     start_for(calls, start, store, replies)?;
@@ -207,9 +207,9 @@ fn run_for<'p>(calls: Calls<'p>, start: &'p ForStart, test: Option<&'p Expr>, up
 
 /// A statement.
 #[cycle(statements)]
-fn run<'p>(calls: Calls<'p>, stmt: &'p Stmt, store: &mut Store<'p>, replies: &mut Replies) -> Result<Flow, Stop>
-    requires { calls.rank.ranks ≤ 64 }
-    ensures { Leaves (started (act calls.rank (calls_of calls) stmt.now)) store.old replies.old result store.new replies.new }
+fn run<'p>(calls: &Calls<'p>, stmt: &'p Stmt, store: &mut Store<'p>, replies: &mut Replies) -> Result<Flow, Stop>
+    requires { calls.now.rank.ranks ≤ 64 }
+    ensures { Leaves (started (act calls.now.rank (calls_of calls.now) stmt.now)) store.old replies.old result store.new replies.new }
 {
     take_step(store)?;
     act(calls, stmt, store, replies)
@@ -217,9 +217,9 @@ fn run<'p>(calls: Calls<'p>, stmt: &'p Stmt, store: &mut Store<'p>, replies: &mu
 
 /// A statement whose step is taken.
 #[cycle(statements)]
-fn act<'p>(calls: Calls<'p>, stmt: &'p Stmt, store: &mut Store<'p>, replies: &mut Replies) -> Result<Flow, Stop>
-    requires { calls.rank.ranks ≤ 64 }
-    ensures { Leaves (act calls.rank (calls_of calls) stmt.now) store.old replies.old result store.new replies.new }
+fn act<'p>(calls: &Calls<'p>, stmt: &'p Stmt, store: &mut Store<'p>, replies: &mut Replies) -> Result<Flow, Stop>
+    requires { calls.now.rank.ranks ≤ 64 }
+    ensures { Leaves (act calls.now.rank (calls_of calls.now) stmt.now) store.old replies.old result store.new replies.new }
 {
     match stmt {
         Stmt::Block(parts) => run_block(calls, parts, store, replies),
@@ -257,9 +257,9 @@ fn act<'p>(calls: Calls<'p>, stmt: &'p Stmt, store: &mut Store<'p>, replies: &mu
 
 /// What stands in a block, which takes a step.
 #[cycle(statements)]
-fn run_part<'p>(calls: Calls<'p>, part: &'p Part, store: &mut Store<'p>, replies: &mut Replies) -> Result<Flow, Stop>
-    requires { calls.rank.ranks ≤ 64 }
-    ensures { Leaves (started (act_part calls.rank (calls_of calls) part.now)) store.old replies.old result store.new replies.new }
+fn run_part<'p>(calls: &Calls<'p>, part: &'p Part, store: &mut Store<'p>, replies: &mut Replies) -> Result<Flow, Stop>
+    requires { calls.now.rank.ranks ≤ 64 }
+    ensures { Leaves (started (act_part calls.now.rank (calls_of calls.now) part.now)) store.old replies.old result store.new replies.new }
 {
     take_step(store)?;
     match part {
@@ -273,9 +273,9 @@ fn run_part<'p>(calls: Calls<'p>, part: &'p Part, store: &mut Store<'p>, replies
 
 /// Parts one after another.
 #[cycle(statements)]
-fn run_list<'p>(calls: Calls<'p>, parts: &'p [Part], store: &mut Store<'p>, replies: &mut Replies) -> Result<Flow, Stop>
-    requires { calls.rank.ranks ≤ 64 }
-    ensures { Leaves (act_list calls.rank (calls_of calls) parts.now) store.old replies.old result store.new replies.new }
+fn run_list<'p>(calls: &Calls<'p>, parts: &'p [Part], store: &mut Store<'p>, replies: &mut Replies) -> Result<Flow, Stop>
+    requires { calls.now.rank.ranks ≤ 64 }
+    ensures { Leaves (act_list calls.now.rank (calls_of calls.now) parts.now) store.old replies.old result store.new replies.new }
 {
     for part in parts {
         match run_part(calls, part, store, replies)? {
@@ -288,9 +288,9 @@ fn run_list<'p>(calls: Calls<'p>, parts: &'p [Part], store: &mut Store<'p>, repl
 
 /// A block, behind which its variables are gone.
 #[cycle(statements)]
-fn run_block<'p>(calls: Calls<'p>, parts: &'p [Part], store: &mut Store<'p>, replies: &mut Replies) -> Result<Flow, Stop>
-    requires { calls.rank.ranks ≤ 64 }
-    ensures { Leaves (blocked (act_list calls.rank (calls_of calls) parts.now)) store.old replies.old result store.new replies.new }
+fn run_block<'p>(calls: &Calls<'p>, parts: &'p [Part], store: &mut Store<'p>, replies: &mut Replies) -> Result<Flow, Stop>
+    requires { calls.now.rank.ranks ≤ 64 }
+    ensures { Leaves (blocked (act_list calls.now.rank (calls_of calls.now) parts.now)) store.old replies.old result store.new replies.new }
 {
     let mark = store.mark();
     let flow = run_list(calls, parts, store, replies)?;

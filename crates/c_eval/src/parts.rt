@@ -1,7 +1,9 @@
 //! Parts of evaluation in which no function of the text is called.
 ghost use Rattle.std.specs.Prelude.{◌≡◌, ◌≤◌, List, IfSome, IfNone, OnOk, slice_get, true};
 ghost use Rattle.mpi_call.specs.declared.reply.Reply.{Reply};
+ghost use Rattle.c_program.specs.declared.state.Passed.{Passed};
 ghost use Rattle.c_program.specs.Meaning.{has_room, parameter_cells, passed_all, print as print_of, put_values, step, trying, with_parameters};
+ghost use Rattle.c_program.specs.Performing.{Onward};
 ghost use Rattle.c_program.specs.Prints.{text_of};
 ghost use Rattle.c_program.specs.Values.{operated, values};
 ghost use Rattle.c_eval.specs.Evaluated.{Evaluated, Gives, Passes};
@@ -16,6 +18,7 @@ use crate::store::Store;
 use c_names::format::Piece;
 use c_names::kind::Kind;
 use c_names::operator::{Operator, apply};
+use c_program::effect::Start;
 use c_program::expr::{Argument, Expr};
 use c_program::mpi::MpiCall;
 use c_program::program::{Function, Parameter, ParameterKind};
@@ -38,13 +41,13 @@ pub fn take_step(store: &mut Store) -> Result<(), Stop>
 
 /// Calls an MPI function.
 pub fn call_mpi(
-    calls: Calls,
+    calls: &Calls,
     call: &MpiCall,
     store: &mut Store,
     replies: &mut Replies,
 ) -> Result<(), Stop>
-    requires { calls.rank.ranks ≤ 64 }
-    ensures { Passes (mpi calls.rank call.now) store.old replies.old result store.new replies.new }
+    requires { calls.now.rank.ranks ≤ 64 }
+    ensures { Passes (mpi calls.now.rank call.now) store.old replies.old result store.new replies.new }
 {
     let effect = effects::effect_of(calls.rank, call, store)?;
     match perform::perform(calls.alloc, calls.rank, effect, store, replies)? {
@@ -93,7 +96,7 @@ pub fn arguments_of(
     arguments: &[Argument],
     store: &Store,
 ) -> Result<Vec<Passed>, Stop>
-    ensures { (rest : List Reply) → Evaluated (λ go passed. go passed.items) (λ s go. trying (passed_all arguments.now s) s (λ passed. go passed s)) store.now rest result store.now rest }
+    ensures { (rest : List Reply) → Evaluated (λ (go : List Passed → Onward) passed. go passed.items) (λ s go. trying (passed_all arguments.now s) s (λ passed. go passed s)) store.now rest result store.now rest }
 {
     let mut passed = Vec::new(alloc);
     for argument in arguments {
