@@ -148,7 +148,7 @@ fn start_for<'p>(calls: &Calls<'p>, start: &'p ForStart, store: &mut Store<'p>, 
 #[cycle(statements)]
 fn take_turn<'p>(calls: &Calls<'p>, update: Option<&'p Simple>, body: &'p Stmt, store: &mut Store<'p>, replies: &mut Replies) -> Result<Option<Flow>, Stop>
     requires { calls.now.rank.ranks ≤ 64 }
-    ensures { Evaluated way (turn (for_update calls.now.rank (calls_of calls.now) (option_map (λ one. one.now) update)) (started (act calls.now.rank (calls_of calls.now) body.now))) store.old replies.old result store.new replies.new }
+    ensures { Evaluated way (turn (for_update calls.now.rank (calls_of calls.now) (option_map (λ one. one.now) update.entry)) (started (act calls.now.rank (calls_of calls.now) body.now))) store.old replies.old result store.new replies.new }
 {
     take_step(store)?;
     match run(calls, body, store, replies)? {
@@ -166,7 +166,7 @@ fn take_turn<'p>(calls: &Calls<'p>, update: Option<&'p Simple>, body: &'p Stmt, 
 #[cycle(statements)]
 fn repeat<'p>(calls: &Calls<'p>, test: Option<&'p Expr>, update: Option<&'p Simple>, body: &'p Stmt, store: &mut Store<'p>, replies: &mut Replies) -> Result<Flow, Stop>
     requires { calls.now.rank.ranks ≤ 64 }
-    ensures { Leaves (loop (option_map (λ e. e.now) test) (for_update calls.now.rank (calls_of calls.now) (option_map (λ one. one.now) update)) (started (act calls.now.rank (calls_of calls.now) body.now))) store.old replies.old result store.new replies.new }
+    ensures { Leaves (loop (option_map (λ e. e.now) test.entry) (for_update calls.now.rank (calls_of calls.now) (option_map (λ one. one.now) update.entry)) (started (act calls.now.rank (calls_of calls.now) body.now))) store.old replies.old result store.new replies.new }
 {
     loop {
         if !store.test(test)? {
@@ -194,7 +194,7 @@ fn repeat_after<'p>(calls: &Calls<'p>, test: &'p Expr, body: &'p Stmt, store: &m
 #[cycle(statements)]
 fn run_for<'p>(calls: &Calls<'p>, start: &'p ForStart, test: Option<&'p Expr>, update: Option<&'p Simple>, body: &'p Stmt, store: &mut Store<'p>, replies: &mut Replies) -> Result<Flow, Stop>
     requires { calls.now.rank.ranks ≤ 64 }
-    ensures { Leaves (for_of calls.now.rank (calls_of calls.now) start.now (option_map (λ e. e.now) test) (option_map (λ one. one.now) update) (started (act calls.now.rank (calls_of calls.now) body.now))) store.old replies.old result store.new replies.new }
+    ensures { Leaves (for_of calls.now.rank (calls_of calls.now) start.now (option_map (λ e. e.now) test.entry) (option_map (λ one. one.now) update.entry) (started (act calls.now.rank (calls_of calls.now) body.now))) store.old replies.old result store.new replies.new }
 {
     let mark = store.mark();
     start_for(calls, start, store, replies)?;

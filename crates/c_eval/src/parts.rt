@@ -49,7 +49,10 @@ pub fn call_mpi(
     requires { calls.now.rank.ranks ≤ 64 }
     ensures { Passes (mpi calls.now.rank call.now) store.old replies.old result store.new replies.new }
 {
-    let effect = effects::effect_of(calls.rank, call, store)?;
+    let effect = match effects::effect_of(calls.rank, call, store) {
+        Ok(effect) => effect,
+        Err(fault) => return Err(Stop::Trapped(fault)),
+    };
     match perform::perform(calls.alloc, calls.rank, effect, store, replies)? {
         Outcome::Goes(()) => Ok(()),
         Outcome::Waits(call) => Err(Stop::Waits(call)),

@@ -27,7 +27,7 @@ impl<'p> Store<'p> {
 
     /// Whether an expression is other than 0; `None` is always so.
     pub fn test(&self, condition: Option<&Expr>) -> Result<bool, Fault>
-        ensures { result ≡ test (option_map (λ e. e.now) condition) self.now }
+        ensures { result ≡ test (option_map (λ e. e.now) condition.entry) self.now }
     {
         unreachable!()
     }
