@@ -4,6 +4,7 @@ use Rattle.std.proofs.lemmas.List.{append-nil}
 use Rattle.std.proofs.lemmas.Option.{slice_get-map}
 use Rattle.c_grammar.specs.Tree as t
 use Rattle.c_names.specs.declared.function.ArgumentKind.{ArgumentKind}
+use Rattle.c_program.specs.declared.expr.Argument.{Argument}
 use Rattle.c_check.proofs.Lists.{drop_got, drop_past}
 use Rattle.c_check.specs.Calls.{argument_faults, arguments_faults, arguments_of, call_faults, signature_takes}
 use Rattle.c_check.specs.Scopes.{Env, Signature, meaning}
@@ -12,7 +13,6 @@ use Rattle.c_check.specs.declared.thing.Meaning.TheVariants as m
 use Rattle.c_check.specs.declared.thing.Thing.TheVariants as d
 use Rattle.c_calls.specs.Calls as y
 use Rattle.c_calls.specs.Calls.{AreArguments, IsArgument}
-use Rattle.c_calls.specs.declared.expr.Argument.{Argument}
 use Rattle.c_calls.proofs.Faultless.{none_before, none_behind, text_fits}
 
 -- ---- arguments in a row

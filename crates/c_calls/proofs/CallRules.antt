@@ -16,6 +16,8 @@ use Rattle.c_grammar.specs.View.{place_view, view}
 use Rattle.c_grammar.proofs.Viewed.{view-whole, view-cell}
 use Rattle.c_names.specs.declared.predefined.Predefined.{Predefined}
 use Rattle.c_names.specs.declared.predefined.Predefined.TheVariants as p
+use Rattle.c_program.specs.declared.expr.Expr.{Expr}
+use Rattle.c_program.specs.declared.expr.Reference.TheVariants as r
 use Rattle.c_check.specs.Calls.{array_sum, is_plus, name_alone, sum_base, word_of}
 use Rattle.c_check.specs.Scopes.{Env}
 use Rattle.c_check.specs.Variables.{variable}
@@ -23,8 +25,6 @@ use Rattle.c_calls.specs.Calls as y
 use Rattle.c_calls.specs.Calls.{IsReference, IsValue}
 use Rattle.c_calls.specs.Exprs.{IsExpr}
 use Rattle.c_calls.specs.Shapes.{is_reference, is_reference_by}
-use Rattle.c_calls.specs.declared.expr.Expr.{Expr}
-use Rattle.c_calls.specs.declared.expr.Reference.TheVariants as r
 
 pub address_rule : (env : Env) (mark : Spot) (place : source_place.Place) (name : Spot) (number : ℕ) → place ≡ tp.Whole name → number ≡ variable env name
     → IsReference env (t.address mark (place_view place)) (r.Whole number)

@@ -21,12 +21,12 @@ use Rattle.c_grammar.specs.declared.tree.Expr as source
 use Rattle.c_grammar.specs.declared.tree.Place as source_place
 use Rattle.c_grammar.specs.declared.tree.Link as source_link
 use Rattle.c_names.specs.declared.operator.Sign.{Sign}
-use Rattle.c_calls.specs.declared.expr.Expr.{Expr}
-use Rattle.c_calls.specs.declared.expr.Expr.TheVariants as v
-use Rattle.c_calls.specs.declared.expr.Field.{Field}
-use Rattle.c_calls.specs.declared.expr.Link.{Link, out-Link}
-use Rattle.c_calls.specs.declared.expr.Place.{Place}
-use Rattle.c_calls.specs.declared.expr.Place.TheVariants as q
+use Rattle.c_program.specs.declared.expr.Expr.{Expr}
+use Rattle.c_program.specs.declared.expr.Expr.TheVariants as v
+use Rattle.c_program.specs.declared.expr.Field.{Field}
+use Rattle.c_program.specs.declared.expr.Link.{Link, out-Link}
+use Rattle.c_program.specs.declared.expr.Place.{Place}
+use Rattle.c_program.specs.declared.expr.Place.TheVariants as q
 
 pub number_rule : (env : Env) (e : source.Expr) (at : Spot) (value : ℤ) → e ≡ te.Number at → value ≡ pos (number_at env.text at) → IsExpr env (view e) (v.Number value)
 number_rule env e at value s n = rw (s, view-number, n) x.number

@@ -13,6 +13,8 @@ use Rattle.c_names.specs.declared.function.MpiFunction.{MpiFunction}
 use Rattle.c_names.specs.declared.function.MpiFunction.TheVariants as f
 use Rattle.c_names.specs.declared.predefined.Predefined.{Predefined}
 use Rattle.c_names.specs.declared.predefined.Predefined.TheVariants as p
+use Rattle.c_names.specs.declared.kind.Kind.{Kind}
+use Rattle.c_names.specs.declared.kind.Kind.TheVariants.{Int, Status, Request, Communicator}
 use Rattle.c_check.specs.Calls.{accepts_own, accepts_word, argument_faults, arguments_faults, arguments_of, array_faults, array_sum, call_faults, counted_faults, first_is_null, is_array_of, is_own, misfit_faults, mpi_takes, reference_faults, signature_takes, sum_faults, unaccepted_faults, value_faults, word_meant, word_of}
 use Rattle.c_check.specs.Expressions.{expr_faults, takes_index, wanted_faults}
 use Rattle.c_check.specs.Kinds.{cell_kind, fits, kind_faults, kind_of, start_of, whole_kind}
@@ -21,8 +23,6 @@ use Rattle.c_check.specs.Scopes.{Env, meaning, name_faults}
 use Rattle.c_check.specs.declared.fault.Fault.{Fault}
 use Rattle.c_check.specs.declared.thing.ExprKind.{ExprKind}
 use Rattle.c_check.specs.declared.thing.ExprKind.TheVariants.{Of, NullRequest, Other, Nothing}
-use Rattle.c_check.specs.declared.thing.Kind.{Kind}
-use Rattle.c_check.specs.declared.thing.Kind.TheVariants.{Int, Status, Request, Communicator}
 use Rattle.c_check.specs.declared.thing.Meaning.{Meaning}
 use Rattle.c_check.specs.declared.thing.Meaning.TheVariants as m
 use Rattle.c_check.specs.declared.thing.Thing.TheVariants as d

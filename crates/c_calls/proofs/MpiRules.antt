@@ -6,12 +6,12 @@ use Rattle.c_names.specs.Functions.{arguments}
 use Rattle.c_names.specs.declared.function.MpiFunction.{MpiFunction}
 use Rattle.c_names.specs.declared.predefined.Predefined.{Predefined}
 use Rattle.c_names.specs.declared.predefined.Predefined.TheVariants as p
+use Rattle.c_program.specs.declared.mpi.MpiCall.{MpiCall}
 use Rattle.c_check.specs.Calls.{word_of}
 use Rattle.c_check.specs.Scopes.{Env}
 use Rattle.c_calls.specs.Given.{Fits, argument, is_status, is_status_by}
 use Rattle.c_calls.specs.MpiCalls as y
 use Rattle.c_calls.specs.MpiCalls.{IsMpiCall, IsStatus}
-use Rattle.c_calls.specs.declared.mpi.MpiCall.{MpiCall}
 
 -- so many arguments
 abbrev pub table : ℕ → (ℕ → t.Argument) → List t.Argument

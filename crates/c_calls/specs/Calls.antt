@@ -11,16 +11,16 @@ use Rattle.c_check.specs.Scopes.{Env, meaning}
 use Rattle.c_check.specs.declared.thing.Meaning.TheVariants as m
 use Rattle.c_check.specs.declared.thing.Thing.TheVariants as d
 use Rattle.std.specs.Prelude.{slice_get}
+use Rattle.c_program.specs.declared.expr.Argument.{Argument}
+use Rattle.c_program.specs.declared.expr.Argument.TheVariants as a
+use Rattle.c_program.specs.declared.expr.Call.{Call}
+use Rattle.c_program.specs.declared.expr.Expr.{Expr}
+use Rattle.c_program.specs.declared.expr.Reference.{Reference}
+use Rattle.c_program.specs.declared.expr.Reference.TheVariants as r
+use Rattle.c_program.specs.declared.expr.Right.{Right}
+use Rattle.c_program.specs.declared.expr.Right.TheVariants as g
 use Rattle.c_calls.specs.Exprs.{IsExpr}
 use Rattle.c_check.specs.Variables.{variable}
-use Rattle.c_calls.specs.declared.expr.Argument.{Argument}
-use Rattle.c_calls.specs.declared.expr.Argument.TheVariants as a
-use Rattle.c_calls.specs.declared.expr.Call.{Call}
-use Rattle.c_calls.specs.declared.expr.Expr.{Expr}
-use Rattle.c_calls.specs.declared.expr.Reference.{Reference}
-use Rattle.c_calls.specs.declared.expr.Reference.TheVariants as r
-use Rattle.c_calls.specs.declared.expr.Right.{Right}
-use Rattle.c_calls.specs.declared.expr.Right.TheVariants as g
 
 pub data IsValue (env : Env) : t.Argument → Expr → Type 0 where
   value : {e : t.Expr} {typed : Expr} → IsExpr env e typed → IsValue env (t.value e) typed

@@ -7,17 +7,17 @@ use Rattle.std.specs.declared.vec.Vec.{Vec}
 use Rattle.c_grammar.specs.declared.word.Spot.{Spot}
 use Rattle.c_grammar.specs.declared.word.Word.{Word}
 use Rattle.c_grammar.specs.Tree as t
+use Rattle.c_program.specs.declared.expr.Expr.{Expr}
+use Rattle.c_program.specs.declared.expr.Expr.TheVariants as v
+use Rattle.c_program.specs.declared.expr.Field.{Field}
+use Rattle.c_program.specs.declared.expr.Field.TheVariants.{Source, Tag}
+use Rattle.c_program.specs.declared.expr.Link.{Link, out-Link}
+use Rattle.c_program.specs.declared.expr.Place.{Place}
+use Rattle.c_program.specs.declared.expr.Place.TheVariants as q
 use Rattle.c_check.specs.Constants.{operator_of, sign_of}
 use Rattle.c_check.specs.Literals.{number_at}
 use Rattle.c_check.specs.Scopes.{Env, cut, meaning}
 use Rattle.c_check.specs.Variables.{value_meant, variable}
-use Rattle.c_calls.specs.declared.expr.Expr.{Expr}
-use Rattle.c_calls.specs.declared.expr.Expr.TheVariants as v
-use Rattle.c_calls.specs.declared.expr.Field.{Field}
-use Rattle.c_calls.specs.declared.expr.Field.TheVariants.{Source, Tag}
-use Rattle.c_calls.specs.declared.expr.Link.{Link, out-Link}
-use Rattle.c_calls.specs.declared.expr.Place.{Place}
-use Rattle.c_calls.specs.declared.expr.Place.TheVariants as q
 
 abbrev pub field_of : List ℕ → Field
 field_of name = if bytes_eq name (codes "MPI_SOURCE") then Source else Tag

@@ -5,14 +5,14 @@ use Rattle.c_grammar.specs.Tree as t
 use Rattle.c_names.specs.declared.function.MpiFunction.{MpiFunction}
 use Rattle.c_names.specs.declared.function.MpiFunction.TheVariants as f
 use Rattle.c_names.specs.declared.predefined.Predefined.TheVariants as p
+use Rattle.c_program.specs.declared.expr.Expr.{Expr}
+use Rattle.c_program.specs.declared.expr.Reference.{Reference}
+use Rattle.c_program.specs.declared.mpi.Buffer.{Buffer}
+use Rattle.c_program.specs.declared.mpi.MpiCall.{MpiCall}
+use Rattle.c_program.specs.declared.mpi.MpiCall.TheVariants as c
 use Rattle.c_check.specs.Calls.{word_of}
 use Rattle.c_check.specs.Scopes.{Env}
 use Rattle.c_calls.specs.Calls.{IsReference, IsValue}
-use Rattle.c_calls.specs.declared.expr.Expr.{Expr}
-use Rattle.c_calls.specs.declared.expr.Reference.{Reference}
-use Rattle.c_calls.specs.declared.mpi.Buffer.{Buffer}
-use Rattle.c_calls.specs.declared.mpi.MpiCall.{MpiCall}
-use Rattle.c_calls.specs.declared.mpi.MpiCall.TheVariants as c
 
 -- a status that is ignored is nothing
 pub data IsStatus (env : Env) : t.Argument → Option Reference → Type 0 where

@@ -14,13 +14,13 @@ ghost use Rattle.c_check.specs.declared.thing.Thing.TheVariants as d;
 ghost use Rattle.c_calls.specs.Calls.{AreArguments, IsArgument, IsCall, IsReference, IsRight, IsValue};
 ghost use Rattle.c_calls.specs.Shapes.{is_array, is_reference, is_value};
 
-use crate::expr::{Argument, Call, Expr, Reference, Right};
 use crate::expr_of::expr_of;
 use c_check::call::{argument_at, argument_count, array_sum, name_alone, parameter_at, word_of};
 use c_check::scope::Scope;
 use c_check::thing::{Meaning, Thing};
 use c_grammar::word::Spot;
 use c_grammar::{statement, tree};
+use c_program::expr::{Argument, Call, Expr, Reference, Right};
 use std::alloc::{AllocError, Global};
 
 /// What is added to the name of an array.

@@ -5,12 +5,12 @@ ghost use Rattle.c_grammar.specs.View.{links_from, piece, place_view, view};
 ghost use Rattle.c_check.specs.Variables.{value_meant};
 ghost use Rattle.c_calls.specs.Exprs.{AreLinks, IsExpr, IsPlace, field_of, value_of_place};
 
-use crate::expr::{Expr, Field, Link, Place};
 use c_check::constant::{operator_of, sign_of};
 use c_check::scope::{Scope, cut, is_same, number_at};
 use c_check::thing::{Meaning, Thing};
 use c_grammar::tree;
 use c_names::predefined::Predefined;
+use c_program::expr::{Expr, Field, Link, Place};
 use std::alloc::{AllocError, Global};
 
 fn boxed(alloc: Global, e: Expr) -> Result<Box<Expr>, AllocError>

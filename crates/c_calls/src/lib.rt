@@ -2,7 +2,5 @@
 #![tactic(auto)]
 
 pub mod call_of;
-pub mod expr;
 pub mod expr_of;
-pub mod mpi;
 pub mod mpi_of;

@@ -13,13 +13,13 @@ ghost use Rattle.c_calls.specs.MpiCalls.{IsBuffer, IsMpiCall, IsOperation, IsSta
 ghost use Rattle.c_calls.specs.Shapes.{is_reference, is_value};
 
 use crate::call_of::{reference_of, value_of};
-use crate::expr::{Expr, Reference};
-use crate::mpi::{Buffer, MpiCall};
 use c_check::call::{argument_at, word_of};
 use c_check::scope::Scope;
 use c_grammar::statement::{Argument, Call};
 use c_names::function::MpiFunction;
 use c_names::predefined::Predefined;
+use c_program::expr::{Expr, Reference};
+use c_program::mpi::{Buffer, MpiCall};
 use mpi_call::call::Op;
 use std::alloc::{AllocError, Global};
 

@@ -5,12 +5,12 @@ use Rattle.c_grammar.specs.declared.tree.Link.{Link}
 use Rattle.c_grammar.specs.declared.word.Spot.{Spot}
 use Rattle.c_grammar.specs.View.{links_from, piece}
 use Rattle.c_names.specs.declared.function.ArgumentKind.{ArgumentKind}
+use Rattle.c_names.specs.declared.kind.Kind.TheVariants.{Int}
 use Rattle.c_check.specs.Calls.{argument_faults, arguments_faults, numbers_faults, sum_base, value_faults}
 use Rattle.c_check.specs.Least.{least_from}
 use Rattle.c_check.specs.Scopes.{Env}
 use Rattle.c_check.specs.declared.fault.Fault.{Fault}
 use Rattle.c_check.specs.declared.thing.ExprKind.TheVariants.{Of}
-use Rattle.c_check.specs.declared.thing.Kind.TheVariants.{Int}
 use Rattle.c_check.proofs.Least.{least_from_append}
 use Rattle.c_check.proofs.Lists.{drop_got, drop_none}
 

@@ -4,11 +4,11 @@ use Rattle.c_grammar.specs.declared.word.Spot.{Spot}
 use Rattle.c_check.specs.Programs.{after_parameter, after_parameters, declare_optional, parameter_name, parameter_thing}
 use Rattle.c_check.specs.declared.thing.Thing.{Thing}
 use Rattle.c_grammar.specs.Tree as t
+use Rattle.c_names.specs.declared.kind.Kind.{Kind}
 use Rattle.c_check.specs.Scopes.{Env, closed, opened}
 use Rattle.c_check.specs.Signatures.{listed}
 use Rattle.c_check.specs.Kinds.{kind_of_word}
 use Rattle.c_check.specs.Statements.{after_declaration, after_item, after_items, after_part, after_parts, after_start}
-use Rattle.c_check.specs.declared.thing.Kind.{Kind}
 
 abbrev pub closing : Env → Env
 closing env = record env { entries = closed env.entries }

@@ -3,6 +3,7 @@ use Rattle.std.proofs.Common.{◌≡◌, ℕ, ◌+◌, ◌<◌, ◌++◌, List, 
 use Rattle.c_grammar.specs.declared.tree.Link.{Link}
 use Rattle.c_grammar.specs.declared.word.Spot.{Spot}
 use Rattle.c_grammar.specs.View.{links_from, piece, view}
+use Rattle.c_names.specs.declared.kind.Kind.TheVariants.{Int}
 use Rattle.c_check.specs.Constants.{constant_of, joined, links_constant, names_in, names_in_links, operator_of}
 use Rattle.c_check.specs.Expressions.{expr_faults, links_faults, operand_faults}
 use Rattle.c_check.specs.Kinds.{kind_of, start_of}
@@ -12,7 +13,6 @@ use Rattle.c_check.specs.declared.constant.Constant.{Constant}
 use Rattle.c_check.specs.declared.fault.Fault.{Fault}
 use Rattle.c_check.specs.declared.thing.ExprKind.{ExprKind}
 use Rattle.c_check.specs.declared.thing.ExprKind.TheVariants.{Of}
-use Rattle.c_check.specs.declared.thing.Kind.TheVariants.{Int}
 use Rattle.c_check.proofs.Least.{least_from_append}
 use Rattle.c_check.proofs.Lists.{drop_at}
 

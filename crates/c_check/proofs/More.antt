@@ -7,12 +7,12 @@ use Rattle.c_grammar.specs.declared.statement.Part.{Part}
 use Rattle.c_grammar.specs.declared.tree.Expr.{Expr}
 use Rattle.c_grammar.specs.StmtView.{item_view, part_view, parts_view}
 use Rattle.c_grammar.specs.View.{view}
+use Rattle.c_names.specs.declared.kind.Kind.{Kind}
 use Rattle.c_check.specs.Expressions.{int_faults}
 use Rattle.c_check.specs.Least.{least_from}
 use Rattle.c_check.specs.Scopes.{Env}
 use Rattle.c_check.specs.Statements.{after_item, after_items, after_part, after_parts, item_faults, items_faults, part_faults, parts_faults, values_faults}
 use Rattle.c_check.specs.declared.fault.Fault.{Fault}
-use Rattle.c_check.specs.declared.thing.Kind.{Kind}
 use Rattle.c_check.proofs.Least.{least_from_append}
 use Rattle.c_check.proofs.Lists.{drop_at, drop_past}
 use Rattle.c_check.proofs.Rows.{behind_viewed}

@@ -6,13 +6,13 @@ use Rattle.c_grammar.specs.declared.word.Word.{Word}
 use Rattle.c_grammar.specs.declared.word.Word.TheVariants as w
 use Rattle.c_grammar.specs.Tree as t
 use Rattle.c_names.specs.declared.predefined.Predefined.TheVariants as p
+use Rattle.c_names.specs.declared.kind.Kind.{Kind}
+use Rattle.c_names.specs.declared.kind.Kind.TheVariants.{Int, Status, Request, Communicator}
 use Rattle.c_check.specs.Least.{unless}
 use Rattle.c_check.specs.Scopes.{Env, meaning}
 use Rattle.c_check.specs.declared.fault.Fault.{Fault}
 use Rattle.c_check.specs.declared.thing.ExprKind.{ExprKind}
 use Rattle.c_check.specs.declared.thing.ExprKind.TheVariants.{Of, NullRequest, Other, Nothing}
-use Rattle.c_check.specs.declared.thing.Kind.{Kind}
-use Rattle.c_check.specs.declared.thing.Kind.TheVariants.{Int, Status, Request, Communicator}
 use Rattle.c_check.specs.declared.thing.Meaning.{Meaning}
 use Rattle.c_check.specs.declared.thing.Meaning.TheVariants as m
 use Rattle.c_check.specs.declared.thing.Thing.TheVariants as d

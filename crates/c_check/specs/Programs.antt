@@ -7,6 +7,7 @@ use Rattle.c_lex.specs.declared.fault.Why.TheVariants.{Twice, NoMain, LeftOut}
 use Rattle.c_grammar.specs.declared.word.Spot.{Spot}
 use Rattle.c_grammar.specs.Tree as t
 use Rattle.c_names.specs.Predefined.{predefined}
+use Rattle.c_names.specs.declared.kind.Kind.TheVariants.{Int, Communicator}
 use Rattle.c_check.specs.Least.{unless}
 use Rattle.c_check.specs.Literals.{number_at}
 use Rattle.c_check.specs.Constants.{length_faults}
@@ -14,7 +15,6 @@ use Rattle.c_check.specs.Signatures.{function_entries, is_int, parameters_listed
 use Rattle.c_check.specs.Scopes.{Env, cut, declare, opened, twice_faults}
 use Rattle.c_check.specs.Statements.{parts_faults}
 use Rattle.c_check.specs.declared.fault.Fault.{Fault}
-use Rattle.c_check.specs.declared.thing.Kind.TheVariants.{Int, Communicator}
 use Rattle.c_check.specs.declared.thing.Thing.{Thing}
 use Rattle.c_check.specs.declared.thing.Thing.TheVariants as d
 

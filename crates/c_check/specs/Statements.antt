@@ -5,6 +5,8 @@ use Rattle.c_grammar.specs.declared.word.Spot.{Spot}
 use Rattle.c_grammar.specs.declared.word.Word.{Word}
 use Rattle.c_grammar.specs.declared.word.Word.TheVariants as w
 use Rattle.c_grammar.specs.Tree as t
+use Rattle.c_names.specs.declared.kind.Kind.{Kind}
+use Rattle.c_names.specs.declared.kind.Kind.TheVariants.{Int, Status}
 use Rattle.c_check.specs.Least.{fault, unless}
 use Rattle.c_check.specs.Constants.{length_faults, length_of}
 use Rattle.c_check.specs.Kinds.{cell_kind, kind_of_word, place_start, target_kind}
@@ -15,8 +17,6 @@ use Rattle.c_check.specs.Calls.{call_faults, right_faults, right_start}
 use Rattle.c_check.specs.declared.fault.Fault.{Fault}
 use Rattle.c_check.specs.declared.thing.ExprKind.{ExprKind}
 use Rattle.c_check.specs.declared.thing.ExprKind.TheVariants.{Of, Other, Nothing}
-use Rattle.c_check.specs.declared.thing.Kind.{Kind}
-use Rattle.c_check.specs.declared.thing.Kind.TheVariants.{Int, Status}
 use Rattle.c_check.specs.declared.thing.Thing.{Thing}
 use Rattle.c_check.specs.declared.thing.Thing.TheVariants as d
 

@@ -13,13 +13,14 @@ use crate::fault::{Fault, note_at, note_unless};
 use crate::kind::{is_same_kind, start_of, want_kind};
 use crate::row::{item_at, item_count};
 use crate::scope::{Scope, cut, want_meaning};
-use crate::thing::{ExprKind, Kind, Meaning, Thing};
+use crate::thing::{ExprKind, Meaning, Thing};
 use c_grammar::statement::{Argument, Call, Head, Parameter, Parameters, Right};
 use c_grammar::tree::{Expr, Link, Place};
 use c_grammar::word::{Spot, Word};
 use c_lex::Why;
 use c_names::format::count_ints;
 use c_names::function::{ArgumentKind, MpiFunction, accepts, arguments};
+use c_names::kind::Kind;
 use c_names::predefined::Predefined;
 
 // ---- one argument

@@ -7,10 +7,11 @@ ghost use Rattle.c_check.specs.Least.{least_from};
 use crate::fault::{Fault, note_unless};
 use crate::kind::{compares, kind_of, place_kind, place_start, start_of, want_kind};
 use crate::scope::{Scope, cut, is_same, want_meaning};
-use crate::thing::{ExprKind, Kind, Meaning, Thing};
+use crate::thing::{ExprKind, Meaning, Thing};
 use c_grammar::tree::{Expr, Link, Place};
 use c_grammar::word::{Spot, Word};
 use c_lex::Why;
+use c_names::kind::Kind;
 
 const INT: ExprKind = ExprKind::Of(Kind::Int);
 

@@ -6,10 +6,11 @@ ghost use Rattle.c_check.specs.Least.{least_from};
 
 use crate::fault::{Fault, note_unless};
 use crate::scope::Scope;
-use crate::thing::{ExprKind, Kind, Meaning, Thing};
+use crate::thing::{ExprKind, Meaning, Thing};
 use c_grammar::tree::{Expr, Place};
 use c_grammar::word::Spot;
 use c_lex::Why;
+use c_names::kind::Kind;
 use c_names::predefined::Predefined;
 
 pub fn is_same_kind(a: Kind, b: Kind) -> bool

@@ -13,10 +13,11 @@ use crate::constant::want_length;
 use crate::fault::{Fault, note, note_unless};
 use crate::scope::{Scope, cut, is_same, number_at};
 use crate::statement::check_parts;
-use crate::thing::{Kind, Thing};
+use crate::thing::Thing;
 use c_grammar::statement::{Head, Parameter, Parameters, Part, Top, Tree, Value};
 use c_grammar::word::Spot;
 use c_lex::Why;
+use c_names::kind::Kind;
 use c_names::predefined::meaning_of;
 use std::alloc::{AllocError, Global};
 

@@ -13,13 +13,14 @@ use crate::fault::{Fault, note_at, note_unless};
 use crate::kind::{cell_kind, place_start, target_kind};
 use crate::row::item_count;
 use crate::scope::Scope;
-use crate::thing::{ExprKind, Kind, Thing, kind_of_word};
+use crate::thing::{ExprKind, Thing, kind_of_word};
 use c_grammar::statement::{
     Declaration, ForStart, Initial, Item, Listed, Part, Right, Simple, Stmt,
 };
 use c_grammar::tree::{Expr, Place};
 use c_grammar::word::{Spot, Word};
 use c_lex::Why;
+use c_names::kind::Kind;
 use std::alloc::AllocError;
 
 // ---- assignments

@@ -14,6 +14,11 @@ abbrev pub Gives : {X Y : Type 0} → (X → Y × List Sign) → Result X ReadEr
 Gives view (Ok x) read = read ≡ Ok (view x)
 Gives view (Err error) read = Fails error read
 
+-- reading stopped at a sign, not for want of memory
+abbrev pub HasPlace : ReadError → Type 0
+HasPlace errors.Memory = ⊥
+HasPlace (errors.At why rest) = Unit {0}
+
 abbrev pub IsHead : List Sign → Option (Sign × Bor (List Sign)) → Type 0
 IsHead signs None = signs ≡ []
 IsHead signs (Some x) = signs ≡ x.0 ∷ x.1.now

@@ -1,8 +1,8 @@
 //! What all readers share.
-ghost use Rattle.std.specs.Prelude.{◌≡◌, Ok};
+ghost use Rattle.std.specs.Prelude.{◌≡◌, IfErr, Ok};
 ghost use Rattle.c_grammar.specs.Reading.{expect, first_of, heads, maybe, one_of};
 ghost use Rattle.c_expr.specs.Classes.{is_in};
-ghost use Rattle.c_expr.specs.Gives.{Gives, IsHead};
+ghost use Rattle.c_expr.specs.Gives.{Gives, HasPlace, IsHead};
 ghost use Rattle.c_grammar.specs.Words.{is};
 
 use crate::words::{Class, is_in};
@@ -57,10 +57,11 @@ pub fn heads(signs: &[Sign], class: Class) -> bool
     }
 }
 
-/// The first sign, which has to be of a class.
+/// The first sign, which has to be of a class. Takes no memory.
 #[tactic(auto, unfolding(c_grammar::specs::Reading::one_of))]
 pub fn one_of(signs: &[Sign], class: Class) -> Result<(Sign, &[Sign]), ReadError>
-    ensures { Gives (λ x. (x.0, x.1.now)) result (one_of (is_in class) signs.now) }
+    ensures read { Gives (λ x. (x.0, x.1.now)) result (one_of (is_in class) signs.now) }
+    ensures place { IfErr result HasPlace }
 {
     match head(signs) {
         Some((first, rest)) => {
@@ -74,10 +75,11 @@ pub fn one_of(signs: &[Sign], class: Class) -> Result<(Sign, &[Sign]), ReadError
     }
 }
 
-/// The place of the first sign, which has to be this word.
+/// The place of the first sign, which has to be this word. Takes no memory.
 #[tactic(auto, unfolding(c_grammar::specs::Reading::expect))]
 pub fn expected(signs: &[Sign], word: Word) -> Result<(Spot, &[Sign]), ReadError>
-    ensures { Gives (λ x. (x.0, x.1.now)) result (expect word signs.now) }
+    ensures read { Gives (λ x. (x.0, x.1.now)) result (expect word signs.now) }
+    ensures place { IfErr result HasPlace }
 {
     match head(signs) {
         Some((first, rest)) => {

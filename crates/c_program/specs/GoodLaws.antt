@@ -27,11 +27,8 @@ prefix_trans xs ys zs one two = (one.0 ++ two.0, sym (append_assoc xs one.0 two.
 -- ---- courses that end
 
 pub keeps_prefix : (n me : ℕ) (own : View) (short long : List ℕ) (c : Course) → IsPrefixOf short long → Keeps n me own long c → Keeps n me own short c
-keeps_prefix n me own short long (Over s) prefix keeps = prefix_trans short long s.printed prefix keeps
+keeps_prefix n me own short long (Over s) prefix keeps = absurd keeps
 keeps_prefix n me own short long (Asks s call go) prefix keeps = (prefix_trans short long s.printed prefix keeps.0, keeps.1, keeps.2, keeps.3)
-
-pub keeps_over : (n me : ℕ) (own : View) (s : State) → Keeps n me own s.printed (Over s)
-keeps_over n me own s = prefix_same s.printed
 
 pub keeps_last : (n me : ℕ) (own : View) (call : Call) (s : State) → IsInBounds n (length own) call → IsInForm n own me call → ((reply : Reply) → has_shape n me own call reply ≡ true → ends (call, reply) ≡ true) → Keeps n me own s.printed (asks_last call s)
 keeps_last n me own call s bounds form ending = (prefix_same s.printed, bounds, form, λ reply shape. rw (ending reply shape) tt)

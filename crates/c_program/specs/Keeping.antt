@@ -22,9 +22,10 @@ pub record Good (n me : ℕ) (own : View) (s : State) : Type 0 where
   pub known : (comm : ℕ) → members_of n s comm ≡ known_in n own comm
   pub slots : All (λ (slot : Slot). slot.cells.length ≤ 262144) s.slots
 
--- each call is in bounds and in form, and what is printed goes on from what was printed before
+-- each call is in bounds and in form, what is printed goes on from what was printed before, and a reply in shape ends the
+-- rank, or more follows
 abbrev pub Keeps : ℕ → ℕ → View → List ℕ → Course → Type 0
-Keeps n me own printed (Over s) = IsPrefixOf printed s.printed
+Keeps n me own printed (Over s) = ⊥
 Keeps n me own printed (Asks s call go) =
     IsPrefixOf printed s.printed × IsInBounds n (length own) call × IsInForm n own me call
     × ((reply : Reply) → has_shape n me own call reply ≡ true

@@ -9,3 +9,9 @@ pub mod Meaning
 pub mod Program
 pub mod Keeping
 pub mod GoodLaws
+pub mod RangeLaws
+pub mod Proper
+pub mod ProperEffects
+pub mod EffectLaws
+pub mod StatementLaws
+pub mod ProgramLaws

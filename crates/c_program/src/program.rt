@@ -1,6 +1,7 @@
 //! Typed programs.
 
 use crate::statement::Part;
+use run_model::program::Program;
 use wiz_base::Bytes;
 
 /// What a parameter takes.
@@ -35,4 +36,23 @@ pub struct Function {
 pub struct CProgram {
     pub functions: Vec<Function>,
     pub main: usize,
+}
+
+impl Program for CProgram {
+    ghost use Rattle.c_program.specs.Program.{next_of, output_of, variables_of};
+    ghost use Rattle.c_program.specs.ProgramLaws.{ends_exactly, prints_on, asks_in_bounds, enters_in_form};
+
+    ghost next = { next_of };
+
+    ghost output = { output_of };
+
+    ghost variables = { variables_of };
+
+    ghost ends_exactly = { ends_exactly };
+
+    ghost prints_on = { prints_on };
+
+    ghost asks_in_bounds = { asks_in_bounds };
+
+    ghost enters_in_form = { enters_in_form };
 }

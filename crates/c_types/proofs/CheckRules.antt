@@ -18,12 +18,12 @@ use Rattle.c_grammar.proofs.Firsts.{fault_read}
 use Rattle.c_grammar.proofs.Programs.{one_tree, tree_no_fault}
 use Rattle.c_parse.specs.Parsing as parsed
 use Rattle.c_parse.specs.Parsing.{IsTree, place_of, signs_of}
+use Rattle.c_program.specs.declared.program.CProgram.{CProgram}
 use Rattle.c_check.specs.Programs.{faults}
 use Rattle.c_check.specs.Least.{IsFirst, IsIn, is_less, rank}
 use Rattle.c_check.specs.declared.fault.Fault.{Fault}
 use Rattle.c_types.specs.Checks as x
 use Rattle.c_types.specs.Checks.{IsFaultOf, IsFirstIn, IsProgramOf}
-use Rattle.c_types.specs.declared.program.CProgram.{CProgram}
 
 why_at : ℕ → Why
 why_at n =

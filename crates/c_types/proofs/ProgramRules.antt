@@ -12,6 +12,8 @@ use Rattle.c_check.specs.Scopes.{Env, cut, opened}
 use Rattle.c_check.specs.declared.fault.Fault.{Fault}
 use Rattle.c_check.specs.declared.thing.Thing.{Thing}
 use Rattle.c_lex.specs.declared.fault.Why.TheVariants.{NoMain}
+use Rattle.c_program.specs.declared.program.Function.{Function}
+use Rattle.c_program.specs.declared.program.Parameter.{Parameter}
 use Rattle.c_check.proofs.Parameters.{after_parameters_next}
 use Rattle.c_check.specs.Signatures.{is_int, parameters_listed}
 use Rattle.c_check.specs.Statements.{parts_faults}
@@ -19,8 +21,6 @@ use Rattle.c_check.proofs.Lists.{drop_at, drop_got, drop_past}
 use Rattle.c_types.specs.Programs as x
 use Rattle.c_types.specs.Programs.{AreFunctions, AreParameters, IsFunction, IsFunctionOf, IsParameter}
 use Rattle.c_types.specs.Statements.{AreParts}
-use Rattle.c_types.specs.declared.program.Function.{Function}
-use Rattle.c_types.specs.declared.program.Parameter.{Parameter}
 use Rattle.c_types.proofs.Growing.{ended, grown, none_left, none_right}
 
 -- ---- parameters

@@ -11,6 +11,10 @@ use Rattle.c_names.specs.Formats.{ints_in, pieces_of}
 use Rattle.c_names.specs.declared.format.Piece.{Piece}
 use Rattle.c_names.specs.declared.operator.Operator.{Operator}
 use Rattle.c_names.specs.declared.predefined.Predefined.TheVariants as p
+use Rattle.c_names.specs.declared.kind.Kind.TheVariants.{Int}
+use Rattle.c_program.specs.declared.expr.Expr.{Expr}
+use Rattle.c_program.specs.declared.expr.Place.{Place}
+use Rattle.c_program.specs.declared.statement.Simple.TheVariants as l
 use Rattle.c_check.specs.Calls.{arguments_of, call_faults, format_faults, inside, is_format, misfit_faults, numbers_faults, print_faults, right_faults, value_faults}
 use Rattle.c_check.specs.Expressions.{expr_faults, int_faults, place_faults, takes_index, wanted_faults}
 use Rattle.c_check.specs.Kinds.{cell_kind, kind_faults, place_start, whole_kind}
@@ -20,7 +24,6 @@ use Rattle.c_check.specs.Statements.{goal_kind, goal_takes, int_goal_faults, is_
 use Rattle.c_check.specs.declared.fault.Fault.{Fault}
 use Rattle.c_check.specs.declared.thing.ExprKind.{ExprKind}
 use Rattle.c_check.specs.declared.thing.ExprKind.TheVariants.{Of, Other}
-use Rattle.c_check.specs.declared.thing.Kind.TheVariants.{Int}
 use Rattle.c_check.specs.declared.thing.Meaning.{Meaning}
 use Rattle.c_check.specs.declared.thing.Meaning.TheVariants as m
 use Rattle.c_check.specs.declared.thing.Thing.TheVariants as d
@@ -30,9 +33,6 @@ use Rattle.c_calls.specs.Exprs.{IsPlace}
 use Rattle.c_calls.specs.Shapes.{is_value}
 use Rattle.c_types.specs.Statements as x
 use Rattle.c_types.specs.Statements.{AreValues, IsSimple, one, update_of}
-use Rattle.c_calls.specs.declared.expr.Expr.{Expr}
-use Rattle.c_calls.specs.declared.expr.Place.{Place}
-use Rattle.c_types.specs.declared.statement.Simple.TheVariants as l
 use Rattle.c_types.proofs.Growing.{ended, grown, none_left, none_right}
 
 -- ---- `++` and `--`

@@ -27,26 +27,26 @@ use Rattle.c_check.specs.Scopes.{Env, cut, opened, twice_faults}
 use Rattle.c_check.specs.Statements.{after_item, after_items, after_part, after_parts, after_start, begins_with, begun_takes, can_begin, declaration_faults, declared_thing, initial_faults, item_faults, items_faults, part_faults, parts_faults, place_length_faults, return_faults, simple_faults, start_faults, step_faults, stmt_faults, test_faults}
 use Rattle.c_check.specs.declared.thing.ExprKind.{ExprKind}
 use Rattle.c_check.specs.declared.thing.ExprKind.TheVariants.{Of, Nothing}
-use Rattle.c_check.specs.declared.thing.Kind.{Kind}
-use Rattle.c_check.specs.declared.thing.Kind.TheVariants.{Int}
 use Rattle.c_check.specs.declared.thing.Thing.{Thing}
 use Rattle.c_check.proofs.Lists.{drop_at, drop_past}
 use Rattle.c_check.proofs.More.{after_items_next, after_parts_next}
 use Rattle.c_check.proofs.Rows.{behind_viewed}
 use Rattle.c_lex.specs.declared.fault.Why.TheVariants.{WrongType}
+use Rattle.c_names.specs.declared.kind.Kind.{Kind}
+use Rattle.c_names.specs.declared.kind.Kind.TheVariants.{Int}
+use Rattle.c_program.specs.declared.expr.Expr.{Expr}
+use Rattle.c_program.specs.declared.expr.Right.{Right}
+use Rattle.c_program.specs.declared.statement.Declaration.{Declaration}
+use Rattle.c_program.specs.declared.statement.ForStart.{ForStart}
+use Rattle.c_program.specs.declared.statement.Item.{Item}
+use Rattle.c_program.specs.declared.statement.Part.{Part}
+use Rattle.c_program.specs.declared.statement.Part.TheVariants as q
+use Rattle.c_program.specs.declared.statement.Simple.{Simple}
+use Rattle.c_program.specs.declared.statement.Stmt.{Stmt}
+use Rattle.c_program.specs.declared.statement.Stmt.TheVariants as s
 use Rattle.c_calls.specs.Exprs.{IsExpr}
 use Rattle.c_types.specs.Statements as x
 use Rattle.c_types.specs.Statements.{AreExprs, AreItems, AreParts, IsDeclaration, IsItem, IsPart, IsReturn, IsSimple, IsStart, IsStep, IsStmt, IsTest}
-use Rattle.c_calls.specs.declared.expr.Expr.{Expr}
-use Rattle.c_calls.specs.declared.expr.Right.{Right}
-use Rattle.c_types.specs.declared.statement.Declaration.{Declaration}
-use Rattle.c_types.specs.declared.statement.ForStart.{ForStart}
-use Rattle.c_types.specs.declared.statement.Item.{Item}
-use Rattle.c_types.specs.declared.statement.Part.{Part}
-use Rattle.c_types.specs.declared.statement.Part.TheVariants as q
-use Rattle.c_types.specs.declared.statement.Simple.{Simple}
-use Rattle.c_types.specs.declared.statement.Stmt.{Stmt}
-use Rattle.c_types.specs.declared.statement.Stmt.TheVariants as s
 use Rattle.c_types.proofs.Growing.{ended, grown, none_left, none_right}
 
 -- ---- values in braces

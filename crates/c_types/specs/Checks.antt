@@ -8,8 +8,8 @@ use Rattle.c_lex.specs.declared.token.Token.{Token}
 use Rattle.c_grammar.specs.Tree as t
 use Rattle.c_parse.specs.Parsing as parsed
 use Rattle.c_parse.specs.Parsing.{IsTree}
+use Rattle.c_program.specs.declared.program.CProgram.{CProgram}
 use Rattle.c_types.specs.Programs.{IsProgram}
-use Rattle.c_types.specs.declared.program.CProgram.{CProgram}
 use Rattle.c_check.specs.Programs.{faults}
 use Rattle.c_check.specs.Least.{IsFirst}
 use Rattle.c_check.specs.declared.fault.Fault.{Fault}

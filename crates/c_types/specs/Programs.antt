@@ -4,15 +4,15 @@ use Rattle.std.specs.List.{position}
 use Rattle.std.specs.Option.{option_to_list}
 use Rattle.c_grammar.specs.declared.word.Spot.{Spot}
 use Rattle.c_grammar.specs.Tree as t
+use Rattle.c_program.specs.declared.program.CProgram.{CProgram}
+use Rattle.c_program.specs.declared.program.Function.{Function}
+use Rattle.c_program.specs.declared.program.Parameter.{Parameter}
+use Rattle.c_program.specs.declared.program.ParameterKind.{ParameterKind}
+use Rattle.c_program.specs.declared.program.ParameterKind.TheVariants as k
 use Rattle.c_check.specs.Programs.{after_parameters, after_top, heads_of, is_main, parameter_name, text_env}
 use Rattle.c_check.specs.Scopes.{Env, cut, opened}
 use Rattle.c_check.specs.Signatures.{is_int, parameters_listed}
 use Rattle.c_types.specs.Statements.{AreParts}
-use Rattle.c_types.specs.declared.program.CProgram.{CProgram}
-use Rattle.c_types.specs.declared.program.Function.{Function}
-use Rattle.c_types.specs.declared.program.Parameter.{Parameter}
-use Rattle.c_types.specs.declared.program.ParameterKind.{ParameterKind}
-use Rattle.c_types.specs.declared.program.ParameterKind.TheVariants as k
 
 abbrev pub parameter_kind : t.Parameter → ParameterKind
 parameter_kind (t.int word name) = k.Int

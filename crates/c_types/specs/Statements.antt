@@ -13,36 +13,36 @@ use Rattle.c_names.specs.declared.function.MpiFunction.{MpiFunction}
 use Rattle.c_names.specs.declared.operator.Operator.{Operator}
 use Rattle.c_names.specs.declared.operator.Operator.TheVariants as o
 use Rattle.c_names.specs.declared.predefined.Predefined.TheVariants as p
+use Rattle.c_names.specs.declared.kind.Kind.{Kind}
+use Rattle.c_program.specs.declared.expr.Call.{Call}
+use Rattle.c_program.specs.declared.expr.Expr.{Expr}
+use Rattle.c_program.specs.declared.expr.Expr.TheVariants as v
+use Rattle.c_program.specs.declared.expr.Place.{Place}
+use Rattle.c_program.specs.declared.expr.Right.{Right}
+use Rattle.c_program.specs.declared.expr.Right.TheVariants as g
+use Rattle.c_program.specs.declared.mpi.MpiCall.{MpiCall}
+use Rattle.c_program.specs.declared.statement.Declaration.{Declaration}
+use Rattle.c_program.specs.declared.statement.ForStart.{ForStart}
+use Rattle.c_program.specs.declared.statement.ForStart.TheVariants as b
+use Rattle.c_program.specs.declared.statement.Initial.{Initial}
+use Rattle.c_program.specs.declared.statement.Initial.TheVariants as i
+use Rattle.c_program.specs.declared.statement.Item.{Item}
+use Rattle.c_program.specs.declared.statement.Part.{Part}
+use Rattle.c_program.specs.declared.statement.Part.TheVariants as q
+use Rattle.c_program.specs.declared.statement.Simple.{Simple}
+use Rattle.c_program.specs.declared.statement.Simple.TheVariants as l
+use Rattle.c_program.specs.declared.statement.Stmt.{Stmt}
+use Rattle.c_program.specs.declared.statement.Stmt.TheVariants as s
 use Rattle.c_check.specs.Calls.{arguments_of, inside}
 use Rattle.c_check.specs.Constants.{length_of}
 use Rattle.c_check.specs.Kinds.{kind_of_word, place_start}
 use Rattle.c_check.specs.Scopes.{Env, cut, meaning, opened}
 use Rattle.c_check.specs.Signatures.{listed}
 use Rattle.c_check.specs.Statements.{after_item, after_part, after_start, is_assign}
-use Rattle.c_check.specs.declared.thing.Kind.{Kind}
 use Rattle.c_check.specs.declared.thing.Meaning.TheVariants as m
 use Rattle.c_calls.specs.Calls.{IsCall, IsRight, IsValue}
 use Rattle.c_calls.specs.Exprs.{IsExpr, IsPlace}
 use Rattle.c_calls.specs.MpiCalls.{IsMpiCall}
-use Rattle.c_calls.specs.declared.expr.Call.{Call}
-use Rattle.c_calls.specs.declared.expr.Expr.{Expr}
-use Rattle.c_calls.specs.declared.expr.Expr.TheVariants as v
-use Rattle.c_calls.specs.declared.expr.Place.{Place}
-use Rattle.c_calls.specs.declared.expr.Right.{Right}
-use Rattle.c_calls.specs.declared.expr.Right.TheVariants as g
-use Rattle.c_calls.specs.declared.mpi.MpiCall.{MpiCall}
-use Rattle.c_types.specs.declared.statement.Declaration.{Declaration}
-use Rattle.c_types.specs.declared.statement.ForStart.{ForStart}
-use Rattle.c_types.specs.declared.statement.ForStart.TheVariants as b
-use Rattle.c_types.specs.declared.statement.Initial.{Initial}
-use Rattle.c_types.specs.declared.statement.Initial.TheVariants as i
-use Rattle.c_types.specs.declared.statement.Item.{Item}
-use Rattle.c_types.specs.declared.statement.Part.{Part}
-use Rattle.c_types.specs.declared.statement.Part.TheVariants as q
-use Rattle.c_types.specs.declared.statement.Simple.{Simple}
-use Rattle.c_types.specs.declared.statement.Simple.TheVariants as l
-use Rattle.c_types.specs.declared.statement.Stmt.{Stmt}
-use Rattle.c_types.specs.declared.statement.Stmt.TheVariants as s
 
 -- ---- assignments and calls
 

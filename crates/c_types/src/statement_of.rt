@@ -17,9 +17,7 @@ ghost use Rattle.c_check.specs.declared.thing.Meaning.TheVariants as m;
 ghost use Rattle.c_check.specs.declared.thing.Thing.{Thing};
 ghost use Rattle.c_types.specs.Statements.{AreExprs, AreParts, AreValues, IsDeclaration, IsInitial, IsItem, IsPart, IsReturn, IsSimple, IsStart, IsStep, IsStmt, IsTest, length_in, update_of};
 
-use crate::statement::{Declaration, ForStart, Initial, Item, Part, Simple, Stmt};
 use c_calls::call_of::{call_of, right_of, value_of};
-use c_calls::expr::{Expr, Right};
 use c_calls::expr_of::{expr_of, place_of};
 use c_calls::mpi_of::mpi_call_of;
 use c_check::call::{argument_at, argument_count, inside};
@@ -27,12 +25,15 @@ use c_check::constant::length_of;
 use c_check::kind::place_start;
 use c_check::scope::{Scope, cut};
 use c_check::statement::{declared_thing, is_assign};
-use c_check::thing::{Kind, Meaning, Thing, kind_of_word};
+use c_check::thing::{Meaning, Thing, kind_of_word};
 use c_grammar::word::{Spot, Word};
 use c_grammar::{statement, tree};
 use c_names::format::{Piece, pieces};
+use c_names::kind::Kind;
 use c_names::operator::Operator;
 use c_names::predefined::Predefined;
+use c_program::expr::{Expr, Right};
+use c_program::statement::{Declaration, ForStart, Initial, Item, Part, Simple, Stmt};
 use std::alloc::{AllocError, Global};
 use wiz_base::Bytes;
 

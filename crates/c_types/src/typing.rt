@@ -7,13 +7,12 @@ ghost use Rattle.c_grammar.specs.StmtView.{head_view, parameter_view, parameters
 ghost use Rattle.c_lex.specs.NoMemory.{no_memory};
 ghost use Rattle.c_lex.specs.Places.{IsPlaceOf};
 ghost use Rattle.c_lex.specs.declared.fault.SourceFault.{SourceFault};
+ghost use Rattle.c_program.specs.declared.program.CProgram.{CProgram};
 ghost use Rattle.c_check.specs.Programs.{after_parameter, after_parameters, after_top, faults, function_faults, heads_of, is_main, parameter_name, top_faults, tops_faults, with_head};
 ghost use Rattle.c_check.specs.Signatures.{parameters_listed};
 ghost use Rattle.c_types.specs.Checks.{IsFaultOf, IsFirstIn, IsProgramOf};
 ghost use Rattle.c_types.specs.Programs.{AreFunctions, AreParameters, IsFunction, IsFunctionOf, IsParameter, IsProgram, parameter_kind};
-ghost use Rattle.c_types.specs.declared.program.CProgram.{CProgram};
 
-use crate::program::{CProgram, Function, Parameter, ParameterKind};
 use crate::statement_of::parts_of;
 use c_check::call::{is_int, parameter_at, parameter_count};
 use c_check::fault::Fault;
@@ -26,6 +25,7 @@ use c_grammar::statement;
 use c_grammar::statement::{Head, Top, Tree};
 use c_lex::{SourceFault, fault_at, tokens};
 use c_parse::parse;
+use c_program::program::{CProgram, Function, Parameter, ParameterKind};
 use std::alloc::{AllocError, Global};
 use wiz_base::Bytes;
 

@@ -13,7 +13,6 @@ use Rattle.group_plan.specs.declared.fault.OrderFault.TheVariants.{BadLine as Ba
 use Rattle.group_plan.specs.declared.fault.PlanFault.{PlanFault}
 use Rattle.group_plan.specs.declared.fault.PlanFault.TheVariants.{BadLine, TooManyRanks, Empty, Repeated, Gap, NoMemory as PlanMemory}
 use Rattle.c_types.specs.Checks.{IsFaultOf, IsProgramOf}
-use Rattle.c_types.specs.declared.program.CProgram.{CProgram}
 use Rattle.srr_log.specs.declared.fault.LogWhy.{LogWhy}
 use Rattle.srr_log.specs.declared.fault.LogWhy.TheVariants.{BadHead, BadNumber, BadGroup, BadEntry, Short, Extra, BadVersion, Digest, NoMemory}
 use Rattle.srr_log.specs.Faults.{IsFirstFault}
@@ -33,6 +32,7 @@ use Rattle.small_c.specs.SmallTexts.{IsSmallText}
 use Rattle.wiz_trace.specs.TraceTexts.{trace_text}
 use Rattle.wiz_cli.specs.Words.{IsReplayOf}
 use Rattle.wiz_base.specs.Decimals.{decimal_text}
+use Rattle.c_program.specs.declared.program.CProgram.{CProgram}
 use Rattle.wiz_io.specs.Files.{Files, HasRisen}
 
 -- the text is a program

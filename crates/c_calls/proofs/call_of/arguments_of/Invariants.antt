@@ -1,9 +1,9 @@
 use Rattle.std.proofs.Common.{◌≡◌, ◌++◌, List, [], drop}
 use Rattle.c_grammar.specs.StmtView.{call_view, head_view}
+use Rattle.c_program.specs.declared.expr.Argument.{Argument}
 use Rattle.c_check.specs.Calls.{arguments_faults, arguments_of}
 use Rattle.c_check.specs.Signatures.{signature_of}
 use Rattle.c_calls.specs.Calls.{AreArguments}
-use Rattle.c_calls.specs.declared.expr.Argument.{Argument}
 use Rattle.c_calls.proofs.call_of.arguments_of.Given as goal
 
 abbrev pub invariant-loop-place : goal.invariant-loop-place

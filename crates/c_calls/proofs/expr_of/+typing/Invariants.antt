@@ -1,7 +1,7 @@
 use Rattle.std.proofs.Common.{◌++◌, List, drop, map}
 use Rattle.c_grammar.specs.View.{links_from, piece}
+use Rattle.c_program.specs.declared.expr.Link.{Link}
 use Rattle.c_calls.specs.Exprs.{AreLinks}
-use Rattle.c_calls.specs.declared.expr.Link.{Link}
 use Rattle.c_calls.proofs.expr_of.+typing.Given as goal
 
 abbrev pub invariant-links_of-loop-link : goal.invariant-links_of-loop-link

@@ -1,8 +1,8 @@
 use Rattle.std.proofs.Common.{◌≡◌, ◌++◌, Bool, List, [], drop}
 use Rattle.c_grammar.specs.StmtView.{parts_view}
+use Rattle.c_program.specs.declared.statement.Part.{Part}
 use Rattle.c_check.specs.Statements.{after_parts, parts_faults}
 use Rattle.c_types.specs.Statements.{AreParts}
-use Rattle.c_types.specs.declared.statement.Part.{Part}
 use Rattle.c_types.proofs.statement_of.+statements.Given as goal
 
 abbrev pub invariant-parts_of-loop-part : goal.invariant-parts_of-loop-part

@@ -1,8 +1,8 @@
 use Rattle.std.proofs.Common.{◌≡◌, ◌++◌, List, [], drop}
 use Rattle.c_grammar.specs.StmtView.{call_view}
+use Rattle.c_program.specs.declared.expr.Expr.{Expr}
 use Rattle.c_check.specs.Calls.{arguments_of, numbers_faults}
 use Rattle.c_types.specs.Statements.{AreValues}
-use Rattle.c_calls.specs.declared.expr.Expr.{Expr}
 use Rattle.c_types.proofs.statement_of.numbers_of.Given as goal
 
 abbrev pub invariant-loop-place : goal.invariant-loop-place

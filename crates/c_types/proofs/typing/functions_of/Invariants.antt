@@ -1,9 +1,9 @@
 use Rattle.std.proofs.Common.{◌≡◌, ◌++◌, ℕ, List, [], drop, map}
 use Rattle.c_grammar.specs.StmtGrammar.{AreTops}
 use Rattle.c_grammar.specs.StmtView.{top_view}
+use Rattle.c_program.specs.declared.program.Function.{Function}
 use Rattle.c_check.specs.Programs.{tops_faults}
 use Rattle.c_types.specs.Programs.{AreFunctions}
-use Rattle.c_types.specs.declared.program.Function.{Function}
 use Rattle.c_types.proofs.typing.functions_of.Given as goal
 
 abbrev pub invariant-loop-top : goal.invariant-loop-top
