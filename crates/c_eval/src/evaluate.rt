@@ -1,5 +1,5 @@
 //! The evaluation of statements.
-ghost use Rattle.std.specs.Prelude.{◌≡◌, ◌≤◌, option_map};
+ghost use Rattle.std.specs.Prelude.{◌≡◌, ◌≤◌, ◌<◌, OnOk, option_map};
 ghost use Rattle.c_program.specs.Meaning.{act, act_list, act_part, call_at, declare, declare_all, for_start, for_update, invoke, loop, loop_after, return, right, simple, started};
 ghost use Rattle.c_eval.specs.Evaluated.{Evaluated, Gives, Leaves, Passes};
 ghost use Rattle.c_eval.specs.Parts.{blocked, calls_of, for_of, turn, way};
@@ -148,7 +148,8 @@ fn start_for<'p>(calls: &Calls<'p>, start: &'p ForStart, store: &mut Store<'p>, 
 #[cycle(statements)]
 fn take_turn<'p>(calls: &Calls<'p>, update: Option<&'p Simple>, body: &'p Stmt, store: &mut Store<'p>, replies: &mut Replies) -> Result<Option<Flow>, Stop>
     requires { calls.now.rank.ranks ≤ 64 }
-    ensures { Evaluated way (turn (for_update calls.now.rank (calls_of calls.now) (option_map (λ one. one.now) update.entry)) (started (act calls.now.rank (calls_of calls.now) body.now))) store.old replies.old result store.new replies.new }
+    ensures evaluated { Evaluated way (turn (for_update calls.now.rank (calls_of calls.now) (option_map (λ one. one.now) update.entry)) (started (act calls.now.rank (calls_of calls.now) body.now))) store.old replies.old result store.new replies.new }
+    ensures fewer { OnOk result (store.new.left < store.old.left) }
 {
     take_step(store)?;
     match run(calls, body, store, replies)? {

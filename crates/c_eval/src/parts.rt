@@ -1,5 +1,5 @@
 //! Parts of evaluation in which no function of the text is called.
-ghost use Rattle.std.specs.Prelude.{◌≡◌, ◌≤◌, List, IfSome, IfNone, OnOk, slice_get, true};
+ghost use Rattle.std.specs.Prelude.{◌≡◌, ◌≤◌, ◌<◌, List, IfSome, IfNone, OnOk, slice_get, true};
 ghost use Rattle.mpi_call.specs.declared.reply.Reply.{Reply};
 ghost use Rattle.c_program.specs.declared.state.Passed.{Passed};
 ghost use Rattle.c_program.specs.Meaning.{has_room, parameter_cells, passed_all, print as print_of, put_values, step, trying, with_parameters};
@@ -30,7 +30,8 @@ use std::alloc::{AllocError, Global};
 
 /// Takes a step.
 pub fn take_step(store: &mut Store) -> Result<(), Stop>
-    ensures { (rest : List Reply) → Passes step store.old rest result store.new rest }
+    ensures evaluated { (rest : List Reply) → Passes step store.old rest result store.new rest }
+    ensures fewer { OnOk result (store.new.left < store.old.left) }
 {
     if store.step() {
         Ok(())

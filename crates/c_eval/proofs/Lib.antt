@@ -1,0 +1,3 @@
+pub mod Evaluations
+pub mod Lists
+pub mod Loops
