@@ -1,3 +1,6 @@
+pub mod ChainLaws
 pub mod Evaluations
 pub mod Lists
 pub mod Loops
+pub mod PrintLaws
+pub mod StoreLaws

@@ -1,13 +1,14 @@
 //! The evaluation of statements.
-ghost use Rattle.std.specs.Prelude.{◌≡◌, ◌≤◌, ◌<◌, OnOk, option_map};
+ghost use Rattle.std.specs.Prelude.{◌≡◌, ◌≤◌, ◌<◌, OnOk, option_copied};
 ghost use Rattle.c_program.specs.Meaning.{act, act_list, act_part, call_at, declare, declare_all, for_start, for_update, invoke, loop, loop_after, return, right, simple, started};
 ghost use Rattle.c_eval.specs.Evaluated.{Evaluated, Gives, Leaves, Passes};
 ghost use Rattle.c_eval.specs.Parts.{blocked, calls_of, for_of, turn, way};
 
 use crate::calls::Calls;
 use crate::outcome::{Flow, Replies, Stop};
-use crate::parts::{add, arguments_of, call_mpi, enter, function_at, operate, print, put_values_of, take_step};
+use crate::parts::{add, arguments_of, call_mpi, enter, function_at, print, put_values_of, take_step};
 use crate::store::Store;
+use crate::values::operated;
 use c_program::expr::{Call, Expr, Right};
 use c_program::state::Passed;
 use c_program::statement::{ForStart, Initial, Item, Part, Simple, Stmt};
@@ -82,7 +83,7 @@ fn run_simple<'p>(calls: &Calls<'p>, one: &'p Simple, store: &mut Store<'p>, rep
         Simple::Update { place, operator, right } => {
             let cell = store.cell_of(place)?;
             let operand = value_of(calls, right, store, replies)?;
-            let value = operate(*operator, store.cell(cell), operand)?;
+            let value = operated(*operator, store.cell(cell), operand)?;
             store.put(cell, value);
             Ok(())
         }
@@ -148,7 +149,7 @@ fn start_for<'p>(calls: &Calls<'p>, start: &'p ForStart, store: &mut Store<'p>, 
 #[cycle(statements)]
 fn take_turn<'p>(calls: &Calls<'p>, update: Option<&'p Simple>, body: &'p Stmt, store: &mut Store<'p>, replies: &mut Replies) -> Result<Option<Flow>, Stop>
     requires { calls.now.rank.ranks ≤ 64 }
-    ensures evaluated { Evaluated way (turn (for_update calls.now.rank (calls_of calls.now) (option_map (λ one. one.now) update.entry)) (started (act calls.now.rank (calls_of calls.now) body.now))) store.old replies.old result store.new replies.new }
+    ensures evaluated { Evaluated way (turn (for_update calls.now.rank (calls_of calls.now) (option_copied update.entry)) (started (act calls.now.rank (calls_of calls.now) body.now))) store.old replies.old result store.new replies.new }
     ensures fewer { OnOk result (store.new.left < store.old.left) }
 {
     take_step(store)?;
@@ -167,7 +168,7 @@ fn take_turn<'p>(calls: &Calls<'p>, update: Option<&'p Simple>, body: &'p Stmt, 
 #[cycle(statements)]
 fn repeat<'p>(calls: &Calls<'p>, test: Option<&'p Expr>, update: Option<&'p Simple>, body: &'p Stmt, store: &mut Store<'p>, replies: &mut Replies) -> Result<Flow, Stop>
     requires { calls.now.rank.ranks ≤ 64 }
-    ensures { Leaves (loop (option_map (λ e. e.now) test.entry) (for_update calls.now.rank (calls_of calls.now) (option_map (λ one. one.now) update.entry)) (started (act calls.now.rank (calls_of calls.now) body.now))) store.old replies.old result store.new replies.new }
+    ensures { Leaves (loop (option_copied test.entry) (for_update calls.now.rank (calls_of calls.now) (option_copied update.entry)) (started (act calls.now.rank (calls_of calls.now) body.now))) store.old replies.old result store.new replies.new }
 {
     loop {
         if !store.test(test)? {
@@ -195,7 +196,7 @@ fn repeat_after<'p>(calls: &Calls<'p>, test: &'p Expr, body: &'p Stmt, store: &m
 #[cycle(statements)]
 fn run_for<'p>(calls: &Calls<'p>, start: &'p ForStart, test: Option<&'p Expr>, update: Option<&'p Simple>, body: &'p Stmt, store: &mut Store<'p>, replies: &mut Replies) -> Result<Flow, Stop>
     requires { calls.now.rank.ranks ≤ 64 }
-    ensures { Leaves (for_of calls.now.rank (calls_of calls.now) start.now (option_map (λ e. e.now) test.entry) (option_map (λ one. one.now) update.entry) (started (act calls.now.rank (calls_of calls.now) body.now))) store.old replies.old result store.new replies.new }
+    ensures { Leaves (for_of calls.now.rank (calls_of calls.now) start.now (option_copied test.entry) (option_copied update.entry) (started (act calls.now.rank (calls_of calls.now) body.now))) store.old replies.old result store.new replies.new }
 {
     let mark = store.mark();
     start_for(calls, start, store, replies)?;

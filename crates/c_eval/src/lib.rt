@@ -9,4 +9,6 @@ mod parts;
 pub mod perform;
 pub mod print;
 pub mod store;
+#[cfg(test)]
+mod tests;
 pub mod values;

@@ -2,10 +2,10 @@
 ghost use Rattle.std.specs.Prelude.{◌≡◌, ◌≤◌, ◌<◌, List, IfSome, IfNone, OnOk, slice_get, true};
 ghost use Rattle.mpi_call.specs.declared.reply.Reply.{Reply};
 ghost use Rattle.c_program.specs.declared.state.Passed.{Passed};
-ghost use Rattle.c_program.specs.Meaning.{has_room, parameter_cells, passed_all, print as print_of, put_values, step, trying, with_parameters};
+ghost use Rattle.c_program.specs.Meaning.{has_room, length_or_one, parameter_cells, passed_all, print as print_of, put_values, step, trying, with_parameters};
 ghost use Rattle.c_program.specs.Performing.{Onward};
 ghost use Rattle.c_program.specs.Prints.{text_of};
-ghost use Rattle.c_program.specs.Values.{operated, values};
+ghost use Rattle.c_program.specs.Values.{values};
 ghost use Rattle.c_eval.specs.Evaluated.{Evaluated, Gives, Passes};
 ghost use Rattle.c_eval.specs.Parts.{added, entered, mpi};
 
@@ -14,11 +14,8 @@ use crate::effects;
 use crate::outcome::{Outcome, Replies, Stop};
 use crate::perform;
 use crate::print;
-use crate::store::Store;
+use crate::store::{Store, width_of};
 use c_names::format::Piece;
-use c_names::kind::Kind;
-use c_names::operator::{Operator, apply};
-use c_program::effect::Start;
 use c_program::expr::{Argument, Expr};
 use c_program::mpi::MpiCall;
 use c_program::program::{Function, Parameter, ParameterKind};
@@ -110,16 +107,6 @@ pub fn arguments_of(
     Ok(passed)
 }
 
-/// What an operator makes of a cell's value and another.
-pub fn operate(operator: Operator, left: i32, right: i32) -> Result<i32, Fault>
-    ensures { result ≡ operated operator left right }
-{
-    match apply(operator, left, right) {
-        None => Err(Fault::DivideByZero),
-        Some(value) => Ok(value),
-    }
-}
-
 /// Puts the values of expressions from a cell on. The want of memory comes also where a cell's number would be 2^32.
 pub fn put_values_of(
     expressions: &[Expr],
@@ -141,23 +128,27 @@ pub fn put_values_of(
 }
 
 /// The variable of an item, not yet begun; gives its first cell.
+#[tactic(auto, using(crate::proofs::StoreLaws::cells_counted))]
 pub fn add<'p>(item: &'p Item, store: &mut Store<'p>) -> Result<u32, Stop>
     ensures { (rest : List Reply) → Gives (added item.now) store.old rest result store.new rest }
 {
-    let elements = match item.length {
-        None => 1,
-        Some(length) => length,
-    };
-    let width = match item.kind {
-        Kind::Status => 3,
-        _ => 1,
-    };
+    let elements = elements_of(item);
     let cell = store.height() as u32;
-    if !store.has_room(elements as usize * width) {
+    if !store.has_room(elements as usize * width_of(item.kind) as usize) {
         return Err(Stop::Trapped(Fault::Cells));
     }
     store.declare(&item.name, item.kind, elements)?;
     Ok(cell)
+}
+
+/// How many elements the variable of an item has.
+fn elements_of(item: &Item) -> u32
+    ensures { result ≡ length_or_one item.now.length }
+{
+    match item.length {
+        None => 1,
+        Some(length) => length,
+    }
 }
 
 /// A function by its number.

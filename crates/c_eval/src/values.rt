@@ -1,7 +1,9 @@
 //! The values of expressions, places and references.
-ghost use Rattle.std.specs.Prelude.{◌≡◌, option_map};
+ghost use Rattle.std.specs.Prelude.{◌≡◌, ◌≤◌, IfOk, option_copied};
+ghost use Rattle.mpi_call.specs.Operations.{int_of, is_set};
 ghost use Rattle.c_program.specs.Meaning.{passed, test};
-ghost use Rattle.c_program.specs.Values.{cell_of, range, value};
+ghost use Rattle.c_program.specs.Values.{cell_of, field_place, is_decided, operated, range, value};
+ghost use Rattle.c_eval.specs.Chains.{chained_list, linked};
 
 use crate::store::Store;
 use c_names::operator::{Operator, apply, apply_sign};
@@ -12,36 +14,163 @@ use mpi_call::call::Fault;
 
 impl<'p> Store<'p> {
     /// The value of an expression, or its fault. Takes no memory.
+    #[cycle(value)]
     pub fn value(&self, expr: &Expr) -> Result<i32, Fault>
         ensures { result ≡ value expr.now self.now }
     {
-        unreachable!()
+        match expr {
+            Expr::Number(n) => Ok(*n),
+            Expr::Read(place) => {
+                let cell = self.cell_of(place)?;
+                Ok(self.cell(cell))
+            }
+            Expr::Field { status, field } => {
+                let cell = self.cell_of(status)?;
+                Ok(self.cell(cell + field_place(*field)))
+            }
+            Expr::Signed { sign, operand } => {
+                let v = self.value(operand)?;
+                Ok(apply_sign(*sign, v))
+            }
+            Expr::Chain { first, links } => {
+                let v = self.value(first)?;
+                self.chained(links, v)
+            }
+            Expr::Choice { test, then, other } => {
+                let v = self.value(test)?;
+                if is_set(v) {
+                    self.value(then)
+                } else {
+                    self.value(other)
+                }
+            }
+        }
+    }
+
+    /// What links make of the value before them.
+    #[cycle(value)]
+    fn chained(&self, links: &[Link], first: i32) -> Result<i32, Fault>
+        ensures { result ≡ chained_list links.now first self.now }
+    {
+        let mut v = first;
+        for link in links {
+            v = self.linked(link.operator, &link.operand, v)?;
+        }
+        Ok(v)
+    }
+
+    #[cycle(value)]
+    fn linked(&self, operator: Operator, operand: &Expr, v: i32) -> Result<i32, Fault>
+        ensures { result ≡ linked operator operand.now v self.now }
+    {
+        if is_decided(operator, v) {
+            return Ok(truth(is_set(v)));
+        }
+        let w = self.value(operand)?;
+        operated(operator, v, w)
     }
 
     /// The cell of a place.
+    #[cycle(value)]
     pub fn cell_of(&self, place: &Place) -> Result<u32, Fault>
-        ensures { result ≡ cell_of place.now self.now }
+        ensures value { result ≡ cell_of place.now self.now }
+        ensures bound { IfOk result (λ cell. cell ≤ 262144) }
     {
-        unreachable!()
+        match place {
+            Place::Whole(variable) => {
+                let cells = self.cells_of(*variable)?;
+                Ok(cells.from())
+            }
+            Place::Element { variable, index } => {
+                let i = self.value(index)?;
+                let cells = self.cells_of(*variable)?;
+                cells.element(i)
+            }
+        }
     }
 
     /// Whether an expression is other than 0; `None` is always so.
     pub fn test(&self, condition: Option<&Expr>) -> Result<bool, Fault>
-        ensures { result ≡ test (option_map (λ e. e.now) condition.entry) self.now }
+        ensures { result ≡ test (option_copied condition.entry) self.now }
     {
-        unreachable!()
+        match condition {
+            None => Ok(true),
+            Some(e) => {
+                let v = self.value(e)?;
+                Ok(is_set(v))
+            }
+        }
     }
 
     /// The cells that a reference means.
     pub fn range(&self, reference: &Reference) -> Result<Range, Fault>
         ensures { result ≡ range reference.now self.now }
     {
-        unreachable!()
+        match reference {
+            Reference::Nothing => Ok(Range::nothing()),
+            Reference::Whole(variable) => self.cells_of(*variable),
+            Reference::From { variable, index } => {
+                let i = self.value(index)?;
+                let cells = self.cells_of(*variable)?;
+                cells.elements_from(i)
+            }
+        }
     }
 
     pub fn passed(&self, argument: &Argument) -> Result<Passed, Fault>
         ensures { result ≡ passed argument.now self.now }
     {
-        unreachable!()
+        match argument {
+            Argument::Value(e) => {
+                let v = self.value(e)?;
+                Ok(Passed::Number(v))
+            }
+            Argument::Reference(reference) => {
+                let cells = self.range(reference)?;
+                Ok(Passed::Cells(cells))
+            }
+        }
+    }
+}
+
+fn is_set(v: i32) -> bool
+    ensures { result ≡ is_set v }
+{
+    v != 0
+}
+
+fn truth(value: bool) -> i32
+    ensures { result ≡ int_of value }
+{
+    if value { 1 } else { 0 }
+}
+
+fn field_place(field: Field) -> u32
+    ensures value { result ≡ field_place field }
+    ensures bound { result ≤ 1 }
+{
+    match field {
+        Field::Source => 0,
+        Field::Tag => 1,
+    }
+}
+
+fn is_decided(operator: Operator, left: i32) -> bool
+    ensures { result ≡ is_decided operator left }
+{
+    match operator {
+        Operator::LogicalAnd => !is_set(left),
+        Operator::LogicalOr => is_set(left),
+        _ => false,
+    }
+}
+
+/// The value of an operator between two values.
+pub fn operated(operator: Operator, left: i32, right: i32) -> Result<i32, Fault>
+    ensures { result ≡ operated operator left right }
+{
+    match apply(operator, left, right) {
+        None => Err(Fault::DivideByZero),
+        Some(value) => Ok(value),
     }
 }

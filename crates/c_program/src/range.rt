@@ -27,7 +27,7 @@ impl Model for Range {
 }
 
 impl Range {
-    ghost use Rattle.std.specs.Prelude.{◌≡◌, ◌+◌, ◌*◌, ◌≤◌};
+    ghost use Rattle.std.specs.Prelude.{◌≡◌, ◌+◌, ◌*◌, ◌≤◌, IfOk};
     ghost use Rattle.c_program.specs.State.{no_cells};
     ghost use Rattle.c_program.specs.Effects.{first as first_of};
     ghost use Rattle.c_program.specs.Values.{element as element_of, elements_from as elements_of};
@@ -57,7 +57,8 @@ impl Range {
 
     /// The first element's cell.
     pub fn from(&self) -> u32
-        ensures { result ≡ self.now.from }
+        ensures from { result ≡ self.now.from }
+        ensures bound { result ≤ 262144 }
     {
         self.from
     }
@@ -76,9 +77,17 @@ impl Range {
         self.width
     }
 
+    /// How many cells they are.
+    pub fn count(&self) -> u32
+        ensures { result ≡ self.now.length * self.now.width }
+    {
+        self.length * self.width
+    }
+
     /// The cell of element `i`; OutOfBounds where there is none.
     pub fn element(&self, i: i32) -> Result<u32, Fault>
-        ensures { result ≡ element_of self.now i }
+        ensures element { result ≡ element_of self.now i }
+        ensures bound { IfOk result (λ cell. cell ≤ 262144) }
     {
         if i < 0 {
             return Err(Fault::OutOfBounds);

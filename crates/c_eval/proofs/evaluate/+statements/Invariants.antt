@@ -1,4 +1,4 @@
-use Rattle.std.proofs.Common.{◌≡◌, ℕ, ◌+◌, ◌*◌, ◌≤◌, drop, option_map}
+use Rattle.std.proofs.Common.{◌≡◌, ℕ, ◌+◌, ◌*◌, ◌≤◌, drop, option_copied}
 use Rattle.c_program.specs.declared.statement.Stmt.{size-Stmt}
 use Rattle.c_program.specs.declared.statement.Part.{size-Part}
 use Rattle.c_program.specs.Courses.{after}
@@ -73,7 +73,7 @@ invariant-run_list-loop-part l = record {
   left : l.store.left ≤ l.initial.store.left }
 
 abbrev pub invariant-repeat-loop-update : goal.invariant-repeat-loop-update
-invariant-repeat-loop-update l = Turning (option_map (λ e. e.now) l.test) (for_update l.calls.rank (calls_of l.calls) (option_map (λ one. one.now) l.update)) (started (act l.calls.rank (calls_of l.calls) l.body)) l.initial.store l.store l.initial.replies l.replies
+invariant-repeat-loop-update l = Turning (option_copied l.test) (for_update l.calls.rank (calls_of l.calls) (option_copied l.update)) (started (act l.calls.rank (calls_of l.calls) l.body)) l.initial.store l.store l.initial.replies l.replies
 
 abbrev pub decreases-repeat-loop-update : goal.decreases-repeat-loop-update
 decreases-repeat-loop-update l = l.store.left
