@@ -7,6 +7,7 @@ pub mod Effects
 pub mod Performing
 pub mod Meaning
 pub mod Program
+pub mod Equations
 pub mod Keeping
 pub mod GoodLaws
 pub mod RangeLaws
