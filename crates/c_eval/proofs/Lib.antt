@@ -1,5 +1,7 @@
 pub mod ChainLaws
+pub mod DepthLaws
 pub mod Evaluations
+pub mod Exits
 pub mod Lists
 pub mod Loops
 pub mod PartLaws

@@ -5,4 +5,5 @@ pub mod Parts
 pub mod Replies
 pub mod SlotView
 pub mod Slots
+pub mod Standing
 pub mod Steps

@@ -1,5 +1,5 @@
 -- Parts of what programs mean that have functions of their own.
-use Rattle.std.specs.Prelude.{ℕ, ℤ, List, Option, Some, None, length}
+use Rattle.std.specs.Prelude.{ℕ, ℤ, pos, List, Option, Some, None, length}
 use Rattle.mpi_call.specs.declared.call.Fault.TheVariants.{Cells as CellsFault}
 use Rattle.c_program.specs.declared.effect.Rank.{Rank}
 use Rattle.c_program.specs.declared.expr.Expr.{Expr}
@@ -17,6 +17,7 @@ use Rattle.c_program.specs.Performing.{Onward, perform}
 use Rattle.c_program.specs.State.{State, mark_of, width_of}
 use Rattle.c_eval.specs.declared.calls.Calls.{Calls}
 use Rattle.c_eval.specs.declared.outcome.Flow.{Flow}
+use Rattle.c_eval.specs.declared.outcome.Flow.TheVariants.{Back}
 use Rattle.c_eval.specs.Evaluated.{exit}
 
 -- what calls of functions of the text do
@@ -39,6 +40,11 @@ entered f arguments s go =
     choose (has_room (parameter_cells f.parameters.items) s)
     (go (with_parameters f.parameters.items arguments (opened s)))
     (trapped CellsFault s)
+
+-- what a function gives back
+abbrev pub value_in : Flow → ℤ
+value_in (Back v) = v
+value_in flow = pos 0
 
 -- ---- turns
 

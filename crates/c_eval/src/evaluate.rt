@@ -2,7 +2,7 @@
 ghost use Rattle.std.specs.Prelude.{◌≡◌, ◌≤◌, ◌<◌, OnOk, option_copied};
 ghost use Rattle.c_program.specs.Meaning.{act, act_list, act_part, call_at, declare, declare_all, for_start, for_update, invoke, loop, loop_after, return, right, simple, started};
 ghost use Rattle.c_eval.specs.Evaluated.{Evaluated, Gives, Leaves, Passes};
-ghost use Rattle.c_eval.specs.Parts.{blocked, calls_of, for_of, turn, way};
+ghost use Rattle.c_eval.specs.Parts.{blocked, calls_of, for_of, turn, value_in, way};
 
 use crate::calls::Calls;
 use crate::outcome::{Flow, Replies, Stop};
@@ -49,9 +49,16 @@ pub fn call_function<'p>(calls: &Calls<'p>, number: usize, arguments: &[Passed],
     };
     let flow = run_list(&inner, &function.body, store, replies)?;
     store.leave(mark);
+    Ok(value_in(flow))
+}
+
+/// What a function gives back.
+fn value_in(flow: Flow) -> i32
+    ensures { result ≡ value_in flow }
+{
     match flow {
-        Flow::Back(value) => Ok(value),
-        _ => Ok(0),
+        Flow::Back(value) => value,
+        _ => 0,
     }
 }
 
@@ -145,6 +152,18 @@ fn start_for<'p>(calls: &Calls<'p>, start: &'p ForStart, store: &mut Store<'p>, 
     }
 }
 
+/// What stands behind the second `;` of a `for`.
+#[cycle(statements)]
+fn run_update<'p>(calls: &Calls<'p>, update: Option<&'p Simple>, store: &mut Store<'p>, replies: &mut Replies) -> Result<(), Stop>
+    requires { calls.now.rank.ranks ≤ 64 }
+    ensures { Passes (for_update calls.now.rank (calls_of calls.now) (option_copied update.entry)) store.old replies.old result store.new replies.new }
+{
+    match update {
+        None => Ok(()),
+        Some(one) => run_simple(calls, one, store, replies),
+    }
+}
+
 /// A turn of a loop. `None` where the loop goes on.
 #[cycle(statements)]
 fn take_turn<'p>(calls: &Calls<'p>, update: Option<&'p Simple>, body: &'p Stmt, store: &mut Store<'p>, replies: &mut Replies) -> Result<Option<Flow>, Stop>
@@ -158,9 +177,7 @@ fn take_turn<'p>(calls: &Calls<'p>, update: Option<&'p Simple>, body: &'p Stmt, 
         Flow::Back(value) => return Ok(Some(Flow::Back(value))),
         _ => {}
     }
-    if let Some(one) = update {
-        run_simple(calls, one, store, replies)?;
-    }
+    run_update(calls, update, store, replies)?;
     Ok(None)
 }
 

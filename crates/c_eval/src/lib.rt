@@ -8,6 +8,7 @@ pub mod outcome;
 mod parts;
 pub mod perform;
 pub mod print;
+
 pub mod store;
 #[cfg(test)]
 mod tests;

@@ -35,6 +35,9 @@ decreases-declare_all l = depths l.calls.now + 4
 abbrev pub decreases-start_for : goal.decreases-start_for
 decreases-start_for l = depths l.calls.now + 5
 
+abbrev pub decreases-run_update : goal.decreases-run_update
+decreases-run_update l = depths l.calls.now + 4
+
 abbrev pub decreases-act : goal.decreases-act
 decreases-act l = depths l.calls.now + (16 * size-Stmt l.stmt.now + 30)
 
