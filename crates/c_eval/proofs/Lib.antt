@@ -1,7 +1,13 @@
-pub mod ChainLaws
-pub mod PrintLaws
-pub mod StoreLaws
 pub mod CameLaws
 pub mod CellLaws
+pub mod ChainLaws
 pub mod CompletionLaws
+pub mod DepthLaws
+pub mod Evaluations
+pub mod Exits
+pub mod Lists
+pub mod Loops
+pub mod PartLaws
 pub mod PerformLaws
+pub mod PrintLaws
+pub mod StoreLaws

@@ -1,20 +1,17 @@
 -- What evaluation over some replies comes to, whatever follows.
-use Rattle.std.specs.Prelude.{◌≡◌, ◌≤◌, ℕ, ℤ, List, [], ◌∷◌, Option, Some, None}
+use Rattle.std.specs.Prelude.{◌≡◌, ◌≤◌, ℕ, ℤ, List, Result, Ok, Err}
 use Rattle.mpi_call.specs.declared.call.Call.{Call}
 use Rattle.mpi_call.specs.declared.reply.Reply.{Reply}
-use Rattle.c_program.specs.Courses.{Course, Asks, Over as OverCourse, after}
+use Rattle.c_program.specs.Courses.{Course, Asks, Over as OverCourse, after, trapped}
 use Rattle.c_program.specs.Meaning.{Exits, Meaning, Passing}
 use Rattle.c_program.specs.Performing.{Onward}
 use Rattle.c_program.specs.State.{State}
 use Rattle.c_eval.specs.declared.outcome.Flow.{Flow}
-use Rattle.c_eval.specs.declared.outcome.Flow.TheVariants.{Next, Broke, Again, Back, Waits, Over}
+use Rattle.c_eval.specs.declared.outcome.Flow.TheVariants.{Next, Broke, Again, Back}
 use Rattle.c_eval.specs.declared.outcome.Outcome.{Outcome}
 use Rattle.c_eval.specs.declared.outcome.Outcome.TheVariants.{Goes, Waits as OutcomeWaits, Over as OutcomeOver}
-
--- what the next reply is, and what is left of the list
-abbrev pub IsNextReply : Option Reply → List Reply → List Reply → Type 0
-IsNextReply None old new = (old ≡ []) × (new ≡ [])
-IsNextReply (Some reply) old new = old ≡ reply ∷ new
+use Rattle.c_eval.specs.declared.outcome.Stop.{Stop}
+use Rattle.c_eval.specs.declared.outcome.Stop.TheVariants.{Memory, Trapped, Waits, Over}
 
 -- the course asks this, from this state
 pub record StandsAt (course : Course) (call : Call) (s : State) : Type 0 where
@@ -37,16 +34,39 @@ pub record Came {A : Type 0} (m : State → (A → Onward) → Course) (s : Stat
 abbrev pub plain : Passing → State → (Unit {0} → Onward) → Course
 plain p s go = p s (go tt)
 
--- ---- statements
+-- ---- stops
 
-abbrev pub Follows : Course → Flow → State → List Reply → Exits → Type 0
-Follows course Next t rest k = course ≡ after (k.next t) rest
-Follows course Broke t rest k = course ≡ after (k.broke t) rest
-Follows course Again t rest k = course ≡ after (k.again t) rest
-Follows course (Back v) t rest k = course ≡ after (k.back v t) rest
-Follows course (Waits call) t rest k = StandsAt course call t
-Follows course Over t rest k = course ≡ OverCourse t
+-- where a course stands at which evaluation has stopped; for want of memory nothing is known
+abbrev pub StopsAt : Course → Stop → State → List Reply → Type 0
+StopsAt course Memory t rest = Unit {0}
+StopsAt course (Trapped fault) t rest = course ≡ after (trapped fault t) rest
+StopsAt course (Waits call) t rest = StandsAt course call t
+StopsAt course Over t rest = course ≡ OverCourse t
 
-pub record Evaluated (m : Meaning) (s : State) (rest : List Reply) (flow : Flow) (t : State) (rest' : List Reply) : Type 0 where
-  pub at : (k : Exits) → Follows (after (m s k) rest) flow t rest' k
+-- a meaning over these replies comes to this value, from which each `k` leads on
+pub record GoesOn {K A : Type 0} (leads : K → A → Onward) (m : State → K → Course) (s : State) (rest : List Reply) (v : A) (t : State) (rest' : List Reply) : Type 0 where
+  pub at : (k : K) → after (m s k) rest ≡ after (leads k v t) rest'
   pub left : t.left ≤ s.left
+
+-- it comes to a value, or stops
+abbrev pub Evaluated : {K A : Type 0} → (K → A → Onward) → (State → K → Course) → State → List Reply → Result A Stop → State → List Reply → Type 0
+Evaluated leads m s rest (Ok v) t rest' = GoesOn leads m s rest v t rest'
+Evaluated {K} leads m s rest (Err stop) t rest' = (k : K) → StopsAt (after (m s k) rest) stop t rest'
+
+-- with one way out
+abbrev pub Passes : Passing → State → List Reply → Result (Unit {0}) Stop → State → List Reply → Type 0
+Passes m s rest result t rest' = Evaluated (λ go done. go) m s rest result t rest'
+
+-- with a value
+abbrev pub Gives : {A : Type 0} → (State → (A → Onward) → Course) → State → List Reply → Result A Stop → State → List Reply → Type 0
+Gives m s rest result t rest' = Evaluated (λ go v. go v) m s rest result t rest'
+
+-- with the ways out of statements
+abbrev pub exit : Exits → Flow → Onward
+exit k Next = k.next
+exit k Broke = k.broke
+exit k Again = k.again
+exit k (Back v) = k.back v
+
+abbrev pub Leaves : Meaning → State → List Reply → Result Flow Stop → State → List Reply → Type 0
+Leaves m s rest result t rest' = Evaluated exit m s rest result t rest'

@@ -1,6 +1,10 @@
 pub mod Asking
+pub mod Depths
 pub mod Evaluated
-pub mod SlotView
+pub mod Parts
+pub mod Replies
 pub mod Sizes
+pub mod SlotView
 pub mod Slots
+pub mod Standing
 pub mod Steps

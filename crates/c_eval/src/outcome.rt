@@ -1,9 +1,11 @@
 //! How evaluation stops, and the replies that it uses up.
 ghost use Rattle.std.specs.Prelude.{◌≡◌, option_map};
-ghost use Rattle.c_eval.specs.Evaluated.{IsNextReply};
+ghost use Rattle.c_eval.specs.Replies.{IsNextReply};
+ghost use Rattle.c_eval.specs.declared.outcome.Stop.TheVariants.{Memory, Trapped};
 
-use mpi_call::call::Call;
+use mpi_call::call::{Call, Fault};
 use mpi_call::reply::Reply;
+use std::alloc::{AllocError, AllocFailed};
 use std::marker::Model;
 
 /// What something with one way out came to.
@@ -23,8 +25,42 @@ pub enum Flow {
     Broke,
     Again,
     Back(i32),
+}
+
+/// Why evaluation goes no further.
+#[derive(Drop)]
+pub enum Stop {
+    /// The want of memory.
+    Memory,
+    Trapped(Fault),
+    /// The replies are used up: the rank asks this.
     Waits(Call),
+    /// The rank has ended.
     Over,
+}
+
+impl From<AllocError> for Stop {
+    ghost from_gives = { λ _ stop. stop ≡ Memory };
+
+    fn from(_error: AllocError) -> Stop {
+        Stop::Memory
+    }
+}
+
+impl<T: Drop> From<AllocFailed<T>> for Stop {
+    ghost from_gives = { λ _ stop. stop ≡ Memory };
+
+    fn from(_error: AllocFailed<T>) -> Stop {
+        Stop::Memory
+    }
+}
+
+impl From<Fault> for Stop {
+    ghost from_gives = { λ fault stop. stop ≡ Trapped fault };
+
+    fn from(fault: Fault) -> Stop {
+        Stop::Trapped(fault)
+    }
 }
 
 /// The replies that are not used yet; contracts see them as a list.

@@ -1,0 +1,55 @@
+use Rattle.std.proofs.Common.{◌≡◌, ◌≢◌, ℕ, ℤ, zero, suc, pos, ◌+◌, ◌-◌, ◌<◌, ◌≤◌, List, [], ◌∷◌, Option, Some, None, refl, sym, ◌∙◌, ap, arith, slice_get}
+use Rattle.mpi_call.specs.declared.reply.Reply.{Reply}
+use Rattle.c_program.specs.declared.effect.Rank.{Rank}
+use Rattle.c_program.specs.declared.program.Function.{Function}
+use Rattle.c_program.specs.declared.state.Mark.{Mark}
+use Rattle.c_program.specs.declared.state.Passed.{Passed}
+use Rattle.c_program.specs.Courses.{Course, after}
+use Rattle.c_program.specs.Meaning.{Exits, Meaning, Passing, act_list, call_at, exits_to, leaving, run_function, turn_exits}
+use Rattle.c_program.specs.Performing.{Onward}
+use Rattle.c_program.specs.State.{State, leave, mark_of}
+use Rattle.c_eval.specs.declared.outcome.Flow.{Flow}
+use Rattle.c_eval.specs.declared.outcome.Flow.TheVariants.{Next, Broke, Again, Back}
+use Rattle.c_eval.specs.Evaluated.{GoesOn, exit}
+use Rattle.c_eval.specs.Parts.{entered, value_in}
+
+-- out of a block
+pub exit-leaving : (mark : Mark) (k : Exits) (flow : Flow) (s : State) → exit (leaving mark k) flow s ≡ exit k flow (leave mark s)
+exit-leaving mark k Next s = refl
+exit-leaving mark k Broke s = refl
+exit-leaving mark k Again s = refl
+exit-leaving mark k (Back v) s = refl
+
+-- out of a function
+pub exit-call : (mark : Mark) (go : ℤ → Onward) (flow : Flow) (s : State) → exit (exits_to mark go) flow s ≡ go (value_in flow) (leave mark s)
+exit-call mark go Next s = refl
+exit-call mark go Broke s = refl
+exit-call mark go Again s = refl
+exit-call mark go (Back v) s = refl
+
+-- out of a turn that goes on
+pub exit-turn : (update : Passing) (on : Onward) (k : Exits) (flow : Flow) (s : State) → flow ≢ Broke → ((v : ℤ) → flow ≢ Back v) → exit (turn_exits update on k) flow s ≡ update s on
+exit-turn update on k Next s b v = refl
+exit-turn update on k Broke s b v = absurd (b refl)
+exit-turn update on k Again s b v = refl
+exit-turn update on k (Back w) s b v = absurd (v w refl)
+
+-- another way to go on
+pub exit-other : (k : Exits) (next : Onward) (flow : Flow) (s : State) → flow ≢ Next → exit (record k { next = next }) flow s ≡ exit k flow s
+exit-other k next Next s n = absurd (n refl)
+exit-other k next Broke s n = refl
+exit-other k next Again s n = refl
+exit-other k next (Back v) s n = refl
+
+-- what a block left
+pub left-block : (mark : Mark) (k : Exits) (flow : Flow) (s t : State) (rest : List Reply) → t ≡ leave mark s → after (exit (leaving mark k) flow s) rest ≡ after (exit k flow t) rest
+left-block mark k flow s t rest is = ap (λ c. after c rest) (exit-leaving mark k flow s ∙ ap (exit k flow) (sym is))
+
+pub left-call : (mark : Mark) (go : ℤ → Onward) (flow : Flow) (s t : State) (rest : List Reply) → t ≡ leave mark s → after (exit (exits_to mark go) flow s) rest ≡ after (go (value_in flow) t) rest
+left-call mark go flow s t rest is = ap (λ c. after c rest) (exit-call mark go flow s ∙ ap (go (value_in flow)) (sym is))
+
+-- a call, where one more may be open
+pub entering : (rank : Rank) (fs : List Function) (d number : ℕ) (f : Function) (arguments : List Passed) (s : State) (go : ℤ → Onward) → 0 < d → slice_get fs number ≡ Some f
+    → call_at rank fs d number arguments s go ≡ entered f arguments s (λ t. act_list rank (call_at rank fs (d - 1)) f.body.items t (exits_to (mark_of s) go))
+entering rank fs zero number f arguments s go lt is = absurd (omega arith)
+entering rank fs (suc d) number f arguments s go lt is = let e : suc d - 1 ≡ d = omega arith in rw (e, is) refl

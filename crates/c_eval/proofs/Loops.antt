@@ -1,0 +1,70 @@
+use Rattle.std.proofs.Common.{◌≡◌, ℕ, zero, suc, ◌+◌, ◌<◌, ◌≤◌, Bool, true, false, List, [], ◌∷◌, Option, Some, None, Result, Ok, Err, refl, sym, ◌∙◌, ap, arith}
+use Rattle.mpi_call.specs.declared.call.Fault.{Fault}
+use Rattle.mpi_call.specs.declared.reply.Reply.{Reply}
+use Rattle.c_program.specs.declared.expr.Expr.{Expr}
+use Rattle.c_program.specs.Courses.{Course, after, trapped}
+use Rattle.c_program.specs.Meaning.{Exits, Meaning, Passing, loop, test, turns}
+use Rattle.c_program.specs.State.{State}
+use Rattle.c_eval.specs.declared.outcome.Flow.{Flow}
+use Rattle.c_eval.specs.declared.outcome.Flow.TheVariants.{Next}
+use Rattle.c_eval.specs.declared.outcome.Stop.{Stop}
+use Rattle.c_eval.specs.Evaluated.{Evaluated, GoesOn, StopsAt, exit}
+use Rattle.c_eval.specs.Parts.{Ways, turn, way}
+use Rattle.c_eval.proofs.Evaluations.{stops-from}
+
+-- a loop that began at `s0` has come to `s`; more turns are left than steps
+pub record Turning (e : Option Expr) (update : Passing) (body : Meaning) (s0 s : State) (r0 r : List Reply) : Type 0 where
+  pub n : ℕ
+  pub enough : s.left < n
+  pub comes : (k : Exits) → after (loop e update body s0 k) r0 ≡ after (turns n e update body s k) r
+  pub left : s.left ≤ s0.left
+
+pub turning-start : (e : Option Expr) (update : Passing) (body : Meaning) (s : State) (r : List Reply) → Turning e update body s s r r
+turning-start e update body s r = record { n = suc s.left; enough = omega arith; comes = λ k. refl; left = omega arith }
+
+-- what goes on from a turn
+abbrev pub ways_from : ℕ → Option Expr → Passing → Meaning → Exits → Ways
+ways_from n e update body k = record { on = λ s. turns n e update body s k; out = k }
+
+ends : (n : ℕ) (e : Option Expr) (update : Passing) (body : Meaning) (s : State) (r : List Reply) (k : Exits) → s.left < n → test e s ≡ Ok false → after (turns n e update body s k) r ≡ after (k.next s) r
+ends zero e update body s r k lt is = absurd (omega arith)
+ends (suc n) e update body s r k lt is = rw is refl
+
+fails : (n : ℕ) (e : Option Expr) (update : Passing) (body : Meaning) (s : State) (r : List Reply) (k : Exits) (fault : Fault) → s.left < n → test e s ≡ Err fault
+    → after (turns n e update body s k) r ≡ after (trapped fault s) r
+fails zero e update body s r k fault lt is = absurd (omega arith)
+fails (suc n) e update body s r k fault lt is = rw is refl
+
+enters : (n m : ℕ) (e : Option Expr) (update : Passing) (body : Meaning) (s : State) (r : List Reply) (k : Exits) → n ≡ suc m → test e s ≡ Ok true
+    → after (turns n e update body s k) r ≡ after (turn update body s (ways_from m e update body k)) r
+enters n m e update body s r k e' is = rw (e', is) refl
+
+one_less : (n left : ℕ) → left < n → (m : ℕ) × (n ≡ suc m)
+one_less zero left lt = absurd (omega arith)
+one_less (suc n) left lt = (n, refl)
+
+module _ (e : Option Expr) (update : Passing) (body : Meaning) (s0 s : State) (r0 r : List Reply) (h : Turning e update body s0 s r0 r) where
+  pub turning-ends : test e s ≡ Ok false → GoesOn exit (loop e update body) s0 r0 Next s r
+  turning-ends is = record { at = λ k. h.comes k ∙ ends h.n e update body s r k h.enough is; left = h.left }
+
+  pub turning-fails : (fault : Fault) → test e s ≡ Err fault → (k : Exits) → after (loop e update body s0 k) r0 ≡ after (trapped fault s) r
+  turning-fails fault is k = h.comes k ∙ fails h.n e update body s r k fault h.enough is
+
+  module _ (t : State) (r' : List Reply) (is : test e s ≡ Ok true) where
+    m : (m : ℕ) × (h.n ≡ suc m)
+    m = one_less h.n s.left h.enough
+
+    pub turning-on : t.left < s.left → GoesOn way (turn update body) s r None t r' → Turning e update body s0 t r0 r'
+    turning-on lt g = let same : h.n ≡ suc m.0 = m.1 in let more : s.left < h.n = h.enough in let few : s.left ≤ s0.left = h.left in record {
+      n = m.0;
+      enough = omega arith;
+      comes = λ k. h.comes k ∙ enters h.n m.0 e update body s r k m.1 is ∙ g.at (ways_from m.0 e update body k);
+      left = omega arith }
+
+    pub turning-leaves : (flow : Flow) → GoesOn way (turn update body) s r (Some flow) t r' → GoesOn exit (loop e update body) s0 r0 flow t r'
+    turning-leaves flow g = let fewer : t.left ≤ s.left = g.left in let few : s.left ≤ s0.left = h.left in record {
+      at = λ k. h.comes k ∙ enters h.n m.0 e update body s r k m.1 is ∙ g.at (ways_from m.0 e update body k);
+      left = omega arith }
+
+    pub turning-stops : (stop : Stop) → ((ways : Ways) → StopsAt (after (turn update body s ways) r) stop t r') → (k : Exits) → StopsAt (after (loop e update body s0 k) r0) stop t r'
+    turning-stops stop g k = stops-from _ _ stop t r' (h.comes k ∙ enters h.n m.0 e update body s r k m.1 is) (g (ways_from m.0 e update body k))

@@ -1,0 +1,82 @@
+use Rattle.std.proofs.Common.{◌≡◌, ℕ, ◌+◌, ◌*◌, ◌≤◌, drop, option_copied}
+use Rattle.c_program.specs.declared.statement.Stmt.{size-Stmt}
+use Rattle.c_program.specs.declared.statement.Part.{size-Part}
+use Rattle.c_program.specs.Courses.{after}
+use Rattle.c_program.specs.Meaning.{Exits, act, act_list, declare_all, for_update, started}
+use Rattle.c_program.specs.Performing.{Onward}
+use Rattle.c_eval.specs.Depths.{weight}
+use Rattle.c_eval.specs.declared.calls.Calls.{Calls}
+use Rattle.c_eval.specs.Parts.{calls_of}
+use Rattle.c_eval.proofs.Loops.{Turning}
+use Rattle.c_eval.proofs.evaluate.+statements.Given as goal
+
+-- what the calls of functions may still take
+abbrev depths : Calls → ℕ
+depths calls = calls.depth * weight calls.functions.now
+
+abbrev pub decreases-call_function : goal.decreases-call_function
+decreases-call_function l = depths l.calls.now
+
+abbrev pub decreases-invoke : goal.decreases-invoke
+decreases-invoke l = depths l.calls.now + 1
+
+abbrev pub decreases-value_of : goal.decreases-value_of
+decreases-value_of l = depths l.calls.now + 2
+
+abbrev pub decreases-run_simple : goal.decreases-run_simple
+decreases-run_simple l = depths l.calls.now + 3
+
+abbrev pub decreases-declare : goal.decreases-declare
+decreases-declare l = depths l.calls.now + 3
+
+abbrev pub decreases-declare_all : goal.decreases-declare_all
+decreases-declare_all l = depths l.calls.now + 4
+
+abbrev pub decreases-start_for : goal.decreases-start_for
+decreases-start_for l = depths l.calls.now + 5
+
+abbrev pub decreases-run_update : goal.decreases-run_update
+decreases-run_update l = depths l.calls.now + 4
+
+abbrev pub decreases-act : goal.decreases-act
+decreases-act l = depths l.calls.now + (16 * size-Stmt l.stmt.now + 30)
+
+abbrev pub decreases-run : goal.decreases-run
+decreases-run l = depths l.calls.now + (16 * size-Stmt l.stmt.now + 31)
+
+abbrev pub decreases-run_part : goal.decreases-run_part
+decreases-run_part l = depths l.calls.now + (16 * size-Part l.part.now + 31)
+
+abbrev pub decreases-run_list : goal.decreases-run_list
+decreases-run_list l = depths l.calls.now + (16 * goal.size-run_list l + 32)
+
+abbrev pub decreases-run_block : goal.decreases-run_block
+decreases-run_block l = depths l.calls.now + (16 * goal.size-run_block l + 33)
+
+abbrev pub decreases-take_turn : goal.decreases-take_turn
+decreases-take_turn l = depths l.calls.now + (16 * size-Stmt l.body.now + 32)
+
+abbrev pub decreases-repeat : goal.decreases-repeat
+decreases-repeat l = depths l.calls.now + (16 * size-Stmt l.body.now + 33)
+
+abbrev pub decreases-repeat_after : goal.decreases-repeat_after
+decreases-repeat_after l = depths l.calls.now + (16 * size-Stmt l.body.now + 34)
+
+abbrev pub decreases-run_for : goal.decreases-run_for
+decreases-run_for l = depths l.calls.now + (16 * size-Stmt l.body.now + 34)
+
+abbrev pub invariant-declare_all-loop-item : goal.invariant-declare_all-loop-item
+invariant-declare_all-loop-item l = record {
+  comes : (k : Onward) → after (declare_all (calls_of l.calls) l.items l.initial.store k) l.initial.replies ≡ after (declare_all (calls_of l.calls) (drop l.item-index l.items) l.store k) l.replies;
+  left : l.store.left ≤ l.initial.store.left }
+
+abbrev pub invariant-run_list-loop-part : goal.invariant-run_list-loop-part
+invariant-run_list-loop-part l = record {
+  comes : (k : Exits) → after (act_list l.calls.rank (calls_of l.calls) l.parts l.initial.store k) l.initial.replies ≡ after (act_list l.calls.rank (calls_of l.calls) (drop l.part-index l.parts) l.store k) l.replies;
+  left : l.store.left ≤ l.initial.store.left }
+
+abbrev pub invariant-repeat-loop-update : goal.invariant-repeat-loop-update
+invariant-repeat-loop-update l = Turning (option_copied l.test) (for_update l.calls.rank (calls_of l.calls) (option_copied l.update)) (started (act l.calls.rank (calls_of l.calls) l.body)) l.initial.store l.store l.initial.replies l.replies
+
+abbrev pub decreases-repeat-loop-update : goal.decreases-repeat-loop-update
+decreases-repeat-loop-update l = l.store.left

@@ -1,0 +1,205 @@
+//! Parts of evaluation in which no function of the text is called.
+ghost use Rattle.std.specs.Prelude.{◌≡◌, ◌≤◌, ◌<◌, List, IfSome, IfNone, OnOk, slice_get, true};
+ghost use Rattle.mpi_call.specs.declared.reply.Reply.{Reply};
+ghost use Rattle.c_program.specs.declared.state.Passed.{Passed};
+ghost use Rattle.c_program.specs.Meaning.{has_room, length_or_one, parameter_cells, passed_all, print as print_of, put_values, step, trying, with_parameters};
+ghost use Rattle.c_program.specs.Performing.{Onward};
+ghost use Rattle.c_program.specs.Prints.{text_of};
+ghost use Rattle.c_program.specs.Values.{values};
+ghost use Rattle.c_eval.specs.Evaluated.{Evaluated, Gives, Passes};
+ghost use Rattle.c_eval.specs.Parts.{added, entered, mpi};
+
+use crate::calls::Calls;
+use crate::effects;
+use crate::outcome::{Outcome, Replies, Stop};
+use crate::perform;
+use crate::print;
+use crate::store::{Store, width_of};
+use c_names::format::Piece;
+use c_program::expr::{Argument, Expr};
+use c_program::mpi::MpiCall;
+use c_program::program::{Function, Parameter, ParameterKind};
+use c_program::state::Passed;
+use c_program::statement::Item;
+use mpi_call::call::Fault;
+use mpi_call::lists::Ints;
+use std::alloc::{AllocError, Global};
+
+/// Takes a step.
+pub fn take_step(store: &mut Store) -> Result<(), Stop>
+    ensures evaluated { (rest : List Reply) → Passes step store.old rest result store.new rest }
+    ensures fewer { OnOk result (store.new.left < store.old.left) }
+{
+    if store.step() {
+        Ok(())
+    } else {
+        Err(Stop::Trapped(Fault::Budget))
+    }
+}
+
+/// Calls an MPI function.
+pub fn call_mpi(
+    calls: &Calls,
+    call: &MpiCall,
+    store: &mut Store,
+    replies: &mut Replies,
+) -> Result<(), Stop>
+    requires { calls.now.rank.ranks ≤ 64 }
+    ensures { Passes (mpi calls.now.rank call.now) store.old replies.old result store.new replies.new }
+{
+    let effect = match effects::effect_of(calls.rank, call, store) {
+        Ok(effect) => effect,
+        Err(fault) => return Err(Stop::Trapped(fault)),
+    };
+    match perform::perform(calls.alloc, calls.rank, effect, store, replies)? {
+        Outcome::Goes(()) => Ok(()),
+        Outcome::Waits(call) => Err(Stop::Waits(call)),
+        Outcome::Over => Err(Stop::Over),
+    }
+}
+
+/// Prints a format with the values of its arguments. At most 65,536 bytes are printed.
+pub fn print(
+    alloc: Global,
+    format: &[Piece],
+    arguments: &[Expr],
+    store: &mut Store,
+) -> Result<(), Stop>
+    ensures { (rest : List Reply) → Passes (λ s go. trying (values arguments.now s) s (λ vs. print_of (text_of format.now vs) s go)) store.old rest result store.new rest }
+{
+    let ints = values_of(alloc, arguments, store)?;
+    let text = print::text_of(alloc, format, ints.as_slice())?;
+    if store.printed().len() + text.len() <= 65536 {
+        store.print(&text)?;
+        Ok(())
+    } else {
+        Err(Stop::Trapped(Fault::OutputFull))
+    }
+}
+
+/// The values of expressions, in order.
+fn values_of(alloc: Global, expressions: &[Expr], store: &Store) -> Result<Ints, Stop>
+    ensures { (rest : List Reply) → Gives (λ s go. trying (values expressions.now s) s (λ vs. go vs s)) store.now rest result store.now rest }
+{
+    let mut ints = Ints::new(alloc);
+    for expression in expressions {
+        let value = store.value(expression)?;
+        if ints.push(value).is_err() {
+            return Err(Stop::Memory);
+        }
+    }
+    Ok(ints)
+}
+
+/// The arguments of a function of the text.
+pub fn arguments_of(
+    alloc: Global,
+    arguments: &[Argument],
+    store: &Store,
+) -> Result<Vec<Passed>, Stop>
+    ensures { (rest : List Reply) → Evaluated (λ (go : List Passed → Onward) passed. go passed.items) (λ s go. trying (passed_all arguments.now s) s (λ passed. go passed s)) store.now rest result store.now rest }
+{
+    let mut passed = Vec::new(alloc);
+    for argument in arguments {
+        let one = store.passed(argument)?;
+        passed.push(one)?;
+    }
+    Ok(passed)
+}
+
+/// Puts the values of expressions from a cell on. The want of memory comes also where a cell's number would be 2^32.
+pub fn put_values_of(
+    expressions: &[Expr],
+    first: u32,
+    store: &mut Store,
+) -> Result<(), Stop>
+    ensures { (rest : List Reply) → Passes (put_values expressions.now first) store.old rest result store.new rest }
+{
+    let mut cell = first;
+    for expression in expressions {
+        let value = store.value(expression)?;
+        store.put(cell, value);
+        if cell == u32::MAX {
+            return Err(Stop::Memory);
+        }
+        cell += 1;
+    }
+    Ok(())
+}
+
+/// The variable of an item, not yet begun; gives its first cell.
+#[tactic(auto, using(crate::proofs::StoreLaws::cells_counted))]
+pub fn add<'p>(item: &'p Item, store: &mut Store<'p>) -> Result<u32, Stop>
+    ensures { (rest : List Reply) → Gives (added item.now) store.old rest result store.new rest }
+{
+    let elements = elements_of(item);
+    let cell = store.height() as u32;
+    if !store.has_room(elements as usize * width_of(item.kind) as usize) {
+        return Err(Stop::Trapped(Fault::Cells));
+    }
+    store.declare(&item.name, item.kind, elements)?;
+    Ok(cell)
+}
+
+/// How many elements the variable of an item has.
+fn elements_of(item: &Item) -> u32
+    ensures { result ≡ length_or_one item.now.length }
+{
+    match item.length {
+        None => 1,
+        Some(length) => length,
+    }
+}
+
+/// A function by its number.
+pub fn function_at(functions: &[Function], function: usize) -> Option<&Function>
+    ensures some { IfSome result (λ found. slice_get functions.now function ≡ Some found.now) }
+    ensures none { IfNone result (slice_get functions.now function ≡ None) }
+{
+    functions.get(function)
+}
+
+/// Opens a call of a function, and adds its parameters.
+pub fn enter<'p>(
+    function: &'p Function,
+    arguments: &[Passed],
+    store: &mut Store<'p>,
+) -> Result<(), Stop>
+    ensures { (rest : List Reply) → Passes (entered function.now arguments.now) store.old rest result store.new rest }
+{
+    if !store.has_room(cells_for(&function.parameters)) {
+        return Err(Stop::Trapped(Fault::Cells));
+    }
+    store.open()?;
+    add_parameters(&function.parameters, arguments, store)?;
+    Ok(())
+}
+
+/// How many cells parameters take.
+fn cells_for(parameters: &[Parameter]) -> usize
+    ensures { result ≡ parameter_cells parameters.now }
+{
+    let mut cells = 0;
+    for parameter in parameters {
+        match parameter.kind {
+            ParameterKind::Texts => {}
+            _ => cells += 1,
+        }
+    }
+    cells
+}
+
+/// Adds parameters. An argument that is not there is none.
+fn add_parameters<'p>(
+    parameters: &'p [Parameter],
+    arguments: &[Passed],
+    store: &mut Store<'p>,
+) -> Result<(), AllocError>
+    requires { has_room (parameter_cells parameters.now) store.old ≡ true }
+    ensures { OnOk result (store.new ≡ with_parameters parameters.now arguments.now store.old) }
+{
+    for i in 0..parameters.len() {
+        store.add_parameter(&parameters[i], arguments.get(i).copied())?;
+    }
+    Ok(())
+}

@@ -1,0 +1,145 @@
+//! A rank of a C program, which evaluates anew at each call.
+ghost use Rattle.std.specs.Prelude.{◌≡◌, ◌≤◌, ◌<◌, ◌∷◌, [], IfOk, false, pos};
+ghost use Rattle.c_program.specs.declared.state.Passed.TheVariants.{Number};
+ghost use Rattle.c_program.specs.Courses.{after, asks_last};
+ghost use Rattle.c_program.specs.Meaning.{course_of, start};
+ghost use Rattle.c_program.specs.State.{State};
+ghost use Rattle.c_eval.specs.Standing.{Wants};
+
+use crate::calls::Calls;
+use crate::evaluate::call_function;
+use crate::outcome::{Replies, Stop};
+use crate::store::Store;
+use c_program::CProgram;
+use c_program::effect::Rank;
+use c_program::state::Passed;
+use mpi_call::call::Call;
+use mpi_call::reply;
+use mpi_call::reply::Reply;
+use run_model::lists::Variables;
+use run_model::program::{RankRun, Want};
+use std::alloc::{AllocError, Global};
+use std::marker::Model;
+
+/// A rank that runs a C program. It keeps the replies that it got, and what stands at the last call that was asked for.
+/// Contracts see what it stands for.
+#[derive(Drop)]
+pub struct EvalRank<'p> {
+    alloc: Global,
+    program: &'p CProgram,
+    rank: Rank,
+    replies: Vec<Reply>,
+    asked: bool,
+    store: Store<'p>,
+}
+
+impl<'p> Model for EvalRank<'p> {
+    ghost use Rattle.run_model.specs.Program.{Standing};
+    ghost use Rattle.c_program.specs.declared.program.CProgram.{CProgram};
+    ghost use Rattle.c_eval.specs.Standing.{IsRankAt};
+
+    ghost use Rattle.c_program.specs.contracts.statement.Part as part;
+    ghost use Rattle.std.specs.Coded.{codes};
+
+    ghost Value = { Standing CProgram };
+
+    ghost coded = { Prim.hlevel (codes, part.the_row.coded) };
+
+    ghost view = { λ r. record { program = r.program.now; ranks = r.rank.ranks; rank = r.rank.number; replies = r.replies.items; asked = r.asked } };
+
+    ghost invariant = { λ r. IsRankAt r.program.now r.rank r.replies.items r.asked r.store };
+}
+
+impl<'p> EvalRank<'p> {
+    /// A rank that has got no reply yet.
+    pub fn start(
+        alloc: Global,
+        program: &'p CProgram,
+        n: u8,
+        rank: u8,
+    ) -> Result<Self, AllocError>
+        requires member { rank < n }
+        requires few { n ≤ 64 }
+        ensures { IfOk result (λ run. run ≡ record { program = program.now; ranks = n; rank = rank; replies = []; asked = false }) }
+    {
+        Ok(EvalRank {
+            alloc,
+            program,
+            rank: Rank {
+                ranks: n,
+                number: rank,
+            },
+            replies: Vec::new(alloc),
+            asked: false,
+            store: Store::new(alloc)?,
+        })
+    }
+}
+
+impl<'p> RankRun for EvalRank<'p> {
+    type Of = CProgram;
+
+    ghost standing = { λ r. r };
+
+    fn want(&mut self) -> Result<Want, AllocError> {
+        let mut store = Store::new(self.alloc)?;
+        let want = evaluate(self.alloc, self.program, self.rank, &self.replies, &mut store)?;
+        self.store = store;
+        self.asked = true;
+        Ok(want)
+    }
+
+    fn give(&mut self, reply: &Reply) -> Result<(), AllocError> {
+        let kept = reply::copy_of(reply)?;
+        self.replies.push(kept)?;
+        self.asked = false;
+        Ok(())
+    }
+
+    fn printed(&self) -> &[u8] {
+        self.store.printed()
+    }
+
+    fn variables(&self) -> Result<Variables, AllocError> {
+        self.store.variables(self.alloc)
+    }
+}
+
+/// What the rank wants after these replies; the store is that of this call.
+fn evaluate<'p>(
+    alloc: Global,
+    program: &'p CProgram,
+    rank: Rank,
+    replies: &[Reply],
+    store: &mut Store<'p>,
+) -> Result<Want, AllocError>
+    requires few { rank.ranks ≤ 64 }
+    requires start { store.old ≡ start }
+    ensures { IfOk result (λ want. Wants (after (course_of program.now rank) replies.now) want store.new) }
+{
+    let calls = Calls {
+        alloc,
+        rank,
+        functions: &program.functions,
+        depth: 100,
+    };
+    let mut rest = Replies::of(replies);
+    let arguments = [Passed::Number(1)];
+    match call_function(&calls, program.main, &arguments, store, &mut rest) {
+        Ok(_) => Ok(last(Call::End, &mut rest)),
+        Err(Stop::Memory) => Err(AllocError),
+        Err(Stop::Trapped(fault)) => Ok(last(Call::Trap { fault }, &mut rest)),
+        Err(Stop::Waits(call)) => Ok(Want::Ask(call)),
+        Err(Stop::Over) => Ok(Want::Ended),
+    }
+}
+
+/// A call that no other follows.
+fn last(call: Call, rest: &mut Replies) -> Want
+    ensures { (s : State) → Wants (after (asks_last call s) rest.old) result s }
+{
+    match rest.next() {
+        None => Want::Ask(call),
+        Some(_) => Want::Ended,
+    }
+}
