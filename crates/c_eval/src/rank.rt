@@ -37,7 +37,6 @@ impl<'p> Model for EvalRank<'p> {
     ghost use Rattle.run_model.specs.Program.{Standing};
     ghost use Rattle.c_program.specs.declared.program.CProgram.{CProgram};
     ghost use Rattle.c_eval.specs.Standing.{IsRankAt};
-
     ghost use Rattle.c_program.specs.contracts.statement.Part as part;
     ghost use Rattle.std.specs.Coded.{codes};
 
@@ -52,12 +51,7 @@ impl<'p> Model for EvalRank<'p> {
 
 impl<'p> EvalRank<'p> {
     /// A rank that has got no reply yet.
-    pub fn start(
-        alloc: Global,
-        program: &'p CProgram,
-        n: u8,
-        rank: u8,
-    ) -> Result<Self, AllocError>
+    pub fn start(alloc: Global, program: &'p CProgram, n: u8, rank: u8) -> Result<Self, AllocError>
         requires member { rank < n }
         requires few { n ≤ 64 }
         ensures { IfOk result (λ run. run ≡ record { program = program.now; ranks = n; rank = rank; replies = []; asked = false }) }
@@ -83,7 +77,13 @@ impl<'p> RankRun for EvalRank<'p> {
 
     fn want(&mut self) -> Result<Want, AllocError> {
         let mut store = Store::new(self.alloc)?;
-        let want = evaluate(self.alloc, self.program, self.rank, &self.replies, &mut store)?;
+        let want = evaluate(
+            self.alloc,
+            self.program,
+            self.rank,
+            &self.replies,
+            &mut store,
+        )?;
         self.store = store;
         self.asked = true;
         Ok(want)
