@@ -1,11 +1,10 @@
 -- Chains of operators as lists.
 use Rattle.std.proofs.Common.{◌≡◌, ◌+◌, ◌<◌, ◌≤◌, ◌∙◌, ℕ, zero, suc, ℤ, List, [], ◌∷◌, length, drop, get_or, refl, sym, ap, arith}
-use Rattle.std.specs.Prelude.{Result, Ok, Err}
+use Rattle.std.specs.Prelude.{Ok, Err}
 use Rattle.std.proofs.Math.Seq.{drop-cons}
 use Rattle.mpi_call.specs.declared.call.Fault.{Fault}
 use Rattle.c_program.specs.declared.expr.Link.{Link}
 use Rattle.c_program.specs.State.{State}
-use Rattle.c_program.specs.Values.{chained, given, value}
 use Rattle.c_program.specs.Equations.{chained_list, linked}
 
 list-at : (xs : List Link) (i : ℕ) (x : Link) → i < length xs → x ≡ get_or xs i x → drop i xs ≡ x ∷ drop (i + 1) xs
