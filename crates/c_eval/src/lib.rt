@@ -4,6 +4,8 @@
 pub mod answers;
 pub mod asking;
 pub mod completion;
+#[cfg(test)]
+mod effect_tests;
 pub mod effects;
 pub mod outcome;
 pub mod perform;
