@@ -1,5 +1,5 @@
 -- Cases of effects.
-use Rattle.std.proofs.Common.{◌≡◌, ℕ, Bool, false, Option, refl}
+use Rattle.std.proofs.Common.{◌≡◌, ℕ, Bool, false, Option, Result, Ok, Err, IfOk, refl}
 use Rattle.mpi_call.specs.declared.call.Call.TheVariants.{Peek}
 use Rattle.mpi_call.specs.declared.call.Source.{Source}
 use Rattle.mpi_call.specs.declared.call.Source.TheVariants.{Any, From, Null}
@@ -17,3 +17,8 @@ pub probes-asks : (rank : Rank) (comm : ℕ) (source : Source) (tag : Tag) (wait
 probes-asks rank comm Any tag waits flag status s go h = refl
 probes-asks rank comm (From r) tag waits flag status s go h = refl
 probes-asks rank comm Null tag waits flag status s go h = absurd (cc)
+
+-- what holds of an `Ok`
+pub if-ok : {T E : Type 0} (P Q : T → Type 0) (r : Result T E) → ((v : T) → P v → Q v) → IfOk r P → IfOk r Q
+if-ok P Q (Ok v) so h = so v h
+if-ok P Q (Err e) so h = tt

@@ -16,6 +16,8 @@ pub mod messages;
 pub mod outcome;
 mod parts;
 pub mod perform;
+#[cfg(test)]
+mod perform_tests;
 pub mod print;
 pub mod rank;
 pub mod store;

@@ -55,18 +55,12 @@ pub fn perform(
             store.put(cell, value);
             Ok(Outcome::Goes(()))
         }
-        Effect::Starts { start, request } => {
-            let outcome = starts(alloc, &start, request, store, replies)?;
-            Ok(outcome)
-        }
+        Effect::Starts { start, request } => starts(alloc, &start, request, store, replies),
         Effect::Receives {
             receive,
             send,
             status,
-        } => {
-            let outcome = receives(alloc, rank, &receive, &send, status, store, replies)?;
-            Ok(outcome)
-        }
+        } => { receives(alloc, rank, &receive, &send, status, store, replies) }
         Effect::Completes {
             requests,
             mode,
@@ -78,8 +72,7 @@ pub fn perform(
                 mode,
                 answer,
             };
-            let outcome = completing(alloc, &call, store, replies)?;
-            Ok(outcome)
+            completing(alloc, &call, store, replies)
         }
         Effect::Probes {
             comm,
@@ -97,13 +90,9 @@ pub fn perform(
                 flag,
                 status,
             };
-            let outcome = probes(rank, &probe, store, replies)?;
-            Ok(outcome)
+            probes(rank, &probe, store, replies)
         }
-        Effect::Joins(collective) => {
-            let outcome = joins(alloc, &collective, store, replies)?;
-            Ok(outcome)
-        }
+        Effect::Joins(collective) => joins(alloc, &collective, store, replies),
         Effect::Aborts(code) => Ok(last(Call::Abort { code }, replies)),
     }
 }

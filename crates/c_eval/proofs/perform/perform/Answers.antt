@@ -1,12 +1,13 @@
 use Rattle.std.proofs.Common.{FitsSigned, w32, rules}
 use Rattle.std.proofs.lemmas.Int.{to_z-of_z}
+use Rattle.c_eval.proofs.PerformLaws.{if-ok}
 use Rattle.c_eval.proofs.perform.perform.Goals as goal
 
-pub returns-in_ok-outcome-in-Starts : goal.returns-in_ok-outcome-in-Starts
-returns-in_ok-outcome-in-Starts c = rw c.in-Starts.is (c.in_ok-outcome-in-Starts.ensures c.args.rank)
+pub returns-in-Starts : goal.returns-in-Starts
+returns-in-Starts c = rw c.in-Starts.is (if-ok _ _ c.starts.result (λ outcome h. h c.args.rank) c.starts.ensures)
 
-pub returns-in_ok-outcome-in-Joins : goal.returns-in_ok-outcome-in-Joins
-returns-in_ok-outcome-in-Joins c = rw c.in-Joins.is (c.in_ok-outcome-in-Joins.ensures c.args.rank)
+pub returns-in-Joins : goal.returns-in-Joins
+returns-in-Joins c = rw c.in-Joins.is (if-ok _ _ c.joins.result (λ outcome h. h c.args.rank) c.joins.ensures)
 
 pub returns-in-Aborts : goal.returns-in-Aborts
 returns-in-Aborts c =
