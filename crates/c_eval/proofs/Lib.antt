@@ -1,9 +1,10 @@
 pub mod ChainLaws
-pub mod DepthLaws
+pub mod Depths
 pub mod Evaluations
 pub mod Exits
 pub mod Lists
 pub mod Loops
 pub mod PartLaws
 pub mod PrintLaws
+pub mod RankLaws
 pub mod StoreLaws

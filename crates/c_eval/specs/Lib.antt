@@ -1,5 +1,4 @@
 pub mod Chains
-pub mod Depths
 pub mod Evaluated
 pub mod Parts
 pub mod Replies

@@ -191,8 +191,9 @@ fn repeat<'p>(calls: &Calls<'p>, test: Option<&'p Expr>, update: Option<&'p Simp
         if !store.test(test)? {
             return Ok(Flow::Next);
         }
-        if let Some(flow) = take_turn(calls, update, body, store, replies)? {
-            return Ok(flow);
+        match take_turn(calls, update, body, store, replies)? {
+            Some(flow) => return Ok(flow),
+            None => {}
         }
     }
 }

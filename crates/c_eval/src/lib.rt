@@ -8,6 +8,7 @@ pub mod outcome;
 mod parts;
 pub mod perform;
 pub mod print;
+pub mod rank;
 
 pub mod store;
 #[cfg(test)]
