@@ -2,7 +2,7 @@ pub mod CameLaws
 pub mod CellLaws
 pub mod ChainLaws
 pub mod CompletionLaws
-pub mod DepthLaws
+pub mod Depths
 pub mod Evaluations
 pub mod Exits
 pub mod Lists
@@ -10,4 +10,5 @@ pub mod Loops
 pub mod PartLaws
 pub mod PerformLaws
 pub mod PrintLaws
+pub mod RankLaws
 pub mod StoreLaws

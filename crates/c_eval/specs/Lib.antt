@@ -1,5 +1,4 @@
 pub mod Asking
-pub mod Depths
 pub mod Evaluated
 pub mod Parts
 pub mod Replies

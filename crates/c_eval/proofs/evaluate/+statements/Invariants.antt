@@ -1,12 +1,13 @@
 use Rattle.std.proofs.Common.{◌≡◌, ℕ, ◌+◌, ◌*◌, ◌≤◌, drop, option_copied}
+use denote.Param.Weighed.{most}
 use Rattle.c_program.specs.declared.statement.Stmt.{size-Stmt}
 use Rattle.c_program.specs.declared.statement.Part.{size-Part}
 use Rattle.c_program.specs.Courses.{after}
 use Rattle.c_program.specs.Meaning.{Exits, act, act_list, declare_all, for_update, started}
 use Rattle.c_program.specs.Performing.{Onward}
-use Rattle.c_eval.specs.Depths.{weight}
 use Rattle.c_eval.specs.declared.calls.Calls.{Calls}
 use Rattle.c_eval.specs.Parts.{calls_of}
+use Rattle.c_eval.proofs.Depths.{weight}
 use Rattle.c_eval.proofs.Loops.{Turning}
 use Rattle.c_eval.proofs.evaluate.+statements.Given as goal
 
@@ -48,10 +49,10 @@ abbrev pub decreases-run_part : goal.decreases-run_part
 decreases-run_part l = depths l.calls.now + (16 * size-Part l.part.now + 31)
 
 abbrev pub decreases-run_list : goal.decreases-run_list
-decreases-run_list l = depths l.calls.now + (16 * goal.size-run_list l + 32)
+decreases-run_list l = depths l.calls.now + (16 * most size-Part l.parts.now + 32)
 
 abbrev pub decreases-run_block : goal.decreases-run_block
-decreases-run_block l = depths l.calls.now + (16 * goal.size-run_block l + 33)
+decreases-run_block l = depths l.calls.now + (16 * most size-Part l.parts.now + 33)
 
 abbrev pub decreases-take_turn : goal.decreases-take_turn
 decreases-take_turn l = depths l.calls.now + (16 * size-Stmt l.body.now + 32)

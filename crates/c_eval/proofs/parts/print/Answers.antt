@@ -1,4 +1,4 @@
-use Rattle.std.proofs.Common.{◌≡◌, ◌∙◌, arith, rules}
+use Rattle.std.proofs.Common.{◌≡◌, ◌∙◌, ap, arith, rules}
 use Rattle.std.proofs.lemmas.Result.{err_from_is_err_and}
 use Rattle.c_program.specs.Meaning.{print as print_of}
 use Rattle.c_program.specs.Prints.{text_of}
@@ -12,7 +12,7 @@ returns-in_err-ints c = λ rest.
 
 pub returns-then-printed-len-le65536 : goal.returns-then-printed-len-le65536
 returns-then-printed-len-le65536 c = λ rest.
-    let text : c.in_ok-text.text.items ≡ text_of c.args.format.now c.in_ok-ints.ints = cc in
+    let text : c.in_ok-text.text.items ≡ text_of c.args.format.now c.in_ok-ints.ints = c.in_ok-text.ensures ∙ ap (text_of c.args.format.now) c.as_slice.ensures in
     record {
       at = λ k. (c.in_ok-ints.ensures rest).at (λ vs t. print_of (text_of c.args.format.now vs) t k)
           ∙ prints c.args.format.now c.in_ok-ints.ints c.in_ok-text.text.items c.args.store.now c.print.new.self k rest text (search rules) (search rules);
@@ -21,6 +21,6 @@ returns-then-printed-len-le65536 c = λ rest.
 
 pub returns : goal.returns
 returns c = λ rest k.
-    let text : c.in_ok-text.text.items ≡ text_of c.args.format.now c.in_ok-ints.ints = cc in
+    let text : c.in_ok-text.text.items ≡ text_of c.args.format.now c.in_ok-ints.ints = c.in_ok-text.ensures ∙ ap (text_of c.args.format.now) c.as_slice.ensures in
     (c.in_ok-ints.ensures rest).at (λ vs t. print_of (text_of c.args.format.now vs) t k)
     ∙ prints-full c.args.format.now c.in_ok-ints.ints c.in_ok-text.text.items c.args.store.now k rest text (search rules)

@@ -1,0 +1,80 @@
+use Rattle.std.proofs.Common.{◌≡◌, ◌∙◌, ◌++◌, ◌<◌, ◌≤◌, ℕ, Bool, true, false, List, [], ◌∷◌, Option, Some, None, refl, sym, ap, subst}
+use Rattle.std.proofs.lemmas.List.{map-append}
+use Rattle.mpi_call.specs.declared.call.Call.{Call}
+use Rattle.mpi_call.specs.declared.reply.Reply.{Reply}
+use Rattle.run_model.specs.declared.lists.Variable.{Variable}
+use Rattle.run_model.specs.declared.program.Want.{Want}
+use Rattle.run_model.specs.declared.program.Want.TheVariants.{Ask, Ended}
+use Rattle.run_model.specs.Lists.{Along}
+use Rattle.run_model.specs.Program.{IsSeen, IsViewOf, MayGive, Says, ends}
+use Rattle.run_model.specs.Views.{View, replies_in}
+use Rattle.run_model.proofs.Along.{Along-snoc}
+use Rattle.c_program.specs.declared.effect.Rank.{Rank}
+use Rattle.c_program.specs.declared.program.CProgram.{CProgram}
+use Rattle.c_program.specs.Courses.{Course, Asks, Over, after, asks_last, call_in, listed_of, state_in, variables_in}
+use Rattle.c_program.specs.Meaning.{course_of}
+use Rattle.c_program.specs.Program.{course_after, next_of, output_of, rank_of, variables_of}
+use Rattle.c_program.specs.ProgramLaws.{after_in_shape}
+use Rattle.c_program.specs.State.{State}
+use Rattle.c_eval.specs.Standing.{IsRankAt, Wants}
+
+-- ---- a call that no other follows
+
+pub after-over : (s : State) (rest : List Reply) → after (Over s) rest ≡ Over s
+after-over s [] = refl
+after-over s (reply ∷ rest) = after-over s rest
+
+pub after-last : (call : Call) (s : State) (reply : Reply) (rest : List Reply) → after (asks_last call s) (reply ∷ rest) ≡ Over s
+after-last call s reply rest = by_end (ends (call, reply)) refl
+  where
+    by_end : (b : Bool) → ends (call, reply) ≡ b → after (asks_last call s) (reply ∷ rest) ≡ Over s
+    by_end true is = rw is (after-over s rest)
+    by_end false is = rw is (after-over s rest)
+
+-- ---- ranks
+
+pub wants-state : (course : Course) (want : Want) (s : State) → Wants course want s → state_in course ≡ s
+wants-state course (Ask call) s w = ap state_in w.is
+wants-state course Ended s w = ap state_in w
+
+pub wants-says : (course : Course) (want : Want) (s : State) → Wants course want s → Says want (call_in course)
+wants-says course (Ask call) s w = ap call_in w.is
+wants-says course Ended s w = ap call_in w
+
+pub rank-starts : (program : CProgram) (rank : Rank) (s : State) → rank.number < rank.ranks → rank.ranks ≤ 64 → IsRankAt program rank [] false s
+rank-starts program rank s member few = record { member = member; few = few; shaped = refl; stands = λ asked. absurd (cc) }
+
+pub rank-wants : (program : CProgram) (rank : Rank) (replies : List Reply) (asked : Bool) (s t : State) (want : Want) → IsRankAt program rank replies asked s
+    → Wants (after (course_of program rank) replies) want t → IsRankAt program rank replies true t
+rank-wants program rank replies asked s t want is w = record { member = is.member; few = is.few; shaped = is.shaped; stands = λ a. wants-state _ want t w }
+
+pub rank-says : (program : CProgram) (rank : Rank) (replies : List Reply) (asked : Bool) (s t : State) (want : Want) → IsRankAt program rank replies asked s
+    → Wants (after (course_of program rank) replies) want t → Says want (next_of program rank.ranks rank.number replies)
+rank-says program rank replies asked s t want is w = rw is.shaped (wants-says _ want t w)
+
+pub rank-gives : (program : CProgram) (rank : Rank) (replies : List Reply) (reply : Reply) (asked : Bool) (s t : State) → IsRankAt program rank replies asked s
+    → MayGive (next_of program) rank.ranks rank.number replies reply → IsRankAt program rank (replies ++ reply ∷ []) false t
+rank-gives program rank replies reply asked s t is may =
+    let n : ℕ = rank.ranks in
+    let me : ℕ = rank.number in
+    let seen : IsSeen (next_of program) n me may.view (may.call, reply) = record { asked = ap (next_of program n me) may.replies_are ∙ may.asked; shaped = may.shaped } in
+    let along : IsViewOf (next_of program) n me (may.view ++ (may.call, reply) ∷ []) = Along-snoc (IsSeen (next_of program) n me) [] may.view (may.call, reply) may.came seen in
+    let same : replies_in (may.view ++ (may.call, reply) ∷ []) ≡ replies ++ reply ∷ [] = map-append _ may.view ((may.call, reply) ∷ []) ∙ ap (λ rs. rs ++ reply ∷ []) may.replies_are in
+    let P : List Reply → Type 0 = λ rs. course_after program n me rs ≡ after (course_of program (rank_of n me)) rs in
+    record {
+      member = is.member;
+      few = is.few;
+      shaped = subst P same (after_in_shape program n me (may.view ++ (may.call, reply) ∷ []) along);
+      stands = λ asked. absurd (cc) }
+
+pub rank-printed : (program : CProgram) (rank : Rank) (replies : List Reply) (s : State) → IsRankAt program rank replies true s → s.printed ≡ output_of program rank.ranks rank.number replies
+rank-printed program rank replies s is = sym (ap (λ c. (state_in c).printed) is.shaped ∙ ap (λ (u : State). u.printed) (is.stands refl))
+
+live-variables : (course : Course) (call : Call) → call_in course ≡ Some call → variables_in course ≡ listed_of (state_in course) (state_in course).slots
+live-variables (Asks s asked go) call is = refl
+live-variables (Over s) call is = absurd (cc)
+
+pub rank-variables : (program : CProgram) (rank : Rank) (replies : List Reply) (s : State) (call : Call) → IsRankAt program rank replies true s → next_of program rank.ranks rank.number replies ≡ Some call
+    → listed_of s s.slots ≡ variables_of program rank.ranks rank.number replies
+rank-variables program rank replies s call is live =
+    sym (ap variables_in is.shaped ∙ live-variables (after (course_of program rank) replies) call (ap call_in (sym is.shaped) ∙ live) ∙ ap (λ (u : State). listed_of u u.slots) (is.stands refl))
