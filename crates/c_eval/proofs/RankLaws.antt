@@ -65,7 +65,8 @@ rank-gives program rank replies reply asked s t is may =
       member = is.member;
       few = is.few;
       shaped = subst P same (after_in_shape program n me (may.view ++ (may.call, reply) ∷ []) along);
-      stands = λ asked. absurd (cc) }
+      stands = λ asked. absurd (cc);
+    }
 
 pub rank-printed : (program : CProgram) (rank : Rank) (replies : List Reply) (s : State) → IsRankAt program rank replies true s → s.printed ≡ output_of program rank.ranks rank.number replies
 rank-printed program rank replies s is = sym (ap (λ c. (state_in c).printed) is.shaped ∙ ap (λ (u : State). u.printed) (is.stands refl))

@@ -1,9 +1,10 @@
 -- What comes of a file, from what comes of its bytes; and reports.
-use Rattle.std.proofs.Common.{◌≡◌, ◌≢◌, ◌≤◌, ◌⊎◌, Result, Err, OnErr, ℕ, suc, List, [], ◌∷◌, Option, Some, None, IfSome, Ok, length, false, inl, inr, refl, sym, ap, ◌∙◌, ◌++◌, arith}
+use Rattle.std.proofs.Common.{◌≡◌, ◌≢◌, ◌≤◌, ◌⊎◌, Result, Err, OnErr, ℕ, suc, List, [], ◌∷◌, Option, Some, None, IfSome, Ok, length, false, inl, inr, refl, subst, sym, ap, ◌∙◌, ◌++◌, arith}
 use Rattle.std.proofs.Math.Seq.{take-length}
 use Rattle.std.specs.List.{All, list_any}
 use Rattle.run_model.specs.declared.event.Event.{Event}
-use Rattle.run_model.specs.Views.{Kept}
+use Rattle.mpi_call.specs.declared.reply.Reply.{Reply}
+use Rattle.run_model.specs.Views.{Kept, Next}
 use Rattle.srr_entry.specs.declared.log.Log.{Log}
 use Rattle.srr_replay.specs.declared.replayed.Replayed.{Replayed}
 use Rattle.srr_replay.specs.declared.replayed.Stand.{Stand}
@@ -11,7 +12,10 @@ use Rattle.srr_replay.specs.Laws.{IsDone, IsRunWith}
 use Rattle.wiz_cli.specs.declared.outcome.Refusal.TheVariants.{Words, Missing, ReadFault, Program, Plan, Order, Log as LogRefused, TooLong}
 use Rattle.wiz_cli.specs.declared.outcome.Outcome.{Outcome}
 use Rattle.wiz_cli.specs.declared.outcome.Outcome.TheVariants.{Refused, Replayed as WasReplayed}
-use Rattle.c_program.specs.Program.{next_of, output_of}
+use Rattle.c_program.specs.Program.{next_of, output_of, SameMeaning}
+use Rattle.c_program.specs.declared.program.CProgram.{CProgram}
+use Rattle.c_types.specs.Checks.{IsProgramOf}
+use Rattle.srr_replay.specs.Laws.{IsReplayOfEveryRun}
 use Rattle.wiz_cli.specs.Reports.{GrewBy, GrewByPart, IsBytesOutcome, IsFileOutcome, IsOutcome, IsReplayOfLog, IsReport, IsShown, IsTold, IsTrace, ReplaysShowEveryRun, ShowsEveryRun, is_diverged, is_starved}
 use Rattle.wiz_trace.specs.TraceTexts.{trace_text}
 use Rattle.wiz_cli.specs.Words.{IsReplayOf}
@@ -78,11 +82,21 @@ traced_status before after faults faults' replayed status done trace =
       | inr part ↦ inr part.0
     ]
 
+-- what holds of a program's runs holds of those of another that means the same
+pub runs_of_same : (program other : CProgram) (log : Log) (replayed : Replayed) → SameMeaning program other
+    → IsReplayOfEveryRun (next_of program) (output_of program) log None replayed
+    → IsReplayOfEveryRun (next_of other) (output_of other) log None replayed
+runs_of_same program other log replayed same runs =
+    let next : next_of program ≡ next_of other = λ i n me replies. same.next n me replies i in
+    let output : output_of program ≡ output_of other = λ i n me replies. same.output n me replies i in
+    subst (λ (o : ℕ → ℕ → List Reply → List ℕ). IsReplayOfEveryRun (next_of other) o log None replayed) output
+    (subst (λ (n : Next). IsReplayOfEveryRun n (output_of program) log None replayed) next runs)
+
 shown_by : (log : Log) (replayed : Replayed) (before after : Option (List ℕ)) (faults faults' status : ℕ) (is : IsReplayOfLog log replayed)
-    → IsTrace before after faults faults' replayed status → (run : List Event) → IsRunWith (next_of is.program) log run
-    → IsShown (output_of is.program) log run replayed status
-shown_by log replayed before after faults faults' status is trace run with =
-    let of = is.runs run with in
+    → IsTrace before after faults faults' replayed status → (program : CProgram) → IsProgramOf log.program program
+    → (run : List Event) → IsRunWith (next_of program) log run → IsShown (output_of program) log run replayed status
+shown_by log replayed before after faults faults' status is trace program is_program run with =
+    let of = is.runs program is_program run with in
     let fine = not_nine status (traced_status before after faults faults' replayed status (of.ends refl) trace) in
     record { views = of.views refl; outputs = of.outputs refl; not_diverged = fine.0; not_starved = fine.1 }
 
@@ -99,11 +113,9 @@ ReplaysShowEveryRun-told words files reads reads' before after faults faults' st
       name = name;
       bytes = file.0;
       log = bytes.0;
-      program = is.program;
       is_named = comes.0;
       is_there = file.1;
       is_text = bytes.1;
-      is_program = is.is_program;
       shown = shown_by bytes.0 replayed before after faults faults' status is told.2;
     } in
     rw told.1 (refl, shows)

@@ -33,12 +33,13 @@ use Rattle.wiz_base.specs.Decimals.{decimal_text}
 use Rattle.c_program.specs.declared.program.CProgram.{CProgram}
 use Rattle.wiz_io.specs.Files.{Files, HasRisen}
 
--- a whole replay of a log's group with the program whose text stands in it, beside every run of that program with that log
+-- a whole replay of a log's group with the program whose text stands in it, beside every run of a program of that text with
+-- that log
 pub record IsReplayOfLog (log : Log) (replayed : Replayed) : Type 0 where
   pub program : CProgram
   pub is_program : IsProgramOf log.program program
   pub replay : IsReplayed (next_of program) (output_of program) (variables_of program) log None replayed
-  pub runs : IsReplayOfEveryRun (next_of program) (output_of program) log None replayed
+  pub runs : (other : CProgram) → IsProgramOf log.program other → IsReplayOfEveryRun (next_of other) (output_of other) log None replayed
 
 -- why a program is not run: it has a first fault
 abbrev pub IsProgramRefusal : List ℕ → Refusal → Type 0
@@ -210,17 +211,16 @@ pub record IsShown (output : ℕ → ℕ → List Reply → List ℕ) (log : Log
   pub not_diverged : status ≢ 9
   pub not_starved : status ≢ 10
 
--- the named file holds the text of a log, and each run of the log's program with this log is shown
+-- the named file holds the text of a log, and each run of a program of the log's text with this log is shown
 pub record ShowsEveryRun (words : List (List ℕ)) (files : Option Files) (replayed : Replayed) (status : ℕ) : Type 0 where
   pub name : List ℕ
   pub bytes : List ℕ
   pub log : Log
-  pub program : CProgram
   pub is_named : IsReplayOf words name
   pub is_there : IfSome files (λ told. told name ≡ Some bytes)
   pub is_text : IsLogText bytes log
-  pub is_program : IsProgramOf log.program program
-  pub shown : (run : List Event) → IsRunWith (next_of program) log run → IsShown (output_of program) log run replayed status
+  pub shown : (program : CProgram) → IsProgramOf log.program program → (run : List Event) → IsRunWith (next_of program) log run
+      → IsShown (output_of program) log run replayed status
 
 -- the replays of a report, at most one, show every run
 abbrev pub ReplaysShowEveryRun : List (List ℕ) → Option Files → List Replayed → ℕ → Type 0

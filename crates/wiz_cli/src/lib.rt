@@ -3,6 +3,8 @@
 
 pub mod gate;
 pub mod outcome;
+#[cfg(test)]
+mod program_tests;
 pub mod record_files;
 mod record_inputs;
 pub mod record_outcome;

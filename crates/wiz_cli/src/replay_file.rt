@@ -11,6 +11,7 @@ use crate::outcome::{Outcome, Refusal};
 use c_eval::rank::EvalRank;
 use c_lex::Why;
 use c_program::CProgram;
+use c_types::laws::text_fixes_meaning;
 use c_types::read_program;
 use srr_entry::log::Log;
 use srr_log::fault::LogWhy;
@@ -66,7 +67,11 @@ fn replay_log(alloc: Global, log: &Log) -> Result<Outcome, AllocError>
     ensures { IfOk result (λ outcome. IsLogOutcome log.now outcome) }
 {
     match read_program(alloc, log.program.as_slice()) {
-        Ok(program) => Ok(Outcome::Replayed(replay_group(alloc, &program, log, None)?)),
+        Ok(program) => {
+            text_fixes_meaning(&program, log.program.as_slice());
+            let replayed = replay_group(alloc, &program, log, None)?;
+            Ok(Outcome::Replayed(replayed))
+        }
         Err(fault) => match fault.why {
             Why::NoMemory => Err(AllocError),
             _ => Ok(Outcome::Refused(Refusal::Program(fault))),
