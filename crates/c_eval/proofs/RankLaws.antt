@@ -78,3 +78,6 @@ pub rank-variables : (program : CProgram) (rank : Rank) (replies : List Reply) (
     → listed_of s s.slots ≡ variables_of program rank.ranks rank.number replies
 rank-variables program rank replies s call is live =
     sym (ap variables_in is.shaped ∙ live-variables (after (course_of program rank) replies) call (ap call_in (sym is.shaped) ∙ live) ∙ ap (λ (u : State). listed_of u u.slots) (is.stands refl))
+
+pub wants-from : (course course' : Course) (want : Want) (s : State) → course ≡ course' → Wants course' want s → Wants course want s
+wants-from course course' want s e w = let P : Course → Type 0 = λ c. Wants c want s in subst P (sym e) w
