@@ -20,6 +20,7 @@ use run_model::lists::Variables;
 use run_model::program::{RankRun, Want};
 use std::alloc::{AllocError, Global};
 use std::marker::Model;
+use std::mem;
 
 /// A rank that runs a C program. It keeps the replies that it got, and what stands at the last call that was asked for.
 /// Contracts see what it stands for.
@@ -87,7 +88,7 @@ impl<'p> RankRun for EvalRank<'p> {
         };
         let mut store = Store::new(self.alloc)?;
         let want = evaluate(&calls, self.program.main, &self.replies, &mut store)?;
-        self.store = store;
+        mem::swap(&mut self.store, &mut store);
         self.asked = true;
         Ok(want)
     }
