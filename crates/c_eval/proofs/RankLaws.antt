@@ -68,14 +68,18 @@ rank-gives program rank replies reply asked s t is may =
       stands = λ asked. absurd (cc);
     }
 
-pub rank-printed : (program : CProgram) (rank : Rank) (replies : List Reply) (s : State) → IsRankAt program rank replies true s → s.printed ≡ output_of program rank.ranks rank.number replies
-rank-printed program rank replies s is = sym (ap (λ c. (state_in c).printed) is.shaped ∙ ap (λ (u : State). u.printed) (is.stands refl))
+pub rank-printed : (program : CProgram) (rank : Rank) (replies : List Reply) (asked : Bool) (s : State) → IsRankAt program rank replies asked s → asked ≡ true
+    → s.printed ≡ output_of program rank.ranks rank.number replies
+rank-printed program rank replies asked s is a = sym (ap (λ c. (state_in c).printed) is.shaped ∙ ap (λ (u : State). u.printed) (is.stands a))
 
 live-variables : (course : Course) (call : Call) → call_in course ≡ Some call → variables_in course ≡ listed_of (state_in course) (state_in course).slots
 live-variables (Asks s asked go) call is = refl
 live-variables (Over s) call is = absurd (cc)
 
-pub rank-variables : (program : CProgram) (rank : Rank) (replies : List Reply) (s : State) (call : Call) → IsRankAt program rank replies true s → next_of program rank.ranks rank.number replies ≡ Some call
-    → listed_of s s.slots ≡ variables_of program rank.ranks rank.number replies
-rank-variables program rank replies s call is live =
-    sym (ap variables_in is.shaped ∙ live-variables (after (course_of program rank) replies) call (ap call_in (sym is.shaped) ∙ live) ∙ ap (λ (u : State). listed_of u u.slots) (is.stands refl))
+pub rank-variables : (program : CProgram) (rank : Rank) (replies : List Reply) (asked : Bool) (s : State) (call : Call) → IsRankAt program rank replies asked s → asked ≡ true
+    → next_of program rank.ranks rank.number replies ≡ Some call → listed_of s s.slots ≡ variables_of program rank.ranks rank.number replies
+rank-variables program rank replies asked s call is a live =
+    sym (ap variables_in is.shaped ∙ live-variables (after (course_of program rank) replies) call (ap call_in (sym is.shaped) ∙ live) ∙ ap (λ (u : State). listed_of u u.slots) (is.stands a))
+
+pub wants-from : (course course' : Course) (want : Want) (s : State) → course ≡ course' → Wants course' want s → Wants course want s
+wants-from course course' want s e w = let P : Course → Type 0 = λ c. Wants c want s in subst P (sym e) w

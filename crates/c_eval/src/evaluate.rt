@@ -334,11 +334,7 @@ fn act<'p>(
         }
         Stmt::Break => Ok(Flow::Broke),
         Stmt::Continue => Ok(Flow::Again),
-        Stmt::Return(None) => Ok(Flow::Back(0)),
-        Stmt::Return(Some(right)) => {
-            let value = value_of(calls, right, store, replies)?;
-            Ok(Flow::Back(value))
-        }
+        Stmt::Return(value) => run_return(calls, value, store, replies),
         Stmt::If { test, then } => {
             if store.test(Some(test))? {
                 run(calls, then, store, replies)
@@ -369,6 +365,21 @@ fn act<'p>(
             store,
             replies,
         ),
+    }
+}
+
+/// A `return`.
+#[cycle(statements)]
+fn run_return<'p>(calls: &Calls<'p>, value: &'p Option<Right>, store: &mut Store<'p>, replies: &mut Replies) -> Result<Flow, Stop>
+    requires { calls.now.rank.ranks ≤ 64 }
+    ensures { Leaves (return (calls_of calls.now) value.now) store.old replies.old result store.new replies.new }
+{
+    match value {
+        None => Ok(Flow::Back(0)),
+        Some(right) => {
+            let given = value_of(calls, right, store, replies)?;
+            Ok(Flow::Back(given))
+        }
     }
 }
 

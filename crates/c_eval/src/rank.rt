@@ -1,9 +1,9 @@
 //! A rank of a C program, which evaluates anew at each call.
 ghost use Rattle.std.specs.Prelude.{◌≡◌, ◌≤◌, ◌<◌, ◌∷◌, [], IfOk, false, pos};
 ghost use Rattle.c_program.specs.declared.state.Passed.TheVariants.{Number};
-ghost use Rattle.c_program.specs.Courses.{after, asks_last};
-ghost use Rattle.c_program.specs.Meaning.{course_of, start};
+ghost use Rattle.c_program.specs.Courses.{after, asks_last, ended};
 ghost use Rattle.c_program.specs.State.{State};
+ghost use Rattle.c_eval.specs.Parts.{calls_of};
 ghost use Rattle.c_eval.specs.Standing.{Wants};
 
 use crate::calls::Calls;
@@ -20,6 +20,7 @@ use run_model::lists::Variables;
 use run_model::program::{RankRun, Want};
 use std::alloc::{AllocError, Global};
 use std::marker::Model;
+use std::mem;
 
 /// A rank that runs a C program. It keeps the replies that it got, and what stands at the last call that was asked for.
 /// Contracts see what it stands for.
@@ -36,7 +37,9 @@ pub struct EvalRank<'p> {
 impl<'p> Model for EvalRank<'p> {
     ghost use Rattle.run_model.specs.Program.{Standing};
     ghost use Rattle.c_program.specs.declared.program.CProgram.{CProgram};
-    ghost use Rattle.c_eval.specs.Standing.{IsRankAt};
+    ghost use Rattle.c_eval.specs.Parts.{calls_of};
+ghost use Rattle.c_eval.specs.Standing.{IsRankAt};
+
     ghost use Rattle.c_program.specs.contracts.statement.Part as part;
     ghost use Rattle.std.specs.Coded.{codes};
 
@@ -76,15 +79,15 @@ impl<'p> RankRun for EvalRank<'p> {
     ghost standing = { λ r. r };
 
     fn want(&mut self) -> Result<Want, AllocError> {
+        let calls = Calls {
+            alloc: self.alloc,
+            rank: self.rank,
+            functions: &self.program.functions,
+            depth: 100,
+        };
         let mut store = Store::new(self.alloc)?;
-        let want = evaluate(
-            self.alloc,
-            self.program,
-            self.rank,
-            &self.replies,
-            &mut store,
-        )?;
-        self.store = store;
+        let want = evaluate(&calls, self.program.main, &self.replies, &mut store)?;
+        mem::swap(&mut self.store, &mut store);
         self.asked = true;
         Ok(want)
     }
@@ -105,27 +108,19 @@ impl<'p> RankRun for EvalRank<'p> {
     }
 }
 
-/// What the rank wants after these replies; the store is that of this call.
+/// What the rank wants after these replies, where the evaluation of its program begins at the store; the store is then
+/// that of this call.
 fn evaluate<'p>(
-    alloc: Global,
-    program: &'p CProgram,
-    rank: Rank,
+    calls: &Calls<'p>,
+    main: usize,
     replies: &[Reply],
     store: &mut Store<'p>,
 ) -> Result<Want, AllocError>
-    requires few { rank.ranks ≤ 64 }
-    requires start { store.old ≡ start }
-    ensures { IfOk result (λ want. Wants (after (course_of program.now rank) replies.now) want store.new) }
+    requires { calls.now.rank.ranks ≤ 64 }
+    ensures { IfOk result (λ want. Wants (after (calls_of calls.now main (Number (pos 1) ∷ []) store.old (λ v s. ended s)) replies.now) want store.new) }
 {
-    let calls = Calls {
-        alloc,
-        rank,
-        functions: &program.functions,
-        depth: 100,
-    };
     let mut rest = Replies::of(replies);
-    let arguments = [Passed::Number(1)];
-    match call_function(&calls, program.main, &arguments, store, &mut rest) {
+    match call_function(calls, main, &[Passed::Number(1)], store, &mut rest) {
         Ok(_) => Ok(last(Call::End, &mut rest)),
         Err(Stop::Memory) => Err(AllocError),
         Err(Stop::Trapped(fault)) => Ok(last(Call::Trap { fault }, &mut rest)),

@@ -1,11 +1,12 @@
-use Rattle.std.proofs.Common.{◌≡◌, ◌∙◌, ℕ, ℤ, ◌+◌, ◌*◌, ◌-◌, ◌<◌, ◌≤◌, Bool, true, false, Option, Some, None, Ok, Err, refl, sym, ap, arith, rules, drop, option_copied, w32, FitsSigned}
+use Rattle.std.proofs.Common.{◌≡◌, ◌∙◌, ℕ, ℤ, ◌+◌, ◌*◌, ◌-◌, ◌<◌, ◌≤◌, Bool, true, false, Option, Some, None, Result, Ok, Err, refl, sym, ap, arith, rules, drop, option_copied, w32, FitsSigned}
 use Rattle.std.proofs.lemmas.Int.{to_z-of_z}
 use denote.Param.Weighed.{most}
 use Rattle.c_program.specs.declared.statement.Part.{size-Part}
 use Rattle.std.proofs.lemmas.Result.{err_from_is_err_and}
+use Rattle.mpi_call.specs.declared.call.Fault.{Fault}
 use Rattle.c_program.specs.Courses.{after}
 use Rattle.c_program.specs.Equations.{act-block}
-use Rattle.c_program.specs.Meaning.{act, act_list, act_part, begin, call_at, declare, declare_all, exits_to, for_start, for_update, invoke, leaving, loop, loop_after, no_update, passed_all, print, put_values, right, simple, started, test, trying, turn_exits}
+use Rattle.c_program.specs.Meaning.{act, act_list, act_part, begin, call_at, declare, declare_all, exits_to, for_start, for_update, invoke, leaving, loop, loop_after, no_update, passed_all, print, put_values, return, right, simple, started, test, trying, turn_exits}
 use Rattle.c_program.specs.Performing.{Onward}
 use Rattle.c_program.specs.Prints.{text_of}
 use Rattle.c_program.specs.State.{State, cell_at, leave, mark_of, put}
@@ -24,10 +25,15 @@ act-returns-in_err-run_simple-in-Simple t c =
     let p = err_from_is_err_and c.from_residual.result c.from_residual.ensures.1 in
     rw (p.1, p.2) (λ k. stops-from _ _ _ _ _ (rw c.in-Simple.is refl) (c.in_err-run_simple-in-Simple.ensures k.next))
 
-pub act-returns-in_err-value-in-Return-Some : goal.act-returns-in_err-value-in-Return-Some
-act-returns-in_err-value-in-Return-Some t c =
-    let p = err_from_is_err_and c.from_residual-in_err-value-in-Return-Some.result c.from_residual-in_err-value-in-Return-Some.ensures.1 in
-    rw (p.1, p.2) (λ k. stops-from _ _ _ _ _ (rw (c.in-Return-Some.is, c.in-Return-Some.field-0-is) refl) (c.in_err-value-in-Return-Some.ensures (λ v s. k.back v s)))
+pub act-returns-in-Return : goal.act-returns-in-Return
+act-returns-in-Return t c = 
+    from exit (act c.args.calls.now.rank (calls_of c.args.calls.now) c.args.stmt.now) (return (calls_of c.args.calls.now) c.in-Return.value) c.args.store.now c.args.store.now c.run_return.new.store c.args.replies.now c.args.replies.now c.run_return.new.replies c.run_return.result
+    (λ k. rw c.in-Return.is refl) (omega arith) (c.run_return.ensures)
+
+pub run_return-returns-in_err-given-in-Some : goal.run_return-returns-in_err-given-in-Some
+run_return-returns-in_err-given-in-Some t c = 
+    let p = err_from_is_err_and c.from_residual.result c.from_residual.ensures.1 in
+    rw (p.1, p.2) (λ k. stops-from _ _ _ _ _ (rw c.in-Some.is refl) (c.in_err-given-in-Some.ensures (λ v s. k.back v s)))
 
 pub act-returns-in-Block : goal.act-returns-in-Block
 act-returns-in-Block t c =
@@ -65,7 +71,7 @@ act-returns-in-Do t c =
 pub act-returns-in-For : goal.act-returns-in-For
 act-returns-in-For t c =
     from exit (act c.args.calls.now.rank (calls_of c.args.calls.now) c.args.stmt.now) (for_of c.args.calls.now.rank (calls_of c.args.calls.now) c.in-For.start (option_copied c.as_ref.result) (option_copied c.as_ref-in-For.result) (started (act c.args.calls.now.rank (calls_of c.args.calls.now) c.deref-in-For.result.now))) c.args.store.now c.args.store.now c.run_for.new.store c.args.replies.now c.args.replies.now c.run_for.new.replies c.run_for.result
-    (λ k. rw (c.in-For.is, c.deref-in-For.ensures, c.as_ref.ensures, c.as_ref-in-For.ensures) refl) (omega arith) (c.run_for.ensures)
+    (λ k. rw (c.in-For.is, c.deref-in-For.ensures, c.as_ref.ensures.value, c.as_ref-in-For.ensures.value) refl) (omega arith) (c.run_for.ensures)
 
 pub call_function-returns-in_err-enter : goal.call_function-returns-in_err-enter
 call_function-returns-in_err-enter t c =
@@ -315,7 +321,7 @@ run_simple-returns-in_err-value-in-Update t c =
     let fits_operand : FitsSigned w32 c.in_ok-operand-in-Update.operand = search rules in
     let made : c.operated.result ≡ operated c.in-Update.operator (cell_at c.value_of-in-Update.new.store c.in_ok-cell-in-Update.cell) c.in_ok-operand-in-Update.operand = rw (to_z-of_z w32 c.cell.result fits_cell, to_z-of_z w32 c.in_ok-operand-in-Update.operand fits_operand, c.cell.ensures) at c.operated.ensures in
     let fails : operated c.in-Update.operator (cell_at c.value_of-in-Update.new.store c.in_ok-cell-in-Update.cell) c.in_ok-operand-in-Update.operand ≡ Err c.in_err-value-in-Update.field-0.0 = sym made ∙ c.in_err-value-in-Update.was in
-    rw (p.1, p.2) (λ k. rw (c.in-Update.is, cell) (c.in_ok-operand-in-Update.ensures.at (λ v s. trying (operated c.in-Update.operator (cell_at s c.in_ok-cell-in-Update.cell) v) s (λ w. k (put c.in_ok-cell-in-Update.cell w s)))) ∙ rw fails refl)
+    rw (p.1, p.2) (λ k. rw (c.in-Update.is, cell) (c.in_ok-operand-in-Update.ensures.at (λ v s. trying (operated c.in-Update.operator (cell_at s c.in_ok-cell-in-Update.cell) v) s (λ w. k (put c.in_ok-cell-in-Update.cell w s)))) ∙ ap (λ (found : Result ℤ Fault). after (trying found c.value_of-in-Update.new.store (λ w. k (put c.in_ok-cell-in-Update.cell w c.value_of-in-Update.new.store))) c.value_of-in-Update.new.replies) fails)
 
 pub run_simple-returns-in_ok-value-in-Update : goal.run_simple-returns-in_ok-value-in-Update
 run_simple-returns-in_ok-value-in-Update t c =
@@ -329,9 +335,8 @@ run_simple-returns-in_ok-value-in-Update t c =
     let is : c.put-in-Update.new.self ≡ put c.in_ok-cell-in-Update.cell c.in_ok-value-in-Update.value c.value_of-in-Update.new.store = c.put-in-Update.ensures ∙ ap (λ v. put c.in_ok-cell-in-Update.cell v c.value_of-in-Update.new.store) (to_z-of_z w32 c.in_ok-value-in-Update.value fits) in
     let same : c.put-in-Update.new.self.left ≡ c.value_of-in-Update.new.store.left = ap (λ (u : State). u.left) is in
     record {
-      at = λ k. rw (c.in-Update.is, cell) (c.in_ok-operand-in-Update.ensures.at (λ v s. trying (operated c.in-Update.operator (cell_at s c.in_ok-cell-in-Update.cell) v) s (λ w. k (put c.in_ok-cell-in-Update.cell w s)))) ∙ rw done (ap (λ u. after (k u) c.value_of-in-Update.new.replies) (sym is));
-      left = omega arith;
-    }
+      at = λ k. rw (c.in-Update.is, cell) (c.in_ok-operand-in-Update.ensures.at (λ v s. trying (operated c.in-Update.operator (cell_at s c.in_ok-cell-in-Update.cell) v) s (λ w. k (put c.in_ok-cell-in-Update.cell w s)))) ∙ ap (λ (found : Result ℤ Fault). after (trying found c.value_of-in-Update.new.store (λ w. k (put c.in_ok-cell-in-Update.cell w c.value_of-in-Update.new.store))) c.value_of-in-Update.new.replies) done ∙ ap (λ u. after (k u) c.value_of-in-Update.new.replies) (sym is);
+      left = omega arith }
 
 pub run_simple-returns-in_err-invoke-in-Call : goal.run_simple-returns-in_err-invoke-in-Call
 run_simple-returns-in_err-invoke-in-Call t c =

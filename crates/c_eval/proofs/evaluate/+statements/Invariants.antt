@@ -39,6 +39,9 @@ decreases-start_for l = depths l.calls.now + 5
 abbrev pub decreases-run_update : goal.decreases-run_update
 decreases-run_update l = depths l.calls.now + 4
 
+abbrev pub decreases-run_return : goal.decreases-run_return
+decreases-run_return l = depths l.calls.now + 3
+
 abbrev pub decreases-act : goal.decreases-act
 decreases-act l = depths l.calls.now + (16 * size-Stmt l.stmt.now + 30)
 
