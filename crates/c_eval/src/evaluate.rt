@@ -370,7 +370,12 @@ fn act<'p>(
 
 /// A `return`.
 #[cycle(statements)]
-fn run_return<'p>(calls: &Calls<'p>, value: &'p Option<Right>, store: &mut Store<'p>, replies: &mut Replies) -> Result<Flow, Stop>
+fn run_return<'p>(
+    calls: &Calls<'p>,
+    value: &'p Option<Right>,
+    store: &mut Store<'p>,
+    replies: &mut Replies,
+) -> Result<Flow, Stop>
     requires { calls.now.rank.ranks ≤ 64 }
     ensures { Leaves (return (calls_of calls.now) value.now) store.old replies.old result store.new replies.new }
 {

@@ -38,8 +38,7 @@ impl<'p> Model for EvalRank<'p> {
     ghost use Rattle.run_model.specs.Program.{Standing};
     ghost use Rattle.c_program.specs.declared.program.CProgram.{CProgram};
     ghost use Rattle.c_eval.specs.Parts.{calls_of};
-ghost use Rattle.c_eval.specs.Standing.{IsRankAt};
-
+    ghost use Rattle.c_eval.specs.Standing.{IsRankAt};
     ghost use Rattle.c_program.specs.contracts.statement.Part as part;
     ghost use Rattle.std.specs.Coded.{codes};
 

@@ -26,12 +26,12 @@ act-returns-in_err-run_simple-in-Simple t c =
     rw (p.1, p.2) (λ k. stops-from _ _ _ _ _ (rw c.in-Simple.is refl) (c.in_err-run_simple-in-Simple.ensures k.next))
 
 pub act-returns-in-Return : goal.act-returns-in-Return
-act-returns-in-Return t c = 
+act-returns-in-Return t c =
     from exit (act c.args.calls.now.rank (calls_of c.args.calls.now) c.args.stmt.now) (return (calls_of c.args.calls.now) c.in-Return.value) c.args.store.now c.args.store.now c.run_return.new.store c.args.replies.now c.args.replies.now c.run_return.new.replies c.run_return.result
     (λ k. rw c.in-Return.is refl) (omega arith) (c.run_return.ensures)
 
 pub run_return-returns-in_err-given-in-Some : goal.run_return-returns-in_err-given-in-Some
-run_return-returns-in_err-given-in-Some t c = 
+run_return-returns-in_err-given-in-Some t c =
     let p = err_from_is_err_and c.from_residual.result c.from_residual.ensures.1 in
     rw (p.1, p.2) (λ k. stops-from _ _ _ _ _ (rw c.in-Some.is refl) (c.in_err-given-in-Some.ensures (λ v s. k.back v s)))
 
@@ -336,7 +336,8 @@ run_simple-returns-in_ok-value-in-Update t c =
     let same : c.put-in-Update.new.self.left ≡ c.value_of-in-Update.new.store.left = ap (λ (u : State). u.left) is in
     record {
       at = λ k. rw (c.in-Update.is, cell) (c.in_ok-operand-in-Update.ensures.at (λ v s. trying (operated c.in-Update.operator (cell_at s c.in_ok-cell-in-Update.cell) v) s (λ w. k (put c.in_ok-cell-in-Update.cell w s)))) ∙ ap (λ (found : Result ℤ Fault). after (trying found c.value_of-in-Update.new.store (λ w. k (put c.in_ok-cell-in-Update.cell w c.value_of-in-Update.new.store))) c.value_of-in-Update.new.replies) done ∙ ap (λ u. after (k u) c.value_of-in-Update.new.replies) (sym is);
-      left = omega arith }
+      left = omega arith;
+    }
 
 pub run_simple-returns-in_err-invoke-in-Call : goal.run_simple-returns-in_err-invoke-in-Call
 run_simple-returns-in_err-invoke-in-Call t c =
