@@ -2,7 +2,7 @@
 ghost use Rattle.std.specs.Prelude.{◌≡◌, ◌≤◌, ◌<◌, ◌^◌, ◌+◌, ◌++◌, ◌∷◌, [], IfOk, OnErr, OnOk, length, map, option_map, true};
 ghost use Rattle.run_model.specs.Lists.{world};
 ghost use Rattle.c_program.specs.Courses.{listed_of, variable_of};
-ghost use Rattle.c_program.specs.Meaning.{cells_in, has_room, number_in, opened, repeated, start, with_parameter, with_slot};
+ghost use Rattle.c_program.specs.Meaning.{cells_in, has_room, number_in, opened, parameter_cells, repeated, start, with_parameter, with_slot};
 ghost use Rattle.c_program.specs.Performing.{begun, learned, made_by, made_by_all, start_at};
 ghost use Rattle.c_program.specs.Values.{cells_of};
 ghost use Rattle.c_program.specs.State.{cell_at, first_cells, ints_in, leave, mark_of, members_among, members_of, put, put_all, values_from, width_of};
@@ -189,7 +189,7 @@ impl<'p> Store<'p> {
         parameter: &'p Parameter,
         passed: Option<Passed>,
     ) -> Result<(), AllocError>
-        requires { length self.old.cells < 262144 }
+        requires { has_room (parameter_cells (parameter.now ∷ [])) self.old ≡ true }
         ensures { OnOk result (self.new ≡ with_parameter parameter.now passed self.old) }
     {
         match parameter.kind {
@@ -204,13 +204,16 @@ impl<'p> Store<'p> {
         }
     }
 
-    /// One call more is open.
-    pub fn open(&mut self)
-        requires { self.old.opens < 100 }
-        ensures { self.new ≡ opened self.old }
+    /// One call more is open. The want of memory comes also where there would be 2^32.
+    pub fn open(&mut self) -> Result<(), AllocError>
+        ensures { OnOk result (self.new ≡ opened self.old) }
     {
+        if self.opens == u32::MAX {
+            return Err(AllocError);
+        }
         self.base = self.slots.len();
         self.opens += 1;
+        Ok(())
     }
 
     /// Prints bytes.
@@ -386,7 +389,7 @@ fn all_ranks(alloc: Global) -> Result<Vec<u8>, AllocError>
     Ok(all)
 }
 
-fn width_of(kind: Kind) -> u32
+pub fn width_of(kind: Kind) -> u32
     ensures { result ≡ width_of kind }
 {
     match kind {
