@@ -1,4 +1,5 @@
 pub mod Evaluated
 pub mod SlotView
+pub mod Sizes
 pub mod Slots
 pub mod Steps
