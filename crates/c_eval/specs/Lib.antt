@@ -4,7 +4,6 @@ pub mod Parts
 pub mod Replies
 pub mod Sizes
 pub mod SlotView
-pub mod Sizes
 pub mod Slots
 pub mod Standing
 pub mod Steps
