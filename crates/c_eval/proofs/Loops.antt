@@ -59,12 +59,14 @@ module _ (e : Option Expr) (update : Passing) (body : Meaning) (s0 s : State) (r
       n = m.0;
       enough = omega arith;
       comes = λ k. h.comes k ∙ enters h.n m.0 e update body s r k m.1 is ∙ g.at (ways_from m.0 e update body k);
-      left = omega arith }
+      left = omega arith;
+    }
 
     pub turning-leaves : (flow : Flow) → GoesOn way (turn update body) s r (Some flow) t r' → GoesOn exit (loop e update body) s0 r0 flow t r'
     turning-leaves flow g = let fewer : t.left ≤ s.left = g.left in let few : s.left ≤ s0.left = h.left in record {
       at = λ k. h.comes k ∙ enters h.n m.0 e update body s r k m.1 is ∙ g.at (ways_from m.0 e update body k);
-      left = omega arith }
+      left = omega arith;
+    }
 
     pub turning-stops : (stop : Stop) → ((ways : Ways) → StopsAt (after (turn update body s ways) r) stop t r') → (k : Exits) → StopsAt (after (loop e update body s0 k) r0) stop t r'
     turning-stops stop g k = stops-from _ _ stop t r' (h.comes k ∙ enters h.n m.0 e update body s r k m.1 is) (g (ways_from m.0 e update body k))

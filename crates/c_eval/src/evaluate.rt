@@ -6,7 +6,9 @@ ghost use Rattle.c_eval.specs.Parts.{blocked, calls_of, for_of, turn, value_in, 
 
 use crate::calls::Calls;
 use crate::outcome::{Flow, Replies, Stop};
-use crate::parts::{add, arguments_of, call_mpi, enter, function_at, print, put_values_of, take_step};
+use crate::parts::{
+    add, arguments_of, call_mpi, enter, function_at, print, put_values_of, take_step,
+};
 use crate::store::Store;
 use crate::values::operated;
 use c_program::expr::{Call, Expr, Right};
@@ -18,7 +20,12 @@ use mpi_call::call::Fault;
 
 /// A call of a function of the text, which takes a step.
 #[cycle(statements)]
-fn invoke<'p>(calls: &Calls<'p>, call: &'p Call, store: &mut Store<'p>, replies: &mut Replies) -> Result<i32, Stop>
+fn invoke<'p>(
+    calls: &Calls<'p>,
+    call: &'p Call,
+    store: &mut Store<'p>,
+    replies: &mut Replies,
+) -> Result<i32, Stop>
     requires { calls.now.rank.ranks ≤ 64 }
     ensures { Gives (invoke (calls_of calls.now) call.now) store.old replies.old result store.new replies.new }
 {
@@ -29,7 +36,13 @@ fn invoke<'p>(calls: &Calls<'p>, call: &'p Call, store: &mut Store<'p>, replies:
 
 /// The call of a function by its number, once its arguments are evaluated.
 #[cycle(statements)]
-pub fn call_function<'p>(calls: &Calls<'p>, number: usize, arguments: &[Passed], store: &mut Store<'p>, replies: &mut Replies) -> Result<i32, Stop>
+pub fn call_function<'p>(
+    calls: &Calls<'p>,
+    number: usize,
+    arguments: &[Passed],
+    store: &mut Store<'p>,
+    replies: &mut Replies,
+) -> Result<i32, Stop>
     requires { calls.now.rank.ranks ≤ 64 }
     ensures { Gives (calls_of calls.now number arguments.now) store.old replies.old result store.new replies.new }
 {
@@ -64,7 +77,12 @@ fn value_in(flow: Flow) -> i32
 
 /// A right side.
 #[cycle(statements)]
-fn value_of<'p>(calls: &Calls<'p>, one: &'p Right, store: &mut Store<'p>, replies: &mut Replies) -> Result<i32, Stop>
+fn value_of<'p>(
+    calls: &Calls<'p>,
+    one: &'p Right,
+    store: &mut Store<'p>,
+    replies: &mut Replies,
+) -> Result<i32, Stop>
     requires { calls.now.rank.ranks ≤ 64 }
     ensures { Gives (right (calls_of calls.now) one.now) store.old replies.old result store.new replies.new }
 {
@@ -76,7 +94,12 @@ fn value_of<'p>(calls: &Calls<'p>, one: &'p Right, store: &mut Store<'p>, replie
 
 /// A statement that stands before a `;`.
 #[cycle(statements)]
-fn run_simple<'p>(calls: &Calls<'p>, one: &'p Simple, store: &mut Store<'p>, replies: &mut Replies) -> Result<(), Stop>
+fn run_simple<'p>(
+    calls: &Calls<'p>,
+    one: &'p Simple,
+    store: &mut Store<'p>,
+    replies: &mut Replies,
+) -> Result<(), Stop>
     requires { calls.now.rank.ranks ≤ 64 }
     ensures { Passes (simple calls.now.rank (calls_of calls.now) one.now) store.old replies.old result store.new replies.new }
 {
@@ -87,7 +110,11 @@ fn run_simple<'p>(calls: &Calls<'p>, one: &'p Simple, store: &mut Store<'p>, rep
             store.put(cell, value);
             Ok(())
         }
-        Simple::Update { place, operator, right } => {
+        Simple::Update {
+            place,
+            operator,
+            right,
+        } => {
             let cell = store.cell_of(place)?;
             let operand = value_of(calls, right, store, replies)?;
             let value = operated(*operator, store.cell(cell), operand)?;
@@ -106,7 +133,12 @@ fn run_simple<'p>(calls: &Calls<'p>, one: &'p Simple, store: &mut Store<'p>, rep
 
 /// A variable, with its initial value.
 #[cycle(statements)]
-fn declare<'p>(calls: &Calls<'p>, item: &'p Item, store: &mut Store<'p>, replies: &mut Replies) -> Result<(), Stop>
+fn declare<'p>(
+    calls: &Calls<'p>,
+    item: &'p Item,
+    store: &mut Store<'p>,
+    replies: &mut Replies,
+) -> Result<(), Stop>
     requires { calls.now.rank.ranks ≤ 64 }
     ensures { Passes (declare (calls_of calls.now) item.now) store.old replies.old result store.new replies.new }
 {
@@ -124,7 +156,12 @@ fn declare<'p>(calls: &Calls<'p>, item: &'p Item, store: &mut Store<'p>, replies
 
 /// Variables, in order.
 #[cycle(statements)]
-fn declare_all<'p>(calls: &Calls<'p>, items: &'p [Item], store: &mut Store<'p>, replies: &mut Replies) -> Result<(), Stop>
+fn declare_all<'p>(
+    calls: &Calls<'p>,
+    items: &'p [Item],
+    store: &mut Store<'p>,
+    replies: &mut Replies,
+) -> Result<(), Stop>
     requires { calls.now.rank.ranks ≤ 64 }
     ensures { Passes (declare_all (calls_of calls.now) items.now) store.old replies.old result store.new replies.new }
 {
@@ -138,7 +175,12 @@ fn declare_all<'p>(calls: &Calls<'p>, items: &'p [Item], store: &mut Store<'p>, 
 
 /// What stands before the first `;` of a `for`.
 #[cycle(statements)]
-fn start_for<'p>(calls: &Calls<'p>, start: &'p ForStart, store: &mut Store<'p>, replies: &mut Replies) -> Result<(), Stop>
+fn start_for<'p>(
+    calls: &Calls<'p>,
+    start: &'p ForStart,
+    store: &mut Store<'p>,
+    replies: &mut Replies,
+) -> Result<(), Stop>
     requires { calls.now.rank.ranks ≤ 64 }
     ensures { Passes (for_start calls.now.rank (calls_of calls.now) start.now) store.old replies.old result store.new replies.new }
 {
@@ -154,7 +196,12 @@ fn start_for<'p>(calls: &Calls<'p>, start: &'p ForStart, store: &mut Store<'p>, 
 
 /// What stands behind the second `;` of a `for`.
 #[cycle(statements)]
-fn run_update<'p>(calls: &Calls<'p>, update: Option<&'p Simple>, store: &mut Store<'p>, replies: &mut Replies) -> Result<(), Stop>
+fn run_update<'p>(
+    calls: &Calls<'p>,
+    update: Option<&'p Simple>,
+    store: &mut Store<'p>,
+    replies: &mut Replies,
+) -> Result<(), Stop>
     requires { calls.now.rank.ranks ≤ 64 }
     ensures { Passes (for_update calls.now.rank (calls_of calls.now) (option_copied update.entry)) store.old replies.old result store.new replies.new }
 {
@@ -166,7 +213,13 @@ fn run_update<'p>(calls: &Calls<'p>, update: Option<&'p Simple>, store: &mut Sto
 
 /// A turn of a loop. `None` where the loop goes on.
 #[cycle(statements)]
-fn take_turn<'p>(calls: &Calls<'p>, update: Option<&'p Simple>, body: &'p Stmt, store: &mut Store<'p>, replies: &mut Replies) -> Result<Option<Flow>, Stop>
+fn take_turn<'p>(
+    calls: &Calls<'p>,
+    update: Option<&'p Simple>,
+    body: &'p Stmt,
+    store: &mut Store<'p>,
+    replies: &mut Replies,
+) -> Result<Option<Flow>, Stop>
     requires { calls.now.rank.ranks ≤ 64 }
     ensures evaluated { Evaluated way (turn (for_update calls.now.rank (calls_of calls.now) (option_copied update.entry)) (started (act calls.now.rank (calls_of calls.now) body.now))) store.old replies.old result store.new replies.new }
     ensures fewer { OnOk result (store.new.left < store.old.left) }
@@ -183,7 +236,14 @@ fn take_turn<'p>(calls: &Calls<'p>, update: Option<&'p Simple>, body: &'p Stmt, 
 
 /// A loop with its test before each turn.
 #[cycle(statements)]
-fn repeat<'p>(calls: &Calls<'p>, test: Option<&'p Expr>, update: Option<&'p Simple>, body: &'p Stmt, store: &mut Store<'p>, replies: &mut Replies) -> Result<Flow, Stop>
+fn repeat<'p>(
+    calls: &Calls<'p>,
+    test: Option<&'p Expr>,
+    update: Option<&'p Simple>,
+    body: &'p Stmt,
+    store: &mut Store<'p>,
+    replies: &mut Replies,
+) -> Result<Flow, Stop>
     requires { calls.now.rank.ranks ≤ 64 }
     ensures { Leaves (loop (option_copied test.entry) (for_update calls.now.rank (calls_of calls.now) (option_copied update.entry)) (started (act calls.now.rank (calls_of calls.now) body.now))) store.old replies.old result store.new replies.new }
 {
@@ -200,7 +260,13 @@ fn repeat<'p>(calls: &Calls<'p>, test: Option<&'p Expr>, update: Option<&'p Simp
 
 /// A loop with a turn before its first test.
 #[cycle(statements)]
-fn repeat_after<'p>(calls: &Calls<'p>, test: &'p Expr, body: &'p Stmt, store: &mut Store<'p>, replies: &mut Replies) -> Result<Flow, Stop>
+fn repeat_after<'p>(
+    calls: &Calls<'p>,
+    test: &'p Expr,
+    body: &'p Stmt,
+    store: &mut Store<'p>,
+    replies: &mut Replies,
+) -> Result<Flow, Stop>
     requires { calls.now.rank.ranks ≤ 64 }
     ensures { Leaves (loop_after test.now (started (act calls.now.rank (calls_of calls.now) body.now))) store.old replies.old result store.new replies.new }
 {
@@ -212,7 +278,15 @@ fn repeat_after<'p>(calls: &Calls<'p>, test: &'p Expr, body: &'p Stmt, store: &m
 
 /// A `for`, which is a block of its own.
 #[cycle(statements)]
-fn run_for<'p>(calls: &Calls<'p>, start: &'p ForStart, test: Option<&'p Expr>, update: Option<&'p Simple>, body: &'p Stmt, store: &mut Store<'p>, replies: &mut Replies) -> Result<Flow, Stop>
+fn run_for<'p>(
+    calls: &Calls<'p>,
+    start: &'p ForStart,
+    test: Option<&'p Expr>,
+    update: Option<&'p Simple>,
+    body: &'p Stmt,
+    store: &mut Store<'p>,
+    replies: &mut Replies,
+) -> Result<Flow, Stop>
     requires { calls.now.rank.ranks ≤ 64 }
     ensures { Leaves (for_of calls.now.rank (calls_of calls.now) start.now (option_copied test.entry) (option_copied update.entry) (started (act calls.now.rank (calls_of calls.now) body.now))) store.old replies.old result store.new replies.new }
 {
@@ -227,7 +301,12 @@ fn run_for<'p>(calls: &Calls<'p>, start: &'p ForStart, test: Option<&'p Expr>, u
 
 /// A statement.
 #[cycle(statements)]
-fn run<'p>(calls: &Calls<'p>, stmt: &'p Stmt, store: &mut Store<'p>, replies: &mut Replies) -> Result<Flow, Stop>
+fn run<'p>(
+    calls: &Calls<'p>,
+    stmt: &'p Stmt,
+    store: &mut Store<'p>,
+    replies: &mut Replies,
+) -> Result<Flow, Stop>
     requires { calls.now.rank.ranks ≤ 64 }
     ensures { Leaves (started (act calls.now.rank (calls_of calls.now) stmt.now)) store.old replies.old result store.new replies.new }
 {
@@ -237,7 +316,12 @@ fn run<'p>(calls: &Calls<'p>, stmt: &'p Stmt, store: &mut Store<'p>, replies: &m
 
 /// A statement whose step is taken.
 #[cycle(statements)]
-fn act<'p>(calls: &Calls<'p>, stmt: &'p Stmt, store: &mut Store<'p>, replies: &mut Replies) -> Result<Flow, Stop>
+fn act<'p>(
+    calls: &Calls<'p>,
+    stmt: &'p Stmt,
+    store: &mut Store<'p>,
+    replies: &mut Replies,
+) -> Result<Flow, Stop>
     requires { calls.now.rank.ranks ≤ 64 }
     ensures { Leaves (act calls.now.rank (calls_of calls.now) stmt.now) store.old replies.old result store.new replies.new }
 {
@@ -267,13 +351,31 @@ fn act<'p>(calls: &Calls<'p>, stmt: &'p Stmt, store: &mut Store<'p>, replies: &m
         }
         Stmt::While { test, body } => repeat(calls, Some(test), None, body, store, replies),
         Stmt::Do { body, test } => repeat_after(calls, test, body, store, replies),
-        Stmt::For { start, test, step, body } => run_for(calls, start, test.as_ref(), step.as_ref(), body, store, replies),
+        Stmt::For {
+            start,
+            test,
+            step,
+            body,
+        } => run_for(
+            calls,
+            start,
+            test.as_ref(),
+            step.as_ref(),
+            body,
+            store,
+            replies,
+        ),
     }
 }
 
 /// A `return`.
 #[cycle(statements)]
-fn run_return<'p>(calls: &Calls<'p>, value: &'p Option<Right>, store: &mut Store<'p>, replies: &mut Replies) -> Result<Flow, Stop>
+fn run_return<'p>(
+    calls: &Calls<'p>,
+    value: &'p Option<Right>,
+    store: &mut Store<'p>,
+    replies: &mut Replies,
+) -> Result<Flow, Stop>
     requires { calls.now.rank.ranks ≤ 64 }
     ensures { Leaves (return (calls_of calls.now) value.now) store.old replies.old result store.new replies.new }
 {
@@ -288,7 +390,12 @@ fn run_return<'p>(calls: &Calls<'p>, value: &'p Option<Right>, store: &mut Store
 
 /// What stands in a block, which takes a step.
 #[cycle(statements)]
-fn run_part<'p>(calls: &Calls<'p>, part: &'p Part, store: &mut Store<'p>, replies: &mut Replies) -> Result<Flow, Stop>
+fn run_part<'p>(
+    calls: &Calls<'p>,
+    part: &'p Part,
+    store: &mut Store<'p>,
+    replies: &mut Replies,
+) -> Result<Flow, Stop>
     requires { calls.now.rank.ranks ≤ 64 }
     ensures { Leaves (started (act_part calls.now.rank (calls_of calls.now) part.now)) store.old replies.old result store.new replies.new }
 {
@@ -304,7 +411,12 @@ fn run_part<'p>(calls: &Calls<'p>, part: &'p Part, store: &mut Store<'p>, replie
 
 /// Parts one after another.
 #[cycle(statements)]
-fn run_list<'p>(calls: &Calls<'p>, parts: &'p [Part], store: &mut Store<'p>, replies: &mut Replies) -> Result<Flow, Stop>
+fn run_list<'p>(
+    calls: &Calls<'p>,
+    parts: &'p [Part],
+    store: &mut Store<'p>,
+    replies: &mut Replies,
+) -> Result<Flow, Stop>
     requires { calls.now.rank.ranks ≤ 64 }
     ensures { Leaves (act_list calls.now.rank (calls_of calls.now) parts.now) store.old replies.old result store.new replies.new }
 {
@@ -319,7 +431,12 @@ fn run_list<'p>(calls: &Calls<'p>, parts: &'p [Part], store: &mut Store<'p>, rep
 
 /// A block, behind which its variables are gone.
 #[cycle(statements)]
-fn run_block<'p>(calls: &Calls<'p>, parts: &'p [Part], store: &mut Store<'p>, replies: &mut Replies) -> Result<Flow, Stop>
+fn run_block<'p>(
+    calls: &Calls<'p>,
+    parts: &'p [Part],
+    store: &mut Store<'p>,
+    replies: &mut Replies,
+) -> Result<Flow, Stop>
     requires { calls.now.rank.ranks ≤ 64 }
     ensures { Leaves (blocked (act_list calls.now.rank (calls_of calls.now) parts.now)) store.old replies.old result store.new replies.new }
 {

@@ -9,7 +9,6 @@ mod parts;
 pub mod perform;
 pub mod print;
 pub mod rank;
-
 pub mod store;
 #[cfg(test)]
 mod tests;

@@ -10,11 +10,9 @@ ghost use Rattle.c_eval.specs.Evaluated.{Evaluated, Gives, Passes};
 ghost use Rattle.c_eval.specs.Parts.{added, entered, mpi};
 
 use crate::calls::Calls;
-use crate::effects;
 use crate::outcome::{Outcome, Replies, Stop};
-use crate::perform;
-use crate::print;
 use crate::store::{Store, width_of};
+use crate::{effects, perform, print};
 use c_names::format::Piece;
 use c_program::expr::{Argument, Expr};
 use c_program::mpi::MpiCall;
@@ -108,11 +106,7 @@ pub fn arguments_of(
 }
 
 /// Puts the values of expressions from a cell on. The want of memory comes also where a cell's number would be 2^32.
-pub fn put_values_of(
-    expressions: &[Expr],
-    first: u32,
-    store: &mut Store,
-) -> Result<(), Stop>
+pub fn put_values_of(expressions: &[Expr], first: u32, store: &mut Store) -> Result<(), Stop>
     ensures { (rest : List Reply) → Passes (put_values expressions.now first) store.old rest result store.new rest }
 {
     let mut cell = first;

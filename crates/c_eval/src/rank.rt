@@ -38,8 +38,7 @@ impl<'p> Model for EvalRank<'p> {
     ghost use Rattle.run_model.specs.Program.{Standing};
     ghost use Rattle.c_program.specs.declared.program.CProgram.{CProgram};
     ghost use Rattle.c_eval.specs.Parts.{calls_of};
-ghost use Rattle.c_eval.specs.Standing.{IsRankAt};
-
+    ghost use Rattle.c_eval.specs.Standing.{IsRankAt};
     ghost use Rattle.c_program.specs.contracts.statement.Part as part;
     ghost use Rattle.std.specs.Coded.{codes};
 
@@ -54,11 +53,7 @@ ghost use Rattle.c_eval.specs.Standing.{IsRankAt};
 
 impl<'p> EvalRank<'p> {
     /// A rank that has got no reply yet.
-    pub fn start(
-        alloc: Global,
-        program: &'p CProgram,
-        rank: Rank,
-    ) -> Result<Self, AllocError>
+    pub fn start(alloc: Global, program: &'p CProgram, rank: Rank) -> Result<Self, AllocError>
         requires member { rank.number < rank.ranks }
         requires few { rank.ranks ≤ 64 }
         ensures { IfOk result (λ run. run ≡ record { program = program.now; ranks = rank.ranks; rank = rank.number; replies = []; asked = false }) }

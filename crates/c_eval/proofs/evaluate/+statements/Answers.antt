@@ -21,22 +21,22 @@ use Rattle.c_eval.proofs.Loops.{turning-ends, turning-fails, turning-leaves, tur
 use Rattle.c_eval.proofs.evaluate.+statements.Goals as goal
 
 pub act-returns-in_err-run_simple-in-Simple : goal.act-returns-in_err-run_simple-in-Simple
-act-returns-in_err-run_simple-in-Simple t c = 
+act-returns-in_err-run_simple-in-Simple t c =
     let p = err_from_is_err_and c.from_residual.result c.from_residual.ensures.1 in
     rw (p.1, p.2) (λ k. stops-from _ _ _ _ _ (rw c.in-Simple.is refl) (c.in_err-run_simple-in-Simple.ensures k.next))
 
 pub act-returns-in-Return : goal.act-returns-in-Return
-act-returns-in-Return t c = 
+act-returns-in-Return t c =
     from exit (act c.args.calls.now.rank (calls_of c.args.calls.now) c.args.stmt.now) (return (calls_of c.args.calls.now) c.in-Return.value) c.args.store.now c.args.store.now c.run_return.new.store c.args.replies.now c.args.replies.now c.run_return.new.replies c.run_return.result
     (λ k. rw c.in-Return.is refl) (omega arith) (c.run_return.ensures)
 
 pub run_return-returns-in_err-given-in-Some : goal.run_return-returns-in_err-given-in-Some
-run_return-returns-in_err-given-in-Some t c = 
+run_return-returns-in_err-given-in-Some t c =
     let p = err_from_is_err_and c.from_residual.result c.from_residual.ensures.1 in
     rw (p.1, p.2) (λ k. stops-from _ _ _ _ _ (rw c.in-Some.is refl) (c.in_err-given-in-Some.ensures (λ v s. k.back v s)))
 
 pub act-returns-in-Block : goal.act-returns-in-Block
-act-returns-in-Block t c = 
+act-returns-in-Block t c =
     from exit (act c.args.calls.now.rank (calls_of c.args.calls.now) c.args.stmt.now) (blocked (act_list c.args.calls.now.rank (calls_of c.args.calls.now) c.deref.result.now)) c.args.store.now c.args.store.now c.run_block.new.store c.args.replies.now c.args.replies.now c.run_block.new.replies c.run_block.result
     (λ k. rw (c.in-Block.is, c.deref.ensures.value) (ap (λ x. after x c.args.replies.now) (act-block c.args.calls.now.rank (calls_of c.args.calls.now) c.in-Block.parts c.args.store.now k))) (omega arith) (c.run_block.ensures)
 
@@ -59,39 +59,39 @@ act-returns-else-branch-2 t c =
     (λ k. rw (c.in-IfElse.is, is, c.deref-else-branch-2.ensures) refl) (omega arith) (c.run-else-branch-2.ensures)
 
 pub act-returns-in-While : goal.act-returns-in-While
-act-returns-in-While t c = 
+act-returns-in-While t c =
     from exit (act c.args.calls.now.rank (calls_of c.args.calls.now) c.args.stmt.now) (loop (Some c.in-While.test) (for_update c.args.calls.now.rank (calls_of c.args.calls.now) None) (started (act c.args.calls.now.rank (calls_of c.args.calls.now) c.deref-in-While.result.now))) c.args.store.now c.args.store.now c.repeat.new.store c.args.replies.now c.args.replies.now c.repeat.new.replies c.repeat.result
     (λ k. rw (c.in-While.is, c.deref-in-While.ensures) refl) (omega arith) (c.repeat.ensures)
 
 pub act-returns-in-Do : goal.act-returns-in-Do
-act-returns-in-Do t c = 
+act-returns-in-Do t c =
     from exit (act c.args.calls.now.rank (calls_of c.args.calls.now) c.args.stmt.now) (loop_after c.in-Do.test (started (act c.args.calls.now.rank (calls_of c.args.calls.now) c.deref-in-Do.result.now))) c.args.store.now c.args.store.now c.repeat_after.new.store c.args.replies.now c.args.replies.now c.repeat_after.new.replies c.repeat_after.result
     (λ k. rw (c.in-Do.is, c.deref-in-Do.ensures) refl) (omega arith) (c.repeat_after.ensures)
 
 pub act-returns-in-For : goal.act-returns-in-For
-act-returns-in-For t c = 
+act-returns-in-For t c =
     from exit (act c.args.calls.now.rank (calls_of c.args.calls.now) c.args.stmt.now) (for_of c.args.calls.now.rank (calls_of c.args.calls.now) c.in-For.start (option_copied c.as_ref.result) (option_copied c.as_ref-in-For.result) (started (act c.args.calls.now.rank (calls_of c.args.calls.now) c.deref-in-For.result.now))) c.args.store.now c.args.store.now c.run_for.new.store c.args.replies.now c.args.replies.now c.run_for.new.replies c.run_for.result
     (λ k. rw (c.in-For.is, c.deref-in-For.ensures, c.as_ref.ensures.value, c.as_ref-in-For.ensures.value) refl) (omega arith) (c.run_for.ensures)
 
 pub call_function-returns-in_err-enter : goal.call_function-returns-in_err-enter
-call_function-returns-in_err-enter t c = 
+call_function-returns-in_err-enter t c =
     let p = err_from_is_err_and c.from_residual.result c.from_residual.ensures.1 in
     rw (p.1, p.2) (λ k. stops-from _ _ _ _ _ (ap (λ x. after x c.args.replies.now) (entering c.args.calls.now.rank c.args.calls.now.functions.now c.args.calls.now.depth c.args.number c.in-Some.function.now c.args.arguments.now c.args.store.now k (omega arith) c.in-Some.ensures.some)) (c.in_err-enter.ensures c.args.replies.now (λ s. act_list c.args.calls.now.rank (call_at c.args.calls.now.rank c.args.calls.now.functions.now (c.args.calls.now.depth - 1)) c.in-Some.function.now.body.items s (exits_to (mark_of c.args.store.now) k))))
 
 pub call_function-run_list-requires : goal.call_function-run_list-requires
-call_function-run_list-requires t c = 
+call_function-run_list-requires t c =
     let deep : most size-Part c.in-Some.function.now.body.items ≤ deepest c.args.calls.now.functions.now = deepest-at _ _ _ c.in-Some.ensures.some in
     let same : most size-Part c.deref.result.now ≡ most size-Part c.in-Some.function.now.body.items = ap (most size-Part) c.deref.ensures.value in
     let falls : (c.args.calls.now.depth - 1) * weight c.args.calls.now.functions.now + (16 * most size-Part c.in-Some.function.now.body.items + 32) < c.args.calls.now.depth * weight c.args.calls.now.functions.now = fewer-calls c.args.calls.now.depth (weight c.args.calls.now.functions.now) (16 * most size-Part c.in-Some.function.now.body.items + 32) (omega arith) (omega arith) in
     (omega (arith, same, falls, c.decreases), search rules)
 
 pub call_function-returns-in_err-flow : goal.call_function-returns-in_err-flow
-call_function-returns-in_err-flow t c = 
+call_function-returns-in_err-flow t c =
     let p = err_from_is_err_and c.from_residual-in_err-flow.result c.from_residual-in_err-flow.ensures.1 in
     rw (p.1, p.2) (λ k. stops-from _ _ _ _ _ (ap (λ x. after x c.args.replies.now) (entering c.args.calls.now.rank c.args.calls.now.functions.now c.args.calls.now.depth c.args.number c.in-Some.function.now c.args.arguments.now c.args.store.now k (omega arith) c.in-Some.ensures.some) ∙ (c.in_ok-enter.ensures c.args.replies.now).at (λ s. act_list c.args.calls.now.rank (call_at c.args.calls.now.rank c.args.calls.now.functions.now (c.args.calls.now.depth - 1)) c.in-Some.function.now.body.items s (exits_to (mark_of c.args.store.now) k)) ∙ rw c.deref.ensures.value refl) (c.in_err-flow.ensures (exits_to (mark_of c.args.store.now) k)))
 
 pub call_function-returns : goal.call_function-returns
-call_function-returns t c = 
+call_function-returns t c =
     let is : c.leave.new.self ≡ leave (mark_of c.args.store.now) c.run_list.new.store = cc in
     let entered : c.enter.new.store.left ≤ c.args.store.now.left = (c.in_ok-enter.ensures c.args.replies.now).left in
     let ran : c.run_list.new.store.left ≤ c.enter.new.store.left = c.in_ok-flow.ensures.left in
@@ -99,10 +99,11 @@ call_function-returns t c =
     let fits : FitsSigned w32 c.value_in.result = search rules in
     rw (to_z-of_z w32 c.value_in.result fits, c.value_in.ensures) record {
       at = λ k. ap (λ x. after x c.args.replies.now) (entering c.args.calls.now.rank c.args.calls.now.functions.now c.args.calls.now.depth c.args.number c.in-Some.function.now c.args.arguments.now c.args.store.now k (omega arith) c.in-Some.ensures.some) ∙ (c.in_ok-enter.ensures c.args.replies.now).at (λ s. act_list c.args.calls.now.rank (call_at c.args.calls.now.rank c.args.calls.now.functions.now (c.args.calls.now.depth - 1)) c.in-Some.function.now.body.items s (exits_to (mark_of c.args.store.now) k)) ∙ rw (← c.deref.ensures.value) (c.in_ok-flow.ensures.at (exits_to (mark_of c.args.store.now) k)) ∙ left-call (mark_of c.args.store.now) k c.in_ok-flow.flow c.run_list.new.store c.leave.new.self c.run_list.new.replies is;
-      left = omega arith }
+      left = omega arith;
+    }
 
 pub declare-returns-in_err-cell : goal.declare-returns-in_err-cell
-declare-returns-in_err-cell t c = 
+declare-returns-in_err-cell t c =
     let p = err_from_is_err_and c.from_residual.result c.from_residual.ensures.1 in
     rw (p.1, p.2) (λ k. c.in_err-cell.ensures c.args.replies.now (λ cell s. begin (calls_of c.args.calls.now) c.args.item.now.initial cell s k))
 
@@ -110,12 +111,12 @@ pub declare-returns-in-Nothing : goal.declare-returns-in-Nothing
 declare-returns-in-Nothing t c = record { at = λ k. (c.in_ok-cell.ensures c.args.replies.now).at (λ cell s. begin (calls_of c.args.calls.now) c.args.item.now.initial cell s k) ∙ rw c.in-Nothing.is refl; left = (c.in_ok-cell.ensures c.args.replies.now).left }
 
 pub declare-returns-in_err-value-in-Right : goal.declare-returns-in_err-value-in-Right
-declare-returns-in_err-value-in-Right t c = 
+declare-returns-in_err-value-in-Right t c =
     let p = err_from_is_err_and c.from_residual-in_err-value-in-Right.result c.from_residual-in_err-value-in-Right.ensures.1 in
     rw (p.1, p.2) (λ k. stops-from _ _ _ _ _ ((c.in_ok-cell.ensures c.args.replies.now).at (λ cell s. begin (calls_of c.args.calls.now) c.args.item.now.initial cell s k) ∙ rw c.in-Right.is refl) (c.in_err-value-in-Right.ensures (λ v s. k (put c.in_ok-cell.cell v s))))
 
 pub declare-returns-in_ok-value-in-Right : goal.declare-returns-in_ok-value-in-Right
-declare-returns-in_ok-value-in-Right t c = 
+declare-returns-in_ok-value-in-Right t c =
     let added : c.add.new.store.left ≤ c.args.store.now.left = (c.in_ok-cell.ensures c.args.replies.now).left in
     let valued : c.value_of.new.store.left ≤ c.add.new.store.left = c.in_ok-value-in-Right.ensures.left in
     let fits : FitsSigned w32 c.in_ok-value-in-Right.value = search rules in
@@ -123,73 +124,75 @@ declare-returns-in_ok-value-in-Right t c =
     let same : c.put.new.self.left ≡ c.value_of.new.store.left = ap (λ (u : State). u.left) is in
     record {
       at = λ k. (c.in_ok-cell.ensures c.args.replies.now).at (λ cell s. begin (calls_of c.args.calls.now) c.args.item.now.initial cell s k) ∙ rw c.in-Right.is (c.in_ok-value-in-Right.ensures.at (λ v s. k (put c.in_ok-cell.cell v s))) ∙ ap (λ u. after (k u) c.value_of.new.replies) (sym is);
-      left = omega arith }
+      left = omega arith;
+    }
 
 pub declare-returns-in-Values : goal.declare-returns-in-Values
-declare-returns-in-Values t c = 
+declare-returns-in-Values t c =
     from {K = Onward} {A = Unit {0}} (λ go done. go) (declare (calls_of c.args.calls.now) c.args.item.now) (put_values c.deref.result.now c.in_ok-cell.cell) c.args.store.now c.add.new.store c.put_values_of.new.store c.args.replies.now c.args.replies.now c.args.replies.now c.put_values_of.result
     (λ k. (c.in_ok-cell.ensures c.args.replies.now).at (λ cell s. begin (calls_of c.args.calls.now) c.args.item.now.initial cell s k) ∙ rw (c.in-Values.is, c.deref.ensures.value) refl) ((c.in_ok-cell.ensures c.args.replies.now).left) (c.put_values_of.ensures c.args.replies.now)
 
 pub declare_all-returns-in_err-declare : goal.declare_all-returns-in_err-declare
-declare_all-returns-in_err-declare t c = 
+declare_all-returns-in_err-declare t c =
     let p = err_from_is_err_and c.from_residual.result c.from_residual.ensures.1 in
     rw (p.1, p.2) (λ k. stops-from _ _ _ _ _ (c.loop-item.invariant.comes k ∙ rw (at c.args.items.now c.loop-item.item-index c.item-item.result c.loop-item-test.true c.item-item.is) refl) (c.in_err-declare.ensures (λ s. declare_all (calls_of c.args.calls.now) (drop (c.loop-item.item-index + 1) c.args.items.now) s k)))
 
 pub declare_all-loop-item-preserved : goal.declare_all-loop-item-preserved
-declare_all-loop-item-preserved t c = 
+declare_all-loop-item-preserved t c =
     let few : c.loop-item.store.left ≤ c.args.store.now.left = c.loop-item.invariant.left in
     let fewer : c.declare.new.store.left ≤ c.loop-item.store.left = c.in_ok-declare.ensures.left in
     record {
       comes = λ k. c.loop-item.invariant.comes k ∙ rw (at c.args.items.now c.loop-item.item-index c.item-item.result c.loop-item-test.true c.item-item.is) refl ∙ c.in_ok-declare.ensures.at (λ s. declare_all (calls_of c.args.calls.now) (drop (c.loop-item.item-index + 1) c.args.items.now) s k);
-      left = omega arith }
+      left = omega arith;
+    }
 
 pub declare_all-returns : goal.declare_all-returns
 declare_all-returns t c = record { at = λ k. c.loop-item.invariant.comes k ∙ rw (behind_all c.args.items.now c.loop-item.item-index c.loop-item-test.false) refl; left = c.loop-item.invariant.left }
 
 pub invoke-returns-in_err-arguments : goal.invoke-returns-in_err-arguments
-invoke-returns-in_err-arguments t c = 
+invoke-returns-in_err-arguments t c =
     let p = err_from_is_err_and c.from_residual-in_err-arguments.result c.from_residual-in_err-arguments.ensures.1 in
     rw (p.1, p.2) (λ k. stops-from _ _ _ _ _ (rw c.deref.ensures.value ((c.in_ok-take_step.ensures.evaluated c.args.replies.now).at (λ s. trying (passed_all c.args.call.now.arguments.items s) s (λ arguments. (calls_of c.args.calls.now) c.args.call.now.function arguments s k)))) (c.in_err-arguments.ensures c.args.replies.now (λ arguments s. (calls_of c.args.calls.now) c.args.call.now.function arguments s k)))
 
 pub invoke-returns : goal.invoke-returns
-invoke-returns t c = 
+invoke-returns t c =
     from {K = ℤ → Onward} {A = ℤ} (λ go v. go v) (invoke (calls_of c.args.calls.now) c.args.call.now) ((calls_of c.args.calls.now) c.args.call.now.function c.deref-2.result.now) c.args.store.now c.take_step.new.store c.call_function.new.store c.args.replies.now c.args.replies.now c.call_function.new.replies c.call_function.result
     (λ k. (c.in_ok-take_step.ensures.evaluated c.args.replies.now).at (λ s. trying (passed_all c.args.call.now.arguments.items s) s (λ arguments. (calls_of c.args.calls.now) c.args.call.now.function arguments s k)) ∙ rw (← c.deref.ensures.value, c.deref-2.ensures.value) ((c.in_ok-arguments.ensures c.args.replies.now).at (λ arguments s. (calls_of c.args.calls.now) c.args.call.now.function arguments s k))) ((c.in_ok-take_step.ensures.evaluated c.args.replies.now).left) (c.call_function.ensures)
 
 pub repeat-returns-in_err-test : goal.repeat-returns-in_err-test
-repeat-returns-in_err-test t c = 
+repeat-returns-in_err-test t c =
     let p = err_from_is_err_and c.from_residual.result c.from_residual.ensures.1 in
     let is : test (option_copied c.args.test) c.loop-update.store ≡ Err c.in_err-test.field-0.0 = sym c.test.ensures ∙ c.in_err-test.was in
     rw (p.1, p.2) (turning-fails (option_copied c.args.test) (for_update c.args.calls.now.rank (calls_of c.args.calls.now) (option_copied c.args.update)) (started (act c.args.calls.now.rank (calls_of c.args.calls.now) c.args.body.now)) c.args.store.now c.loop-update.store c.args.replies.now c.loop-update.replies c.loop-update.invariant c.in_err-test.field-0.0 is)
 
 pub repeat-returns-then-not-branch : goal.repeat-returns-then-not-branch
-repeat-returns-then-not-branch t c = 
+repeat-returns-then-not-branch t c =
     let is : test (option_copied c.args.test) c.loop-update.store ≡ Ok false = sym c.test.ensures ∙ c.in_ok-test.was ∙ ap Ok c.if-not-branch.true in
     turning-ends (option_copied c.args.test) (for_update c.args.calls.now.rank (calls_of c.args.calls.now) (option_copied c.args.update)) (started (act c.args.calls.now.rank (calls_of c.args.calls.now) c.args.body.now)) c.args.store.now c.loop-update.store c.args.replies.now c.loop-update.replies c.loop-update.invariant is
 
 pub repeat-returns-in_err-flow : goal.repeat-returns-in_err-flow
-repeat-returns-in_err-flow t c = 
+repeat-returns-in_err-flow t c =
     let p = err_from_is_err_and c.from_residual-in_err-flow.result c.from_residual-in_err-flow.ensures.1 in
     let is : test (option_copied c.args.test) c.loop-update.store ≡ Ok true = sym c.test.ensures ∙ c.in_ok-test.was ∙ ap Ok c.if-not-branch.false in
     rw (p.1, p.2) (turning-stops (option_copied c.args.test) (for_update c.args.calls.now.rank (calls_of c.args.calls.now) (option_copied c.args.update)) (started (act c.args.calls.now.rank (calls_of c.args.calls.now) c.args.body.now)) c.args.store.now c.loop-update.store c.args.replies.now c.loop-update.replies c.loop-update.invariant c.take_turn.new.store c.take_turn.new.replies is _ c.in_err-flow.ensures.evaluated)
 
 pub repeat-returns-in-Some : goal.repeat-returns-in-Some
-repeat-returns-in-Some t c = 
+repeat-returns-in-Some t c =
     let is : test (option_copied c.args.test) c.loop-update.store ≡ Ok true = sym c.test.ensures ∙ c.in_ok-test.was ∙ ap Ok c.if-not-branch.false in
     turning-leaves (option_copied c.args.test) (for_update c.args.calls.now.rank (calls_of c.args.calls.now) (option_copied c.args.update)) (started (act c.args.calls.now.rank (calls_of c.args.calls.now) c.args.body.now)) c.args.store.now c.loop-update.store c.args.replies.now c.loop-update.replies c.loop-update.invariant c.take_turn.new.store c.take_turn.new.replies is c.in-Some.flow (rw c.in-Some.is at c.in_ok-flow.ensures.evaluated)
 
 pub repeat-loop-update-preserved : goal.repeat-loop-update-preserved
-repeat-loop-update-preserved t c = 
+repeat-loop-update-preserved t c =
     let is : test (option_copied c.args.test) c.loop-update.store ≡ Ok true = sym c.test.ensures ∙ c.in_ok-test.was ∙ ap Ok c.if-not-branch.false in
     turning-on (option_copied c.args.test) (for_update c.args.calls.now.rank (calls_of c.args.calls.now) (option_copied c.args.update)) (started (act c.args.calls.now.rank (calls_of c.args.calls.now) c.args.body.now)) c.args.store.now c.loop-update.store c.args.replies.now c.loop-update.replies c.loop-update.invariant c.take_turn.new.store c.take_turn.new.replies is c.in_ok-flow.ensures.fewer (rw c.in-None.is at c.in_ok-flow.ensures.evaluated)
 
 pub repeat_after-returns-in_err-flow : goal.repeat_after-returns-in_err-flow
-repeat_after-returns-in_err-flow t c = 
+repeat_after-returns-in_err-flow t c =
     let p = err_from_is_err_and c.from_residual.result c.from_residual.ensures.1 in
     rw (p.1, p.2) (λ k. c.in_err-flow.ensures.evaluated (record { on = λ s. loop (Some c.args.test.now) no_update (started (act c.args.calls.now.rank (calls_of c.args.calls.now) c.args.body.now)) s k; out = k }))
 
 pub repeat_after-returns-in-Some : goal.repeat_after-returns-in-Some
-repeat_after-returns-in-Some t c = 
+repeat_after-returns-in-Some t c =
     let h = rw c.in-Some.is at c.in_ok-flow.ensures.evaluated in
     record { at = λ k. h.at (record { on = λ s. loop (Some c.args.test.now) no_update (started (act c.args.calls.now.rank (calls_of c.args.calls.now) c.args.body.now)) s k; out = k }); left = h.left }
 
@@ -200,95 +203,100 @@ repeat_after-returns-in-None t c =
     (λ k. h.at (record { on = λ s. loop (Some c.args.test.now) no_update (started (act c.args.calls.now.rank (calls_of c.args.calls.now) c.args.body.now)) s k; out = k })) (h.left) (c.repeat.ensures)
 
 pub run-returns : goal.run-returns
-run-returns t c = 
+run-returns t c =
     from exit (started (act c.args.calls.now.rank (calls_of c.args.calls.now) c.args.stmt.now)) (act c.args.calls.now.rank (calls_of c.args.calls.now) c.args.stmt.now) c.args.store.now c.take_step.new.store c.act.new.store c.args.replies.now c.args.replies.now c.act.new.replies c.act.result
     (λ k. (c.in_ok-take_step.ensures.evaluated c.args.replies.now).at (λ s. act c.args.calls.now.rank (calls_of c.args.calls.now) c.args.stmt.now s k)) ((c.in_ok-take_step.ensures.evaluated c.args.replies.now).left) (c.act.ensures)
 
 pub run_block-returns-in_err-flow : goal.run_block-returns-in_err-flow
-run_block-returns-in_err-flow t c = 
+run_block-returns-in_err-flow t c =
     let p = err_from_is_err_and c.from_residual.result c.from_residual.ensures.1 in
     rw (p.1, p.2) (λ k. c.in_err-flow.ensures (leaving (mark_of c.args.store.now) k))
 
 pub run_block-returns : goal.run_block-returns
-run_block-returns t c = 
+run_block-returns t c =
     let is : c.leave.new.self ≡ leave (mark_of c.args.store.now) c.run_list.new.store = cc in
     let same : c.leave.new.self.left ≡ c.run_list.new.store.left = ap (λ (u : State). u.left) is in
     let ran : c.run_list.new.store.left ≤ c.args.store.now.left = c.in_ok-flow.ensures.left in
     record {
       at = λ k. c.in_ok-flow.ensures.at (leaving (mark_of c.args.store.now) k) ∙ left-block (mark_of c.args.store.now) k c.in_ok-flow.flow c.run_list.new.store c.leave.new.self c.run_list.new.replies is;
-      left = omega arith }
+      left = omega arith;
+    }
 
 pub run_for-returns-in_err-start_for : goal.run_for-returns-in_err-start_for
-run_for-returns-in_err-start_for t c = 
+run_for-returns-in_err-start_for t c =
     let p = err_from_is_err_and c.from_residual.result c.from_residual.ensures.1 in
     rw (p.1, p.2) (λ k. c.in_err-start_for.ensures (λ s. loop (option_copied c.args.test) (for_update c.args.calls.now.rank (calls_of c.args.calls.now) (option_copied c.args.update)) (started (act c.args.calls.now.rank (calls_of c.args.calls.now) c.args.body.now)) s (leaving (mark_of c.args.store.now) k)))
 
 pub run_for-returns-in_err-flow : goal.run_for-returns-in_err-flow
-run_for-returns-in_err-flow t c = 
+run_for-returns-in_err-flow t c =
     let p = err_from_is_err_and c.from_residual-in_err-flow.result c.from_residual-in_err-flow.ensures.1 in
     rw (p.1, p.2) (λ k. stops-from _ _ _ _ _ (c.in_ok-start_for.ensures.at (λ s. loop (option_copied c.args.test) (for_update c.args.calls.now.rank (calls_of c.args.calls.now) (option_copied c.args.update)) (started (act c.args.calls.now.rank (calls_of c.args.calls.now) c.args.body.now)) s (leaving (mark_of c.args.store.now) k))) (c.in_err-flow.ensures (leaving (mark_of c.args.store.now) k)))
 
 pub run_for-returns : goal.run_for-returns
-run_for-returns t c = 
+run_for-returns t c =
     let is : c.leave.new.self ≡ leave (mark_of c.args.store.now) c.repeat.new.store = cc in
     let same : c.leave.new.self.left ≡ c.repeat.new.store.left = ap (λ (u : State). u.left) is in
     let began : c.start_for.new.store.left ≤ c.args.store.now.left = c.in_ok-start_for.ensures.left in
     let ran : c.repeat.new.store.left ≤ c.start_for.new.store.left = c.in_ok-flow.ensures.left in
     record {
       at = λ k. c.in_ok-start_for.ensures.at (λ s. loop (option_copied c.args.test) (for_update c.args.calls.now.rank (calls_of c.args.calls.now) (option_copied c.args.update)) (started (act c.args.calls.now.rank (calls_of c.args.calls.now) c.args.body.now)) s (leaving (mark_of c.args.store.now) k)) ∙ c.in_ok-flow.ensures.at (leaving (mark_of c.args.store.now) k) ∙ left-block (mark_of c.args.store.now) k c.in_ok-flow.flow c.repeat.new.store c.leave.new.self c.repeat.new.replies is;
-      left = omega arith }
+      left = omega arith;
+    }
 
 pub run_list-returns-in_err-flow : goal.run_list-returns-in_err-flow
-run_list-returns-in_err-flow t c = 
+run_list-returns-in_err-flow t c =
     let p = err_from_is_err_and c.from_residual.result c.from_residual.ensures.1 in
     rw (p.1, p.2) (λ k. stops-from _ _ _ _ _ (c.loop-part.invariant.comes k ∙ rw (at c.args.parts.now c.loop-part.part-index c.part-item.result c.loop-part-test.true c.part-item.is) refl) (c.in_err-flow.ensures (record k { next = (λ s. act_list c.args.calls.now.rank (calls_of c.args.calls.now) (drop (c.loop-part.part-index + 1) c.args.parts.now) s k) })))
 
 pub run_list-returns-in_default : goal.run_list-returns-in_default
-run_list-returns-in_default t c = 
+run_list-returns-in_default t c =
     let few : c.loop-part.store.left ≤ c.args.store.now.left = c.loop-part.invariant.left in
     let fewer : c.run_part.new.store.left ≤ c.loop-part.store.left = c.in_ok-flow.ensures.left in
     record {
       at = λ k. c.loop-part.invariant.comes k ∙ rw (at c.args.parts.now c.loop-part.part-index c.part-item.result c.loop-part-test.true c.part-item.is) refl ∙ c.in_ok-flow.ensures.at (record k { next = (λ s. act_list c.args.calls.now.rank (calls_of c.args.calls.now) (drop (c.loop-part.part-index + 1) c.args.parts.now) s k) }) ∙ ap (λ x. after x c.run_part.new.replies) (exit-other k (λ s. act_list c.args.calls.now.rank (calls_of c.args.calls.now) (drop (c.loop-part.part-index + 1) c.args.parts.now) s k) _ c.run_part.new.store c.in_default.not-Next);
-      left = omega arith }
+      left = omega arith;
+    }
 
 pub run_list-loop-part-preserved : goal.run_list-loop-part-preserved
-run_list-loop-part-preserved t c = 
+run_list-loop-part-preserved t c =
     let h = rw c.in-Next.is at c.in_ok-flow.ensures in
     let few : c.loop-part.store.left ≤ c.args.store.now.left = c.loop-part.invariant.left in
     let fewer : c.run_part.new.store.left ≤ c.loop-part.store.left = h.left in
     record {
       comes = λ k. c.loop-part.invariant.comes k ∙ rw (at c.args.parts.now c.loop-part.part-index c.part-item.result c.loop-part-test.true c.part-item.is) refl ∙ h.at (record k { next = (λ s. act_list c.args.calls.now.rank (calls_of c.args.calls.now) (drop (c.loop-part.part-index + 1) c.args.parts.now) s k) });
-      left = omega arith }
+      left = omega arith;
+    }
 
 pub run_list-returns : goal.run_list-returns
 run_list-returns t c = record { at = λ k. c.loop-part.invariant.comes k ∙ rw (behind_all c.args.parts.now c.loop-part.part-index c.loop-part-test.false) refl; left = c.loop-part.invariant.left }
 
 pub run_part-returns-in_err-declare_all-in-Declaration : goal.run_part-returns-in_err-declare_all-in-Declaration
-run_part-returns-in_err-declare_all-in-Declaration t c = 
+run_part-returns-in_err-declare_all-in-Declaration t c =
     let p = err_from_is_err_and c.from_residual-in_err-declare_all-in-Declaration.result c.from_residual-in_err-declare_all-in-Declaration.ensures.1 in
     rw (p.1, p.2) (λ k. stops-from _ _ _ _ _ ((c.in_ok-take_step.ensures.evaluated c.args.replies.now).at (λ s. act_part c.args.calls.now.rank (calls_of c.args.calls.now) c.args.part.now s k) ∙ rw (c.in-Declaration.is, c.deref.ensures.value) refl) (c.in_err-declare_all-in-Declaration.ensures k.next))
 
 pub run_part-returns-in_ok-declare_all-in-Declaration : goal.run_part-returns-in_ok-declare_all-in-Declaration
-run_part-returns-in_ok-declare_all-in-Declaration t c = 
+run_part-returns-in_ok-declare_all-in-Declaration t c =
     let stepped : c.take_step.new.store.left ≤ c.args.store.now.left = (c.in_ok-take_step.ensures.evaluated c.args.replies.now).left in
     let declared : c.declare_all.new.store.left ≤ c.take_step.new.store.left = c.in_ok-declare_all-in-Declaration.ensures.left in
     record {
       at = λ k. (c.in_ok-take_step.ensures.evaluated c.args.replies.now).at (λ s. act_part c.args.calls.now.rank (calls_of c.args.calls.now) c.args.part.now s k) ∙ rw (c.in-Declaration.is, ← c.deref.ensures.value) (c.in_ok-declare_all-in-Declaration.ensures.at k.next);
-      left = omega arith }
+      left = omega arith;
+    }
 
 pub run_part-returns-in-Stmt : goal.run_part-returns-in-Stmt
-run_part-returns-in-Stmt t c = 
+run_part-returns-in-Stmt t c =
     from exit (started (act_part c.args.calls.now.rank (calls_of c.args.calls.now) c.args.part.now)) (act c.args.calls.now.rank (calls_of c.args.calls.now) c.in-Stmt.stmt) c.args.store.now c.take_step.new.store c.act.new.store c.args.replies.now c.args.replies.now c.act.new.replies c.act.result
     (λ k. (c.in_ok-take_step.ensures.evaluated c.args.replies.now).at (λ s. act_part c.args.calls.now.rank (calls_of c.args.calls.now) c.args.part.now s k) ∙ rw c.in-Stmt.is refl) ((c.in_ok-take_step.ensures.evaluated c.args.replies.now).left) (c.act.ensures)
 
 pub run_simple-returns-in_err-value-in-Set : goal.run_simple-returns-in_err-value-in-Set
-run_simple-returns-in_err-value-in-Set t c = 
+run_simple-returns-in_err-value-in-Set t c =
     let p = err_from_is_err_and c.from_residual-in_err-value-in-Set.result c.from_residual-in_err-value-in-Set.ensures.1 in
     let cell : cell_of c.in-Set.place c.args.store.now ≡ Ok c.in_ok-cell-in-Set.cell = sym c.cell_of.ensures.value ∙ c.in_ok-cell-in-Set.was in
     rw (p.1, p.2) (λ k. stops-from _ _ _ _ _ (rw (c.in-Set.is, cell) refl) (c.in_err-value-in-Set.ensures (λ v s. k (put c.in_ok-cell-in-Set.cell v s))))
 
 pub run_simple-returns-in_ok-value-in-Set : goal.run_simple-returns-in_ok-value-in-Set
-run_simple-returns-in_ok-value-in-Set t c = 
+run_simple-returns-in_ok-value-in-Set t c =
     let cell : cell_of c.in-Set.place c.args.store.now ≡ Ok c.in_ok-cell-in-Set.cell = sym c.cell_of.ensures.value ∙ c.in_ok-cell-in-Set.was in
     let valued : c.value_of.new.store.left ≤ c.args.store.now.left = c.in_ok-value-in-Set.ensures.left in
     let fits : FitsSigned w32 c.in_ok-value-in-Set.value = search rules in
@@ -296,16 +304,17 @@ run_simple-returns-in_ok-value-in-Set t c =
     let same : c.put.new.self.left ≡ c.value_of.new.store.left = ap (λ (u : State). u.left) is in
     record {
       at = λ k. rw (c.in-Set.is, cell) (c.in_ok-value-in-Set.ensures.at (λ v s. k (put c.in_ok-cell-in-Set.cell v s))) ∙ ap (λ u. after (k u) c.value_of.new.replies) (sym is);
-      left = omega arith }
+      left = omega arith;
+    }
 
 pub run_simple-returns-in_err-operand-in-Update : goal.run_simple-returns-in_err-operand-in-Update
-run_simple-returns-in_err-operand-in-Update t c = 
+run_simple-returns-in_err-operand-in-Update t c =
     let p = err_from_is_err_and c.from_residual-in_err-operand-in-Update.result c.from_residual-in_err-operand-in-Update.ensures.1 in
     let cell : cell_of c.in-Update.place c.args.store.now ≡ Ok c.in_ok-cell-in-Update.cell = sym c.cell_of-in-Update.ensures.value ∙ c.in_ok-cell-in-Update.was in
     rw (p.1, p.2) (λ k. stops-from _ _ _ _ _ (rw (c.in-Update.is, cell) refl) (c.in_err-operand-in-Update.ensures (λ v s. trying (operated c.in-Update.operator (cell_at s c.in_ok-cell-in-Update.cell) v) s (λ w. k (put c.in_ok-cell-in-Update.cell w s)))))
 
 pub run_simple-returns-in_err-value-in-Update : goal.run_simple-returns-in_err-value-in-Update
-run_simple-returns-in_err-value-in-Update t c = 
+run_simple-returns-in_err-value-in-Update t c =
     let p = err_from_is_err_and c.from_residual-in_err-value-in-Update.result c.from_residual-in_err-value-in-Update.ensures.1 in
     let cell : cell_of c.in-Update.place c.args.store.now ≡ Ok c.in_ok-cell-in-Update.cell = sym c.cell_of-in-Update.ensures.value ∙ c.in_ok-cell-in-Update.was in
     let fits_cell : FitsSigned w32 c.cell.result = search rules in
@@ -315,7 +324,7 @@ run_simple-returns-in_err-value-in-Update t c =
     rw (p.1, p.2) (λ k. rw (c.in-Update.is, cell) (c.in_ok-operand-in-Update.ensures.at (λ v s. trying (operated c.in-Update.operator (cell_at s c.in_ok-cell-in-Update.cell) v) s (λ w. k (put c.in_ok-cell-in-Update.cell w s)))) ∙ ap (λ (found : Result ℤ Fault). after (trying found c.value_of-in-Update.new.store (λ w. k (put c.in_ok-cell-in-Update.cell w c.value_of-in-Update.new.store))) c.value_of-in-Update.new.replies) fails)
 
 pub run_simple-returns-in_ok-value-in-Update : goal.run_simple-returns-in_ok-value-in-Update
-run_simple-returns-in_ok-value-in-Update t c = 
+run_simple-returns-in_ok-value-in-Update t c =
     let cell : cell_of c.in-Update.place c.args.store.now ≡ Ok c.in_ok-cell-in-Update.cell = sym c.cell_of-in-Update.ensures.value ∙ c.in_ok-cell-in-Update.was in
     let fits_cell : FitsSigned w32 c.cell.result = search rules in
     let fits_operand : FitsSigned w32 c.in_ok-operand-in-Update.operand = search rules in
@@ -327,10 +336,11 @@ run_simple-returns-in_ok-value-in-Update t c =
     let same : c.put-in-Update.new.self.left ≡ c.value_of-in-Update.new.store.left = ap (λ (u : State). u.left) is in
     record {
       at = λ k. rw (c.in-Update.is, cell) (c.in_ok-operand-in-Update.ensures.at (λ v s. trying (operated c.in-Update.operator (cell_at s c.in_ok-cell-in-Update.cell) v) s (λ w. k (put c.in_ok-cell-in-Update.cell w s)))) ∙ ap (λ (found : Result ℤ Fault). after (trying found c.value_of-in-Update.new.store (λ w. k (put c.in_ok-cell-in-Update.cell w c.value_of-in-Update.new.store))) c.value_of-in-Update.new.replies) done ∙ ap (λ u. after (k u) c.value_of-in-Update.new.replies) (sym is);
-      left = omega arith }
+      left = omega arith;
+    }
 
 pub run_simple-returns-in_err-invoke-in-Call : goal.run_simple-returns-in_err-invoke-in-Call
-run_simple-returns-in_err-invoke-in-Call t c = 
+run_simple-returns-in_err-invoke-in-Call t c =
     let p = err_from_is_err_and c.from_residual-in_err-invoke-in-Call.result c.from_residual-in_err-invoke-in-Call.ensures.1 in
     rw (p.1, p.2) (λ k. stops-from _ _ _ _ _ (rw c.in-Call.is refl) (c.in_err-invoke-in-Call.ensures (λ v s. k s)))
 
@@ -338,39 +348,39 @@ pub run_simple-returns-in_ok-invoke-in-Call : goal.run_simple-returns-in_ok-invo
 run_simple-returns-in_ok-invoke-in-Call t c = record { at = λ k. rw c.in-Call.is (c.in_ok-invoke-in-Call.ensures.at (λ v s. k s)); left = c.in_ok-invoke-in-Call.ensures.left }
 
 pub run_simple-returns-in-Print : goal.run_simple-returns-in-Print
-run_simple-returns-in-Print t c = 
+run_simple-returns-in-Print t c =
     from {K = Onward} {A = Unit {0}} (λ go done. go) (simple c.args.calls.now.rank (calls_of c.args.calls.now) c.args.one.now) (λ s go. trying (values c.deref-in-Print.result.now s) s (λ vs. print (text_of c.deref.result.now vs) s go)) c.args.store.now c.args.store.now c.print.new.store c.args.replies.now c.args.replies.now c.args.replies.now c.print.result
     (λ k. rw (c.in-Print.is, c.deref.ensures.value, c.deref-in-Print.ensures.value) refl) (omega arith) (c.print.ensures c.args.replies.now)
 
 pub start_for-returns-in_ok-take_step-in-Declaration : goal.start_for-returns-in_ok-take_step-in-Declaration
-start_for-returns-in_ok-take_step-in-Declaration t c = 
+start_for-returns-in_ok-take_step-in-Declaration t c =
     from {K = Onward} {A = Unit {0}} (λ go done. go) (for_start c.args.calls.now.rank (calls_of c.args.calls.now) c.args.start.now) (declare_all (calls_of c.args.calls.now) c.deref.result.now) c.args.store.now c.take_step.new.store c.declare_all.new.store c.args.replies.now c.args.replies.now c.declare_all.new.replies c.declare_all.result
     (λ k. rw (c.in-Declaration.is, c.deref.ensures.value) ((c.in_ok-take_step-in-Declaration.ensures.evaluated c.args.replies.now).at (λ s. declare_all (calls_of c.args.calls.now) c.in-Declaration.declaration.items.items s k))) ((c.in_ok-take_step-in-Declaration.ensures.evaluated c.args.replies.now).left) (c.declare_all.ensures)
 
 pub start_for-returns-in-Simple : goal.start_for-returns-in-Simple
-start_for-returns-in-Simple t c = 
+start_for-returns-in-Simple t c =
     from {K = Onward} {A = Unit {0}} (λ go done. go) (for_start c.args.calls.now.rank (calls_of c.args.calls.now) c.args.start.now) (simple c.args.calls.now.rank (calls_of c.args.calls.now) c.in-Simple.one) c.args.store.now c.args.store.now c.run_simple.new.store c.args.replies.now c.args.replies.now c.run_simple.new.replies c.run_simple.result
     (λ k. rw c.in-Simple.is refl) (omega arith) (c.run_simple.ensures)
 
 pub run_update-returns-in-Some : goal.run_update-returns-in-Some
-run_update-returns-in-Some t c = 
+run_update-returns-in-Some t c =
     from {K = Onward} {A = Unit {0}} (λ go done. go) (for_update c.args.calls.now.rank (calls_of c.args.calls.now) (option_copied c.args.update)) (simple c.args.calls.now.rank (calls_of c.args.calls.now) c.in-Some.one.now) c.args.store.now c.args.store.now c.run_simple.new.store c.args.replies.now c.args.replies.now c.run_simple.new.replies c.run_simple.result
     (λ k. rw c.in-Some.is refl) (omega arith) (c.run_simple.ensures)
 
 pub take_turn-returns-in_err-run-clause-evaluated : goal.take_turn-returns-in_err-run-clause-evaluated
-take_turn-returns-in_err-run-clause-evaluated t c = 
+take_turn-returns-in_err-run-clause-evaluated t c =
     let p = err_from_is_err_and c.from_residual-in_err-run.result c.from_residual-in_err-run.ensures.1 in
     rw (p.1, p.2) (λ ways. stops-from _ _ _ _ _ ((c.in_ok-take_step.ensures.evaluated c.args.replies.now).at (λ s. started (act c.args.calls.now.rank (calls_of c.args.calls.now) c.args.body.now) s (turn_exits (for_update c.args.calls.now.rank (calls_of c.args.calls.now) (option_copied c.args.update)) ways.on ways.out))) (c.in_err-run.ensures (turn_exits (for_update c.args.calls.now.rank (calls_of c.args.calls.now) (option_copied c.args.update)) ways.on ways.out)))
 
 pub take_turn-returns-in-Broke-clause-evaluated : goal.take_turn-returns-in-Broke-clause-evaluated
-take_turn-returns-in-Broke-clause-evaluated t c = 
+take_turn-returns-in-Broke-clause-evaluated t c =
     let h = rw c.in-Broke.is at c.in_ok-run.ensures in
     let stepped : c.take_step.new.store.left ≤ c.args.store.now.left = (c.in_ok-take_step.ensures.evaluated c.args.replies.now).left in
     let ran : c.run.new.store.left ≤ c.take_step.new.store.left = h.left in
     record { at = λ ways. (c.in_ok-take_step.ensures.evaluated c.args.replies.now).at (λ s. started (act c.args.calls.now.rank (calls_of c.args.calls.now) c.args.body.now) s (turn_exits (for_update c.args.calls.now.rank (calls_of c.args.calls.now) (option_copied c.args.update)) ways.on ways.out)) ∙ h.at (turn_exits (for_update c.args.calls.now.rank (calls_of c.args.calls.now) (option_copied c.args.update)) ways.on ways.out); left = omega arith }
 
 pub take_turn-returns-in-Back-clause-evaluated : goal.take_turn-returns-in-Back-clause-evaluated
-take_turn-returns-in-Back-clause-evaluated t c = 
+take_turn-returns-in-Back-clause-evaluated t c =
     let h = rw c.in-Back.is at c.in_ok-run.ensures in
     let stepped : c.take_step.new.store.left ≤ c.args.store.now.left = (c.in_ok-take_step.ensures.evaluated c.args.replies.now).left in
     let ran : c.run.new.store.left ≤ c.take_step.new.store.left = h.left in
@@ -378,18 +388,18 @@ take_turn-returns-in-Back-clause-evaluated t c =
     rw (to_z-of_z w32 c.in-Back.value fits) record { at = λ ways. (c.in_ok-take_step.ensures.evaluated c.args.replies.now).at (λ s. started (act c.args.calls.now.rank (calls_of c.args.calls.now) c.args.body.now) s (turn_exits (for_update c.args.calls.now.rank (calls_of c.args.calls.now) (option_copied c.args.update)) ways.on ways.out)) ∙ h.at (turn_exits (for_update c.args.calls.now.rank (calls_of c.args.calls.now) (option_copied c.args.update)) ways.on ways.out); left = omega arith }
 
 pub take_turn-returns-in_err-run_update-clause-evaluated : goal.take_turn-returns-in_err-run_update-clause-evaluated
-take_turn-returns-in_err-run_update-clause-evaluated t c = 
+take_turn-returns-in_err-run_update-clause-evaluated t c =
     let p = err_from_is_err_and c.from_residual-in_err-run_update.result c.from_residual-in_err-run_update.ensures.1 in
     rw (p.1, p.2) (λ ways. stops-from _ _ _ _ _ ((c.in_ok-take_step.ensures.evaluated c.args.replies.now).at (λ s. started (act c.args.calls.now.rank (calls_of c.args.calls.now) c.args.body.now) s (turn_exits (for_update c.args.calls.now.rank (calls_of c.args.calls.now) (option_copied c.args.update)) ways.on ways.out)) ∙ c.in_ok-run.ensures.at (turn_exits (for_update c.args.calls.now.rank (calls_of c.args.calls.now) (option_copied c.args.update)) ways.on ways.out) ∙ ap (λ x. after x c.run.new.replies) (exit-turn (for_update c.args.calls.now.rank (calls_of c.args.calls.now) (option_copied c.args.update)) ways.on ways.out _ c.run.new.store c.in_default.not-Broke c.in_default.not-Back)) (c.in_err-run_update.ensures ways.on))
 
 pub take_turn-returns-clause-evaluated : goal.take_turn-returns-clause-evaluated
-take_turn-returns-clause-evaluated t c = 
+take_turn-returns-clause-evaluated t c =
     let stepped : c.take_step.new.store.left ≤ c.args.store.now.left = (c.in_ok-take_step.ensures.evaluated c.args.replies.now).left in
     let ran : c.run.new.store.left ≤ c.take_step.new.store.left = c.in_ok-run.ensures.left in
     let updated : c.run_update.new.store.left ≤ c.run.new.store.left = c.in_ok-run_update.ensures.left in
     record { at = λ ways. (c.in_ok-take_step.ensures.evaluated c.args.replies.now).at (λ s. started (act c.args.calls.now.rank (calls_of c.args.calls.now) c.args.body.now) s (turn_exits (for_update c.args.calls.now.rank (calls_of c.args.calls.now) (option_copied c.args.update)) ways.on ways.out)) ∙ c.in_ok-run.ensures.at (turn_exits (for_update c.args.calls.now.rank (calls_of c.args.calls.now) (option_copied c.args.update)) ways.on ways.out) ∙ ap (λ x. after x c.run.new.replies) (exit-turn (for_update c.args.calls.now.rank (calls_of c.args.calls.now) (option_copied c.args.update)) ways.on ways.out _ c.run.new.store c.in_default.not-Broke c.in_default.not-Back) ∙ c.in_ok-run_update.ensures.at ways.on; left = omega arith }
 
 pub value_of-returns-in-Call : goal.value_of-returns-in-Call
-value_of-returns-in-Call t c = 
+value_of-returns-in-Call t c =
     from {K = ℤ → Onward} {A = ℤ} (λ go v. go v) (right (calls_of c.args.calls.now) c.args.one.now) (invoke (calls_of c.args.calls.now) c.in-Call.call) c.args.store.now c.args.store.now c.invoke.new.store c.args.replies.now c.args.replies.now c.invoke.new.replies c.invoke.result
     (λ k. rw c.in-Call.is refl) (omega arith) (c.invoke.ensures)

@@ -16,7 +16,8 @@ returns-then-printed-len-le65536 c = λ rest.
     record {
       at = λ k. (c.in_ok-ints.ensures rest).at (λ vs t. print_of (text_of c.args.format.now vs) t k)
           ∙ prints c.args.format.now c.in_ok-ints.ints c.in_ok-text.text.items c.args.store.now c.print.new.self k rest text (search rules) (search rules);
-      left = search rules }
+      left = search rules;
+    }
 
 pub returns : goal.returns
 returns c = λ rest k.
