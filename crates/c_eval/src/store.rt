@@ -1,11 +1,12 @@
 //! What a rank holds while its program runs.
-ghost use Rattle.std.specs.Prelude.{◌≡◌, ◌≤◌, ◌<◌, ◌^◌, ◌+◌, ◌++◌, ◌∷◌, [], IfOk, OnErr, OnOk, length, map, option_map, true};
+ghost use Rattle.std.specs.Prelude.{◌≡◌, ◌≤◌, ◌<◌, ◌^◌, ◌+◌, ◌++◌, ◌∷◌, [], IfOk, IfSome, OnErr, OnOk, length, map, option_map, true};
 ghost use Rattle.run_model.specs.Lists.{world};
 ghost use Rattle.c_program.specs.Courses.{listed_of, variable_of};
 ghost use Rattle.c_program.specs.Meaning.{cells_in, has_room, number_in, opened, parameter_cells, repeated, start, with_parameter, with_slot};
 ghost use Rattle.c_program.specs.Performing.{begun, learned, made_by, made_by_all, start_at};
 ghost use Rattle.c_program.specs.Values.{cells_of};
 ghost use Rattle.c_program.specs.State.{cell_at, first_cells, ints_in, leave, mark_of, members_among, members_of, put, put_all, values_from, width_of};
+ghost use Rattle.c_eval.specs.Sizes.{HaveIntSizes};
 ghost use Rattle.c_eval.specs.SlotView.{slot_view};
 ghost use Rattle.c_eval.specs.Slots.{with_cells};
 ghost use Rattle.c_eval.specs.Steps.{HasStepped};
@@ -53,13 +54,14 @@ impl<'p> Model for Store<'p> {
     ghost use Rattle.std.specs.Prelude.{◌≡◌, ◌≤◌, ◌<◌, ◌^◌, length, map};
     ghost use Rattle.c_program.specs.State.{State};
     ghost use Rattle.run_model.specs.Lists as lists;
+    ghost use Rattle.c_eval.specs.Sizes.{HaveIntSizes};
     ghost use Rattle.c_eval.specs.SlotView.{slot_view};
 
     ghost Value = { State };
 
     ghost view = { λ s. record { cells = s.cells.items; slots = map slot_view s.slots.items; base = s.base; opens = s.opens; printed = s.printed.items; left = s.left; starts = s.starts.items; made = s.made.items } };
 
-    ghost invariant = { λ s. (s.world.items ≡ lists.world 64 0) × (length s.cells.items ≤ 262144) × (length s.starts.items < 2 ^ 31) };
+    ghost invariant = { λ s. (s.world.items ≡ lists.world 64 0) × (length s.cells.items ≤ 262144) × (length s.starts.items < 2 ^ 31) × HaveIntSizes s.made.items };
 }
 
 impl<'p> Store<'p> {
@@ -269,10 +271,11 @@ impl<'p> Store<'p> {
         }
     }
 
-    /// The members of a communicator.
+    /// The members of a communicator, fewer than 2^31.
     pub fn members(&self, rank: Rank, comm: u32) -> Option<&[u8]>
         requires { rank.ranks ≤ 64 }
-        ensures { option_map (λ members. members.now) result ≡ members_of rank.ranks self.now comm }
+        ensures members { option_map (λ members. members.now) result ≡ members_of rank.ranks self.now comm }
+        ensures bound { IfSome result (λ members. length members.now < 2 ^ 31) }
     {
         if comm == 0 {
             return Some(&self.world[..rank.ranks as usize]);
@@ -280,7 +283,7 @@ impl<'p> Store<'p> {
         members_among(&self.made, comm)
     }
 
-    /// Notes the communicators that items made.
+    /// Notes the communicators that items made. The want of memory comes also where one would have 2^31 members.
     pub fn learn(&mut self, items: &[Item]) -> Result<(), AllocError>
         ensures { OnOk result (self.new ≡ learned items.now self.old) }
     {
@@ -450,7 +453,9 @@ fn push_variable(found: &mut Variables, variable: Variable) -> Result<(), AllocE
 }
 
 fn members_among<'k>(made: &'k [Known], comm: u32) -> Option<&'k [u8]>
-    ensures { option_map (λ members. members.now) result ≡ members_among made.now comm }
+    requires { HaveIntSizes made.now }
+    ensures members { option_map (λ members. members.now) result ≡ members_among made.now comm }
+    ensures bound { IfSome result (λ members. length members.now < 2 ^ 31) }
 {
     let mut rest = made;
     while let [known, others @ ..] = rest {
@@ -464,11 +469,17 @@ fn members_among<'k>(made: &'k [Known], comm: u32) -> Option<&'k [u8]>
 
 /// Notes the communicator that a reply tells of.
 fn learn_one(alloc: Global, made: &mut Vec<Known>, got: &Got) -> Result<(), AllocError>
-    ensures { OnOk result (made.new.items ≡ made.old.items ++ made_by got.now) }
+    requires { HaveIntSizes made.old.items }
+    ensures ok { OnOk result (made.new.items ≡ made.old.items ++ made_by got.now) }
+    ensures sizes { HaveIntSizes made.new.items }
 {
     if let Got::Made { comm, members } = got {
         if *comm != 0 {
-            let members = Ranks::from_slice(alloc, members.as_slice())?;
+            let members = members.as_slice();
+            if members.len() >= 2147483648 {
+                return Err(AllocError);
+            }
+            let members = Ranks::from_slice(alloc, members)?;
             made.push(Known {
                 comm: *comm,
                 members,
@@ -479,7 +490,9 @@ fn learn_one(alloc: Global, made: &mut Vec<Known>, got: &Got) -> Result<(), Allo
 }
 
 fn learn_all(alloc: Global, made: &mut Vec<Known>, items: &[Item]) -> Result<(), AllocError>
-    ensures { OnOk result (made.new.items ≡ made.old.items ++ made_by_all items.now) }
+    requires { HaveIntSizes made.old.items }
+    ensures ok { OnOk result (made.new.items ≡ made.old.items ++ made_by_all items.now) }
+    ensures sizes { HaveIntSizes made.new.items }
 {
     let mut rest = items;
     while let [item, after @ ..] = rest {

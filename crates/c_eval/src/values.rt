@@ -1,9 +1,9 @@
 //! The values of expressions, places and references.
 ghost use Rattle.std.specs.Prelude.{◌≡◌, ◌≤◌, IfOk, option_copied};
 ghost use Rattle.mpi_call.specs.Operations.{int_of, is_set};
+ghost use Rattle.c_program.specs.Equations.{chained_list, linked};
 ghost use Rattle.c_program.specs.Meaning.{passed, test};
 ghost use Rattle.c_program.specs.Values.{cell_of, field_place, is_decided, operated, range, value};
-ghost use Rattle.c_eval.specs.Chains.{chained_list, linked};
 
 use crate::store::Store;
 use c_names::operator::{Operator, apply, apply_sign};

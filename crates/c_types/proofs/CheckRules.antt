@@ -89,13 +89,13 @@ first_is_one text fs found g e = none_in fs g.fault g.first.one e
 
 -- ---- a text has a program or a first fault
 
-lists_one : (text : List ℕ) (list other : List Token) → AreTokens text list → AreTokens text other → list ≡ other
+pub lists_one : (text : List ℕ) (list other : List Token) → AreTokens text list → AreTokens text other → list ≡ other
 lists_one text list other a b = let e = one_reading text a b in cc
 
 list_no_fault : (text : List ℕ) (list : List Token) (fault : SourceFault) → AreTokens text list → lexed.IsFirstFault text fault → ⊥
 list_no_fault text list fault a b = let e = one_reading text a b.1 in cc
 
-tree_one : (text : List ℕ) (list other : List Token) (tree another : Tree) → list ≡ other → IsTree text list tree → IsTree text other another → tree ≡ another
+pub tree_one : (text : List ℕ) (list other : List Token) (tree another : Tree) → list ≡ other → IsTree text list tree → IsTree text other another → tree ≡ another
 tree_one text list other tree another e a b = one_tree (signs_of text other) tree another (subst (λ tokens. IsTree text tokens tree) e a) b
 
 tree_never : (text : List ℕ) (list other : List Token) (tree : Tree) (fault : SourceFault) → list ≡ other → IsTree text list tree → parsed.IsFirstFault text other fault → ⊥

@@ -1,4 +1,4 @@
-use Rattle.std.proofs.Common.{◌≡◌, ◌∙◌, ◌++◌, ◌∷◌, ◌/◌, ◌%◌, [], ℕ, List, ap, sym, append_assoc}
+use Rattle.std.proofs.Common.{◌∙◌, ◌++◌, ◌∷◌, ◌/◌, ◌%◌, [], ℕ, List, ap, sym, append_assoc}
 use Rattle.c_program.specs.Prints.{digit_text, hexadecimal_text}
 use Rattle.c_eval.proofs.PrintLaws.{hexadecimal_step}
 use Rattle.c_eval.proofs.print.+push_hexadecimal.Goals as goal

@@ -1,4 +1,4 @@
-use Rattle.std.proofs.Common.{◌≡◌, ◌≤◌, ◌+◌, ◌∙◌, ◌++◌, ap, sym, arith, ℤ, List, length, append_assoc}
+use Rattle.std.proofs.Common.{◌∙◌, ◌++◌, ap, sym, arith, ℤ, List, append_assoc}
 use Rattle.c_program.specs.Meaning.{repeated}
 use Rattle.c_program.specs.State.{first_cells}
 use Rattle.c_eval.proofs.StoreLaws.{repeated_last, repeated_bound}

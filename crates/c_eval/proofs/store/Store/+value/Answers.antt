@@ -1,11 +1,11 @@
-use Rattle.std.proofs.Common.{◌≡◌, ◌∙◌, ℤ, List, w32, FitsSigned, to_z, of_z, rules, refl, sym, ap, Ok, Err}
+use Rattle.std.proofs.Common.{◌≡◌, ◌∙◌, ℤ, List, w32, FitsSigned, rules, refl, sym, ap, Ok}
 use Rattle.std.proofs.lemmas.Int.{to_z-of_z}
 use Rattle.std.proofs.lemmas.Result.{err_from_is_err_and}
 use Rattle.c_program.specs.declared.expr.Expr.{Expr}
 use Rattle.c_program.specs.declared.expr.Link.{Link}
 use Rattle.c_program.specs.Values.{value}
-use Rattle.c_eval.specs.Chains.{chained_list}
-use Rattle.c_eval.proofs.ChainLaws.{chain-list, chain-next, chain-fails, chain-ends}
+use Rattle.c_program.specs.Equations.{chained_list, value-chain}
+use Rattle.c_eval.proofs.ChainLaws.{chain-next, chain-fails, chain-ends}
 use Rattle.c_eval.proofs.store.Store.+value.Goals as goal
 
 pub chained-loop-link-init : goal.chained-loop-link-init
@@ -39,7 +39,7 @@ value-returns-in_ok-v-in-Chain t c =
     let e : value c.in-Chain.first.value c.args.self.now ≡ Ok c.in_ok-v-in-Chain.v =
     ap (λ (x : Expr). value x c.args.self.now) (sym c.deref-in-Chain.ensures) ∙ sym c.value-in-Chain.ensures ∙ c.in_ok-v-in-Chain.was in
     let fits : FitsSigned w32 c.in_ok-v-in-Chain.v = search rules in
-    rw (c.in-Chain.is, chain-list c.in-Chain.first c.in-Chain.links c.args.self.now, e)
+    rw (c.in-Chain.is, value-chain c.in-Chain.first c.in-Chain.links c.args.self.now, e)
     (c.chained.ensures
     ∙ ap (λ (v : ℤ). chained_list c.deref-in-Chain-2.result.now v c.args.self.now) (to_z-of_z w32 c.in_ok-v-in-Chain.v fits)
     ∙ ap (λ (xs : List Link). chained_list xs c.in_ok-v-in-Chain.v c.args.self.now) c.deref-in-Chain-2.ensures.value)

@@ -1,5 +1,5 @@
 use Rattle.std.proofs.Common.{◌≡◌, drop}
-use Rattle.c_eval.specs.Chains.{chained_list}
+use Rattle.c_program.specs.Equations.{chained_list}
 use Rattle.c_eval.proofs.store.Store.+value.Given as goal
 
 abbrev pub invariant-chained-loop-link : goal.invariant-chained-loop-link
