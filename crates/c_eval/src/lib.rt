@@ -2,8 +2,14 @@
 #![tactic(auto)]
 
 mod calls;
+pub mod checks;
+pub mod collectives;
+pub mod completions;
+#[cfg(test)]
+mod effect_tests;
 pub mod effects;
 mod evaluate;
+pub mod messages;
 pub mod outcome;
 mod parts;
 pub mod perform;
