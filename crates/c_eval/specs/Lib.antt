@@ -1,3 +1,4 @@
+pub mod Asking
 pub mod Evaluated
 pub mod Parts
 pub mod Replies

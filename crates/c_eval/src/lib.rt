@@ -1,9 +1,12 @@
 //! The evaluator of C programs that begins again at each call.
 #![tactic(auto)]
 
+pub mod answers;
+pub mod asking;
 mod calls;
 pub mod checks;
 pub mod collectives;
+pub mod completion;
 pub mod completions;
 #[cfg(test)]
 mod effect_tests;
@@ -13,6 +16,8 @@ pub mod messages;
 pub mod outcome;
 mod parts;
 pub mod perform;
+#[cfg(test)]
+mod perform_tests;
 pub mod print;
 pub mod rank;
 pub mod store;

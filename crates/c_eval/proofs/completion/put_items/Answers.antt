@@ -1,0 +1,29 @@
+use Rattle.std.proofs.Common.{◌∙◌, ap, arith}
+use Rattle.std.proofs.lemmas.List.{drop_all}
+use Rattle.mpi_call.specs.declared.call.Fault.TheVariants.{OutOfBounds}
+use Rattle.c_program.specs.Courses.{trapped}
+use Rattle.c_program.specs.Performing.{put_items}
+use Rattle.c_eval.specs.Evaluated.{plain}
+use Rattle.c_eval.proofs.CameLaws.{came-from, came-so}
+use Rattle.c_eval.proofs.CompletionLaws.{item_put-left, items-next, items-trap}
+use Rattle.c_eval.proofs.completion.put_items.Goals as goal
+
+pub returns-then-not-branch : goal.returns-then-not-branch
+returns-then-not-branch c =
+    let same = item_put-left c.args.call.now.rank.ranks c.args.call.now.requests c.args.call.now.mode c.args.call.now.answer c.active_or_none-one.result c.loop-number.number c.index-items-number.result.got c.loop-number.store c.put_item.new.store c.in_ok-put_item.field-0 c.in_ok-put_item.ensures in
+    came-from (λ s go. trapped OutOfBounds s) (plain (put_items c.args.call.now.rank.ranks c.args.call.now.requests c.args.call.now.mode c.args.call.now.answer c.args.active.now 0 c.args.items.now))
+    c.args.store.now c.put_item.new.store c.put_item.new.store c.args.replies.now c.trapped.new.replies c.trapped.result
+    (λ go. c.loop-number.invariant.comes (go tt) ∙ items-trap c.args.call.now.rank.ranks c.args.call.now.requests c.args.call.now.mode c.args.call.now.answer c.args.active.now c.args.items.now c.loop-number.number c.index-items-number.result c.active_or_none-one.result c.loop-number.store c.put_item.new.store c.in_ok-put_item.field-0 c.loop-number-test.true c.index-items-number.is c.active_or_none-one.ensures c.in_ok-put_item.ensures c.if-not-branch.true (go tt))
+    (omega arith) (rw c.loop-number.invariant.replies at (c.trapped.ensures c.put_item.new.store))
+
+pub loop-number-preserved : goal.loop-number-preserved
+loop-number-preserved c = record {
+  comes = λ go. c.loop-number.invariant.comes go ∙ items-next c.args.call.now.rank.ranks c.args.call.now.requests c.args.call.now.mode c.args.call.now.answer c.args.active.now c.args.items.now c.loop-number.number c.index-items-number.result c.active_or_none-one.result c.loop-number.store c.put_item.new.store c.in_ok-put_item.field-0 c.loop-number-test.true c.index-items-number.is c.active_or_none-one.ensures c.in_ok-put_item.ensures c.if-not-branch.false go;
+  replies = c.loop-number.invariant.replies;
+  left = let same = item_put-left c.args.call.now.rank.ranks c.args.call.now.requests c.args.call.now.mode c.args.call.now.answer c.active_or_none-one.result c.loop-number.number c.index-items-number.result.got c.loop-number.store c.put_item.new.store c.in_ok-put_item.field-0 c.in_ok-put_item.ensures in omega arith;
+}
+
+pub returns : goal.returns
+returns c = rw c.loop-number.invariant.replies (came-so (plain (put_items c.args.call.now.rank.ranks c.args.call.now.requests c.args.call.now.mode c.args.call.now.answer c.args.active.now 0 c.args.items.now)) c.args.store.now c.loop-number.store c.args.replies.now tt
+    (λ go. c.loop-number.invariant.comes (go tt) ∙ ap (λ items. put_items c.args.call.now.rank.ranks c.args.call.now.requests c.args.call.now.mode c.args.call.now.answer c.args.active.now c.loop-number.number items c.loop-number.store (go tt)) (drop_all c.loop-number.number c.args.items.now c.loop-number-test.false))
+    c.loop-number.invariant.left)
