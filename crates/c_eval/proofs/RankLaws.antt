@@ -1,4 +1,4 @@
-use Rattle.std.proofs.Common.{◌≡◌, ◌∙◌, ◌++◌, ◌<◌, ◌≤◌, ℕ, Bool, true, false, List, [], ◌∷◌, Option, Some, None, refl, sym, ap, subst}
+use Rattle.std.proofs.Common.{◌≡◌, ◌∙◌, ◌++◌, ◌<◌, ◌≤◌, ℕ, ℤ, Bool, true, false, List, [], ◌∷◌, Option, Some, None, refl, sym, ap, subst}
 use Rattle.std.proofs.lemmas.List.{map-append}
 use Rattle.mpi_call.specs.declared.call.Call.{Call}
 use Rattle.mpi_call.specs.declared.reply.Reply.{Reply}
@@ -11,8 +11,11 @@ use Rattle.run_model.specs.Views.{View, replies_in}
 use Rattle.run_model.proofs.Along.{Along-snoc}
 use Rattle.c_program.specs.declared.effect.Rank.{Rank}
 use Rattle.c_program.specs.declared.program.CProgram.{CProgram}
+use Rattle.c_program.specs.declared.program.Function.{Function}
+use Rattle.c_program.specs.declared.state.Passed.{Passed}
 use Rattle.c_program.specs.Courses.{Course, Asks, Over, after, asks_last, call_in, listed_of, state_in, variables_in}
-use Rattle.c_program.specs.Meaning.{course_of}
+use Rattle.c_program.specs.Meaning.{call_at, course_of}
+use Rattle.c_program.specs.Performing.{Onward}
 use Rattle.c_program.specs.Program.{course_after, next_of, output_of, rank_of, variables_of}
 use Rattle.c_program.specs.ProgramLaws.{after_in_shape}
 use Rattle.c_program.specs.State.{State}
@@ -83,3 +86,7 @@ rank-variables program rank replies asked s call is a live =
 
 pub wants-from : (course course' : Course) (want : Want) (s : State) → course ≡ course' → Wants course' want s → Wants course want s
 wants-from course course' want s e w = let P : Course → Type 0 = λ c. Wants c want s in subst P (sym e) w
+
+pub moved : (rank : Rank) (fs fs' : List Function) (depth main : ℕ) (arguments : List Passed) (go : ℤ → Onward) (s s' t : State) (replies replies' : List Reply) (want : Want)
+    → fs ≡ fs' → s ≡ s' → replies ≡ replies' → Wants (after (call_at rank fs depth main arguments s go) replies) want t → Wants (after (call_at rank fs' depth main arguments s' go) replies') want t
+moved rank fs fs' depth main arguments go s s' t replies replies' want same_fs same_s same_replies w = rw (← same_fs, ← same_s, ← same_replies) w

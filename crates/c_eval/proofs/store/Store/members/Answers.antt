@@ -1,4 +1,4 @@
-use Rattle.std.proofs.Common.{◌≡◌, ◌∙◌, ap, List, ℕ, Some, take, rules}
+use Rattle.std.proofs.Common.{◌∙◌, ap, List, ℕ, Some, take, rules}
 use Rattle.c_eval.proofs.StoreLaws.{take_world}
 use Rattle.c_eval.proofs.store.Store.members.Goals as goal
 

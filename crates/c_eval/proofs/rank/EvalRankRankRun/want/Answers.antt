@@ -1,0 +1,22 @@
+use Rattle.std.proofs.Common.{◌≡◌, ◌∷◌, [], pos}
+use Rattle.c_program.specs.declared.state.Passed.TheVariants.{Number}
+use Rattle.c_program.specs.Courses.{after, ended}
+use Rattle.c_program.specs.Meaning.{course_of, start}
+use Rattle.c_eval.specs.Standing.{Wants}
+use Rattle.c_eval.proofs.RankLaws.{moved, rank-says, rank-wants}
+use Rattle.c_eval.proofs.rank.EvalRankRankRun.want.Goals as goal
+
+pub invariant_of-self : goal.invariant_of-self
+invariant_of-self c =
+    let w : Wants (after (course_of c.self.inside.program.now c.self.inside.rank) c.self.inside.replies.items) c.in_ok-want.want c.evaluate.new.store =
+    moved c.self.inside.rank c.deref.result.now c.self.inside.program.now.functions.items 100 c.self.inside.program.now.main (Number (pos 1) ∷ []) (λ v s. ended s)
+    c.in_ok-store.store start c.evaluate.new.store c.deref-2.result.now c.self.inside.replies.items c.in_ok-want.want c.deref.ensures.value c.in_ok-store.ensures c.deref-2.ensures.value c.in_ok-want.ensures in
+    let same : c.swap.new.x ≡ c.evaluate.new.store = c.swap.ensures.x_after in
+    rw same (rank-wants c.self.inside.program.now c.self.inside.rank c.self.inside.replies.items c.self.inside.asked c.self.inside.store c.evaluate.new.store c.in_ok-want.want c.self.invariant w)
+
+pub returns-clause-says : goal.returns-clause-says
+returns-clause-says c =
+    let w : Wants (after (course_of c.self.inside.program.now c.self.inside.rank) c.self.inside.replies.items) c.in_ok-want.want c.evaluate.new.store =
+    moved c.self.inside.rank c.deref.result.now c.self.inside.program.now.functions.items 100 c.self.inside.program.now.main (Number (pos 1) ∷ []) (λ v s. ended s)
+    c.in_ok-store.store start c.evaluate.new.store c.deref-2.result.now c.self.inside.replies.items c.in_ok-want.want c.deref.ensures.value c.in_ok-store.ensures c.deref-2.ensures.value c.in_ok-want.ensures in
+    rw (← c.self.view_is) (rank-says c.self.inside.program.now c.self.inside.rank c.self.inside.replies.items c.self.inside.asked c.self.inside.store c.evaluate.new.store c.in_ok-want.want c.self.invariant w)
