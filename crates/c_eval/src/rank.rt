@@ -61,10 +61,7 @@ impl<'p> EvalRank<'p> {
         Ok(EvalRank {
             alloc,
             program,
-            rank: Rank {
-                ranks: n,
-                number: rank,
-            },
+            rank,
             replies: Vec::new(alloc),
             asked: false,
             store: Store::new(alloc)?,
