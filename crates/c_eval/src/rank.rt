@@ -53,15 +53,18 @@ impl<'p> Model for EvalRank<'p> {
 
 impl<'p> EvalRank<'p> {
     /// A rank that has got no reply yet.
-    pub fn start(alloc: Global, program: &'p CProgram, rank: Rank) -> Result<Self, AllocError>
-        requires member { rank.number < rank.ranks }
-        requires few { rank.ranks ≤ 64 }
-        ensures { IfOk result (λ run. run ≡ record { program = program.now; ranks = rank.ranks; rank = rank.number; replies = []; asked = false }) }
+    pub fn start(alloc: Global, program: &'p CProgram, n: u8, rank: u8) -> Result<Self, AllocError>
+        requires member { rank < n }
+        requires few { n ≤ 64 }
+        ensures { IfOk result (λ run. run ≡ record { program = program.now; ranks = n; rank = rank; replies = []; asked = false }) }
     {
         Ok(EvalRank {
             alloc,
             program,
-            rank,
+            rank: Rank {
+                ranks: n,
+                number: rank,
+            },
             replies: Vec::new(alloc),
             asked: false,
             store: Store::new(alloc)?,
