@@ -1,6 +1,6 @@
 #!/usr/bin/env bash
 # Replays that grow: rank 0 sends so many messages to rank 1, and both are replayed on one thread from their log. First
-# `wiz replay LOG --serial`, with programs in the small form, as long as a text may be; then `replay_bench`, which makes the
+# `wiz replay LOG --serial`, with programs as long as a text may be; then `replay_bench`, which makes the
 # log and the program in memory. Needs `rt`. A row gives processor time (user and system, from start to end) in milliseconds:
 # the median of five measurements and their range, each the mean of ten runs. `growth` is the median against that of the row
 # above.
