@@ -6,4 +6,5 @@ pub mod LogLemmas
 pub mod ReadableLogs
 pub mod RecordLemmas
 pub mod ReportLemmas
+pub mod RunLemmas
 pub mod WordLemmas

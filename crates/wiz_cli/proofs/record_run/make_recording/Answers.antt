@@ -3,7 +3,7 @@ use Rattle.group_plan.specs.Plans.{number_of_ranks}
 use Rattle.log_bounds.specs.RunBounds.{AreOfWords, LogsAreInBounds}
 use Rattle.run_model.specs.declared.event.Event.{Event}
 use Rattle.run_model.specs.Views.{Next}
-use Rattle.small_c.specs.Courses.{next_of, output_of}
+use Rattle.c_program.specs.Program.{next_of, output_of}
 use Rattle.srr_record.specs.Recordings.{IsRecording}
 use Rattle.wiz_cli.proofs.InputLemmas.{HasLists-logs, turns_below}
 use Rattle.wiz_cli.proofs.ReadableLogs.{readable_logs}
