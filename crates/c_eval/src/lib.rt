@@ -8,19 +8,13 @@ pub mod checks;
 pub mod collectives;
 pub mod completion;
 pub mod completions;
-#[cfg(test)]
-mod effect_tests;
 pub mod effects;
 mod evaluate;
 pub mod messages;
 pub mod outcome;
 mod parts;
 pub mod perform;
-#[cfg(test)]
-mod perform_tests;
 pub mod print;
 pub mod rank;
 pub mod store;
-#[cfg(test)]
-mod tests;
 pub mod values;

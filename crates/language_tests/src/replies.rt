@@ -1,7 +1,7 @@
 //! Effects over replies, worked out by hand from the standard.
-use crate::outcome::{Outcome, Replies};
-use crate::perform::perform;
-use crate::store::Store;
+use c_eval::outcome::{Outcome, Replies};
+use c_eval::perform::perform;
+use c_eval::store::Store;
 use c_names::kind::Kind;
 use c_program::effect::{Answer, Effect, Message, Rank, Receive, Start};
 use c_program::range::Range;

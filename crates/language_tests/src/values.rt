@@ -1,6 +1,6 @@
 //! Values worked out by hand, and what C's `printf` prints.
-use crate::print::text_of;
-use crate::store::Store;
+use c_eval::print::text_of;
+use c_eval::store::Store;
 use c_names::format::pieces;
 use c_names::kind::Kind;
 use c_names::operator::Operator;
