@@ -1,11 +1,5 @@
-//! Tests that cross crates: what a program's text is read as, and how programs are evaluated.
+//! Tests that cross crates: what a program's text is read as.
 #![tactic(auto)]
 
 #[cfg(test)]
-mod effects;
-#[cfg(test)]
 mod programs;
-#[cfg(test)]
-mod replies;
-#[cfg(test)]
-mod values;
