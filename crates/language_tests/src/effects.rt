@@ -90,37 +90,3 @@ fn a_send_is_to_a_member(rt: HostRuntime) -> Result<(), Fail> {
     }
     Ok(())
 }
-
-#[test]
-fn only_the_root_of_a_gather_gives_a_receive(rt: HostRuntime) -> Result<(), Fail> {
-    let alloc = rt.alloc();
-    let name = Bytes::from_slice(alloc, b"a")?;
-    let mut store = Store::new(alloc)?;
-    store.declare(&name, Kind::Int, 8)?;
-    for (count, receive_count, root, want) in [
-        (2, 2, 1, None),
-        (2, 5, 0, None),
-        (2, 5, 1, Some(Fault::BadCount)),
-        (3, 3, 1, Some(Fault::OutOfBounds)),
-        (3, 3, 0, None),
-        (9, 9, 0, Some(Fault::OutOfBounds)),
-    ] {
-        match effect_of(RANK, &gather(count, receive_count, root), &store) {
-            Err(fault) => assert_eq!(rt; Some(fault), want),
-            Ok(Effect::Joins(collective)) => {
-                assert!(rt; want.is_none());
-                match (collective.entered, collective.into) {
-                    (Entered::Cells(entered), Into::Cells(into)) => {
-                        assert_eq!(rt; root, 1);
-                        assert_eq!(rt; entered.length(), 2);
-                        assert_eq!(rt; into.length(), 6);
-                    }
-                    (Entered::Cells(_), Into::Nowhere) => assert_eq!(rt; root, 0),
-                    _ => assert!(rt; false),
-                }
-            }
-            Ok(_) => assert!(rt; false),
-        }
-    }
-    Ok(())
-}
