@@ -50,6 +50,91 @@ fn operation_of(scope: &Scope, argument: &Argument) -> Op
     }
 }
 
+/// Two values.
+#[derive(Drop)]
+struct Pair {
+    first: Expr,
+    second: Expr,
+}
+
+/// Three values.
+#[derive(Drop)]
+struct Triple {
+    first: Expr,
+    second: Expr,
+    third: Expr,
+}
+
+/// Two references.
+#[derive(Drop)]
+struct Places {
+    first: Reference,
+    second: Reference,
+}
+
+/// The ints of a message, the other rank and the tag.
+#[derive(Drop)]
+struct Letter {
+    buffer: Buffer,
+    other: Expr,
+    tag: Expr,
+}
+
+/// A letter and its communicator.
+#[derive(Drop)]
+struct Message {
+    buffer: Buffer,
+    other: Expr,
+    tag: Expr,
+    comm: Expr,
+}
+
+/// What is sent, and what is received.
+#[derive(Drop)]
+struct Letters {
+    send: Letter,
+    receive: Letter,
+}
+
+/// Requests, and how many they are.
+#[derive(Drop)]
+struct Requests {
+    count: Expr,
+    requests: Reference,
+}
+
+/// Requests, and where one answer goes.
+#[derive(Drop)]
+struct Asked {
+    count: Expr,
+    requests: Reference,
+    into: Reference,
+}
+
+/// Requests, and where two answers go.
+#[derive(Drop)]
+struct AskedTwice {
+    count: Expr,
+    requests: Reference,
+    first: Reference,
+    second: Reference,
+}
+
+/// The ints that a reduction takes and gives, and how many they are.
+#[derive(Drop)]
+struct Reduced {
+    send: Reference,
+    receive: Reference,
+    count: Expr,
+}
+
+/// The ints that a collective takes and gives.
+#[derive(Drop)]
+struct Exchange {
+    send: Buffer,
+    receive: Buffer,
+}
+
 /// A call and what stands around it.
 #[derive(Clone, Copy)]
 struct Given<'a> {
@@ -120,6 +205,200 @@ impl<'a> Given<'a> {
         }
     }
 
+    /// Two values by their places.
+    fn values(&self, first: usize, second: usize) -> Result<Pair, AllocError>
+        requires first { is_value (argument (given_of self.now.call.now) first) ≡ true }
+        requires second { is_value (argument (given_of self.now.call.now) second) ≡ true }
+        ensures first { IfOk result (λ typed. IsValue self.now.scope.now (argument (given_of self.now.call.now) first) typed.first) }
+        ensures second { IfOk result (λ typed. IsValue self.now.scope.now (argument (given_of self.now.call.now) second) typed.second) }
+    {
+        let first = self.value(first)?;
+        let second = self.value(second)?;
+        Ok(Pair { first, second })
+    }
+
+    /// The first three arguments.
+    fn triple(&self) -> Result<Triple, AllocError>
+        requires first { is_value (argument (given_of self.now.call.now) 0) ≡ true }
+        requires second { is_value (argument (given_of self.now.call.now) 1) ≡ true }
+        requires third { is_value (argument (given_of self.now.call.now) 2) ≡ true }
+        ensures first { IfOk result (λ typed. IsValue self.now.scope.now (argument (given_of self.now.call.now) 0) typed.first) }
+        ensures second { IfOk result (λ typed. IsValue self.now.scope.now (argument (given_of self.now.call.now) 1) typed.second) }
+        ensures third { IfOk result (λ typed. IsValue self.now.scope.now (argument (given_of self.now.call.now) 2) typed.third) }
+    {
+        let pair = self.values(0, 1)?;
+        let third = self.value(2)?;
+        Ok(Triple {
+            first: pair.first,
+            second: pair.second,
+            third,
+        })
+    }
+
+    /// The first two arguments.
+    fn places(&self) -> Result<Places, AllocError>
+        requires first { is_reference self.now.scope.now (argument (given_of self.now.call.now) 0) ≡ true }
+        requires second { is_reference self.now.scope.now (argument (given_of self.now.call.now) 1) ≡ true }
+        ensures first { IfOk result (λ typed. IsReference self.now.scope.now (argument (given_of self.now.call.now) 0) typed.first) }
+        ensures second { IfOk result (λ typed. IsReference self.now.scope.now (argument (given_of self.now.call.now) 1) typed.second) }
+    {
+        let first = self.reference(0)?;
+        let second = self.reference(1)?;
+        Ok(Places { first, second })
+    }
+
+    /// A letter, by the places of its parts.
+    fn letter(
+        &self,
+        cells: usize,
+        count: usize,
+        other: usize,
+        tag: usize,
+    ) -> Result<Letter, AllocError>
+        requires cells { is_reference self.now.scope.now (argument (given_of self.now.call.now) cells) ≡ true }
+        requires count { is_value (argument (given_of self.now.call.now) count) ≡ true }
+        requires other { is_value (argument (given_of self.now.call.now) other) ≡ true }
+        requires tag { is_value (argument (given_of self.now.call.now) tag) ≡ true }
+        ensures buffer { IfOk result (λ typed. IsBuffer self.now.scope.now (argument (given_of self.now.call.now) cells) (argument (given_of self.now.call.now) count) typed.buffer) }
+        ensures other { IfOk result (λ typed. IsValue self.now.scope.now (argument (given_of self.now.call.now) other) typed.other) }
+        ensures tag { IfOk result (λ typed. IsValue self.now.scope.now (argument (given_of self.now.call.now) tag) typed.tag) }
+    {
+        let buffer = self.buffer(cells, count)?;
+        let pair = self.values(other, tag)?;
+        Ok(Letter {
+            buffer,
+            other: pair.first,
+            tag: pair.second,
+        })
+    }
+
+    /// The first six arguments: a letter and its communicator.
+    fn message(&self) -> Result<Message, AllocError>
+        requires cells { is_reference self.now.scope.now (argument (given_of self.now.call.now) 0) ≡ true }
+        requires count { is_value (argument (given_of self.now.call.now) 1) ≡ true }
+        requires other { is_value (argument (given_of self.now.call.now) 3) ≡ true }
+        requires tag { is_value (argument (given_of self.now.call.now) 4) ≡ true }
+        requires comm { is_value (argument (given_of self.now.call.now) 5) ≡ true }
+        ensures buffer { IfOk result (λ typed. IsBuffer self.now.scope.now (argument (given_of self.now.call.now) 0) (argument (given_of self.now.call.now) 1) typed.buffer) }
+        ensures other { IfOk result (λ typed. IsValue self.now.scope.now (argument (given_of self.now.call.now) 3) typed.other) }
+        ensures tag { IfOk result (λ typed. IsValue self.now.scope.now (argument (given_of self.now.call.now) 4) typed.tag) }
+        ensures comm { IfOk result (λ typed. IsValue self.now.scope.now (argument (given_of self.now.call.now) 5) typed.comm) }
+    {
+        let letter = self.letter(0, 1, 3, 4)?;
+        let comm = self.value(5)?;
+        Ok(Message {
+            buffer: letter.buffer,
+            other: letter.other,
+            tag: letter.tag,
+            comm,
+        })
+    }
+
+    /// The first ten arguments: a letter that is sent and one that is received.
+    fn letters(&self) -> Result<Letters, AllocError>
+        requires send { is_reference self.now.scope.now (argument (given_of self.now.call.now) 0) ≡ true }
+        requires send_count { is_value (argument (given_of self.now.call.now) 1) ≡ true }
+        requires dest { is_value (argument (given_of self.now.call.now) 3) ≡ true }
+        requires send_tag { is_value (argument (given_of self.now.call.now) 4) ≡ true }
+        requires receive { is_reference self.now.scope.now (argument (given_of self.now.call.now) 5) ≡ true }
+        requires receive_count { is_value (argument (given_of self.now.call.now) 6) ≡ true }
+        requires source { is_value (argument (given_of self.now.call.now) 8) ≡ true }
+        requires receive_tag { is_value (argument (given_of self.now.call.now) 9) ≡ true }
+        ensures send { IfOk result (λ typed. IsBuffer self.now.scope.now (argument (given_of self.now.call.now) 0) (argument (given_of self.now.call.now) 1) typed.send.buffer) }
+        ensures dest { IfOk result (λ typed. IsValue self.now.scope.now (argument (given_of self.now.call.now) 3) typed.send.other) }
+        ensures send_tag { IfOk result (λ typed. IsValue self.now.scope.now (argument (given_of self.now.call.now) 4) typed.send.tag) }
+        ensures receive { IfOk result (λ typed. IsBuffer self.now.scope.now (argument (given_of self.now.call.now) 5) (argument (given_of self.now.call.now) 6) typed.receive.buffer) }
+        ensures source { IfOk result (λ typed. IsValue self.now.scope.now (argument (given_of self.now.call.now) 8) typed.receive.other) }
+        ensures receive_tag { IfOk result (λ typed. IsValue self.now.scope.now (argument (given_of self.now.call.now) 9) typed.receive.tag) }
+    {
+        let send = self.letter(0, 1, 3, 4)?;
+        let receive = self.letter(5, 6, 8, 9)?;
+        Ok(Letters { send, receive })
+    }
+
+    /// The first two arguments: requests, and how many they are.
+    fn requests(&self) -> Result<Requests, AllocError>
+        requires count { is_value (argument (given_of self.now.call.now) 0) ≡ true }
+        requires requests { is_reference self.now.scope.now (argument (given_of self.now.call.now) 1) ≡ true }
+        ensures count { IfOk result (λ typed. IsValue self.now.scope.now (argument (given_of self.now.call.now) 0) typed.count) }
+        ensures requests { IfOk result (λ typed. IsReference self.now.scope.now (argument (given_of self.now.call.now) 1) typed.requests) }
+    {
+        let count = self.value(0)?;
+        let requests = self.reference(1)?;
+        Ok(Requests { count, requests })
+    }
+
+    /// The first three arguments: requests, and where one answer goes.
+    fn asked(&self) -> Result<Asked, AllocError>
+        requires count { is_value (argument (given_of self.now.call.now) 0) ≡ true }
+        requires requests { is_reference self.now.scope.now (argument (given_of self.now.call.now) 1) ≡ true }
+        requires into { is_reference self.now.scope.now (argument (given_of self.now.call.now) 2) ≡ true }
+        ensures count { IfOk result (λ typed. IsValue self.now.scope.now (argument (given_of self.now.call.now) 0) typed.count) }
+        ensures requests { IfOk result (λ typed. IsReference self.now.scope.now (argument (given_of self.now.call.now) 1) typed.requests) }
+        ensures into { IfOk result (λ typed. IsReference self.now.scope.now (argument (given_of self.now.call.now) 2) typed.into) }
+    {
+        let all = self.requests()?;
+        let into = self.reference(2)?;
+        Ok(Asked {
+            count: all.count,
+            requests: all.requests,
+            into,
+        })
+    }
+
+    /// The first four arguments: requests, and where two answers go.
+    fn asked_twice(&self) -> Result<AskedTwice, AllocError>
+        requires count { is_value (argument (given_of self.now.call.now) 0) ≡ true }
+        requires requests { is_reference self.now.scope.now (argument (given_of self.now.call.now) 1) ≡ true }
+        requires first { is_reference self.now.scope.now (argument (given_of self.now.call.now) 2) ≡ true }
+        requires second { is_reference self.now.scope.now (argument (given_of self.now.call.now) 3) ≡ true }
+        ensures count { IfOk result (λ typed. IsValue self.now.scope.now (argument (given_of self.now.call.now) 0) typed.count) }
+        ensures requests { IfOk result (λ typed. IsReference self.now.scope.now (argument (given_of self.now.call.now) 1) typed.requests) }
+        ensures first { IfOk result (λ typed. IsReference self.now.scope.now (argument (given_of self.now.call.now) 2) typed.first) }
+        ensures second { IfOk result (λ typed. IsReference self.now.scope.now (argument (given_of self.now.call.now) 3) typed.second) }
+    {
+        let asked = self.asked()?;
+        let second = self.reference(3)?;
+        Ok(AskedTwice {
+            count: asked.count,
+            requests: asked.requests,
+            first: asked.into,
+            second,
+        })
+    }
+
+    /// The first three arguments of a reduction.
+    fn reduced(&self) -> Result<Reduced, AllocError>
+        requires send { is_reference self.now.scope.now (argument (given_of self.now.call.now) 0) ≡ true }
+        requires receive { is_reference self.now.scope.now (argument (given_of self.now.call.now) 1) ≡ true }
+        requires count { is_value (argument (given_of self.now.call.now) 2) ≡ true }
+        ensures send { IfOk result (λ typed. IsReference self.now.scope.now (argument (given_of self.now.call.now) 0) typed.send) }
+        ensures receive { IfOk result (λ typed. IsReference self.now.scope.now (argument (given_of self.now.call.now) 1) typed.receive) }
+        ensures count { IfOk result (λ typed. IsValue self.now.scope.now (argument (given_of self.now.call.now) 2) typed.count) }
+    {
+        let places = self.places()?;
+        let count = self.value(2)?;
+        Ok(Reduced {
+            send: places.first,
+            receive: places.second,
+            count,
+        })
+    }
+
+    /// The first five arguments of a collective: what it takes and gives.
+    fn exchange(&self) -> Result<Exchange, AllocError>
+        requires send { is_reference self.now.scope.now (argument (given_of self.now.call.now) 0) ≡ true }
+        requires send_count { is_value (argument (given_of self.now.call.now) 1) ≡ true }
+        requires receive { is_reference self.now.scope.now (argument (given_of self.now.call.now) 3) ≡ true }
+        requires receive_count { is_value (argument (given_of self.now.call.now) 4) ≡ true }
+        ensures send { IfOk result (λ typed. IsBuffer self.now.scope.now (argument (given_of self.now.call.now) 0) (argument (given_of self.now.call.now) 1) typed.send) }
+        ensures receive { IfOk result (λ typed. IsBuffer self.now.scope.now (argument (given_of self.now.call.now) 3) (argument (given_of self.now.call.now) 4) typed.receive) }
+    {
+        let send = self.buffer(0, 1)?;
+        let receive = self.buffer(3, 4)?;
+        Ok(Exchange { send, receive })
+    }
+
     fn comm_rank(&self) -> Result<MpiCall, AllocError>
         requires { Fits self.now.scope.now f.CommRank (given_of self.now.call.now) }
         ensures { IfOk result (λ typed. IsMpiCall self.now.scope.now f.CommRank (given_of self.now.call.now) typed) }
@@ -159,15 +438,12 @@ impl<'a> Given<'a> {
         requires { Fits self.now.scope.now f.Send (given_of self.now.call.now) }
         ensures { IfOk result (λ typed. IsMpiCall self.now.scope.now f.Send (given_of self.now.call.now) typed) }
     {
-        let buffer = self.buffer(0, 1)?;
-        let dest = self.value(3)?;
-        let tag = self.value(4)?;
-        let comm = self.value(5)?;
+        let message = self.message()?;
         Ok(MpiCall::Send {
-            buffer,
-            dest,
-            tag,
-            comm,
+            buffer: message.buffer,
+            dest: message.other,
+            tag: message.tag,
+            comm: message.comm,
         })
     }
 
@@ -175,16 +451,13 @@ impl<'a> Given<'a> {
         requires { Fits self.now.scope.now f.Recv (given_of self.now.call.now) }
         ensures { IfOk result (λ typed. IsMpiCall self.now.scope.now f.Recv (given_of self.now.call.now) typed) }
     {
-        let buffer = self.buffer(0, 1)?;
-        let source = self.value(3)?;
-        let tag = self.value(4)?;
-        let comm = self.value(5)?;
+        let message = self.message()?;
         let status = self.status(6)?;
         Ok(MpiCall::Recv {
-            buffer,
-            source,
-            tag,
-            comm,
+            buffer: message.buffer,
+            source: message.other,
+            tag: message.tag,
+            comm: message.comm,
             status,
         })
     }
@@ -193,21 +466,16 @@ impl<'a> Given<'a> {
         requires { Fits self.now.scope.now f.Sendrecv (given_of self.now.call.now) }
         ensures { IfOk result (λ typed. IsMpiCall self.now.scope.now f.Sendrecv (given_of self.now.call.now) typed) }
     {
-        let send = self.buffer(0, 1)?;
-        let dest = self.value(3)?;
-        let send_tag = self.value(4)?;
-        let receive = self.buffer(5, 6)?;
-        let source = self.value(8)?;
-        let receive_tag = self.value(9)?;
+        let letters = self.letters()?;
         let comm = self.value(10)?;
         let status = self.status(11)?;
         Ok(MpiCall::Sendrecv {
-            send,
-            dest,
-            send_tag,
-            receive,
-            source,
-            receive_tag,
+            send: letters.send.buffer,
+            dest: letters.send.other,
+            send_tag: letters.send.tag,
+            receive: letters.receive.buffer,
+            source: letters.receive.other,
+            receive_tag: letters.receive.tag,
             comm,
             status,
         })
@@ -217,16 +485,13 @@ impl<'a> Given<'a> {
         requires { Fits self.now.scope.now f.Isend (given_of self.now.call.now) }
         ensures { IfOk result (λ typed. IsMpiCall self.now.scope.now f.Isend (given_of self.now.call.now) typed) }
     {
-        let buffer = self.buffer(0, 1)?;
-        let dest = self.value(3)?;
-        let tag = self.value(4)?;
-        let comm = self.value(5)?;
+        let message = self.message()?;
         let request = self.reference(6)?;
         Ok(MpiCall::Isend {
-            buffer,
-            dest,
-            tag,
-            comm,
+            buffer: message.buffer,
+            dest: message.other,
+            tag: message.tag,
+            comm: message.comm,
             request,
         })
     }
@@ -235,16 +500,13 @@ impl<'a> Given<'a> {
         requires { Fits self.now.scope.now f.Irecv (given_of self.now.call.now) }
         ensures { IfOk result (λ typed. IsMpiCall self.now.scope.now f.Irecv (given_of self.now.call.now) typed) }
     {
-        let buffer = self.buffer(0, 1)?;
-        let source = self.value(3)?;
-        let tag = self.value(4)?;
-        let comm = self.value(5)?;
+        let message = self.message()?;
         let request = self.reference(6)?;
         Ok(MpiCall::Irecv {
-            buffer,
-            source,
-            tag,
-            comm,
+            buffer: message.buffer,
+            source: message.other,
+            tag: message.tag,
+            comm: message.comm,
             request,
         })
     }
@@ -262,12 +524,11 @@ impl<'a> Given<'a> {
         requires { Fits self.now.scope.now f.Waitall (given_of self.now.call.now) }
         ensures { IfOk result (λ typed. IsMpiCall self.now.scope.now f.Waitall (given_of self.now.call.now) typed) }
     {
-        let count = self.value(0)?;
-        let requests = self.reference(1)?;
+        let all = self.requests()?;
         let statuses = self.status(2)?;
         Ok(MpiCall::Waitall {
-            count,
-            requests,
+            count: all.count,
+            requests: all.requests,
             statuses,
         })
     }
@@ -276,14 +537,12 @@ impl<'a> Given<'a> {
         requires { Fits self.now.scope.now f.Waitany (given_of self.now.call.now) }
         ensures { IfOk result (λ typed. IsMpiCall self.now.scope.now f.Waitany (given_of self.now.call.now) typed) }
     {
-        let count = self.value(0)?;
-        let requests = self.reference(1)?;
-        let index = self.reference(2)?;
+        let asked = self.asked()?;
         let status = self.status(3)?;
         Ok(MpiCall::Waitany {
-            count,
-            requests,
-            index,
+            count: asked.count,
+            requests: asked.requests,
+            index: asked.into,
             status,
         })
     }
@@ -292,16 +551,13 @@ impl<'a> Given<'a> {
         requires { Fits self.now.scope.now f.Waitsome (given_of self.now.call.now) }
         ensures { IfOk result (λ typed. IsMpiCall self.now.scope.now f.Waitsome (given_of self.now.call.now) typed) }
     {
-        let count = self.value(0)?;
-        let requests = self.reference(1)?;
-        let outcount = self.reference(2)?;
-        let indices = self.reference(3)?;
+        let asked = self.asked_twice()?;
         let statuses = self.status(4)?;
         Ok(MpiCall::Waitsome {
-            count,
-            requests,
-            outcount,
-            indices,
+            count: asked.count,
+            requests: asked.requests,
+            outcount: asked.first,
+            indices: asked.second,
             statuses,
         })
     }
@@ -310,12 +566,11 @@ impl<'a> Given<'a> {
         requires { Fits self.now.scope.now f.Test (given_of self.now.call.now) }
         ensures { IfOk result (λ typed. IsMpiCall self.now.scope.now f.Test (given_of self.now.call.now) typed) }
     {
-        let request = self.reference(0)?;
-        let flag = self.reference(1)?;
+        let places = self.places()?;
         let status = self.status(2)?;
         Ok(MpiCall::Test {
-            request,
-            flag,
+            request: places.first,
+            flag: places.second,
             status,
         })
     }
@@ -324,14 +579,12 @@ impl<'a> Given<'a> {
         requires { Fits self.now.scope.now f.Testall (given_of self.now.call.now) }
         ensures { IfOk result (λ typed. IsMpiCall self.now.scope.now f.Testall (given_of self.now.call.now) typed) }
     {
-        let count = self.value(0)?;
-        let requests = self.reference(1)?;
-        let flag = self.reference(2)?;
+        let asked = self.asked()?;
         let statuses = self.status(3)?;
         Ok(MpiCall::Testall {
-            count,
-            requests,
-            flag,
+            count: asked.count,
+            requests: asked.requests,
+            flag: asked.into,
             statuses,
         })
     }
@@ -340,16 +593,13 @@ impl<'a> Given<'a> {
         requires { Fits self.now.scope.now f.Testany (given_of self.now.call.now) }
         ensures { IfOk result (λ typed. IsMpiCall self.now.scope.now f.Testany (given_of self.now.call.now) typed) }
     {
-        let count = self.value(0)?;
-        let requests = self.reference(1)?;
-        let index = self.reference(2)?;
-        let flag = self.reference(3)?;
+        let asked = self.asked_twice()?;
         let status = self.status(4)?;
         Ok(MpiCall::Testany {
-            count,
-            requests,
-            index,
-            flag,
+            count: asked.count,
+            requests: asked.requests,
+            index: asked.first,
+            flag: asked.second,
             status,
         })
     }
@@ -358,16 +608,13 @@ impl<'a> Given<'a> {
         requires { Fits self.now.scope.now f.Testsome (given_of self.now.call.now) }
         ensures { IfOk result (λ typed. IsMpiCall self.now.scope.now f.Testsome (given_of self.now.call.now) typed) }
     {
-        let count = self.value(0)?;
-        let requests = self.reference(1)?;
-        let outcount = self.reference(2)?;
-        let indices = self.reference(3)?;
+        let asked = self.asked_twice()?;
         let statuses = self.status(4)?;
         Ok(MpiCall::Testsome {
-            count,
-            requests,
-            outcount,
-            indices,
+            count: asked.count,
+            requests: asked.requests,
+            outcount: asked.first,
+            indices: asked.second,
             statuses,
         })
     }
@@ -376,14 +623,12 @@ impl<'a> Given<'a> {
         requires { Fits self.now.scope.now f.Probe (given_of self.now.call.now) }
         ensures { IfOk result (λ typed. IsMpiCall self.now.scope.now f.Probe (given_of self.now.call.now) typed) }
     {
-        let source = self.value(0)?;
-        let tag = self.value(1)?;
-        let comm = self.value(2)?;
+        let triple = self.triple()?;
         let status = self.status(3)?;
         Ok(MpiCall::Probe {
-            source,
-            tag,
-            comm,
+            source: triple.first,
+            tag: triple.second,
+            comm: triple.third,
             status,
         })
     }
@@ -392,15 +637,13 @@ impl<'a> Given<'a> {
         requires { Fits self.now.scope.now f.Iprobe (given_of self.now.call.now) }
         ensures { IfOk result (λ typed. IsMpiCall self.now.scope.now f.Iprobe (given_of self.now.call.now) typed) }
     {
-        let source = self.value(0)?;
-        let tag = self.value(1)?;
-        let comm = self.value(2)?;
+        let triple = self.triple()?;
         let flag = self.reference(3)?;
         let status = self.status(4)?;
         Ok(MpiCall::Iprobe {
-            source,
-            tag,
-            comm,
+            source: triple.first,
+            tag: triple.second,
+            comm: triple.third,
             flag,
             status,
         })
@@ -419,28 +662,28 @@ impl<'a> Given<'a> {
         ensures { IfOk result (λ typed. IsMpiCall self.now.scope.now f.Bcast (given_of self.now.call.now) typed) }
     {
         let buffer = self.buffer(0, 1)?;
-        let root = self.value(3)?;
-        let comm = self.value(4)?;
-        Ok(MpiCall::Bcast { buffer, root, comm })
+        let pair = self.values(3, 4)?;
+        Ok(MpiCall::Bcast {
+            buffer,
+            root: pair.first,
+            comm: pair.second,
+        })
     }
 
     fn reduce(&self) -> Result<MpiCall, AllocError>
         requires { Fits self.now.scope.now f.Reduce (given_of self.now.call.now) }
         ensures { IfOk result (λ typed. IsMpiCall self.now.scope.now f.Reduce (given_of self.now.call.now) typed) }
     {
-        let send = self.reference(0)?;
-        let receive = self.reference(1)?;
-        let count = self.value(2)?;
+        let reduced = self.reduced()?;
         let op = self.operation(4);
-        let root = self.value(5)?;
-        let comm = self.value(6)?;
+        let pair = self.values(5, 6)?;
         Ok(MpiCall::Reduce {
-            send,
-            receive,
-            count,
+            send: reduced.send,
+            receive: reduced.receive,
+            count: reduced.count,
             op,
-            root,
-            comm,
+            root: pair.first,
+            comm: pair.second,
         })
     }
 
@@ -448,15 +691,13 @@ impl<'a> Given<'a> {
         requires { Fits self.now.scope.now f.Allreduce (given_of self.now.call.now) }
         ensures { IfOk result (λ typed. IsMpiCall self.now.scope.now f.Allreduce (given_of self.now.call.now) typed) }
     {
-        let send = self.reference(0)?;
-        let receive = self.reference(1)?;
-        let count = self.value(2)?;
+        let reduced = self.reduced()?;
         let op = self.operation(4);
         let comm = self.value(5)?;
         Ok(MpiCall::Allreduce {
-            send,
-            receive,
-            count,
+            send: reduced.send,
+            receive: reduced.receive,
+            count: reduced.count,
             op,
             comm,
         })
@@ -466,15 +707,13 @@ impl<'a> Given<'a> {
         requires { Fits self.now.scope.now f.Scan (given_of self.now.call.now) }
         ensures { IfOk result (λ typed. IsMpiCall self.now.scope.now f.Scan (given_of self.now.call.now) typed) }
     {
-        let send = self.reference(0)?;
-        let receive = self.reference(1)?;
-        let count = self.value(2)?;
+        let reduced = self.reduced()?;
         let op = self.operation(4);
         let comm = self.value(5)?;
         Ok(MpiCall::Scan {
-            send,
-            receive,
-            count,
+            send: reduced.send,
+            receive: reduced.receive,
+            count: reduced.count,
             op,
             comm,
         })
@@ -484,15 +723,13 @@ impl<'a> Given<'a> {
         requires { Fits self.now.scope.now f.Gather (given_of self.now.call.now) }
         ensures { IfOk result (λ typed. IsMpiCall self.now.scope.now f.Gather (given_of self.now.call.now) typed) }
     {
-        let send = self.buffer(0, 1)?;
-        let receive = self.buffer(3, 4)?;
-        let root = self.value(6)?;
-        let comm = self.value(7)?;
+        let exchange = self.exchange()?;
+        let pair = self.values(6, 7)?;
         Ok(MpiCall::Gather {
-            send,
-            receive,
-            root,
-            comm,
+            send: exchange.send,
+            receive: exchange.receive,
+            root: pair.first,
+            comm: pair.second,
         })
     }
 
@@ -500,15 +737,13 @@ impl<'a> Given<'a> {
         requires { Fits self.now.scope.now f.Scatter (given_of self.now.call.now) }
         ensures { IfOk result (λ typed. IsMpiCall self.now.scope.now f.Scatter (given_of self.now.call.now) typed) }
     {
-        let send = self.buffer(0, 1)?;
-        let receive = self.buffer(3, 4)?;
-        let root = self.value(6)?;
-        let comm = self.value(7)?;
+        let exchange = self.exchange()?;
+        let pair = self.values(6, 7)?;
         Ok(MpiCall::Scatter {
-            send,
-            receive,
-            root,
-            comm,
+            send: exchange.send,
+            receive: exchange.receive,
+            root: pair.first,
+            comm: pair.second,
         })
     }
 
@@ -516,12 +751,11 @@ impl<'a> Given<'a> {
         requires { Fits self.now.scope.now f.Allgather (given_of self.now.call.now) }
         ensures { IfOk result (λ typed. IsMpiCall self.now.scope.now f.Allgather (given_of self.now.call.now) typed) }
     {
-        let send = self.buffer(0, 1)?;
-        let receive = self.buffer(3, 4)?;
+        let exchange = self.exchange()?;
         let comm = self.value(6)?;
         Ok(MpiCall::Allgather {
-            send,
-            receive,
+            send: exchange.send,
+            receive: exchange.receive,
             comm,
         })
     }
@@ -530,12 +764,11 @@ impl<'a> Given<'a> {
         requires { Fits self.now.scope.now f.Alltoall (given_of self.now.call.now) }
         ensures { IfOk result (λ typed. IsMpiCall self.now.scope.now f.Alltoall (given_of self.now.call.now) typed) }
     {
-        let send = self.buffer(0, 1)?;
-        let receive = self.buffer(3, 4)?;
+        let exchange = self.exchange()?;
         let comm = self.value(6)?;
         Ok(MpiCall::Alltoall {
-            send,
-            receive,
+            send: exchange.send,
+            receive: exchange.receive,
             comm,
         })
     }
@@ -544,14 +777,12 @@ impl<'a> Given<'a> {
         requires { Fits self.now.scope.now f.CommSplit (given_of self.now.call.now) }
         ensures { IfOk result (λ typed. IsMpiCall self.now.scope.now f.CommSplit (given_of self.now.call.now) typed) }
     {
-        let comm = self.value(0)?;
-        let color = self.value(1)?;
-        let key = self.value(2)?;
+        let triple = self.triple()?;
         let made = self.reference(3)?;
         Ok(MpiCall::CommSplit {
-            comm,
-            color,
-            key,
+            comm: triple.first,
+            color: triple.second,
+            key: triple.third,
             made,
         })
     }
@@ -569,9 +800,11 @@ impl<'a> Given<'a> {
         requires { Fits self.now.scope.now f.Abort (given_of self.now.call.now) }
         ensures { IfOk result (λ typed. IsMpiCall self.now.scope.now f.Abort (given_of self.now.call.now) typed) }
     {
-        let comm = self.value(0)?;
-        let code = self.value(1)?;
-        Ok(MpiCall::Abort { comm, code })
+        let pair = self.values(0, 1)?;
+        Ok(MpiCall::Abort {
+            comm: pair.first,
+            code: pair.second,
+        })
     }
 
     /// The call, by its function.

@@ -8,9 +8,9 @@ use Rattle.c_program.specs.Courses.{Course, after}
 use Rattle.c_program.specs.Meaning.{Exits, Meaning, Passing, act_list, call_at, exits_to, leaving, run_function, turn_exits}
 use Rattle.c_program.specs.Performing.{Onward}
 use Rattle.c_program.specs.State.{State, leave, mark_of}
-use Rattle.c_eval.specs.declared.outcome.Flow.{Flow}
-use Rattle.c_eval.specs.declared.outcome.Flow.TheVariants.{Next, Broke, Again, Back}
-use Rattle.c_eval.specs.Evaluated.{GoesOn, exit}
+use Rattle.c_eval.specs.declared.flow.Flow.{Flow}
+use Rattle.c_eval.specs.declared.flow.Flow.TheVariants.{Next, Broke, Again, Back}
+use Rattle.c_eval.specs.Leaving.{exit}
 use Rattle.c_eval.specs.Parts.{entered, value_in}
 
 -- out of a block

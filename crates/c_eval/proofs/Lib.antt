@@ -1,14 +1,6 @@
-pub mod CameLaws
-pub mod CellLaws
-pub mod ChainLaws
-pub mod CompletionLaws
-pub mod Depths
-pub mod Evaluations
-pub mod Exits
-pub mod Lists
-pub mod Loops
-pub mod PartLaws
-pub mod PerformLaws
-pub mod PrintLaws
-pub mod RankLaws
-pub mod StoreLaws
+mod Depths
+mod Exits
+mod Lists
+mod Loops
+mod PartLaws
+mod RankLaws

@@ -5,12 +5,13 @@ use Rattle.c_program.specs.declared.expr.Expr.{Expr}
 use Rattle.c_program.specs.Courses.{Course, after, trapped}
 use Rattle.c_program.specs.Meaning.{Exits, Meaning, Passing, loop, test, turns}
 use Rattle.c_program.specs.State.{State}
-use Rattle.c_eval.specs.declared.outcome.Flow.{Flow}
-use Rattle.c_eval.specs.declared.outcome.Flow.TheVariants.{Next}
-use Rattle.c_eval.specs.declared.outcome.Stop.{Stop}
-use Rattle.c_eval.specs.Evaluated.{Evaluated, GoesOn, StopsAt, exit}
+use Rattle.c_eval.specs.declared.flow.Flow.{Flow}
+use Rattle.c_eval.specs.declared.flow.Flow.TheVariants.{Next}
+use Rattle.c_replies.specs.declared.outcome.Stop.{Stop}
+use Rattle.c_replies.specs.Evaluated.{Evaluated, GoesOn, StopsAt}
+use Rattle.c_eval.specs.Leaving.{exit}
 use Rattle.c_eval.specs.Parts.{Ways, turn, way}
-use Rattle.c_eval.proofs.Evaluations.{stops-from}
+use Rattle.c_replies.proofs.Evaluations.{stops-from}
 
 -- a loop that began at `s0` has come to `s`; more turns are left than steps
 pub record Turning (e : Option Expr) (update : Passing) (body : Meaning) (s0 s : State) (r0 r : List Reply) : Type 0 where

@@ -12,7 +12,7 @@ use Rattle.c_program.specs.Meaning.{has_room, opened, parameter_cells, print as 
 use Rattle.c_program.specs.Performing.{Onward}
 use Rattle.c_program.specs.Prints.{text_of}
 use Rattle.c_program.specs.State.{State}
-use Rattle.c_eval.specs.Evaluated.{GoesOn}
+use Rattle.c_replies.specs.Evaluated.{GoesOn}
 use Rattle.c_eval.specs.Parts.{entered}
 
 le-true : (a b : ℕ) → a ≤ b → nat_le a b ≡ true

@@ -21,19 +21,6 @@ use Rattle.c_program.specs.ProgramLaws.{after_in_shape}
 use Rattle.c_program.specs.State.{State}
 use Rattle.c_eval.specs.Standing.{IsRankAt, Wants}
 
--- ---- a call that no other follows
-
-pub after-over : (s : State) (rest : List Reply) → after (Over s) rest ≡ Over s
-after-over s [] = refl
-after-over s (reply ∷ rest) = after-over s rest
-
-pub after-last : (call : Call) (s : State) (reply : Reply) (rest : List Reply) → after (asks_last call s) (reply ∷ rest) ≡ Over s
-after-last call s reply rest = by_end (ends (call, reply)) refl
-  where
-    by_end : (b : Bool) → ends (call, reply) ≡ b → after (asks_last call s) (reply ∷ rest) ≡ Over s
-    by_end true is = rw is (after-over s rest)
-    by_end false is = rw is (after-over s rest)
-
 -- ---- ranks
 
 pub wants-state : (course : Course) (want : Want) (s : State) → Wants course want s → state_in course ≡ s

@@ -1,9 +1,3 @@
-pub mod Asking
-pub mod Evaluated
+pub mod Leaving
 pub mod Parts
-pub mod Replies
-pub mod Sizes
-pub mod SlotView
-pub mod Slots
 pub mod Standing
-pub mod Steps

@@ -16,9 +16,9 @@ use Rattle.c_program.specs.Meaning.{Exits, Meaning, Passing, call_at, choose, fo
 use Rattle.c_program.specs.Performing.{Onward, perform}
 use Rattle.c_program.specs.State.{State, mark_of, width_of}
 use Rattle.c_eval.specs.declared.calls.Calls.{Calls}
-use Rattle.c_eval.specs.declared.outcome.Flow.{Flow}
-use Rattle.c_eval.specs.declared.outcome.Flow.TheVariants.{Back}
-use Rattle.c_eval.specs.Evaluated.{exit}
+use Rattle.c_eval.specs.declared.flow.Flow.{Flow}
+use Rattle.c_eval.specs.declared.flow.Flow.TheVariants.{Back}
+use Rattle.c_eval.specs.Leaving.{exit}
 
 -- what calls of functions of the text do
 abbrev pub calls_of : Calls → m.Calls

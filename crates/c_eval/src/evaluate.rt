@@ -1,19 +1,21 @@
 //! The evaluation of statements.
 ghost use Rattle.std.specs.Prelude.{◌≡◌, ◌≤◌, ◌<◌, OnOk, option_copied};
 ghost use Rattle.c_program.specs.Meaning.{act, act_list, act_part, call_at, declare, declare_all, for_start, for_update, invoke, loop, loop_after, return, right, simple, started};
-ghost use Rattle.c_eval.specs.Evaluated.{Evaluated, Gives, Leaves, Passes};
+ghost use Rattle.c_replies.specs.Evaluated.{Evaluated, Gives, Passes};
+ghost use Rattle.c_eval.specs.Leaving.{Leaves};
 ghost use Rattle.c_eval.specs.Parts.{blocked, calls_of, for_of, turn, value_in, way};
 
 use crate::calls::Calls;
-use crate::outcome::{Flow, Replies, Stop};
+use crate::flow::Flow;
 use crate::parts::{
     add, arguments_of, call_mpi, enter, function_at, print, put_values_of, take_step,
 };
-use crate::store::Store;
-use crate::values::operated;
+use c_cells::store::Store;
+use c_cells::values::operated;
 use c_program::expr::{Call, Expr, Right};
 use c_program::state::Passed;
 use c_program::statement::{ForStart, Initial, Item, Part, Simple, Stmt};
+use c_replies::outcome::{Replies, Stop};
 use mpi_call::call::Fault;
 
 // ---- what has one way out

@@ -6,19 +6,21 @@ ghost use Rattle.c_program.specs.Meaning.{has_room, length_or_one, parameter_cel
 ghost use Rattle.c_program.specs.Performing.{Onward};
 ghost use Rattle.c_program.specs.Prints.{text_of};
 ghost use Rattle.c_program.specs.Values.{values};
-ghost use Rattle.c_eval.specs.Evaluated.{Evaluated, Gives, Passes};
+ghost use Rattle.c_replies.specs.Evaluated.{Evaluated, Gives, Passes};
 ghost use Rattle.c_eval.specs.Parts.{added, entered, mpi};
 
 use crate::calls::Calls;
-use crate::outcome::{Outcome, Replies, Stop};
-use crate::store::{Store, width_of};
-use crate::{effects, perform, print};
+use c_cells::print::text_of;
+use c_cells::store::{Store, width_of};
+use c_effects::effects::effect_of;
 use c_names::format::Piece;
 use c_program::expr::{Argument, Expr};
 use c_program::mpi::MpiCall;
 use c_program::program::{Function, Parameter, ParameterKind};
 use c_program::state::Passed;
 use c_program::statement::Item;
+use c_replies::outcome::{Replies, Stop};
+use c_replies::perform::perform;
 use mpi_call::call::Fault;
 use mpi_call::lists::Ints;
 use std::alloc::{AllocError, Global};
@@ -45,14 +47,9 @@ pub fn call_mpi(
     requires { calls.now.rank.ranks ≤ 64 }
     ensures { Passes (mpi calls.now.rank call.now) store.old replies.old result store.new replies.new }
 {
-    let effect = match effects::effect_of(calls.rank, call, store) {
-        Ok(effect) => effect,
-        Err(fault) => return Err(Stop::Trapped(fault)),
-    };
-    match perform::perform(calls.alloc, calls.rank, effect, store, replies)? {
-        Outcome::Goes(()) => Ok(()),
-        Outcome::Waits(call) => Err(Stop::Waits(call)),
-        Outcome::Over => Err(Stop::Over),
+    match effect_of(calls.rank, call, store) {
+        Ok(effect) => perform(calls.alloc, calls.rank, effect, store, replies),
+        Err(fault) => Err(Stop::Trapped(fault)),
     }
 }
 
@@ -66,7 +63,7 @@ pub fn print(
     ensures { (rest : List Reply) → Passes (λ s go. trying (values arguments.now s) s (λ vs. print_of (text_of format.now vs) s go)) store.old rest result store.new rest }
 {
     let ints = values_of(alloc, arguments, store)?;
-    let text = print::text_of(alloc, format, ints.as_slice())?;
+    let text = text_of(alloc, format, ints.as_slice())?;
     if store.printed().len() + text.len() <= 65536 {
         store.print(&text)?;
         Ok(())
@@ -122,7 +119,7 @@ pub fn put_values_of(expressions: &[Expr], first: u32, store: &mut Store) -> Res
 }
 
 /// The variable of an item, not yet begun; gives its first cell.
-#[tactic(auto, using(crate::proofs::StoreLaws::cells_counted))]
+#[tactic(auto, using(c_cells::proofs::StoreLaws::cells_counted))]
 pub fn add<'p>(item: &'p Item, store: &mut Store<'p>) -> Result<u32, Stop>
     ensures { (rest : List Reply) → Gives (added item.now) store.old rest result store.new rest }
 {

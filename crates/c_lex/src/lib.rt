@@ -19,6 +19,3 @@ pub use lexer::{one_reading, tokens};
 pub use literal::literal_value;
 pub use place::fault_at;
 pub use token::{Token, TokenKind, TokenList};
-
-#[cfg(test)]
-mod tests;

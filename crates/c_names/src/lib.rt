@@ -6,5 +6,3 @@ pub mod function;
 pub mod kind;
 pub mod operator;
 pub mod predefined;
-#[cfg(test)]
-mod tests;

@@ -7,6 +7,3 @@ mod statement;
 mod top;
 
 pub use parser::parse;
-
-#[cfg(test)]
-mod tests;

@@ -117,7 +117,7 @@ simple rank calls (Update place operator given_right) s go =
     trying (cell_of place s) s (λ cell. right calls given_right s (λ v s.
     trying (operated operator (cell_at s cell) v) s (λ v. go (put cell v s))))
 simple rank calls (CallSimple call) s go = invoke calls call s (λ v s. go s)
-simple rank calls (Mpi call) s go = trying (effect_of rank call s) s (λ effect. perform rank effect s go)
+simple rank calls (Mpi call) s go = trying (effect_of rank call.value s) s (λ effect. perform rank effect s go)
 simple rank calls (Print format arguments) s go =
     trying (values arguments.items s) s (λ vs. print (text_of format.items vs) s go)
 simple rank calls Flush s go = go s

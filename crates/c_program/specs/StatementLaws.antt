@@ -260,7 +260,7 @@ module _ (n me : ℕ) where
         trying_keeps own (operated operator (cell_at s cell) v) s (λ v. go (put cell v s)) (λ v is. keep own (put cell v s) (good_put n me own cell v s good))))
     simple_keeps (CallSimple call) own s go good keep = invoke_keeps call own s (λ v s. go s) good (λ v own s good. keep own s good)
     simple_keeps (Mpi call) own s go good keep =
-        trying_keeps own (effect_of (rank_of n me) call s) s (λ effect. perform (rank_of n me) effect s go) (λ effect is. perform_keeps n me call effect own s go good is keep)
+        trying_keeps own (effect_of (rank_of n me) call.value s) s (λ effect. perform (rank_of n me) effect s go) (λ effect is. perform_keeps n me call.value effect own s go good is keep)
     simple_keeps (Print format arguments) own s go good keep =
         trying_keeps own (values arguments.items s) s (λ vs. m.print (text_of format.items vs) s go) (λ vs is. print_keeps (text_of format.items vs) own s go good keep)
     simple_keeps Flush own s go good keep = keep own s good

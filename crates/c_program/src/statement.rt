@@ -22,7 +22,7 @@ pub enum Simple {
         right: Right,
     },
     Call(Call),
-    Mpi(MpiCall),
+    Mpi(Box<MpiCall>),
     Print {
         format: Vec<Piece>,
         arguments: Vec<Expr>,

@@ -148,14 +148,14 @@ IsFaultlessPart env part = (gives : Bool) × (loops : Bool) × (part_faults env 
 abbrev pub AreFaultless : Env → t.Parts → Type 0
 AreFaultless env parts = (gives : Bool) × (loops : Bool) × (parts_faults env gives loops parts ≡ [])
 
-pub block_parts : (env now : Env) (stmt : source.Stmt) (opening : Spot) (parts : Vec source_part.Part Global) (closing : Spot) → stmt ≡ ts.Block opening parts closing
-    → now ≡ opened env → IsFaultless env (stmt_view stmt) → AreFaultless now (parts_view parts.items)
-block_parts env now stmt opening parts closing is n f =
-    let g : IsFaultless env (t.block opening (parts_view parts.items) closing) = rw (is, view-block) at f in rw n g
+pub block_parts : (env : Env) (stmt : source.Stmt) (opening : Spot) (parts : Vec source_part.Part Global) (closing : Spot)
+    → stmt ≡ ts.Block opening parts closing → IsFaultless env (stmt_view stmt) → AreFaultless (opened env) (parts_view parts.items)
+block_parts env stmt opening parts closing is f =
+    let g : IsFaultless env (t.block opening (parts_view parts.items) closing) = rw (is, view-block) at f in g
 
-pub block_rule : (env now : Env) (stmt : source.Stmt) (opening : Spot) (parts : Vec source_part.Part Global) (closing : Spot) (typed : Vec Part Global)
-    → stmt ≡ ts.Block opening parts closing → now ≡ opened env → AreParts now (parts_view parts.items) typed.items → IsStmt env (stmt_view stmt) (s.Block typed)
-block_rule env now stmt opening parts closing typed is n h = rw (is, view-block) (x.block typed (rw n at h))
+pub block_rule : (env : Env) (stmt : source.Stmt) (opening : Spot) (parts : Vec source_part.Part Global) (closing : Spot) (typed : Vec Part Global)
+    → stmt ≡ ts.Block opening parts closing → AreParts (opened env) (parts_view parts.items) typed.items → IsStmt env (stmt_view stmt) (s.Block typed)
+block_rule env stmt opening parts closing typed is h = rw (is, view-block) (x.block typed h)
 
 pub empty_rule : (env : Env) (stmt : source.Stmt) (at : Spot) → stmt ≡ ts.Empty at → IsStmt env (stmt_view stmt) s.Empty
 empty_rule env stmt at is = rw (is, view-empty) x.empty
@@ -238,30 +238,34 @@ module _ (env : Env) (stmt : source.Stmt) (word opening : Spot) (start : source_
   abbrev inside : Env
   inside = after_start (opened env) (start_view start)
 
-  pub for_start : (now : Env) → now ≡ opened env → IsFaultless env (stmt_view stmt) → start_faults now (start_view start) ≡ []
-  for_start now n f =
-      let g : IsFaultless env (t.for word opening (start_view start) start_end (option_map view test) test_end (option_map simple_view step) closing (stmt_view body.value)) = rw (is, view-for) at f in
-      rw n (none_left _ _ (none_left _ _ (none_left _ _ g.2)))
+  abbrev whole : t.Stmt
+  whole = t.for word opening (start_view start) start_end (option_map view test) test_end (option_map simple_view step) closing (stmt_view body.value)
 
-  pub for_step : (first now : Env) → first ≡ opened env → now ≡ after_start first (start_view start) → IsFaultless env (stmt_view stmt)
-      → step_faults now (option_map simple_view step) ≡ []
-  for_step first now o n f =
-      let g : IsFaultless env (t.for word opening (start_view start) start_end (option_map view test) test_end (option_map simple_view step) closing (stmt_view body.value)) = rw (is, view-for) at f in
-      rw (n, o) (none_right (start_faults (opened env) (start_view start) ++ test_faults inside (option_map view test)) _ (none_left _ _ g.2))
+  pub for_start : IsFaultless env (stmt_view stmt) → start_faults (opened env) (start_view start) ≡ []
+  for_start f = let g : IsFaultless env whole = rw (is, view-for) at f in none_left _ _ (none_left _ _ (none_left _ _ g.2))
 
-  pub for_body : (first now : Env) → first ≡ opened env → now ≡ after_start first (start_view start) → IsFaultless env (stmt_view stmt) → IsFaultless now (stmt_view body.value)
-  for_body first now o n f =
-      let g : IsFaultless env (t.for word opening (start_view start) start_end (option_map view test) test_end (option_map simple_view step) closing (stmt_view body.value)) = rw (is, view-for) at f in
-      rw (n, o)
+  pub for_step : IsFaultless env (stmt_view stmt) → step_faults inside (option_map simple_view step) ≡ []
+  for_step f =
+      let g : IsFaultless env whole = rw (is, view-for) at f in
+      none_right (start_faults (opened env) (start_view start) ++ test_faults inside (option_map view test)) _ (none_left _ _ g.2)
+
+  pub for_body : IsFaultless env (stmt_view stmt) → IsFaultless inside (stmt_view body.value)
+  for_body f =
+      let g : IsFaultless env whole = rw (is, view-for) at f in
       (g.0, true, none_right ((start_faults (opened env) (start_view start) ++ test_faults inside (option_map view test)) ++ step_faults inside (option_map simple_view step)) _ g.2)
 
-  pub for_rule : (first now : Env) (typed_start : ForStart) (typed_test : Option Expr) (typed_step : Option Simple) (a : Box Stmt Global)
-      → first ≡ opened env → now ≡ after_start first (start_view start)
-      → IsStart first (start_view start) typed_start → IsTest now (option_map view test) typed_test → IsStep now (option_map simple_view step) typed_step
-      → IsStmt now (stmt_view body.value) a.value → IsStmt env (stmt_view stmt) (s.For typed_start typed_test typed_step a)
-  for_rule first now typed_start typed_test typed_step a o n b d k h =
-      let m : now ≡ inside = n ∙ ap (λ one. after_start one (start_view start)) o in
-      rw (is, view-for) (x.for (rw o at b) (rw m at d) (rw m at k) (rw m at h))
+  pub for_rule : (typed : Stmt) → IsStmt env whole typed → IsStmt env (stmt_view stmt) typed
+  for_rule typed h = rw (is, view-for) h
+
+pub for_typed : (env first now : Env) (start : source_start.ForStart) (test : Option source_expr.Expr) (step : Option source_simple.Simple) (body : source.Stmt)
+    (typed_start : ForStart) (typed_test : Option Expr) (typed_step : Option Simple) (a : Box Stmt Global)
+    → first ≡ opened env → now ≡ after_start first (start_view start)
+    → IsStart first (start_view start) typed_start → IsTest now (option_map view test) typed_test → IsStep now (option_map simple_view step) typed_step
+    → IsStmt now (stmt_view body) a.value → (word opening start_end test_end closing : Spot)
+    → IsStmt env (t.for word opening (start_view start) start_end (option_map view test) test_end (option_map simple_view step) closing (stmt_view body)) (s.For typed_start typed_test typed_step a)
+for_typed env first now start test step body typed_start typed_test typed_step a o n b d k h word opening start_end test_end closing =
+    let m : now ≡ after_start (opened env) (start_view start) = n ∙ ap (λ one. after_start one (start_view start)) o in
+    x.for (rw o at b) (rw m at d) (rw m at k) (rw m at h)
 
 -- ---- parts
 

@@ -81,8 +81,8 @@ pub data IsSimple (env : Env) : t.Simple → Simple → Type 0 where
   before : {place : t.Place} {operator : Word} {at : Spot} {goal : Place} → IsPlace env place goal
       → IsSimple env (t.before operator at place) (l.Update goal (update_of operator) one)
   call : {call : t.Call} {typed : Call} → IsCall env call typed → IsSimple env (t.invoke call) (l.Call typed)
-  mpi : {call : t.Call} {function : MpiFunction} {typed : MpiCall} → meaning env call.name ≡ m.Known (p.Mpi function)
-      → IsMpiCall env function (arguments_of call) typed → IsSimple env (t.invoke call) (l.Mpi typed)
+  mpi : {call : t.Call} {function : MpiFunction} {typed : Box MpiCall Global} → meaning env call.name ≡ m.Known (p.Mpi function)
+      → IsMpiCall env function (arguments_of call) typed.value → IsSimple env (t.invoke call) (l.Mpi typed)
   print : {call : t.Call} {at : Spot} {more : List t.Argument} {format : Vec Piece Global} {typed : Vec Expr Global}
       → meaning env call.name ≡ m.Known p.Printf → arguments_of call ≡ t.text at ∷ more
       → pieces_of (inside (cut env.text at)) ≡ Some format.items → AreValues env more typed.items

@@ -1,5 +1,5 @@
 //! Typed statements and declarations.
-ghost use Rattle.std.specs.Prelude.{◌≡◌, Bool, [], IfOk, OnOk, Some, drop, map, option_map, slice_get, true};
+ghost use Rattle.std.specs.Prelude.{◌≡◌, ◌++◌, ◌∷◌, Bool, [], IfOk, OnOk, Some, drop, map, option_map, slice_get, true};
 ghost use Rattle.std.specs.Option.{is_some};
 ghost use Rattle.c_grammar.specs.declared.word.Spot.{Spot};
 ghost use Rattle.c_grammar.specs.StmtView.{argument_view, call_view, declaration_view, initial_view, item_view, part_view, parts_view, right_view, row_view, simple_view, start_view, stmt_view};
@@ -9,7 +9,7 @@ ghost use Rattle.c_names.specs.Formats.{pieces_of};
 ghost use Rattle.c_names.specs.declared.predefined.Predefined.TheVariants as p;
 ghost use Rattle.c_check.specs.Calls.{arguments_of, call_faults, numbers_faults};
 ghost use Rattle.c_check.specs.Calls as checked;
-ghost use Rattle.c_check.specs.Scopes.{meaning};
+ghost use Rattle.c_check.specs.Scopes.{meaning, opened};
 ghost use Rattle.c_check.specs.Scopes as scopes;
 ghost use Rattle.c_check.specs.Signatures.{listed};
 ghost use Rattle.c_check.specs.Statements.{after_declaration, after_item, after_part, after_parts, after_start, declaration_faults, initial_faults, item_faults, part_faults, parts_faults, return_faults, simple_faults, start_faults, step_faults, stmt_faults, test_faults};
@@ -145,7 +145,8 @@ fn call_statement(
             Ok(Simple::Call(call_of(alloc, scope, number, call)?))
         }
         Meaning::Known(Predefined::Mpi(function)) => {
-            Ok(Simple::Mpi(mpi_call_of(alloc, scope, function, call)?))
+            let typed = mpi_call_of(alloc, scope, function, call)?;
+            Ok(Simple::Mpi(Box::new(alloc, typed)?))
         }
         Meaning::Known(Predefined::Printf) => print_of(alloc, scope, call),
         Meaning::Known(Predefined::Fflush) => Ok(Simple::Flush),
@@ -365,10 +366,14 @@ fn turn_of(
 fn boxed(alloc: Global, stmt: Stmt) -> Result<Box<Stmt>, AllocError>
     ensures { IfOk result (λ found. found.value ≡ stmt) }
 {
-    match Box::new(alloc, stmt) {
-        Ok(found) => Ok(found),
-        Err(_) => Err(AllocError),
-    }
+    Ok(Box::new(alloc, stmt)?)
+}
+
+fn push(typed: &mut Vec<Part>, part: Part) -> Result<(), AllocError>
+    ensures { OnOk result (typed.new.items ≡ typed.old.items ++ part ∷ []) }
+{
+    typed.push(part)?;
+    Ok(())
 }
 
 /// The typed statement of a statement without faults.
@@ -379,12 +384,7 @@ pub fn stmt_of(alloc: Global, scope: &mut Scope, stmt: &statement::Stmt) -> Resu
     ensures scope { OnOk result (scope.new ≡ scope.old) }
 {
     match stmt {
-        statement::Stmt::Block { parts, .. } => {
-            scope.open()?;
-            let typed = parts_of(alloc, scope, parts)?;
-            scope.close();
-            Ok(Stmt::Block(typed))
-        }
+        statement::Stmt::Block { parts, .. } => Ok(Stmt::Block(block_of(alloc, scope, parts)?)),
         statement::Stmt::Empty(_) => Ok(Stmt::Empty),
         statement::Stmt::Simple { simple, .. } => Ok(Stmt::Simple(simple_of(
             alloc, scope, simple,
@@ -423,20 +423,57 @@ pub fn stmt_of(alloc: Global, scope: &mut Scope, stmt: &statement::Stmt) -> Resu
             body,
             ..
         } => {
-            scope.open()?;
-            let start = start_of(alloc, scope, start)?;
-            let test = test_of(alloc, scope, test)?;
-            let step = turn_of(alloc, scope, step)?;
-            let body = boxed_of(alloc, scope, body)?;
-            scope.close();
-            Ok(Stmt::For {
-                start,
-                test,
-                step,
-                body,
-            })
+            let typed = for_of(alloc, scope, start, test, step, body)?;
+            Ok(typed)
         }
     }
+}
+
+/// The parts of a block, in a scope of their own.
+#[cycle(statements)]
+fn block_of(
+    alloc: Global,
+    scope: &mut Scope,
+    parts: &[statement::Part],
+) -> Result<Vec<Part>, AllocError>
+    requires { (gives : Bool) × (loops : Bool) × (parts_faults (opened scope.old) gives loops (parts_view parts.now) ≡ []) }
+    ensures typed { IfOk result (λ typed. AreParts (opened scope.old) (parts_view parts.now) typed.items) }
+    ensures scope { OnOk result (scope.new ≡ scope.old) }
+{
+    scope.open()?;
+    let typed = parts_of(alloc, scope, parts)?;
+    scope.close();
+    Ok(typed)
+}
+
+/// A `for`, in a scope of its own.
+#[cycle(statements)]
+fn for_of(
+    alloc: Global,
+    scope: &mut Scope,
+    start: &statement::ForStart,
+    test: &Option<tree::Expr>,
+    step: &Option<statement::Simple>,
+    body: &statement::Stmt,
+) -> Result<Stmt, AllocError>
+    requires start { start_faults (opened scope.old) (start_view start.now) ≡ [] }
+    requires step { step_faults (after_start (opened scope.old) (start_view start.now)) (option_map simple_view step.now) ≡ [] }
+    requires body { (gives : Bool) × (loops : Bool) × (stmt_faults (after_start (opened scope.old) (start_view start.now)) gives loops (stmt_view body.now) ≡ []) }
+    ensures typed { IfOk result (λ typed. (word opening start_end test_end closing : Spot) → IsStmt scope.old (t.for word opening (start_view start.now) start_end (option_map view test.now) test_end (option_map simple_view step.now) closing (stmt_view body.now)) typed) }
+    ensures scope { OnOk result (scope.new ≡ scope.old) }
+{
+    scope.open()?;
+    let start = start_of(alloc, scope, start)?;
+    let test = test_of(alloc, scope, test)?;
+    let step = turn_of(alloc, scope, step)?;
+    let body = boxed_of(alloc, scope, body)?;
+    scope.close();
+    Ok(Stmt::For {
+        start,
+        test,
+        step,
+        body,
+    })
 }
 
 #[cycle(statements)]
@@ -479,7 +516,8 @@ pub fn parts_of(
 {
     let mut typed = Vec::new(alloc);
     for part in parts {
-        typed.push(part_of(alloc, scope, part)?)?;
+        let one = part_of(alloc, scope, part)?;
+        push(&mut typed, one)?;
     }
     Ok(typed)
 }

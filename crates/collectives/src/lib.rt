@@ -7,5 +7,3 @@
 pub mod board;
 pub mod entrants;
 pub mod instances;
-#[cfg(test)]
-mod tests;

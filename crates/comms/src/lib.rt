@@ -5,5 +5,3 @@ pub mod colours;
 pub mod communicators;
 pub mod groups;
 pub mod numbers;
-#[cfg(test)]
-mod tests;

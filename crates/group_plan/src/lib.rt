@@ -12,6 +12,3 @@ mod word;
 pub use fault::{OrderFault, PlanFault};
 pub use order::read_order;
 pub use plan::{Plan, read_plan};
-
-#[cfg(test)]
-mod tests;

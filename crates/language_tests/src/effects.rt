@@ -1,6 +1,6 @@
 //! MPI calls of rank 1 of 3, with one array of eight ints.
-use c_eval::effects::effect_of;
-use c_eval::store::Store;
+use c_cells::store::Store;
+use c_effects::effects::effect_of;
 use c_names::kind::Kind;
 use c_program::effect::{Effect, Entered, Into, Rank, Start};
 use c_program::expr::{Expr, Reference};

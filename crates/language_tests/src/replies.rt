@@ -1,10 +1,10 @@
 //! Effects over replies, worked out by hand from the standard.
-use c_eval::outcome::{Outcome, Replies};
-use c_eval::perform::perform;
-use c_eval::store::Store;
+use c_cells::store::Store;
 use c_names::kind::Kind;
 use c_program::effect::{Answer, Effect, Message, Rank, Receive, Start};
 use c_program::range::Range;
+use c_replies::outcome::{Replies, Stop};
+use c_replies::perform::perform;
 use mpi_call::call::{Call, Fault, Source, Tag, TakeMode};
 use mpi_call::lists::Ints;
 use mpi_call::reply::{Got, Item, Items, Reply};
@@ -64,7 +64,7 @@ fn a_send_waits_with_its_ints(rt: HostRuntime) -> Result<(), Fail> {
         request: Some(0),
     };
     let mut replies = Replies::of(&[]);
-    let Outcome::Waits(call) = perform(rt.alloc(), RANK, effect, &mut store, &mut replies)? else {
+    let Err(Stop::Waits(call)) = perform(rt.alloc(), RANK, effect, &mut store, &mut replies) else {
         return Err(Fail::from("waits"));
     };
     let expected = Call::Send {
@@ -94,8 +94,8 @@ fn waitany_tells_the_place_of_its_handle(rt: HostRuntime) -> Result<(), Fail> {
             request: Some(handle),
         };
         let mut replies = Replies::of(&[Reply::Done]);
-        let outcome = perform(rt.alloc(), RANK, effect, &mut store, &mut replies)?;
-        assert!(rt; matches!(&outcome, Outcome::Goes(())));
+        let outcome = perform(rt.alloc(), RANK, effect, &mut store, &mut replies);
+        assert!(rt; matches!(&outcome, Ok(())));
     }
     let effect = Effect::Completes {
         requests: Range::new(0, 3, 1),
@@ -110,8 +110,8 @@ fn waitany_tells_the_place_of_its_handle(rt: HostRuntime) -> Result<(), Fail> {
     };
     let given = [took(rt.alloc(), 1, 42)?];
     let mut replies = Replies::of(&given);
-    let outcome = perform(rt.alloc(), RANK, effect, &mut store, &mut replies)?;
-    assert!(rt; matches!(&outcome, Outcome::Goes(())));
+    let outcome = perform(rt.alloc(), RANK, effect, &mut store, &mut replies);
+    assert!(rt; matches!(&outcome, Ok(())));
     for (cell, expected) in [
         (0, 0),
         (1, -1),
@@ -138,12 +138,10 @@ fn a_message_whose_cells_are_gone_traps(rt: HostRuntime) -> Result<(), Fail> {
     };
     let given = [Reply::Done, took(rt.alloc(), 0, 42)?];
     let mut replies = Replies::of(&given);
-    let Outcome::Waits(call) = perform(rt.alloc(), RANK, effect, &mut store, &mut replies)? else {
-        return Err(Fail::from("waits"));
+    let Err(Stop::Trapped(fault)) = perform(rt.alloc(), RANK, effect, &mut store, &mut replies)
+    else {
+        return Err(Fail::from("traps"));
     };
-    let expected = Call::Trap {
-        fault: Fault::OutOfBounds,
-    };
-    assert!(rt; call == expected);
+    assert!(rt; fault == Fault::OutOfBounds);
     Ok(())
 }

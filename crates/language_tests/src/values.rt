@@ -1,6 +1,6 @@
 //! Values worked out by hand, and what C's `printf` prints.
-use c_eval::print::text_of;
-use c_eval::store::Store;
+use c_cells::print::text_of;
+use c_cells::store::Store;
 use c_names::format::pieces;
 use c_names::kind::Kind;
 use c_names::operator::Operator;

@@ -3,5 +3,3 @@
 
 pub mod matcher;
 pub mod start;
-#[cfg(test)]
-mod tests;

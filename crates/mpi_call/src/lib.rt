@@ -13,5 +13,3 @@ pub mod operations;
 pub mod reply;
 pub mod results;
 pub mod splits;
-#[cfg(test)]
-mod tests;

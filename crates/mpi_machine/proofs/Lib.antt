@@ -8,7 +8,6 @@ pub mod Growing
 pub mod Moving
 pub mod Probing
 pub mod Roomy
-pub mod Scripting
 pub mod Serially
 pub mod Standing
 pub mod Waiting

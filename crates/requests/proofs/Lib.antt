@@ -19,4 +19,3 @@ pub mod Knowing
 pub mod First
 pub mod Answering
 pub mod Taking
-mod WorkedExamples

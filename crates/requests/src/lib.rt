@@ -8,5 +8,3 @@ mod enter;
 pub mod requests;
 mod rows;
 pub mod start;
-#[cfg(test)]
-mod tests;

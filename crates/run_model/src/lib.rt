@@ -16,5 +16,3 @@ pub mod lists;
 pub mod program;
 pub mod shape;
 pub mod starts;
-#[cfg(test)]
-mod tests;

@@ -8,5 +8,3 @@ pub mod log;
 pub mod place;
 mod reply_entry;
 pub mod run_log;
-#[cfg(test)]
-mod tests;

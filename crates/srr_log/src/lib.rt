@@ -10,6 +10,4 @@ mod mark;
 mod pieces;
 pub mod read_log;
 mod stop;
-#[cfg(test)]
-mod tests;
 pub mod write_log;

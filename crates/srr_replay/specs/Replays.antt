@@ -48,6 +48,12 @@ answer_of log stop V own me call =
     if is_break stop me (length own) then AtBreak
     else entry_answer log.ranks log.group V own me call (slice_get (entries_for log.group log.lists me) (length own))
 
+-- an answer that makes no event and copies nothing
+abbrev pub takes_none : Step → Bool
+takes_none (Replied reply) = false
+takes_none (Diverged divergence) = false
+takes_none step = true
+
 -- the event that a reply makes
 abbrev pub event_of : ℕ → Call → Reply → Event
 event_of rank call reply = record { rank = rank; call = call; reply = reply; mate = None }

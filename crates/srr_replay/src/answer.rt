@@ -1,8 +1,8 @@
 //! The answer to a rank's call, by its next entry.
-ghost use Rattle.std.specs.Prelude.{◌≡◌, ◌<◌, IfOk, Some, length};
+ghost use Rattle.std.specs.Prelude.{◌≡◌, ◌<◌, IfOk, IsOk, Some, length, true};
 ghost use Rattle.run_model.specs.Forms.{AreInOrder};
 ghost use Rattle.run_model.specs.Views.{View, view_of};
-ghost use Rattle.srr_replay.specs.Replays.{answer_of, diverged, entry_answer, is_break};
+ghost use Rattle.srr_replay.specs.Replays.{answer_of, diverged, entry_answer, is_break, takes_none};
 
 use crate::asked::Asked;
 use crate::clash::find_clash;
@@ -30,7 +30,8 @@ pub fn answer(
     requires rank { asked.now.rank < seen.now.ranks }
     requires number { asked.now.number ≡ length (view_of seen.now.events asked.now.rank) }
     requires order { AreInOrder seen.now.ranks seen.now.events }
-    ensures { IfOk result (λ step. step ≡ answer_of log.now stop.now (view_of seen.now.events) (view_of seen.now.events asked.now.rank) asked.now.rank asked.now.call.now) }
+    ensures answer { IfOk result (λ step. step ≡ answer_of log.now stop.now (view_of seen.now.events) (view_of seen.now.events asked.now.rank) asked.now.rank asked.now.call.now) }
+    ensures sure { takes_none (answer_of log.now stop.now (view_of seen.now.events) (view_of seen.now.events asked.now.rank) asked.now.rank asked.now.call.now) ≡ true → IsOk result }
 {
     if is_at(stop, asked.rank, asked.number) {
         return Ok(Step::AtBreak);
@@ -63,7 +64,8 @@ fn answer_by(
     requires rank { asked.now.rank < seen.now.ranks }
     requires number { asked.now.number ≡ length (view_of seen.now.events asked.now.rank) }
     requires order { AreInOrder seen.now.ranks seen.now.events }
-    ensures { IfOk result (λ step. step ≡ entry_answer seen.now.ranks group.now (view_of seen.now.events) (view_of seen.now.events asked.now.rank) asked.now.rank asked.now.call.now (Some entry.now)) }
+    ensures answer { IfOk result (λ step. step ≡ entry_answer seen.now.ranks group.now (view_of seen.now.events) (view_of seen.now.events asked.now.rank) asked.now.rank asked.now.call.now (Some entry.now)) }
+    ensures sure { takes_none (entry_answer seen.now.ranks group.now (view_of seen.now.events) (view_of seen.now.events asked.now.rank) asked.now.rank asked.now.call.now (Some entry.now)) ≡ true → IsOk result }
 {
     if !fits(group, seen, asked, entry) {
         return diverge(asked, entry, None);

@@ -1,10 +1,10 @@
 //! A replay, one event at a time.
-ghost use Rattle.std.specs.Prelude.{◌≡◌, ◌++◌, ◌∷◌, ◌<◌, ◌≤◌, [], OnOk, OnErr, IfOk, length, Some, true};
+ghost use Rattle.std.specs.Prelude.{◌≡◌, ◌++◌, ◌∷◌, ◌<◌, ◌≤◌, [], OnOk, OnErr, IfOk, IsOk, length, Some, true};
 ghost use Rattle.mpi_call.specs.Collectives.{is_member};
 ghost use Rattle.mpi_call.specs.declared.reply.Reply.{Reply};
 ghost use Rattle.run_model.specs.Program.{MayGive};
 ghost use Rattle.run_model.specs.Views.{view_of, replies_in};
-ghost use Rattle.srr_replay.specs.Replays.{answer_of, events_after, event_of, Replays};
+ghost use Rattle.srr_replay.specs.Replays.{answer_of, events_after, event_of, takes_none, Replays};
 ghost use Rattle.srr_replay.specs.Rounds.{IsReplayable};
 ghost use Rattle.srr_replay.specs.declared.step.Step.TheVariants.{Replied};
 
@@ -73,6 +73,9 @@ impl<'a, P: Program> Replay<'a, P> {
         ensures answer { IfOk result (λ step. step ≡ answer_of self.old.log self.old.stop (view_of self.old.events) (view_of self.old.events rank) rank call.now) }
         ensures events { IfOk result (λ step. self.new ≡ record self.old { events = events_after self.old.events rank call.now step }) }
         ensures shape { IfOk result (λ step. (reply : Reply) → step ≡ Replied reply → MayGive (P.next self.old.program) self.old.log.ranks rank (replies_in (view_of self.old.events rank)) reply) }
+
+        // That the rank is at its breakpoint or its log's end, or waits, takes no memory.
+        ensures sure { takes_none (answer_of self.old.log self.old.stop (view_of self.old.events) (view_of self.old.events rank) rank call.now) ≡ true → IsOk result }
         ensures err { OnErr result (self.new ≡ self.old) }
     {
         let number = self.seen.count(rank);

@@ -10,6 +10,3 @@ pub use bytes::{Bytes, push_text};
 pub use cursor::Cursor;
 pub use fault::NumberFault;
 pub use number::{decimal, is_decimal, number_i64, push_decimal, push_number};
-
-#[cfg(test)]
-mod tests;

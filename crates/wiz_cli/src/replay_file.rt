@@ -10,8 +10,8 @@ ghost use Rattle.wiz_cli.specs.Reports.{IsBytesOutcome, IsFileOutcome, IsLogOutc
 use crate::outcome::{Outcome, Refusal};
 use c_eval::rank::EvalRank;
 use c_lex::Why;
+use c_meaning::text_fixes_meaning;
 use c_program::CProgram;
-use c_types::laws::text_fixes_meaning;
 use c_types::read_program;
 use srr_entry::log::Log;
 use srr_log::fault::LogWhy;

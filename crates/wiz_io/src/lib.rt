@@ -17,6 +17,3 @@ pub use memory::{MemorySink, MemoryStore};
 pub use sink::Sink;
 pub use store::Store;
 pub use sure::{SureSink, SureStore};
-
-#[cfg(test)]
-mod tests;

@@ -4,6 +4,4 @@
 mod call_text;
 pub mod order;
 pub mod recording;
-#[cfg(test)]
-mod tests;
 pub mod trace;

@@ -11,10 +11,10 @@ use Rattle.c_program.specs.Performing.{Onward}
 use Rattle.c_program.specs.Prints.{text_of}
 use Rattle.c_program.specs.State.{State, cell_at, leave, mark_of, put}
 use Rattle.c_program.specs.Values.{cell_of, operated, values}
-use Rattle.c_eval.specs.Evaluated.{exit}
+use Rattle.c_eval.specs.Leaving.{exit}
 use Rattle.c_eval.specs.Parts.{blocked, calls_of, for_of}
 use Rattle.c_eval.proofs.Depths.{deepest, deepest-at, fewer-calls, weight}
-use Rattle.c_eval.proofs.Evaluations.{from, stops-from}
+use Rattle.c_replies.proofs.Evaluations.{from, stops-from}
 use Rattle.c_eval.proofs.Exits.{entering, exit-other, exit-turn, left-block, left-call}
 use Rattle.c_eval.proofs.Lists.{at, behind_all}
 use Rattle.c_eval.proofs.Loops.{turning-ends, turning-fails, turning-leaves, turning-on, turning-stops}
@@ -349,8 +349,8 @@ run_simple-returns-in_ok-invoke-in-Call t c = record { at = λ k. rw c.in-Call.i
 
 pub run_simple-returns-in-Print : goal.run_simple-returns-in-Print
 run_simple-returns-in-Print t c =
-    from {K = Onward} {A = Unit {0}} (λ go done. go) (simple c.args.calls.now.rank (calls_of c.args.calls.now) c.args.one.now) (λ s go. trying (values c.deref-in-Print.result.now s) s (λ vs. print (text_of c.deref.result.now vs) s go)) c.args.store.now c.args.store.now c.print.new.store c.args.replies.now c.args.replies.now c.args.replies.now c.print.result
-    (λ k. rw (c.in-Print.is, c.deref.ensures.value, c.deref-in-Print.ensures.value) refl) (omega arith) (c.print.ensures c.args.replies.now)
+    from {K = Onward} {A = Unit {0}} (λ go done. go) (simple c.args.calls.now.rank (calls_of c.args.calls.now) c.args.one.now) (λ s go. trying (values c.deref-in-Print-2.result.now s) s (λ vs. print (text_of c.deref-in-Print.result.now vs) s go)) c.args.store.now c.args.store.now c.print.new.store c.args.replies.now c.args.replies.now c.args.replies.now c.print.result
+    (λ k. rw (c.in-Print.is, c.deref-in-Print.ensures.value, c.deref-in-Print-2.ensures.value) refl) (omega arith) (c.print.ensures c.args.replies.now)
 
 pub start_for-returns-in_ok-take_step-in-Declaration : goal.start_for-returns-in_ok-take_step-in-Declaration
 start_for-returns-in_ok-take_step-in-Declaration t c =

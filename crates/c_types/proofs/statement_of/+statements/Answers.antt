@@ -4,22 +4,57 @@ use Rattle.c_grammar.specs.StmtView.{parts_view, start_view}
 use Rattle.c_grammar.proofs.StmtViewed.{view-declare, view-stmt}
 use Rattle.c_check.specs.Statements.{after_parts, after_start}
 use Rattle.c_check.proofs.Closed.{closed_parts, closed_start, closing}
-use Rattle.c_types.proofs.StatementRules.{block_parts, block_rule, both_rule, both_spared, both_taken, break_rule, continue_rule, declare_faultless, declare_rule, do_body, do_rule, empty_rule, for_body, for_rule, for_start, for_step, if_rule, if_taken, part_next, parts_after, parts_end, parts_more, parts_next, return_faultless, return_rule, simple_faultless, simple_rule, stmt_faultless, stmt_rule, while_body, while_rule}
+use Rattle.c_types.proofs.StatementRules.{block_parts, block_rule, both_rule, both_spared, both_taken, break_rule, continue_rule, declare_faultless, declare_rule, do_body, do_rule, empty_rule, for_body, for_rule, for_start, for_step, for_typed, if_rule, if_taken, part_next, parts_after, parts_end, parts_more, parts_next, return_faultless, return_rule, simple_faultless, simple_rule, stmt_faultless, stmt_rule, while_body, while_rule}
 use Rattle.c_types.proofs.statement_of.+statements.Goals as goal
 
-pub stmt_of-parts_of-requires : goal.stmt_of-parts_of-requires
-stmt_of-parts_of-requires t c =
-    (first_of (search (rules, the_lemmas), search (rules, arith, the_lemmas)), rw c.deref.ensures.value (block_parts c.args.scope.now c.open.new.self c.args.stmt.now c.in-Block.opening c.in-Block.parts c.in-Block.closing c.in-Block.is c.in_ok-open-in-Block.ensures c.requires))
+pub stmt_of-block_of-requires : goal.stmt_of-block_of-requires
+stmt_of-block_of-requires t c = (first_of (search (rules, the_lemmas), search (rules, arith, the_lemmas)), rw c.deref.ensures.value (block_parts c.args.scope.now c.args.stmt.now c.in-Block.opening c.in-Block.parts c.in-Block.closing c.in-Block.is c.requires))
 
-pub stmt_of-returns-in_ok-typed-in-Block-clause-typed : goal.stmt_of-returns-in_ok-typed-in-Block-clause-typed
-stmt_of-returns-in_ok-typed-in-Block-clause-typed t c =
-    block_rule c.args.scope.now c.open.new.self c.args.stmt.now c.in-Block.opening c.in-Block.parts c.in-Block.closing c.in_ok-typed-in-Block.typed c.in-Block.is c.in_ok-open-in-Block.ensures
-    (rw c.deref.ensures.value at c.in_ok-typed-in-Block.ensures.typed)
+pub stmt_of-returns-in_ok-block_of-in-Block-clause-typed : goal.stmt_of-returns-in_ok-block_of-in-Block-clause-typed
+stmt_of-returns-in_ok-block_of-in-Block-clause-typed t c =
+    block_rule c.args.scope.now c.args.stmt.now c.in-Block.opening c.in-Block.parts c.in-Block.closing c.in_ok-block_of-in-Block.field-0 c.in-Block.is (rw c.deref.ensures.value at c.in_ok-block_of-in-Block.ensures.typed)
 
-pub stmt_of-returns-in_ok-typed-in-Block-clause-scope : goal.stmt_of-returns-in_ok-typed-in-Block-clause-scope
-stmt_of-returns-in_ok-typed-in-Block-clause-scope t c =
-    c.close.ensures ∙ ap closing (c.in_ok-typed-in-Block.ensures.scope ∙ ap (λ env. after_parts env (parts_view c.deref.result.now)) c.in_ok-open-in-Block.ensures)
-    ∙ closed_parts c.args.scope.now (parts_view c.deref.result.now)
+pub stmt_of-for_of-requires : goal.stmt_of-for_of-requires
+stmt_of-for_of-requires t c = (
+  first_of (search (rules, the_lemmas), search (rules, arith, the_lemmas)),
+  (for_start c.args.scope.now c.args.stmt.now c.in-For.word c.in-For.opening c.in-For.start c.in-For.start_end c.in-For.test c.in-For.test_end c.in-For.step c.in-For.closing c.in-For.body c.in-For.is c.requires, (for_step c.args.scope.now c.args.stmt.now c.in-For.word c.in-For.opening c.in-For.start c.in-For.start_end c.in-For.test c.in-For.test_end c.in-For.step c.in-For.closing c.in-For.body c.in-For.is c.requires, rw c.deref-in-For.ensures (for_body c.args.scope.now c.args.stmt.now c.in-For.word c.in-For.opening c.in-For.start c.in-For.start_end c.in-For.test c.in-For.test_end c.in-For.step c.in-For.closing c.in-For.body c.in-For.is c.requires))),
+)
+
+pub stmt_of-returns-in_ok-typed-in-For-clause-typed : goal.stmt_of-returns-in_ok-typed-in-For-clause-typed
+stmt_of-returns-in_ok-typed-in-For-clause-typed t c =
+    for_rule c.args.scope.now c.args.stmt.now c.in-For.word c.in-For.opening c.in-For.start c.in-For.start_end c.in-For.test c.in-For.test_end c.in-For.step c.in-For.closing c.in-For.body c.in-For.is _
+    (rw c.deref-in-For.ensures at (c.in_ok-typed-in-For.ensures.typed c.in-For.word c.in-For.opening c.in-For.start_end c.in-For.test_end c.in-For.closing))
+
+pub block_of-parts_of-requires : goal.block_of-parts_of-requires
+block_of-parts_of-requires t c = (first_of (search (rules, the_lemmas), search (rules, arith, the_lemmas)), rw c.in_ok-open.ensures c.requires)
+
+pub block_of-returns-clause-typed : goal.block_of-returns-clause-typed
+block_of-returns-clause-typed t c = rw c.in_ok-open.ensures at c.in_ok-typed.ensures.typed
+
+pub block_of-returns-clause-scope : goal.block_of-returns-clause-scope
+block_of-returns-clause-scope t c =
+    c.close.ensures ∙ ap closing (c.in_ok-typed.ensures.scope ∙ ap (λ env. after_parts env (parts_view c.args.parts.now)) c.in_ok-open.ensures)
+    ∙ closed_parts c.args.scope.now (parts_view c.args.parts.now)
+
+pub for_of-start_of-requires : goal.for_of-start_of-requires
+for_of-start_of-requires t c = rw c.in_ok-open.ensures c.requires.start
+
+pub for_of-turn_of-requires : goal.for_of-turn_of-requires
+for_of-turn_of-requires t c = rw (c.in_ok-start.ensures.scope, c.in_ok-open.ensures) c.requires.step
+
+pub for_of-boxed_of-requires : goal.for_of-boxed_of-requires
+for_of-boxed_of-requires t c = (first_of (search (rules, the_lemmas), search (rules, arith, the_lemmas)), rw (c.in_ok-start.ensures.scope, c.in_ok-open.ensures) c.requires.body)
+
+pub for_of-returns-clause-typed : goal.for_of-returns-clause-typed
+for_of-returns-clause-typed t c =
+    for_typed c.args.scope.now _ _ c.args.start.now c.args.test.now c.args.step.now c.args.body.now _ _ _ _ c.in_ok-open.ensures c.in_ok-start.ensures.scope
+    c.in_ok-start.ensures.typed c.in_ok-test.ensures c.in_ok-step.ensures c.in_ok-body.ensures.typed
+
+pub for_of-returns-clause-scope : goal.for_of-returns-clause-scope
+for_of-returns-clause-scope t c =
+    c.close.ensures
+    ∙ ap closing (c.in_ok-body.ensures.scope ∙ c.in_ok-start.ensures.scope ∙ ap (λ env. after_start env (start_view c.args.start.now)) c.in_ok-open.ensures)
+    ∙ closed_start c.args.scope.now (start_view c.args.start.now)
 
 pub stmt_of-returns-in-Empty-clause-typed : goal.stmt_of-returns-in-Empty-clause-typed
 stmt_of-returns-in-Empty-clause-typed t c = empty_rule c.args.scope.now c.args.stmt.now _ c.in-Empty.is
@@ -83,36 +118,6 @@ stmt_of-returns-in_ok-expr_of-in-Do-clause-typed t c =
     do_rule c.args.scope.now _ c.args.stmt.now c.in-Do.word c.in-Do.body c.in-Do.while_word c.in-Do.opening c.in-Do.test c.in-Do.closing c.in-Do.end _ _ c.in-Do.is c.in_ok-boxed_of-in-Do.ensures.scope
     (rw c.deref-in-Do.ensures at c.in_ok-boxed_of-in-Do.ensures.typed) c.in_ok-expr_of-in-Do.ensures
 
-pub stmt_of-start_of-requires : goal.stmt_of-start_of-requires
-stmt_of-start_of-requires t c =
-    for_start c.args.scope.now c.args.stmt.now c.in-For.word c.in-For.opening c.in-For.start c.in-For.start_end c.in-For.test c.in-For.test_end c.in-For.step c.in-For.closing c.in-For.body c.in-For.is
-    _ c.in_ok-open-in-For.ensures c.requires
-
-pub stmt_of-turn_of-requires : goal.stmt_of-turn_of-requires
-stmt_of-turn_of-requires t c =
-    for_step c.args.scope.now c.args.stmt.now c.in-For.word c.in-For.opening c.in-For.start c.in-For.start_end c.in-For.test c.in-For.test_end c.in-For.step c.in-For.closing c.in-For.body c.in-For.is
-    _ _ c.in_ok-open-in-For.ensures c.in_ok-start-in-For.ensures.scope c.requires
-
-pub stmt_of-boxed_of-requires-in-For : goal.stmt_of-boxed_of-requires-in-For
-stmt_of-boxed_of-requires-in-For t c = (
-  first_of (search (rules, the_lemmas), search (rules, arith, the_lemmas)),
-  rw c.deref-in-For.ensures
-      (for_body c.args.scope.now c.args.stmt.now c.in-For.word c.in-For.opening c.in-For.start c.in-For.start_end c.in-For.test c.in-For.test_end c.in-For.step c.in-For.closing c.in-For.body c.in-For.is
-      _ _ c.in_ok-open-in-For.ensures c.in_ok-start-in-For.ensures.scope c.requires),
-)
-
-pub stmt_of-returns-in_ok-body-in-For-clause-typed : goal.stmt_of-returns-in_ok-body-in-For-clause-typed
-stmt_of-returns-in_ok-body-in-For-clause-typed t c =
-    for_rule c.args.scope.now c.args.stmt.now c.in-For.word c.in-For.opening c.in-For.start c.in-For.start_end c.in-For.test c.in-For.test_end c.in-For.step c.in-For.closing c.in-For.body c.in-For.is
-    _ _ _ _ _ _ c.in_ok-open-in-For.ensures c.in_ok-start-in-For.ensures.scope c.in_ok-start-in-For.ensures.typed c.in_ok-test-in-For.ensures c.in_ok-step-in-For.ensures
-    (rw c.deref-in-For.ensures at c.in_ok-body-in-For.ensures.typed)
-
-pub stmt_of-returns-in_ok-body-in-For-clause-scope : goal.stmt_of-returns-in_ok-body-in-For-clause-scope
-stmt_of-returns-in_ok-body-in-For-clause-scope t c =
-    c.close-in-For.ensures
-    ∙ ap closing (c.in_ok-body-in-For.ensures.scope ∙ c.in_ok-start-in-For.ensures.scope ∙ ap (λ env. after_start env (start_view c.in-For.start)) c.in_ok-open-in-For.ensures)
-    ∙ closed_start c.args.scope.now (start_view c.in-For.start)
-
 pub part_of-declaration_of-requires : goal.part_of-declaration_of-requires
 part_of-declaration_of-requires t c = declare_faultless c.args.scope.now c.args.part.now c.in-Declaration.declaration c.in-Declaration.end c.in-Declaration.is c.requires
 
@@ -141,11 +146,11 @@ parts_of-part_of-requires t c = (
 
 pub parts_of-loop-part-preserved : goal.parts_of-loop-part-preserved
 parts_of-loop-part-preserved t c = record {
-  faults = parts_next c.loop-part.scope c.part_of.new.scope c.args.parts.now c.loop-part.part-index c.part-item.result c.loop-part-test.true c.part-item.is c.in_ok-part_of.ensures.scope c.loop-part.invariant.faults;
-  scope = parts_after c.loop-part.scope c.part_of.new.scope _ c.args.parts.now c.loop-part.part-index c.part-item.result c.loop-part-test.true c.part-item.is c.in_ok-part_of.ensures.scope
+  faults = parts_next c.loop-part.scope c.part_of.new.scope c.args.parts.now c.loop-part.part-index c.part-item.result c.loop-part-test.true c.part-item.is c.in_ok-one.ensures.scope c.loop-part.invariant.faults;
+  scope = parts_after c.loop-part.scope c.part_of.new.scope _ c.args.parts.now c.loop-part.part-index c.part-item.result c.loop-part-test.true c.part-item.is c.in_ok-one.ensures.scope
       c.loop-part.invariant.scope;
-  typed = parts_more c.loop-part.scope c.args.scope.now c.part_of.new.scope c.args.parts.now c.loop-part.part-index c.part-item.result c.loop-part.typed.items _ _ c.in_ok-push.ensures.items
-      c.loop-part-test.true c.part-item.is c.in_ok-part_of.ensures.typed c.in_ok-part_of.ensures.scope c.loop-part.invariant.typed;
+  typed = parts_more c.loop-part.scope c.args.scope.now c.part_of.new.scope c.args.parts.now c.loop-part.part-index c.part-item.result c.loop-part.typed.items _ _ c.in_ok-push.ensures
+      c.loop-part-test.true c.part-item.is c.in_ok-one.ensures.typed c.in_ok-one.ensures.scope c.loop-part.invariant.typed;
 }
 
 pub parts_of-returns-clause-typed : goal.parts_of-returns-clause-typed

@@ -9,10 +9,10 @@ use Rattle.c_types.proofs.statement_of.call_statement.Goals as goal
 pub returns-in_ok-call_of-in-Declared-Function : goal.returns-in_ok-call_of-in-Declared-Function
 returns-in_ok-call_of-in-Declared-Function c = x.call c.in_ok-call_of-in-Declared-Function.ensures
 
-pub returns-in_ok-mpi_call_of-in-Known-Mpi : goal.returns-in_ok-mpi_call_of-in-Known-Mpi
-returns-in_ok-mpi_call_of-in-Known-Mpi c =
+pub returns-in_ok-new-in-Known-Mpi : goal.returns-in_ok-new-in-Known-Mpi
+returns-in_ok-new-in-Known-Mpi c =
     let is : meaning c.args.scope.now c.args.call.now.name ≡ m.Known (p.Mpi c.in-Known-Mpi.function) = first_of (search rules, grind (arith, common_steps)) in
-    x.mpi is c.in_ok-mpi_call_of-in-Known-Mpi.ensures
+    x.mpi is (rw c.in_ok-new-in-Known-Mpi.ensures.ok c.in_ok-typed-in-Known-Mpi.ensures)
 
 pub returns-in-Known-Fflush : goal.returns-in-Known-Fflush
 returns-in-Known-Fflush c =

@@ -3,4 +3,4 @@ use Rattle.c_calls.proofs.MpiRules.{by_places}
 use Rattle.c_calls.proofs.mpi_of.Given.abort.Goals as goal
 
 pub returns : goal.returns
-returns c = by_places _ _ _ _ c.requires (y.abort c.in_ok-comm.ensures c.in_ok-code.ensures)
+returns c = by_places _ _ _ _ c.requires (y.abort c.in_ok-pair.ensures.first c.in_ok-pair.ensures.second)

@@ -3,4 +3,4 @@ use Rattle.c_calls.proofs.MpiRules.{by_places}
 use Rattle.c_calls.proofs.mpi_of.Given.allgather.Goals as goal
 
 pub returns : goal.returns
-returns c = by_places _ _ _ _ c.requires (y.allgather c.in_ok-send.ensures c.in_ok-receive.ensures c.in_ok-comm.ensures)
+returns c = by_places _ _ _ _ c.requires (y.allgather c.in_ok-exchange.ensures.send c.in_ok-exchange.ensures.receive c.in_ok-comm.ensures)

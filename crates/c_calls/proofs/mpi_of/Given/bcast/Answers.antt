@@ -3,4 +3,4 @@ use Rattle.c_calls.proofs.MpiRules.{by_places}
 use Rattle.c_calls.proofs.mpi_of.Given.bcast.Goals as goal
 
 pub returns : goal.returns
-returns c = by_places _ _ _ _ c.requires (y.bcast c.in_ok-buffer.ensures c.in_ok-root.ensures c.in_ok-comm.ensures)
+returns c = by_places _ _ _ _ c.requires (y.bcast c.in_ok-buffer.ensures c.in_ok-pair.ensures.first c.in_ok-pair.ensures.second)

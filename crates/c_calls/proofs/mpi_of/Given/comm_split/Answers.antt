@@ -3,4 +3,4 @@ use Rattle.c_calls.proofs.MpiRules.{by_places}
 use Rattle.c_calls.proofs.mpi_of.Given.comm_split.Goals as goal
 
 pub returns : goal.returns
-returns c = by_places _ _ _ _ c.requires (y.comm_split c.in_ok-comm.ensures c.in_ok-color.ensures c.in_ok-key.ensures c.in_ok-made.ensures)
+returns c = by_places _ _ _ _ c.requires (y.comm_split c.in_ok-triple.ensures.first c.in_ok-triple.ensures.second c.in_ok-triple.ensures.third c.in_ok-made.ensures)

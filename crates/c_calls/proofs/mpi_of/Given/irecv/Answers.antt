@@ -3,4 +3,4 @@ use Rattle.c_calls.proofs.MpiRules.{by_places}
 use Rattle.c_calls.proofs.mpi_of.Given.irecv.Goals as goal
 
 pub returns : goal.returns
-returns c = by_places _ _ _ _ c.requires (y.irecv c.in_ok-buffer.ensures c.in_ok-source.ensures c.in_ok-tag.ensures c.in_ok-comm.ensures c.in_ok-request.ensures)
+returns c = by_places _ _ _ _ c.requires (y.irecv c.in_ok-message.ensures.buffer c.in_ok-message.ensures.other c.in_ok-message.ensures.tag c.in_ok-message.ensures.comm c.in_ok-request.ensures)

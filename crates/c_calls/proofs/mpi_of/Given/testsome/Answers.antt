@@ -3,4 +3,4 @@ use Rattle.c_calls.proofs.MpiRules.{by_places}
 use Rattle.c_calls.proofs.mpi_of.Given.testsome.Goals as goal
 
 pub returns : goal.returns
-returns c = by_places _ _ _ _ c.requires (y.testsome c.in_ok-count.ensures c.in_ok-requests.ensures c.in_ok-outcount.ensures c.in_ok-indices.ensures c.in_ok-statuses.ensures)
+returns c = by_places _ _ _ _ c.requires (y.testsome c.in_ok-asked.ensures.count c.in_ok-asked.ensures.requests c.in_ok-asked.ensures.first c.in_ok-asked.ensures.second c.in_ok-statuses.ensures)

@@ -27,4 +27,4 @@ returns-in-Replied-clause-shape g c = λ reply is.
     c.self.invariant.0 c.self.invariant.1
     (rw (← c.self.view_is) at c.requires.member)
     (rw (← c.self.view_is) at c.requires.next)
-    (sym c.in_ok-step.ensures ∙ is))
+    (sym c.in_ok-step.ensures.answer ∙ is))

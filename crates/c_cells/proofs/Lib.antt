@@ -1,0 +1,3 @@
+mod ChainLaws
+mod PrintLaws
+pub mod StoreLaws

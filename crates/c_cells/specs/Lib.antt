@@ -1,0 +1,4 @@
+pub mod Sizes
+pub mod SlotView
+pub mod Slots
+pub mod Steps

@@ -1,0 +1,23 @@
+use Rattle.std.proofs.Common.{rules}
+use Rattle.c_effects.proofs.messages.sendrecv.Goals as goal
+
+pub returns-in_err-source-2 : goal.returns-in_err-source-2
+returns-in_err-source-2 c = search rules depth 60
+
+pub returns-in_err-send_tag-2 : goal.returns-in_err-send_tag-2
+returns-in_err-send_tag-2 c = search rules depth 60
+
+pub returns-in_err-tag-2 : goal.returns-in_err-tag-2
+returns-in_err-tag-2 c = search rules depth 60
+
+pub returns-in_err-out_cells-2 : goal.returns-in_err-out_cells-2
+returns-in_err-out_cells-2 c = search rules depth 60
+
+pub returns-in_err-cells-2 : goal.returns-in_err-cells-2
+returns-in_err-cells-2 c = search rules depth 60
+
+pub returns-in_err-kept-2 : goal.returns-in_err-kept-2
+returns-in_err-kept-2 c = search rules depth 60
+
+pub returns : goal.returns
+returns c = search rules depth 60

@@ -1,0 +1,5 @@
+pub mod SameValues
+pub mod SameEffects
+pub mod SameSimples
+pub mod SameStatements
+pub mod SamePrograms

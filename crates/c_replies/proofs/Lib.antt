@@ -1,0 +1,4 @@
+pub mod Evaluations
+mod CellLaws
+mod CompletionLaws
+mod PerformLaws

@@ -1,0 +1,155 @@
+//! Recordings of files in memory: status, files and what is printed.
+use std::alloc::Global;
+use wiz_cli::top::wiz_serial;
+use wiz_io::{MemorySink, MemoryStore};
+
+/// Rank 0 sends a 7, which rank 1 receives and prints.
+const FIRST: &[u8] =
+    b"int main(void){int r,x=7;MPI_Comm_rank(MPI_COMM_WORLD,&r);if(r==0)MPI_Send(&x,1,MPI_INT,1,5,MPI_COMM_WORLD);if(r==1){x=0;MPI_Recv(&x,1,MPI_INT,0,5,MPI_COMM_WORLD,MPI_STATUS_IGNORE);printf(\"%d\\n\",x);}return 0;}";
+
+/// Two ranks that receive from each other before anything is sent.
+const CYCLE: &[u8] =
+    b"int main(void){int r,x=0;MPI_Comm_rank(MPI_COMM_WORLD,&r);if(r==0){MPI_Recv(&x,1,MPI_INT,1,5,MPI_COMM_WORLD,MPI_STATUS_IGNORE);}if(r==1){MPI_Recv(&x,1,MPI_INT,0,5,MPI_COMM_WORLD,MPI_STATUS_IGNORE);}return 0;}";
+
+/// Rank 0 sends to a rank that there is not.
+const BAD_RANK: &[u8] =
+    b"int main(void){int r,x=7;MPI_Comm_rank(MPI_COMM_WORLD,&r);if(r==0)MPI_Send(&x,1,MPI_INT,2,5,MPI_COMM_WORLD);if(r==1){x=0;MPI_Recv(&x,1,MPI_INT,0,5,MPI_COMM_WORLD,MPI_STATUS_IGNORE);printf(\"%d\\n\",x);}return 0;}";
+
+const SERIAL: &[&str] = &["record", "P", "Q", "A", "--serial"];
+
+const ORDERED: &[&str] = &["record", "P", "Q", "A", "--order", "F"];
+
+/// The files `P`, `Q` and `F`: a program, a plan and an order.
+fn files(alloc: Global, program: &[u8], plan: &[u8], order: &[u8]) -> Option<MemoryStore> {
+    let mut store = MemoryStore::new(alloc);
+    store.add("P", program).ok()?;
+    store.add("Q", plan).ok()?;
+    store.add("F", order).ok()?;
+    Some(store)
+}
+
+/// Runs a command over these files, and compares its status and output.
+fn answers(
+    alloc: Global,
+    store: &mut MemoryStore,
+    words: &[&str],
+    status: u8,
+    printed: &[u8],
+) -> bool {
+    let mut out = MemorySink::new(alloc);
+    let report = wiz_serial(alloc, words, store, &mut out);
+    report.status == status && out.bytes() == printed
+}
+
+/// Whether a file ends so.
+fn ends_with(store: &MemoryStore, name: &str, tail: &[u8]) -> bool {
+    match store.file(name) {
+        Some(bytes) => bytes.as_slice().ends_with(tail),
+        None => false,
+    }
+}
+
+#[test]
+fn runs_are_recorded(rt: HostRuntime) {
+    let alloc = rt.alloc();
+    let rows: [(&[u8], &[u8], &[&str], u8, &[u8], &str, &[u8], &[u8]); 4] = [
+        (
+            FIRST,
+            b"0\n1\n",
+            SERIAL,
+            0,
+            b"rank 0 output 0\n\nrank 1 output 2\n7\n\nfinished\n",
+            "A.1.srr",
+            b"\nrank 1 3\np\nt 0=0.0.5:7\nz\nend\n",
+            b"0\n1\n0\n1\n1\n",
+        ),
+        (
+            FIRST,
+            b"0 1",
+            ORDERED,
+            0,
+            b"rank 0 output 0\n\nrank 1 output 2\n7\n\nfinished\n",
+            "A.0.srr",
+            b"\nrank 0 2\ns\nz\nrank 1 3\np\nt 0=0.0\nz\nend\n",
+            b"1\n0\n1\n0\n1\n",
+        ),
+        (
+            CYCLE,
+            b"0 1",
+            SERIAL,
+            7,
+            b"rank 0 output 0\n\nrank 1 output 0\n\nhalted stuck\n",
+            "A.0.srr",
+            b"\nrank 0 2\np\nx 7\nrank 1 2\np\nx 7\nend\n",
+            b"0\n1\n1\n0\n",
+        ),
+        (
+            BAD_RANK,
+            b"0 1",
+            SERIAL,
+            7,
+            b"rank 0 output 0\n\nrank 1 output 0\n\nhalted trapped rank 0 bad rank\n",
+            "A.0.srr",
+            b"\nrank 0 1\nx 2 0 3\nrank 1 1\nx 2 0 3\nend\n",
+            b"0\n1\n",
+        ),
+    ];
+    for (program, plan, words, status, printed, name, tail, order) in rows {
+        let mut store = files(alloc, program, plan, b"1\n1\n").expect(&rt, "files");
+        assert!(&rt; answers(alloc, &mut store, words, status, printed));
+        assert!(&rt; ends_with(&store, name, tail));
+        assert!(&rt; ends_with(&store, "A.order", order));
+    }
+}
+
+#[test]
+fn inputs_are_refused(rt: HostRuntime) {
+    let alloc = rt.alloc();
+    let rows: [(&[u8], &[u8], &[u8], u8, &[u8]); 8] = [
+        (b"int x;", b"2-1", b"2", 5, b"program 1:6 unexpected\n"),
+        (b"float f;", b"", b"", 5, b"program 1:1 left out\n"),
+        (FIRST, b"0-2,4", b"2", 6, b"plan gap 3\n"),
+        (FIRST, b"0 0", b"2", 6, b"plan repeated 0\n"),
+        (FIRST, b"", b"2", 6, b"plan empty\n"),
+        (FIRST, b"2-1", b"2", 6, b"plan line 1\n"),
+        (FIRST, b"0-64", b"2", 6, b"plan too many ranks\n"),
+        (FIRST, b"0 1", b"1\n2", 6, b"order line 2\n"),
+    ];
+    for (program, plan, order, status, message) in rows {
+        let mut store = files(alloc, program, plan, order).expect(&rt, "files");
+        assert!(&rt; answers(alloc, &mut store, ORDERED, status, message));
+        assert!(&rt; store.file("A.order").is_none());
+    }
+}
+
+#[test]
+fn faults_of_files_are_told(rt: HostRuntime) {
+    let alloc = rt.alloc();
+    // The call that fails, over reads and writes.
+    let rows: [(u32, &[&str], u8, &[u8]); 6] = [
+        (0, ORDERED, 3, b"cannot read P\n"),
+        (1, ORDERED, 3, b"cannot read Q\n"),
+        (2, ORDERED, 3, b"cannot read F\n"),
+        (2, SERIAL, 4, b"cannot write A.0.srr\n"),
+        (3, SERIAL, 4, b"cannot write A.1.srr\n"),
+        (4, SERIAL, 4, b"cannot write A.order\n"),
+    ];
+    for (call, words, status, message) in rows {
+        let mut store = files(alloc, FIRST, b"0\n1\n", b"1").expect(&rt, "files");
+        store.fail(call).expect(&rt, "a call");
+        assert!(&rt; answers(alloc, &mut store, words, status, message));
+        assert!(&rt; store.file("A.0.srr").is_some() == (call > 2));
+        assert!(&rt; store.file("A.order").is_none());
+    }
+    // The output fails at its first put, and all files are written.
+    let mut store = files(alloc, FIRST, b"0\n1\n", b"1").expect(&rt, "files");
+    let mut full = MemorySink::new(alloc);
+    full.fail(0).expect(&rt, "a put");
+    let report = wiz_serial(alloc, SERIAL, &mut store, &mut full);
+    assert!(&rt; report.status == 4 && full.bytes().is_empty());
+    assert!(&rt; ends_with(&store, "A.order", b"0\n1\n0\n1\n1\n"));
+    let mut store = MemoryStore::new(alloc);
+    assert!(&rt; answers(alloc, &mut store, SERIAL, 2, b"no file P\n"));
+    let both: &[&str] = &["record", "P", "Q", "A", "--order", "F", "--serial"];
+    assert!(&rt; answers(alloc, &mut store, both, 1, b"refused words\n"));
+}

@@ -1,0 +1,261 @@
+//! Commands over files in memory: words, status and what is printed.
+ghost use Rattle.std.specs.Prelude.{[], IfOk};
+ghost use Rattle.srr_replay.specs.Rounds.{IsReplayable, RunAll};
+
+use c_eval::rank::EvalRank;
+use c_program::CProgram;
+use c_types::read_program;
+use srr_entry::log::Log;
+use srr_log::read_log::read_log;
+use srr_replay::replayed::Replayed;
+use srr_replay::serial::replay_serial;
+use std::alloc::{AllocError, Global};
+use std::sync::Wait;
+use std::thread::Threads;
+use wiz_cli::gate::OpenGate;
+use wiz_cli::top::wiz;
+use wiz_io::{MemorySink, MemoryStore};
+use wiz_trace::trace::trace_text;
+
+const FIRST: &[u8] =
+    b"srr 1\nranks 2\ngroup 0 1\nprogram 209\nint main(void){int r,x=7;MPI_Comm_rank(MPI_COMM_WORLD,&r);if(r==0)MPI_Send(&x,1,MPI_INT,1,5,MPI_COMM_WORLD);if(r==1){x=0;MPI_Recv(&x,1,MPI_INT,0,5,MPI_COMM_WORLD,MPI_STATUS_IGNORE);printf(\"%d\\n\",x);}return 0;}\nrank 0 2\ns\nz\nrank 1 3\np\nt 0=0.0\nz\nend\n";
+
+const FIRST_TRACE: &[u8] =
+    b"rank 0\n0 send comm=0 to=1 tag=5 data=7 -> done\n1 end -> done\noutput 0\n\nended\nrank 1\n0 post comm=0 from=0 tag=5 room=1 -> done\n1 take all 0 -> took 0=0.0 tag=5 data=7\n2 end -> done\noutput 2\n7\n\nended\n";
+
+/// The first log, but its program sends to rank 0.
+const DIVERGED: &[u8] =
+    b"srr 1\nranks 2\ngroup 0 1\nprogram 209\nint main(void){int r,x=7;MPI_Comm_rank(MPI_COMM_WORLD,&r);if(r==0)MPI_Send(&x,1,MPI_INT,0,5,MPI_COMM_WORLD);if(r==1){x=0;MPI_Recv(&x,1,MPI_INT,0,5,MPI_COMM_WORLD,MPI_STATUS_IGNORE);printf(\"%d\\n\",x);}return 0;}\nrank 0 2\ns\nz\nrank 1 3\np\nt 0=0.0\nz\nend\n";
+
+const DIVERGED_TRACE: &[u8] =
+    b"rank 0\n0 send comm=0 to=0 tag=5 data=7 -> done\n1 end -> done\noutput 0\n\nended\nrank 1\n0 post comm=0 from=0 tag=5 room=1 -> done\noutput 0\n\ndiverged call 1 entry t 0=0.0 made take all 0 found 0.0 send comm=0 to=0 tag=5 data=7\n";
+
+/// The first log, but its program sends nothing and rank 0 ends at once.
+const STARVED: &[u8] =
+    b"srr 1\nranks 2\ngroup 0 1\nprogram 159\nint main(void){int r,x=7;MPI_Comm_rank(MPI_COMM_WORLD,&r);if(r==1){x=0;MPI_Recv(&x,1,MPI_INT,0,5,MPI_COMM_WORLD,MPI_STATUS_IGNORE);printf(\"%d\\n\",x);}return 0;}\nrank 0 1\nz\nrank 1 3\np\nt 0=0.0\nz\nend\n";
+
+const STARVED_TRACE: &[u8] =
+    b"rank 0\n0 end -> done\noutput 0\n\nended\nrank 1\n0 post comm=0 from=0 tag=5 room=1 -> done\noutput 0\n\nstarved 0.0\n";
+
+const ALONE: &[u8] =
+    b"srr 1\nranks 1\ngroup 0\nprogram 68\nint main(void){int r,x=0;MPI_Comm_rank(MPI_COMM_WORLD,&r);return 0;}\nrank 0 1\nz\nend\n";
+
+const ALONE_TRACE: &[u8] = b"rank 0\n0 end -> done\noutput 0\n\nended\n";
+
+const NO_ENTRY: &[u8] =
+    b"srr 1\nranks 1\ngroup 0\nprogram 68\nint main(void){int r,x=0;MPI_Comm_rank(MPI_COMM_WORLD,&r);return 0;}\nrank 0 0\nend\n";
+
+const NO_ENTRY_TRACE: &[u8] = b"rank 0\noutput 0\n\nlog ended\n";
+
+const REFUSED: &[u8] =
+    b"srr 1\nranks 1\ngroup 0\nprogram 25\nint main(void){return y;}\nrank 0 0\nend\n";
+
+const UNEXPECTED: &[u8] = b"srr 1\nranks 1\ngroup 0\nprogram 6\nint x;\nrank 0 0\nend\n";
+
+const LEFT_OUT: &[u8] = b"srr 1\nranks 1\ngroup 0\nprogram 8\nfloat f;\nrank 0 0\nend\n";
+
+const BAD_LITERAL: &[u8] =
+    b"srr 1\nranks 1\ngroup 0\nprogram 34\nint main(void){return 2147483648;}\nrank 0 0\nend\n";
+
+const NO_MAIN: &[u8] = b"srr 1\nranks 1\ngroup 0\nprogram 0\n\nrank 0 0\nend\n";
+
+const TWICE: &[u8] =
+    b"srr 1\nranks 1\ngroup 0\nprogram 37\nint main(void){int x;int x;return 0;}\nrank 0 0\nend\n";
+
+const CUT_OFF: &[u8] =
+    b"srr 1\nranks 1\ngroup 0\nprogram 23\nint main(void){return 0\nrank 0 0\nend\n";
+
+/// A program that makes no call but the last, and none in the log.
+const SHORT: &[u8] =
+    b"srr 1\nranks 1\ngroup 0\nprogram 25\nint main(void){return 0;}\nrank 0 0\nend\n";
+
+/// Runs a command where the one file `L` holds a log, and compares its status and output.
+fn answers<R: Threads + Wait + Sync + AllocGlobal>(
+    rt: &R,
+    words: &[&str],
+    log: &[u8],
+    status: u8,
+    printed: &[u8],
+) -> bool {
+    let mut store = MemoryStore::new(rt.alloc());
+    if store.add("L", log).is_err() {
+        return false;
+    }
+    let mut out = MemorySink::new(rt.alloc());
+    let report = wiz(rt, rt.alloc(), words, &mut store, &mut out, &OpenGate);
+    report.status == status && out.bytes() == printed
+}
+
+#[test]
+fn commands_have_their_status_and_output(rt: HostRuntime) {
+    let replay: &[&str] = &["replay", "L", "--serial"];
+    let table: [(&[&str], &[u8], u8, &[u8]); 19] = [
+        (replay, FIRST, 0, FIRST_TRACE),
+        (replay, DIVERGED, 9, DIVERGED_TRACE),
+        (replay, STARVED, 10, STARVED_TRACE),
+        (replay, ALONE, 0, ALONE_TRACE),
+        (replay, NO_ENTRY, 0, NO_ENTRY_TRACE),
+        (replay, REFUSED, 5, b"program 1:23 unknown\n"),
+        (replay, UNEXPECTED, 5, b"program 1:6 unexpected\n"),
+        (replay, LEFT_OUT, 5, b"program 1:1 left out\n"),
+        (replay, BAD_LITERAL, 5, b"program 1:23 bad literal\n"),
+        (replay, NO_MAIN, 5, b"program 1:1 no main\n"),
+        (replay, TWICE, 5, b"program 1:26 twice\n"),
+        (replay, CUT_OFF, 5, b"program 1:24 unexpected\n"),
+        (replay, SHORT, 0, b"rank 0\noutput 0\n\nlog ended\n"),
+        (replay, &FIRST[..270], 8, b"log 270 short\n"),
+        (replay, b"srr 2\n", 8, b"log 0 bad version\n"),
+        (&["replay", "L9", "--serial"], FIRST, 2, b"no file L9\n"),
+        (&[], FIRST, 1, b"refused words\n"),
+        (&["play"], FIRST, 1, b"refused words\n"),
+        (&["replay", "--serial", "L"], FIRST, 1, b"refused words\n"),
+    ];
+    for (words, log, status, printed) in table {
+        assert!(&rt; answers(&rt, words, log, status, printed));
+    }
+}
+
+/// The first log up to its lists.
+const FIRST_HEAD: &[u8] =
+    b"srr 1\nranks 2\ngroup 0 1\nprogram 209\nint main(void){int r,x=7;MPI_Comm_rank(MPI_COMM_WORLD,&r);if(r==0)MPI_Send(&x,1,MPI_INT,1,5,MPI_COMM_WORLD);if(r==1){x=0;MPI_Recv(&x,1,MPI_INT,0,5,MPI_COMM_WORLD,MPI_STATUS_IGNORE);printf(\"%d\\n\",x);}return 0;}\n";
+
+/// Its trace up to rank 1's first call.
+const FIRST_TRACE_HEAD: &[u8] =
+    b"rank 0\n0 send comm=0 to=1 tag=5 data=7 -> done\n1 end -> done\noutput 0\n\nended\nrank 1\n0 post comm=0 from=0 tag=5 room=1 -> done\n";
+
+/// A log of two ranks that both receive before they send, up to its lists.
+const CYCLE_HEAD: &[u8] =
+    b"srr 1\nranks 2\ngroup 0 1\nprogram 292\nint main(void){int r,x=0;MPI_Comm_rank(MPI_COMM_WORLD,&r);if(r==0){MPI_Recv(&x,1,MPI_INT,1,5,MPI_COMM_WORLD,MPI_STATUS_IGNORE);MPI_Send(&x,1,MPI_INT,1,5,MPI_COMM_WORLD);}if(r==1){MPI_Recv(&x,1,MPI_INT,0,5,MPI_COMM_WORLD,MPI_STATUS_IGNORE);MPI_Send(&x,1,MPI_INT,0,5,MPI_COMM_WORLD);}return 0;}\n";
+
+fn joined(alloc: Global, head: &[u8], tail: &[u8]) -> Result<Vec<u8>, AllocError> {
+    let mut all = Vec::new(alloc);
+    all.extend_from_slice(head)?;
+    all.extend_from_slice(tail)?;
+    Ok(all)
+}
+
+#[test]
+fn a_forged_log_starves_or_diverges(rt: HostRuntime) {
+    let replay: &[&str] = &["replay", "L", "--serial"];
+    let table: [(&[u8], &[u8], u8, &[u8], &[u8]); 5] = [
+        (
+            FIRST_HEAD,
+            b"rank 0 2\ns\nz\nrank 1 3\np\nt 0=0.999999\nz\nend\n",
+            10,
+            FIRST_TRACE_HEAD,
+            b"output 0\n\nstarved 0.999999\n",
+        ),
+        (
+            FIRST_HEAD,
+            b"rank 0 2\ns\nz\nrank 1 3\np\nt 1=0.0\nz\nend\n",
+            9,
+            FIRST_TRACE_HEAD,
+            b"output 0\n\ndiverged call 1 entry t 1=0.0 made take all 0\n",
+        ),
+        (
+            FIRST_HEAD,
+            b"rank 0 2\ns\nz\nrank 1 3\np\nt 0=0.0 1=0.0\nz\nend\n",
+            9,
+            FIRST_TRACE_HEAD,
+            b"output 0\n\ndiverged call 1 entry t 0=0.0 1=0.0 made take all 0\n",
+        ),
+        (
+            FIRST_HEAD,
+            b"rank 0 2\ns\nz\nrank 1 3\np\nt 0=0.0\nx 4 1\nend\n",
+            9,
+            FIRST_TRACE_HEAD,
+            b"1 take all 0 -> took 0=0.0 tag=5 data=7\noutput 2\n7\n\ndiverged call 2 entry x 4 1 made end\n",
+        ),
+        (
+            CYCLE_HEAD,
+            b"rank 0 4\np\nt 0=1.1\ns\nz\nrank 1 4\np\nt 0=0.1\ns\nz\nend\n",
+            10,
+            b"rank 0\n0 post comm=0 from=1 tag=5 room=1 -> done\noutput 0\n\nstarved 1.1\n",
+            b"rank 1\n0 post comm=0 from=0 tag=5 room=1 -> done\noutput 0\n\nstarved 0.1\n",
+        ),
+    ];
+    for (head, tail, status, front, back) in table {
+        let log = joined(rt.alloc(), head, tail).expect(&rt, "bytes");
+        let trace = joined(rt.alloc(), front, back).expect(&rt, "bytes");
+        assert!(&rt; answers(&rt, replay, log.as_slice(), status, trace.as_slice()));
+    }
+}
+
+#[test]
+fn a_failing_read_or_put_is_told(rt: HostRuntime) {
+    let mut store = MemoryStore::new(rt.alloc());
+    store.add("L", FIRST).expect(&rt, "bytes");
+    store.fail(0).expect(&rt, "number");
+    let mut out = MemorySink::new(rt.alloc());
+    let words: &[&str] = &["replay", "L", "--serial"];
+    let unread = wiz(&rt, rt.alloc(), words, &mut store, &mut out, &OpenGate);
+    assert!(&rt; unread.status == 3 && out.bytes() == b"cannot read L\n".as_slice());
+    let mut full = MemorySink::new(rt.alloc());
+    full.fail(0).expect(&rt, "number");
+    let unwritten = wiz(&rt, rt.alloc(), words, &mut store, &mut full, &OpenGate);
+    assert!(&rt; unwritten.status == 4 && full.bytes().is_empty());
+}
+
+/// A run for each rank of the log's group, before its first call.
+fn start_all<'a>(
+    alloc: Global,
+    program: &'a CProgram,
+    log: &Log,
+) -> Result<Vec<EvalRank<'a>>, AllocError>
+    requires { IsReplayable log.now }
+    ensures { IfOk result (λ runs. RunAll (λ run. run) program.now log.now [] runs.items) }
+{
+    let mut runs = Vec::new(alloc);
+    for rank in log.group.as_slice() {
+        runs.push(EvalRank::start(alloc, program, log.ranks, *rank)?)?;
+    }
+    Ok(runs)
+}
+
+/// The replay of a log's group with a program; a rank stops before the call that `stop` names.
+fn replay_group(
+    alloc: Global,
+    program: &CProgram,
+    log: &Log,
+    stop: Option<(u8, u32)>,
+) -> Result<Replayed, AllocError>
+    requires { IsReplayable log.now }
+{
+    let runs = start_all(alloc, program, log)?;
+    replay_serial(alloc, program, log, runs, stop)
+}
+
+/// Whether a replay of the first log with this breakpoint has this trace.
+fn stops_with(alloc: Global, stop: (u8, u32), trace: &[u8]) -> bool {
+    let Ok(log) = read_log(alloc, FIRST) else {
+        return false;
+    };
+    let Ok(program) = read_program(alloc, log.program.as_slice()) else {
+        return false;
+    };
+    let Ok(replayed) = replay_group(alloc, &program, &log, Some(stop)) else {
+        return false;
+    };
+    match trace_text(alloc, &replayed) {
+        Ok(text) => text.as_slice() == trace,
+        Err(_) => false,
+    }
+}
+
+#[test]
+fn a_rank_stops_at_its_breakpoint(rt: HostRuntime) {
+    let table: [((u8, u32), &[u8]); 3] = [
+        (
+            (0, 0),
+            b"rank 0\noutput 0\n\nbreak\nvar 0 r 0\nvar 0 x 7\nrank 1\n0 post comm=0 from=0 tag=5 room=1 -> done\noutput 0\n\nstarved 0.0\n",
+        ),
+        (
+            (1, 1),
+            b"rank 0\n0 send comm=0 to=1 tag=5 data=7 -> done\n1 end -> done\noutput 0\n\nended\nrank 1\n0 post comm=0 from=0 tag=5 room=1 -> done\noutput 0\n\nbreak\nvar 0 r 1\nvar 0 x 0\n",
+        ),
+        ((7, 0), FIRST_TRACE),
+    ];
+    for (stop, trace) in table {
+        assert!(&rt; stops_with(rt.alloc(), stop, trace));
+    }
+}

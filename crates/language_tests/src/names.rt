@@ -1,0 +1,64 @@
+//! Values worked out by hand.
+use c_names::format::{count_ints, pieces};
+use c_names::function::{ArgumentKind, accepts, arguments};
+use c_names::operator::{Operator, Sign, apply, apply_sign};
+use c_names::predefined::{Predefined, meaning_of};
+use std::test::Fail;
+
+#[test]
+fn formats_take_ints(rt: HostRuntime) -> Result<(), Fail> {
+    for (format, ints, length) in [
+        ("", Some(0), 0),
+        ("%d\\n", Some(1), 2),
+        ("%-5i|%05x%%", Some(2), 4),
+        ("\\\"\\\\\\'", Some(0), 3),
+        ("%00d", None, 0),
+        ("%-0d", None, 0),
+        ("%100d", None, 0),
+        ("%s", None, 0),
+        ("%", None, 0),
+        ("\\a", None, 0),
+    ] {
+        assert_eq!(rt; count_ints(format.as_bytes()), ints, "{format}");
+        let found = pieces(rt.alloc(), format.as_bytes())?;
+        assert_eq!(rt; found.map_or(0, |found| found.len()), length, "{format}");
+    }
+    Ok(())
+}
+
+#[test]
+fn operators_wrap(rt: HostRuntime) {
+    for (operator, left, right, expected) in [
+        (Operator::Plus, 2147483647, 1, Some(-2147483648)),
+        (Operator::Divide, -7, 2, Some(-3)),
+        (Operator::Remainder, -7, 2, Some(-1)),
+        (Operator::Divide, -2147483648, -1, Some(-2147483648)),
+        (Operator::Remainder, -2147483648, -1, Some(0)),
+        (Operator::Divide, 1, 0, None),
+        (Operator::ShiftLeft, 1, 33, Some(2)),
+        (Operator::ShiftRight, -8, 1, Some(-4)),
+        (Operator::LogicalOr, 0, 7, Some(1)),
+        (Operator::Xor, 6, 3, Some(5)),
+    ] {
+        assert_eq!(rt; apply(operator, left, right), expected);
+    }
+    assert_eq!(rt; apply_sign(Sign::Complement, 0), -1);
+    assert_eq!(rt; apply_sign(Sign::Not, 5), 0);
+}
+
+#[test]
+fn names_have_meanings(rt: HostRuntime) -> Result<(), Fail> {
+    assert!(rt;
+        matches!(
+            meaning_of(b"MPI_UNDEFINED"),
+            Some(Predefined::Number(-32766))
+        )
+    );
+    assert!(rt; meaning_of(b"MPI_IN_PLACE").is_none());
+    match meaning_of(b"MPI_Waitall") {
+        Some(Predefined::Mpi(function)) => assert_eq!(rt; arguments(function).len(), 3),
+        _ => return Err(Fail::from("MPI_Waitall")),
+    }
+    assert!(rt; accepts(ArgumentKind::Buffer, Predefined::NoReference));
+    Ok(())
+}

@@ -1,0 +1,24 @@
+//! Tests that cross the crates of matching and recording: calls and histories, who meets whom, starts, a machine's runs, and
+//! recordings.
+#![tactic(auto)]
+
+#[cfg(test)]
+mod boards;
+#[cfg(test)]
+mod calls;
+#[cfg(test)]
+mod communicators;
+#[cfg(test)]
+mod histories;
+#[cfg(test)]
+mod machines;
+#[cfg(test)]
+mod matching;
+#[cfg(test)]
+mod recordings;
+#[cfg(test)]
+mod scripts;
+#[cfg(test)]
+mod starting;
+#[cfg(test)]
+mod steps;

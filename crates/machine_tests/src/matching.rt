@@ -1,0 +1,93 @@
+//! Which send meets which receive, on a worked example.
+ghost use Rattle.std.specs.Prelude.{◌≡◌, ◌+◌, IfOk, IsTrue, OnOk};
+ghost use Rattle.match_core.specs.Starts.{is_message, is_peek, AreBelow};
+
+use match_core::matcher::Matcher;
+use mpi_call::call::{Call, Source, Tag};
+use mpi_call::lists::Ints;
+use std::alloc::{AllocError, Global};
+use std::rt::HostRuntime;
+use std::test::Fail;
+
+/// What a rank does: it sends to a rank with a tag, or receives or probes.
+#[derive(Clone, Copy)]
+enum Step {
+    Send(u8, u32),
+    Post(Source, Tag),
+    Peek(Source, Tag),
+}
+
+/// What the matcher answers when a rank does something at a position.
+fn answer(
+    alloc: Global,
+    matcher: &mut Matcher,
+    at: u32,
+    rank: u8,
+    step: Step,
+) -> Result<Option<u32>, AllocError>
+    requires { AreBelow at matcher.old }
+    ensures { OnOk result (AreBelow (at + 1) matcher.new) }
+{
+    match step {
+        Step::Send(dest, tag) => {
+            let ints = Ints::new(alloc);
+            let call = Call::Send {
+                comm: 0,
+                dest,
+                tag,
+                ints,
+            };
+            matcher.send(at, rank, &call)
+        }
+        Step::Post(source, tag) => {
+            let call = Call::Post {
+                comm: 0,
+                source,
+                tag,
+                room: 1,
+            };
+            matcher.post(at, rank, &call)
+        }
+        Step::Peek(source, tag) => {
+            let call = Call::Peek {
+                comm: 0,
+                source,
+                tag,
+                wait: false,
+            };
+            Ok(matcher.peek(rank, &call))
+        }
+    }
+}
+
+#[test]
+fn sends_meet_receives(rt: HostRuntime) -> Result<(), Fail> {
+    let alloc = rt.alloc();
+    let mut matcher = Matcher::new(alloc);
+    // Who, what it does, and the position of the partner or of the message that a probe finds.
+    let rows = [
+        // The message with tag 5 goes to the first of two receives that accept it.
+        (1, Step::Post(Source::Any, Tag::Is(5)), None),
+        (1, Step::Post(Source::From(0), Tag::Any), None),
+        (0, Step::Send(1, 5), Some(0)),
+        (0, Step::Send(1, 6), Some(1)),
+        // Messages with tags 1 and 2 are received in the other order.
+        (0, Step::Send(1, 1), None),
+        (0, Step::Send(1, 2), None),
+        (1, Step::Post(Source::From(0), Tag::Is(2)), Some(5)),
+        (1, Step::Post(Source::From(0), Tag::Is(1)), Some(4)),
+        // A probe finds a message and leaves it; a wildcard receive takes a sender's first message.
+        (1, Step::Peek(Source::Any, Tag::Any), None),
+        (0, Step::Send(1, 3), None),
+        (0, Step::Send(1, 3), None),
+        (1, Step::Peek(Source::Any, Tag::Any), Some(9)),
+        (1, Step::Post(Source::Null, Tag::Any), None),
+        (1, Step::Post(Source::Any, Tag::Any), Some(9)),
+    ];
+    for at in 0..rows.len() {
+        let (rank, step, want) = rows[at];
+        let got = answer(alloc, &mut matcher, at as u32, rank, step)?;
+        assert_eq!(rt; got, want, "{at}");
+    }
+    Ok(())
+}

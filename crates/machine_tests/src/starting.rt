@@ -1,0 +1,395 @@
+//! Starts and their completions, on worked examples.
+ghost use Rattle.std.specs.Prelude.{◌≡◌, ◌+◌, ◌<◌, [], None, true, IsTrue, OnOk};
+ghost use Rattle.std.specs.List.{range_with_len};
+ghost use Rattle.mpi_call.specs.declared.call.Call.TheVariants.{Enter};
+ghost use Rattle.mpi_call.specs.Calls.{comm_of, is_enter};
+ghost use Rattle.mpi_call.specs.Needs.{IsEnterOf};
+ghost use Rattle.match_core.specs.Starts.{is_message};
+ghost use Rattle.requests.specs.States.{MayStart};
+
+use mpi_call::call::{Call, Kind, Source, Tag, TakeMode};
+use mpi_call::lists::{Ints, Starts};
+use mpi_call::reply::{Got, Item};
+use requests::requests::{Readiness, Requests, Started, TakeAnswer};
+use std::alloc::{AllocError, Global};
+use std::rt::HostRuntime;
+use std::test::Fail;
+
+/// What a rank does: it sends one int or two to a rank with a tag, receives with a room, probes for a tag, completes one or
+/// two starts, or completes one and takes that back; on the world it enters a barrier, a split with a colour, or a dup.
+#[derive(Clone, Copy)]
+enum Step {
+    Send(u8, u32, bool),
+    Post(Source, Tag, u32),
+    Peek(Tag),
+    Take(TakeMode, u32, Option<u32>),
+    TakeBack(u32),
+    Barrier,
+    Split(i32),
+    Dup,
+}
+
+/// What is answered: a start with its partner's position, the position that a probe finds, or how many items a completion
+/// gives and of the last one its index and its message's sender and start number; of a collective's, its index and the new
+/// communicator with the number of its members.
+#[derive(Clone, Copy, Debug, PartialEq, Eq)]
+enum Answer {
+    Made(u32, Option<u32>),
+    Found(Option<u32>),
+    Took(usize, u32, u8, u32),
+    NotReady,
+    TooLong(u32),
+    BadStart(u32),
+    TakenBack,
+    Disagrees(u8),
+    Gave(u32, u32, usize),
+}
+
+/// What a completion answered, in short.
+fn in_short(answer: &TakeAnswer) -> Answer {
+    match answer {
+        TakeAnswer::Took(items) => match items.as_slice() {
+            [
+                ..,
+                Item {
+                    index,
+                    got: Got::Message { source, start, .. },
+                },
+            ] => { Answer::Took(items.as_slice().len(), *index, *source, *start) }
+            [
+                ..,
+                Item {
+                    index,
+                    got: Got::Made { comm, members },
+                },
+            ] => { Answer::Gave(*index, *comm, members.as_slice().len()) }
+            _ => Answer::Took(items.as_slice().len(), 0, 0, 0),
+        },
+        TakeAnswer::NotReady => Answer::NotReady,
+        TakeAnswer::TooLong { start } => Answer::TooLong(*start),
+        TakeAnswer::BadStart { start } => Answer::BadStart(*start),
+    }
+}
+
+fn begin(requests: &mut Requests, at: u32, rank: u8, call: &Call) -> Result<Answer, AllocError>
+    requires may { MayStart 2 at requests.old }
+    requires rank { rank < 2 }
+    requires kind { IsTrue (is_message call.now) }
+    ensures { OnOk result (MayStart 2 (at + 1) requests.new) }
+{
+    match requests.start(at, rank, call)? {
+        Started::Made { start, mate } => Ok(Answer::Made(start, mate)),
+        Started::Disagrees { other } => Ok(Answer::Disagrees(other)),
+    }
+}
+
+/// A rank enters a collective on the world.
+fn enter(requests: &mut Requests, at: u32, rank: u8, call: &Call) -> Result<Answer, AllocError>
+    requires may { MayStart 2 at requests.old }
+    requires rank { rank < 2 }
+    requires kind { is_enter call.now ≡ true }
+    requires world { comm_of call.now ≡ 0 }
+    requires form { IsEnterOf call.now (range_with_len 0 2) rank }
+    ensures { OnOk result (MayStart 2 (at + 1) requests.new) }
+{
+    match requests.start(at, rank, call)? {
+        Started::Made { start, mate } => Ok(Answer::Made(start, mate)),
+        Started::Disagrees { other } => Ok(Answer::Disagrees(other)),
+    }
+}
+
+/// An Enter without ints on the world.
+fn enter_empty(
+    alloc: Global,
+    requests: &mut Requests,
+    at: u32,
+    rank: u8,
+    kind: Kind,
+) -> Result<Answer, AllocError>
+    requires may { MayStart 2 at requests.old }
+    requires rank { rank < 2 }
+    requires form { IsEnterOf (Enter 0 kind None None 0 []) (range_with_len 0 2) rank }
+    ensures { OnOk result (MayStart 2 (at + 1) requests.new) }
+{
+    let call = Call::Enter {
+        comm: 0,
+        kind,
+        root: None,
+        op: None,
+        count: 0,
+        ints: Ints::new(alloc),
+    };
+    enter(requests, at, rank, &call)
+}
+
+/// A Split of the world with a colour.
+fn enter_split(
+    alloc: Global,
+    requests: &mut Requests,
+    at: u32,
+    rank: u8,
+    colour: i32,
+) -> Result<Answer, AllocError>
+    requires may { MayStart 2 at requests.old }
+    requires rank { rank < 2 }
+    ensures { OnOk result (MayStart 2 (at + 1) requests.new) }
+{
+    let call = Call::Enter {
+        comm: 0,
+        kind: Kind::Split,
+        root: None,
+        op: None,
+        count: 0,
+        ints: Ints::from_slice(alloc, &[colour, 0])?,
+    };
+    enter(requests, at, rank, &call)
+}
+
+fn complete(
+    requests: &mut Requests,
+    at: u32,
+    rank: u8,
+    starts: &Starts,
+    mode: TakeMode,
+) -> Result<Answer, AllocError>
+    requires may { MayStart 2 at requests.old }
+    requires rank { rank < 2 }
+    ensures { OnOk result (MayStart 2 (at + 1) requests.new) }
+{
+    let _position = at;
+    let answer = requests.take(rank, starts, mode)?;
+    Ok(in_short(&answer))
+}
+
+fn take_back(
+    requests: &mut Requests,
+    at: u32,
+    rank: u8,
+    starts: &Starts,
+) -> Result<Answer, AllocError>
+    requires may { MayStart 2 at requests.old }
+    requires rank { rank < 2 }
+    ensures { OnOk result (MayStart 2 (at + 1) requests.new) }
+{
+    let _position = at;
+    let answer = requests.take(rank, starts, TakeMode::All)?;
+    let TakeAnswer::Took(items) = &answer else {
+        return Ok(in_short(&answer));
+    };
+    requests.untake(rank, starts, items);
+    Ok(Answer::TakenBack)
+}
+
+fn listed(alloc: Global, one: u32, two: Option<u32>) -> Result<Starts, AllocError> {
+    match two {
+        Some(two) => Starts::from_slice(alloc, &[one, two]),
+        None => Starts::from_slice(alloc, &[one]),
+    }
+}
+
+/// What is answered to a step of a rank at a position.
+fn step_at(
+    alloc: Global,
+    requests: &mut Requests,
+    at: u32,
+    rank: u8,
+    step: Step,
+) -> Result<Answer, AllocError>
+    requires may { MayStart 2 at requests.old }
+    requires rank { rank < 2 }
+    ensures { OnOk result (MayStart 2 (at + 1) requests.new) }
+{
+    match step {
+        Step::Send(dest, tag, two) => {
+            let values: &[i32] = if two { &[7, 8] } else { &[7] };
+            let ints = Ints::from_slice(alloc, values)?;
+            let call = Call::Send {
+                comm: 0,
+                dest,
+                tag,
+                ints,
+            };
+            begin(requests, at, rank, &call)
+        }
+        Step::Post(source, tag, room) => {
+            let call = Call::Post {
+                comm: 0,
+                source,
+                tag,
+                room,
+            };
+            begin(requests, at, rank, &call)
+        }
+        Step::Peek(tag) => {
+            let call = Call::Peek {
+                comm: 0,
+                source: Source::Any,
+                tag,
+                wait: false,
+            };
+            Ok(Answer::Found(requests.peek(rank, &call)))
+        }
+        Step::Take(mode, one, two) => {
+            let starts = listed(alloc, one, two)?;
+            complete(requests, at, rank, &starts, mode)
+        }
+        Step::TakeBack(start) => {
+            let starts = listed(alloc, start, None)?;
+            take_back(requests, at, rank, &starts)
+        }
+        Step::Barrier => enter_empty(alloc, requests, at, rank, Kind::Barrier),
+        Step::Dup => enter_empty(alloc, requests, at, rank, Kind::Dup),
+        Step::Split(colour) => enter_split(alloc, requests, at, rank, colour),
+    }
+}
+
+#[test]
+fn starts_are_completed(rt: HostRuntime) -> Result<(), Fail> {
+    let alloc = rt.alloc();
+    let mut requests = Requests::new(alloc, 2)?;
+    // Who, what it does, and what is answered; the position is the row's.
+    let rows = [
+        // A start that was never made.
+        (0, Step::Take(TakeMode::All, 0, None), Answer::BadStart(0)),
+        // A receive is not ready before its message is there; a Test is told so.
+        (
+            1,
+            Step::Post(Source::Any, Tag::Is(5), 1),
+            Answer::Made(0, None),
+        ),
+        (1, Step::Take(TakeMode::All, 0, None), Answer::NotReady),
+        (1, Step::Take(TakeMode::TestAll, 0, None), Answer::NotReady),
+        (
+            1,
+            Step::Post(Source::From(0), Tag::Any, 1),
+            Answer::Made(1, None),
+        ),
+        // The message with tag 5 goes to the first of two receives that accept it.
+        (0, Step::Send(1, 5, false), Answer::Made(0, Some(1))),
+        (1, Step::Take(TakeMode::All, 0, Some(1)), Answer::NotReady),
+        (0, Step::Send(1, 6, false), Answer::Made(1, Some(4))),
+        (
+            1,
+            Step::Take(TakeMode::All, 0, Some(0)),
+            Answer::BadStart(0),
+        ),
+        // One of two that are ready: the first. The same again once it was taken back.
+        (
+            1,
+            Step::Take(TakeMode::Any, 0, Some(1)),
+            Answer::Took(1, 0, 0, 0),
+        ),
+        (
+            1,
+            Step::Take(TakeMode::Any, 0, Some(1)),
+            Answer::BadStart(0),
+        ),
+        (1, Step::TakeBack(1), Answer::TakenBack),
+        (
+            1,
+            Step::Take(TakeMode::All, 1, None),
+            Answer::Took(1, 0, 0, 1),
+        ),
+        // A send is complete at once, and so is a receive from the null process.
+        (
+            0,
+            Step::Take(TakeMode::Several, 0, Some(1)),
+            Answer::Took(2, 0, 0, 0),
+        ),
+        (
+            0,
+            Step::Post(Source::Null, Tag::Any, 0),
+            Answer::Made(2, None),
+        ),
+        (
+            0,
+            Step::Take(TakeMode::TestAny, 2, None),
+            Answer::Took(1, 0, 0, 0),
+        ),
+        // A probe finds a message and leaves it.
+        (0, Step::Send(1, 7, true), Answer::Made(3, None)),
+        (1, Step::Peek(Tag::Is(6)), Answer::Found(None)),
+        (1, Step::Peek(Tag::Any), Answer::Found(Some(16))),
+        // A message of two ints is too long for one; an unmade start is named first.
+        (
+            1,
+            Step::Post(Source::From(0), Tag::Is(7), 1),
+            Answer::Made(2, Some(16)),
+        ),
+        (
+            1,
+            Step::Take(TakeMode::All, 2, Some(3)),
+            Answer::BadStart(3),
+        ),
+        (
+            1,
+            Step::Take(TakeMode::TestSeveral, 2, None),
+            Answer::TooLong(2),
+        ),
+    ];
+    for at in 0..rows.len() {
+        let (rank, step, want) = rows[at];
+        assert!(rt; rank < 2, "{at}");
+        let got = step_at(alloc, &mut requests, at as u32, rank, step)?;
+        assert_eq!(rt; got, want, "{at}");
+    }
+    assert_eq!(rt; requests.ready(1, 2), Readiness::Ready);
+    assert_eq!(rt; requests.ready(1, 1), Readiness::Taken);
+    assert_eq!(rt; requests.ready(1, 3), Readiness::NoSuch);
+    assert_eq!(rt; requests.name_at(19), 2);
+    Ok(())
+}
+
+#[test]
+fn collectives_are_completed(rt: HostRuntime) -> Result<(), Fail> {
+    let alloc = rt.alloc();
+    let mut requests = Requests::new(alloc, 2)?;
+    let rows = [
+        // A barrier is not complete before both have entered; a split in its place does not agree, and is not added.
+        (0, Step::Barrier, Answer::Made(0, None)),
+        (0, Step::Take(TakeMode::All, 0, None), Answer::NotReady),
+        (1, Step::Split(7), Answer::Disagrees(0)),
+        (
+            1,
+            Step::Take(TakeMode::TestAny, 0, None),
+            Answer::BadStart(0),
+        ),
+        (1, Step::Barrier, Answer::Made(0, None)),
+        (
+            0,
+            Step::Take(TakeMode::All, 0, None),
+            Answer::Took(1, 0, 0, 0),
+        ),
+        // A split gives rank 0 its communicator of one, and rank 1, whose colour is undefined, none; that one waits for
+        // nobody.
+        (1, Step::Split(-32766), Answer::Made(1, None)),
+        (
+            1,
+            Step::Take(TakeMode::Any, 0, Some(1)),
+            Answer::Took(1, 0, 0, 0),
+        ),
+        (1, Step::Take(TakeMode::All, 1, None), Answer::Gave(0, 0, 0)),
+        (0, Step::Split(7), Answer::Made(1, None)),
+        (
+            0,
+            Step::Take(TakeMode::TestAll, 1, None),
+            Answer::Gave(0, 1, 1),
+        ),
+        // The next number is a dup's, which has both members.
+        (1, Step::Dup, Answer::Made(2, None)),
+        (0, Step::Dup, Answer::Made(2, None)),
+        (1, Step::Take(TakeMode::All, 2, None), Answer::Gave(0, 2, 2)),
+        (
+            0,
+            Step::Take(TakeMode::Several, 2, None),
+            Answer::Gave(0, 2, 2),
+        ),
+    ];
+    for at in 0..rows.len() {
+        let (rank, step, want) = rows[at];
+        assert!(rt; rank < 2, "{at}");
+        let got = step_at(alloc, &mut requests, at as u32, rank, step)?;
+        assert_eq!(rt; got, want, "{at}");
+    }
+    Ok(())
+}

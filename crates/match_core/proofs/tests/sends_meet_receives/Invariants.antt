@@ -1,5 +1,0 @@
-use Rattle.match_core.specs.Starts.{AreBelow}
-use Rattle.match_core.proofs.tests.sends_meet_receives.Given as goal
-
-abbrev pub invariant-loop-at : goal.invariant-loop-at
-invariant-loop-at g l = AreBelow l.at-counter l.matcher

@@ -1,0 +1,17 @@
+//! Tests of bytes and numbers, files and outputs, plans and orders, entries, logs, their bounds, and the printed texts.
+#![tactic(auto)]
+
+#[cfg(test)]
+mod bounds;
+#[cfg(test)]
+mod bytes;
+#[cfg(test)]
+mod entries;
+#[cfg(test)]
+mod logs;
+#[cfg(test)]
+mod plans;
+#[cfg(test)]
+mod stores;
+#[cfg(test)]
+mod traces;
