@@ -1,5 +1,1 @@
-pub mod ExprRules
-pub mod CallRules
-pub mod Faultless
 pub mod MpiRules
-pub mod ArgumentRules

@@ -1,5 +1,5 @@
 -- A typed call of an MPI function, by the places of its arguments.
-use Rattle.std.proofs.Common.{◌≡◌, ◌⊎◌, inl, inr, true, ℕ, zero, suc, List, [], ◌∷◌, length, Option, Some, None, refl, sym, ap, subst}
+use Rattle.std.proofs.Common.{◌≡◌, ◌⊎◌, inl, inr, true, ℕ, zero, suc, List, [], ◌∷◌, length, Option, Some, None, Result, Ok, IfOk, refl, sym, ap, subst}
 use Rattle.std.specs.Option.{is_some}
 use Rattle.c_grammar.specs.Tree as t
 use Rattle.c_names.specs.Functions.{arguments}
@@ -8,8 +8,8 @@ use Rattle.c_names.specs.declared.predefined.Predefined.{Predefined}
 use Rattle.c_names.specs.declared.predefined.Predefined.TheVariants as p
 use Rattle.c_program.specs.declared.mpi.MpiCall.{MpiCall}
 use Rattle.c_check.specs.Calls.{word_of}
-use Rattle.c_check.specs.Scopes.{Env}
-use Rattle.c_calls.specs.Given.{Fits, argument, is_status, is_status_by}
+use Rattle.c_scope.specs.Scopes.{Env}
+use Rattle.c_arguments.specs.Given.{Fits, argument, is_status, is_status_by}
 use Rattle.c_calls.specs.MpiCalls as y
 use Rattle.c_calls.specs.MpiCalls.{IsMpiCall, IsStatus}
 
@@ -28,6 +28,10 @@ by_places env function given typed f h =
     let P : List t.Argument → Type 0 = λ all. IsMpiCall env function all typed in
     let Q : ℕ → Type 0 = λ n. IsMpiCall env function (table n (argument given)) typed in
     subst P (tabled given) (subst Q (sym f.count) h)
+
+-- what holds of an Ok
+pub of_ok : {A B : Type 0} {found : Result A B} {x : A} (P : A → Type 0) → found ≡ Ok x → IfOk found P → P x
+of_ok {A} {B} P e h = let Q : Result A B → Type 0 = λ one. IfOk one P in subst Q e h
 
 -- ---- statuses that are ignored
 

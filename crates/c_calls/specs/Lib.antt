@@ -1,5 +1,1 @@
-pub mod Shapes
-pub mod Exprs
-pub mod Calls
-pub mod Given
 pub mod MpiCalls

@@ -11,8 +11,8 @@ use Rattle.c_program.specs.declared.mpi.Buffer.{Buffer}
 use Rattle.c_program.specs.declared.mpi.MpiCall.{MpiCall}
 use Rattle.c_program.specs.declared.mpi.MpiCall.TheVariants as c
 use Rattle.c_check.specs.Calls.{word_of}
-use Rattle.c_check.specs.Scopes.{Env}
-use Rattle.c_calls.specs.Calls.{IsReference, IsValue}
+use Rattle.c_scope.specs.Scopes.{Env}
+use Rattle.c_arguments.specs.Calls.{IsReference, IsValue}
 
 -- a status that is ignored is nothing
 pub data IsStatus (env : Env) : t.Argument → Option Reference → Type 0 where

@@ -1,6 +1,4 @@
-//! The typed expressions and calls of a C text without faults.
+//! The typed calls of MPI functions of a C text without faults.
 #![tactic(auto)]
 
-pub mod call_of;
-pub mod expr_of;
 pub mod mpi_of;

@@ -7,12 +7,12 @@ use Rattle.c_grammar.specs.View.{links_from, piece}
 use Rattle.c_names.specs.declared.function.ArgumentKind.{ArgumentKind}
 use Rattle.c_names.specs.declared.kind.Kind.TheVariants.{Int}
 use Rattle.c_check.specs.Calls.{argument_faults, arguments_faults, numbers_faults, sum_base, value_faults}
-use Rattle.c_check.specs.Least.{least_from}
-use Rattle.c_check.specs.Scopes.{Env}
-use Rattle.c_check.specs.declared.fault.Fault.{Fault}
-use Rattle.c_check.specs.declared.thing.ExprKind.TheVariants.{Of}
-use Rattle.c_check.proofs.Least.{least_from_append}
-use Rattle.c_check.proofs.Lists.{drop_got, drop_none}
+use Rattle.c_scope.specs.Least.{least_from}
+use Rattle.c_scope.specs.Scopes.{Env}
+use Rattle.c_scope.specs.declared.fault.Fault.{Fault}
+use Rattle.c_scope.specs.declared.thing.ExprKind.TheVariants.{Of}
+use Rattle.c_scope.proofs.Least.{least_from_append}
+use Rattle.c_scope.proofs.Lists.{drop_got, drop_none}
 
 pub sum_many : (name : Option Spot) (links : List Link) → 2 ≤ length links → sum_base name (links_from (map piece links)) ≡ None
 sum_many name [] h = absurd (omega arith)

@@ -1,10 +1,7 @@
-pub mod Least
-pub mod LiteralLaws
-pub mod Rows
-pub mod Entries
-pub mod Lists
-pub mod Links
 pub mod Arguments
 pub mod Closed
+pub mod Walks
+pub mod Texts
+pub mod Tops
 pub mod More
 pub mod Parameters

@@ -2,7 +2,7 @@
 use Rattle.std.specs.Prelude.{List}
 use Rattle.c_grammar.specs.StmtView.{head_view}
 use Rattle.c_names.specs.declared.function.ArgumentKind.{ArgumentKind}
-use Rattle.c_check.specs.Signatures.{signature_of}
+use Rattle.c_scope.specs.Signatures.{signature_of}
 use Rattle.c_check.specs.declared.call.Takes.{Takes}
 use Rattle.c_check.specs.declared.call.Takes.TheVariants as k
 

@@ -16,17 +16,17 @@ use Rattle.c_names.specs.declared.predefined.Predefined.{Predefined}
 use Rattle.c_names.specs.declared.predefined.Predefined.TheVariants as p
 use Rattle.c_names.specs.declared.kind.Kind.{Kind}
 use Rattle.c_names.specs.declared.kind.Kind.TheVariants.{Int, Status, Request, Communicator}
-use Rattle.c_check.specs.Least.{fault, unless}
-use Rattle.c_check.specs.Kinds.{is_same_kind, kind_faults, start_of}
-use Rattle.c_check.specs.Signatures.{listed}
-use Rattle.c_check.specs.Scopes.{Env, Signature, cut, meaning, name_faults}
-use Rattle.c_check.specs.Expressions.{int_faults, wanted_faults}
-use Rattle.c_check.specs.declared.fault.Fault.{Fault}
-use Rattle.c_check.specs.declared.thing.ExprKind.{ExprKind}
-use Rattle.c_check.specs.declared.thing.ExprKind.TheVariants.{Of, Other}
-use Rattle.c_check.specs.declared.thing.Meaning.{Meaning}
-use Rattle.c_check.specs.declared.thing.Meaning.TheVariants as m
-use Rattle.c_check.specs.declared.thing.Thing.TheVariants as d
+use Rattle.c_scope.specs.Least.{fault, unless}
+use Rattle.c_scope.specs.Kinds.{is_same_kind, kind_faults, start_of}
+use Rattle.c_scope.specs.Signatures.{listed}
+use Rattle.c_scope.specs.Scopes.{Env, Signature, cut, meaning, name_faults}
+use Rattle.c_scope.specs.Expressions.{int_faults, wanted_faults}
+use Rattle.c_scope.specs.declared.fault.Fault.{Fault}
+use Rattle.c_scope.specs.declared.thing.ExprKind.{ExprKind}
+use Rattle.c_scope.specs.declared.thing.ExprKind.TheVariants.{Of, Other}
+use Rattle.c_scope.specs.declared.thing.Meaning.{Meaning}
+use Rattle.c_scope.specs.declared.thing.Meaning.TheVariants as m
+use Rattle.c_scope.specs.declared.thing.Thing.TheVariants as d
 
 abbrev pub arguments_listed : Option (t.Row t.Argument) → List t.Argument
 arguments_listed None = []

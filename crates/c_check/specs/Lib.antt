@@ -1,13 +1,3 @@
-pub mod Least
-pub mod Scopes
-pub mod Signatures
-pub mod Rows
-pub mod ScopeView
-pub mod Variables
-pub mod Kinds
-pub mod Literals
-pub mod Constants
-pub mod Expressions
 pub mod Calls
 pub mod CallView
 pub mod Statements

@@ -1,19 +1,14 @@
 //! The faults of calls and of right sides.
-ghost use Rattle.std.specs.Prelude.{◌≡◌, length, map, option_map, slice_get};
+ghost use Rattle.std.specs.Prelude.{◌≡◌, ◌++◌, ◌||◌, length, map, option_map, slice_get};
 ghost use Rattle.c_grammar.specs.StmtView.{argument_view, call_view, head_view, parameter_view, parameters_view, right_view};
 ghost use Rattle.c_grammar.specs.View.{links_from, piece, place_view, view};
 ghost use Rattle.c_check.specs.Calls.{accepts_own, accepts_word, address_faults, argument_faults, array_faults, array_sum, arguments_faults, arguments_of, call_faults, counted_faults, first_is_null, format_faults, gives_int, inside, is_array_name, is_array_of, is_nameless, is_own, is_place_of, is_plus, meant_faults, misfit_faults, mpi_takes, name_alone, name_word, numbers_faults, print_faults, reference_faults, result_faults, right_faults, right_start, sum_base, sum_faults, takes, unaccepted_faults, value_faults, word_meant, word_of};
 ghost use Rattle.c_check.specs.CallView.{takes_view};
-ghost use Rattle.c_check.specs.Least.{least_from};
-ghost use Rattle.c_check.specs.Scopes.{meaning};
-ghost use Rattle.c_check.specs.Signatures.{is_int, parameter_takes, parameters_listed};
+ghost use Rattle.c_lex.specs.declared.fault.Why.TheVariants.{WrongType};
+ghost use Rattle.c_scope.specs.Least.{least_from, unless};
+ghost use Rattle.c_scope.specs.Scopes.{meaning, name_faults};
+ghost use Rattle.c_scope.specs.Signatures.{is_int, parameter_takes, parameters_listed};
 
-use crate::expression::{want_expr, want_int};
-use crate::fault::{Fault, note_at, note_unless};
-use crate::kind::{is_same_kind, start_of, want_kind};
-use crate::row::{item_at, item_count};
-use crate::scope::{Scope, cut, want_meaning};
-use crate::thing::{ExprKind, Meaning, Thing};
 use c_grammar::statement::{Argument, Call, Head, Parameter, Parameters, Right};
 use c_grammar::tree::{Expr, Link, Place};
 use c_grammar::word::{Spot, Word};
@@ -22,6 +17,12 @@ use c_names::format::count_ints;
 use c_names::function::{ArgumentKind, MpiFunction, accepts, arguments};
 use c_names::kind::Kind;
 use c_names::predefined::Predefined;
+use c_scope::expression::{want_expr, want_int};
+use c_scope::fault::{Fault, note_at, note_unless};
+use c_scope::kind::{is_same_kind, start_of, want_kind};
+use c_scope::row::{item_at, item_count};
+use c_scope::scope::{Scope, cut, want_meaning};
+use c_scope::thing::{ExprKind, Meaning, Thing};
 
 // ---- one argument
 
@@ -73,7 +74,6 @@ fn is_own(kind: ArgumentKind, meaning: Meaning) -> bool
 }
 
 /// Main's own parameter behind `&`.
-#[tactic(auto, using(c_grammar::proofs::Viewed::views))]
 fn accepts_own(scope: &Scope, kind: ArgumentKind, argument: &Argument) -> bool
     ensures { result ≡ accepts_own scope.now kind (argument_view argument.now) }
 {
@@ -240,23 +240,27 @@ fn want_array(best: &mut Option<Fault>, scope: &Scope, wanted: Kind, e: &Expr)
     }
 }
 
+/// A name behind `&`, and whether it fits there.
+#[tactic(auto, using(c_scope::proofs::Least::least_from_append))]
+fn want_referred(best: &mut Option<Fault>, meaning: Meaning, name: Spot, fits: bool, mark: Spot)
+    ensures { best.new ≡ least_from best.old (name_faults meaning name ++ unless (is_nameless meaning || fits) mark WrongType) }
+{
+    want_meaning(best, meaning, name);
+    note_unless(best, is_nameless(meaning) || fits, mark, Why::WrongType);
+}
+
 /// A place behind `&`.
-#[tactic(auto, using(c_grammar::proofs::Viewed::views, crate::proofs::Least::least_from_append))]
 fn want_address(best: &mut Option<Fault>, scope: &Scope, wanted: Kind, mark: Spot, place: &Place)
     ensures { best.new ≡ least_from best.old (address_faults scope.now wanted mark (place_view place.now)) }
 {
     match place {
         Place::Whole(name) => {
             let meaning = scope.meaning(*name);
-            want_meaning(best, meaning, *name);
-            let well = is_nameless(meaning) || is_place_of(wanted, meaning);
-            note_unless(best, well, mark, Why::WrongType);
+            want_referred(best, meaning, *name, is_place_of(wanted, meaning), mark);
         }
         Place::Cell { name, index, .. } => {
             let meaning = scope.meaning(*name);
-            want_meaning(best, meaning, *name);
-            let well = is_nameless(meaning) || is_array_of(wanted, meaning);
-            note_unless(best, well, mark, Why::WrongType);
+            want_referred(best, meaning, *name, is_array_of(wanted, meaning), mark);
             want_int(best, scope, index);
         }
     }
@@ -536,10 +540,16 @@ pub fn gives_int(scope: &Scope, number: usize) -> bool
 }
 
 /// What a call gives where a kind is wanted.
-fn want_result(best: &mut Option<Fault>, scope: &Scope, wanted: ExprKind, name: Spot)
-    ensures { best.new ≡ least_from best.old (result_faults scope.now wanted (meaning scope.now name) name) }
+fn want_result(
+    best: &mut Option<Fault>,
+    scope: &Scope,
+    wanted: ExprKind,
+    meaning: Meaning,
+    name: Spot,
+)
+    ensures { best.new ≡ least_from best.old (result_faults scope.now wanted meaning name) }
 {
-    match scope.meaning(name) {
+    match meaning {
         Meaning::Declared(Thing::Function(number)) => {
             if gives_int(scope, number) {
                 want_kind(best, wanted, ExprKind::Of(Kind::Int), name);
@@ -555,14 +565,13 @@ fn want_result(best: &mut Option<Fault>, scope: &Scope, wanted: ExprKind, name: 
 }
 
 /// A right side of a kind is wanted.
-#[tactic(auto, using(crate::proofs::Least::least_from_append))]
 pub fn want_right(best: &mut Option<Fault>, scope: &Scope, wanted: ExprKind, right: &Right)
     ensures { best.new ≡ least_from best.old (right_faults scope.now wanted (right_view right.now)) }
 {
     match right {
         Right::Call(call) => {
             check_call(best, scope, call);
-            want_result(best, scope, wanted, call.name);
+            want_result(best, scope, wanted, scope.meaning(call.name), call.name);
         }
         Right::Value(e) => want_expr(best, scope, wanted, e),
     }

@@ -1,19 +1,15 @@
 //! The faults of statements and declarations.
-ghost use Rattle.std.specs.Prelude.{◌≡◌, OnOk, option_map};
+ghost use Rattle.std.specs.Prelude.{◌≡◌, ◌++◌, OnOk, option_map, true};
 ghost use Rattle.c_grammar.specs.StmtView.{declaration_view, initial_view, item_view, part_view, parts_view, right_view, row_view, simple_view, start_view, stmt_view};
 ghost use Rattle.c_grammar.specs.View.{place_view, view};
-ghost use Rattle.c_check.specs.Least.{least_from};
-ghost use Rattle.c_check.specs.Signatures.{listed};
+ghost use Rattle.c_lex.specs.declared.fault.Why.TheVariants.{WrongType};
+ghost use Rattle.c_scope.specs.Expressions.{int_faults};
+ghost use Rattle.c_scope.specs.Least.{least_from, unless};
+ghost use Rattle.c_scope.specs.Scopes.{opened};
+ghost use Rattle.c_scope.specs.Signatures.{listed};
 ghost use Rattle.c_check.specs.Statements.{after_declaration, after_item, after_part, after_parts, after_start, array_length, begins_with, begun_takes, braces_faults, can_begin, declaration_faults, declared_thing, goal_kind, goal_takes, initial_faults, int_goal_faults, is_assign, is_goal, is_int_array, is_int_goal, item_faults, part_faults, parts_faults, place_length_faults, return_faults, simple_faults, start_faults, step_faults, stmt_faults, test_faults, values_faults};
 
 use crate::call::{check_call, right_start, want_right};
-use crate::constant::{length_of, want_length};
-use crate::expression::{check_place, want_int};
-use crate::fault::{Fault, note_at, note_unless};
-use crate::kind::{cell_kind, place_start, target_kind};
-use crate::row::item_count;
-use crate::scope::Scope;
-use crate::thing::{ExprKind, Thing, kind_of_word};
 use c_grammar::statement::{
     Declaration, ForStart, Initial, Item, Listed, Part, Right, Simple, Stmt,
 };
@@ -21,6 +17,13 @@ use c_grammar::tree::{Expr, Place};
 use c_grammar::word::{Spot, Word};
 use c_lex::Why;
 use c_names::kind::Kind;
+use c_scope::constant::{length_of, want_length};
+use c_scope::expression::{check_place, want_int};
+use c_scope::fault::{Fault, note_at, note_unless};
+use c_scope::kind::{cell_kind, place_start, target_kind};
+use c_scope::row::item_count;
+use c_scope::scope::Scope;
+use c_scope::thing::{ExprKind, Thing, kind_of_word};
 use std::alloc::AllocError;
 
 // ---- assignments
@@ -77,7 +80,7 @@ pub fn is_assign(word: Word) -> bool
 }
 
 /// A place of an int.
-#[tactic(auto, using(crate::proofs::Least::least_from_append))]
+#[tactic(auto, using(c_scope::proofs::Least::least_from_append))]
 fn want_int_goal(best: &mut Option<Fault>, scope: &Scope, place: &Place)
     ensures { best.new ≡ least_from best.old (int_goal_faults scope.now (place_view place.now)) }
 {
@@ -87,7 +90,7 @@ fn want_int_goal(best: &mut Option<Fault>, scope: &Scope, place: &Place)
 }
 
 /// The faults of an assignment or a call.
-#[tactic(auto, using(crate::proofs::Least::least_from_append))]
+#[tactic(auto, using(c_scope::proofs::Least::least_from_append))]
 pub fn check_simple(best: &mut Option<Fault>, scope: &Scope, simple: &Simple)
     ensures { best.new ≡ least_from best.old (simple_faults scope.now (simple_view simple.now)) }
 {
@@ -183,7 +186,7 @@ fn array_length(thing: Thing) -> u32
 }
 
 /// Ints in braces.
-#[tactic(auto, using(crate::proofs::Least::least_from_append))]
+#[tactic(auto, using(c_scope::proofs::Least::least_from_append))]
 fn want_values(best: &mut Option<Fault>, scope: &Scope, values: &Listed<Expr>)
     ensures { best.new ≡ least_from best.old (values_faults scope.now (listed (row_view view values.now))) }
 {
@@ -205,7 +208,7 @@ fn want_braces(best: &mut Option<Fault>, name: Spot, thing: Thing, count: usize)
     }
 }
 
-#[tactic(auto, using(crate::proofs::Least::least_from_append))]
+#[tactic(auto, using(c_scope::proofs::Least::least_from_append))]
 fn check_initial(
     best: &mut Option<Fault>,
     scope: &Scope,
@@ -230,7 +233,7 @@ fn check_initial(
 }
 
 /// A declared name, which is then declared.
-#[tactic(auto, using(crate::proofs::Least::least_from_append))]
+#[tactic(auto, using(c_scope::proofs::Least::least_from_append))]
 fn check_item(
     best: &mut Option<Fault>,
     scope: &mut Scope,
@@ -250,7 +253,7 @@ fn check_item(
 }
 
 /// The faults of a declaration, whose names are then declared.
-#[tactic(auto, using(crate::proofs::Least::least_from_append))]
+#[tactic(auto, using(c_scope::proofs::Least::least_from_append))]
 pub fn check_declaration(
     best: &mut Option<Fault>,
     scope: &mut Scope,
@@ -270,7 +273,7 @@ pub fn check_declaration(
 // ---- statements
 
 /// What a function gives back.
-#[tactic(auto, using(crate::proofs::Least::least_from_append))]
+#[tactic(auto, using(c_scope::proofs::Least::least_from_append))]
 fn check_return(best: &mut Option<Fault>, scope: &Scope, gives: bool, value: &Option<Right>)
     ensures { best.new ≡ least_from best.old (return_faults scope.now gives (option_map right_view value.now)) }
 {
@@ -282,6 +285,13 @@ fn check_return(best: &mut Option<Fault>, scope: &Scope, gives: bool, value: &Op
             note_at(best, right_start(right), Why::WrongType);
         }
     }
+}
+
+/// A word that stands in loops alone.
+fn want_loop(best: &mut Option<Fault>, loops: bool, word: Spot)
+    ensures { best.new ≡ least_from best.old (unless loops word WrongType) }
+{
+    note_unless(best, loops, word, Why::WrongType);
 }
 
 fn check_start(
@@ -320,7 +330,6 @@ fn check_step(best: &mut Option<Fault>, scope: &Scope, step: &Option<Simple>)
 
 /// The faults of a statement. `gives`: the function gives an int; `loops`: a loop stands around.
 #[cycle(statement)]
-#[tactic(auto, using(c_grammar::proofs::StmtViewed::stmt_views, crate::proofs::Least::least_from_append, crate::proofs::Closed::closed_parts, crate::proofs::Closed::closed_start))]
 pub fn check_stmt(
     best: &mut Option<Fault>,
     scope: &mut Scope,
@@ -332,58 +341,139 @@ pub fn check_stmt(
     ensures scope { OnOk result (scope.new ≡ scope.old) }
 {
     match stmt {
-        Stmt::Block { parts, .. } => {
-            scope.open()?;
-            check_parts(best, scope, gives, loops, parts)?;
-            scope.close();
+        Stmt::Block { parts, .. } => check_block(best, scope, gives, loops, parts),
+        Stmt::Empty(_) => Ok(()),
+        Stmt::Simple { simple, .. } => {
+            check_simple(best, scope, simple);
+            Ok(())
         }
-        Stmt::Empty(_) => {}
-        Stmt::Simple { simple, .. } => check_simple(best, scope, simple),
-        Stmt::Break { word, .. } => note_unless(best, loops, *word, Why::WrongType),
-        Stmt::Continue { word, .. } => note_unless(best, loops, *word, Why::WrongType),
-        Stmt::Return { value, .. } => check_return(best, scope, gives, value),
-        Stmt::If { test, then, .. } => {
-            want_int(best, scope, test);
-            check_stmt(best, scope, gives, loops, then)?;
+        Stmt::Break { word, .. } => {
+            want_loop(best, loops, *word);
+            Ok(())
         }
+        Stmt::Continue { word, .. } => {
+            want_loop(best, loops, *word);
+            Ok(())
+        }
+        Stmt::Return { value, .. } => {
+            check_return(best, scope, gives, value);
+            Ok(())
+        }
+        Stmt::If { test, then, .. } => check_tested(best, scope, gives, loops, test, then),
         Stmt::IfElse {
             test,
             then,
             other,
             ..
-        } => {
-            want_int(best, scope, test);
-            check_stmt(best, scope, gives, loops, then)?;
-            check_stmt(best, scope, gives, loops, other)?;
-        }
-        Stmt::While { test, body, .. } => {
-            want_int(best, scope, test);
-            check_stmt(best, scope, gives, true, body)?;
-        }
-        Stmt::Do { test, body, .. } => {
-            check_stmt(best, scope, gives, true, body)?;
-            want_int(best, scope, test);
-        }
+        } => check_both(best, scope, gives, loops, test, then, other),
+        Stmt::While { test, body, .. } => check_tested(best, scope, gives, true, test, body),
+        Stmt::Do { test, body, .. } => check_do(best, scope, gives, test, body),
         Stmt::For {
             start,
             test,
             step,
             body,
             ..
-        } => {
-            scope.open()?;
-            check_start(best, scope, start)?;
-            check_test(best, scope, test);
-            check_step(best, scope, step);
-            check_stmt(best, scope, gives, true, body)?;
-            scope.close();
-        }
+        } => check_for(best, scope, gives, start, test, step, body),
     }
+}
+
+/// The parts of a block, in a scope of their own.
+#[cycle(statement)]
+fn check_block(
+    best: &mut Option<Fault>,
+    scope: &mut Scope,
+    gives: bool,
+    loops: bool,
+    parts: &[Part],
+) -> Result<(), AllocError>
+    ensures faults { OnOk result (best.new ≡ least_from best.old (parts_faults (opened scope.old) gives loops (parts_view parts.now))) }
+    ensures scope { OnOk result (scope.new ≡ scope.old) }
+{
+    scope.open()?;
+    check_parts(best, scope, gives, loops, parts)?;
+    scope.close();
+    Ok(())
+}
+
+/// A test, and a statement behind it.
+#[cycle(statement)]
+fn check_tested(
+    best: &mut Option<Fault>,
+    scope: &mut Scope,
+    gives: bool,
+    loops: bool,
+    test: &Expr,
+    body: &Stmt,
+) -> Result<(), AllocError>
+    ensures faults { OnOk result (best.new ≡ least_from best.old (int_faults scope.old (view test.now) ++ stmt_faults scope.old gives loops (stmt_view body.now))) }
+    ensures scope { OnOk result (scope.new ≡ scope.old) }
+{
+    want_int(best, scope, test);
+    check_stmt(best, scope, gives, loops, body)?;
+    Ok(())
+}
+
+/// A test, and the two statements behind it.
+#[cycle(statement)]
+fn check_both(
+    best: &mut Option<Fault>,
+    scope: &mut Scope,
+    gives: bool,
+    loops: bool,
+    test: &Expr,
+    then: &Stmt,
+    other: &Stmt,
+) -> Result<(), AllocError>
+    ensures faults { OnOk result (best.new ≡ least_from best.old ((int_faults scope.old (view test.now) ++ stmt_faults scope.old gives loops (stmt_view then.now)) ++ stmt_faults scope.old gives loops (stmt_view other.now))) }
+    ensures scope { OnOk result (scope.new ≡ scope.old) }
+{
+    check_tested(best, scope, gives, loops, test, then)?;
+    check_stmt(best, scope, gives, loops, other)?;
+    Ok(())
+}
+
+/// A body, and the test behind it.
+#[cycle(statement)]
+fn check_do(
+    best: &mut Option<Fault>,
+    scope: &mut Scope,
+    gives: bool,
+    test: &Expr,
+    body: &Stmt,
+) -> Result<(), AllocError>
+    ensures faults { OnOk result (best.new ≡ least_from best.old (stmt_faults scope.old gives true (stmt_view body.now) ++ int_faults scope.old (view test.now))) }
+    ensures scope { OnOk result (scope.new ≡ scope.old) }
+{
+    check_stmt(best, scope, gives, true, body)?;
+    want_int(best, scope, test);
+    Ok(())
+}
+
+/// A `for`, in a scope of its own.
+#[cycle(statement)]
+fn check_for(
+    best: &mut Option<Fault>,
+    scope: &mut Scope,
+    gives: bool,
+    start: &ForStart,
+    test: &Option<Expr>,
+    step: &Option<Simple>,
+    body: &Stmt,
+) -> Result<(), AllocError>
+    ensures faults { OnOk result (best.new ≡ least_from best.old (((start_faults (opened scope.old) (start_view start.now) ++ test_faults (after_start (opened scope.old) (start_view start.now)) (option_map view test.now)) ++ step_faults (after_start (opened scope.old) (start_view start.now)) (option_map simple_view step.now)) ++ stmt_faults (after_start (opened scope.old) (start_view start.now)) gives true (stmt_view body.now))) }
+    ensures scope { OnOk result (scope.new ≡ scope.old) }
+{
+    scope.open()?;
+    check_start(best, scope, start)?;
+    check_test(best, scope, test);
+    check_step(best, scope, step);
+    check_stmt(best, scope, gives, true, body)?;
+    scope.close();
     Ok(())
 }
 
 #[cycle(statement)]
-#[tactic(auto, using(c_grammar::proofs::StmtViewed::stmt_views, crate::proofs::Least::least_from_append, crate::proofs::Closed::closed_parts, crate::proofs::Closed::closed_start))]
 fn check_part(
     best: &mut Option<Fault>,
     scope: &mut Scope,

@@ -3,7 +3,7 @@ ghost use Rattle.std.specs.Prelude.{◌≡◌, ◌==◌, ◌<◌, ◌≤◌, ◌
 ghost use Rattle.c_grammar.specs.Tree as t;
 ghost use Rattle.c_grammar.specs.View.{piece, place_view, view};
 ghost use Rattle.c_grammar.specs.Words.{level_of, starts_expr};
-ghost use Rattle.c_grammar.specs.Reading.{bin_of, chained, choice_of, expr_at, field_tail, link_of, many, number_of, paren_of, place_of, signed_of, too_deep, unary_of};
+ghost use Rattle.c_grammar.specs.Reading.{bin_of, branches_of, chained, choice_of, expr_at, field_tail, link_of, many, number_of, paren_of, place_of, signed_of, too_deep, unary_of};
 ghost use Rattle.c_expr.specs.Gives.{Fails, Gives};
 
 use crate::read::{ReadError, expected, first_of, heads, one_of};
@@ -45,24 +45,53 @@ fn choice(alloc: Global, left: u8, signs: &[Sign]) -> Result<(Expr, &[Sign]), Re
 {
     let (test, rest) = bin(alloc, left, LEVELS, signs)?;
     if heads(rest, Class::Is(Word::Question)) {
-        let (question, rest) = expected(rest, Word::Question)?;
-        let (then, rest) = expr(alloc, left - 1, true, rest)?;
-        let (colon, rest) = expected(rest, Word::Colon)?;
-        let (other, rest) = expr(alloc, left - 1, true, rest)?;
-        let test = boxed(alloc, test)?;
-        let then = boxed(alloc, then)?;
-        let other = boxed(alloc, other)?;
-        let choice = Expr::Choice {
-            test,
-            question,
-            then,
-            colon,
-            other,
-        };
-        Ok((choice, rest))
+        branches(alloc, left, test, rest)
     } else {
         Ok((test, rest))
     }
+}
+
+/// The two branches behind a test.
+#[cycle(expression)]
+#[tactic(auto, using(c_grammar::proofs::Viewed::views))]
+fn branches(
+    alloc: Global,
+    left: u8,
+    test: Expr,
+    signs: &[Sign],
+) -> Result<(Expr, &[Sign]), ReadError>
+    requires { 0 < left }
+    ensures { Gives (λ x. (view x.0, x.1.now)) result (branches_of (expr_at (left - 1)) (view test) signs.now) }
+{
+    let test = boxed(alloc, test)?;
+    let (question, rest) = expected(signs, Word::Question)?;
+    let (then, rest) = deeper(alloc, left, true, rest)?;
+    let (colon, rest) = expected(rest, Word::Colon)?;
+    let (other, rest) = deeper(alloc, left, true, rest)?;
+    let choice = Expr::Choice {
+        test,
+        question,
+        then,
+        colon,
+        other,
+    };
+    Ok((choice, rest))
+}
+
+/// An expression, or an operand with its signs, one depth deeper.
+#[cycle(expression)]
+fn deeper(
+    alloc: Global,
+    left: u8,
+    full: bool,
+    signs: &[Sign],
+) -> Result<(Box<Expr>, &[Sign]), ReadError>
+    requires { 0 < left }
+    ensures { Gives (λ x. (view x.0.value, x.1.now)) result (expr_at (left - 1) full signs.now) }
+{
+    let (tree, rest) = expr(alloc, left - 1, full, signs)?;
+    let tree = boxed(alloc, tree)?;
+    Ok((tree, rest))
 }
 
 /// Operators up to a level and their operands.
@@ -150,9 +179,8 @@ fn paren(alloc: Global, left: u8, signs: &[Sign]) -> Result<(Expr, &[Sign]), Rea
     ensures { Gives (λ x. (view x.0, x.1.now)) result (paren_of (expr_at (left - 1)) signs.now) }
 {
     let (opening, rest) = expected(signs, Word::OpenParen)?;
-    let (inner, rest) = expr(alloc, left - 1, true, rest)?;
+    let (inner, rest) = deeper(alloc, left, true, rest)?;
     let (closing, rest) = expected(rest, Word::CloseParen)?;
-    let inner = boxed(alloc, inner)?;
     let paren = Expr::Paren {
         opening,
         inner,
@@ -168,8 +196,7 @@ fn signed(alloc: Global, left: u8, signs: &[Sign]) -> Result<(Expr, &[Sign]), Re
     ensures { Gives (λ x. (view x.0, x.1.now)) result (signed_of (expr_at (left - 1)) signs.now) }
 {
     let (sign, rest) = one_of(signs, Class::Sign)?;
-    let (operand, rest) = expr(alloc, left - 1, false, rest)?;
-    let operand = boxed(alloc, operand)?;
+    let (operand, rest) = deeper(alloc, left, false, rest)?;
     let unary = Expr::Unary {
         sign: sign.word,
         at: sign.spot,
@@ -188,9 +215,8 @@ pub fn place(alloc: Global, left: u8, signs: &[Sign]) -> Result<(Place, &[Sign])
     let (name, rest) = expected(signs, Word::Name)?;
     if heads(rest, Class::Is(Word::OpenBracket)) {
         let (opening, rest) = expected(rest, Word::OpenBracket)?;
-        let (index, rest) = expr(alloc, left - 1, true, rest)?;
+        let (index, rest) = deeper(alloc, left, true, rest)?;
         let (closing, rest) = expected(rest, Word::CloseBracket)?;
-        let index = boxed(alloc, index)?;
         let cell = Place::Cell {
             name,
             opening,

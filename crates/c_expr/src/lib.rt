@@ -1,9 +1,6 @@
-//! The readers of expressions, calls, simple statements and declarations.
+//! The readers of expressions, and what all readers share.
 #![tactic(auto)]
 
 pub mod expression;
-pub mod head;
 pub mod read;
-pub mod row;
-pub mod simple;
 pub mod words;

@@ -1,5 +1,5 @@
 //! What all readers share.
-ghost use Rattle.std.specs.Prelude.{◌≡◌, IfErr, Ok};
+ghost use Rattle.std.specs.Prelude.{◌≡◌, IfErr, IfOk, Ok};
 ghost use Rattle.c_grammar.specs.Reading.{expect, first_of, heads, maybe, one_of};
 ghost use Rattle.c_expr.specs.Classes.{is_in};
 ghost use Rattle.c_expr.specs.Gives.{Gives, HasPlace, IsHead};
@@ -91,6 +91,19 @@ pub fn expected(signs: &[Sign], word: Word) -> Result<(Spot, &[Sign]), ReadError
         }
         None => Err(ReadError::At(Why::Unexpected, signs)),
     }
+}
+
+/// A thing, and the place of the first sign behind it, which has to be this word. Takes no memory.
+pub fn followed<T: Drop>(
+    thing: T,
+    signs: &[Sign],
+    word: Word,
+) -> Result<((T, Spot), &[Sign]), ReadError>
+    ensures thing { IfOk result (λ x. x.0.0 ≡ thing) }
+    ensures read { Gives (λ x. (x.0.1, x.1.now)) result (expect word signs.now) }
+{
+    let (end, rest) = expected(signs, word)?;
+    Ok(((thing, end), rest))
 }
 
 /// The place of the first sign, where it is this word, and the signs behind it.

@@ -3,7 +3,6 @@
 
 mod parser;
 mod signs;
-mod statement;
 mod top;
 
 pub use parser::parse;

@@ -8,13 +8,13 @@ ghost use Rattle.c_grammar.specs.Reading.{expect, many, times};
 ghost use Rattle.c_grammar.specs.StmtReading.{body_of, define_of, head_tail, part_at, program_of, top_of, value_of};
 ghost use Rattle.c_expr.specs.Gives.{Gives};
 
-use crate::statement::parts;
-use c_expr::head::head;
-use c_expr::read::{ReadError, expected, heads, optional};
+use c_expr::read::{ReadError, expected, followed, heads, optional};
 use c_expr::words::Class;
 use c_grammar::statement::{Behind, Head, Parameter, Parameters, Top, Tree, Value};
 use c_grammar::word::{Sign, Spot, Word};
 use c_lex::Why;
+use c_simple::head::head;
+use c_statement::statement::parts;
 use std::alloc::{AllocError, Global};
 
 /// How many depths a program may have.
@@ -57,7 +57,7 @@ fn define(alloc: Global, signs: &[Sign]) -> Result<(Top, &[Sign]), ReadError>
     let (word, rest) = expected(signs, Word::Define)?;
     let (name, rest) = expected(rest, Word::Name)?;
     let (value, rest) = value(alloc, rest)?;
-    let (end, rest) = expected(rest, Word::EndLine)?;
+    let ((value, end), rest) = followed(value, rest, Word::EndLine)?;
     let define = Top::Define {
         word,
         name,
@@ -129,7 +129,7 @@ fn function(alloc: Global, head: Head, signs: &[Sign]) -> Result<(Top, &[Sign]),
             Err(ReadError::At(Why::Unexpected, signs))
         }
     } else {
-        let (end, rest) = expected(signs, Word::Semicolon)?;
+        let ((head, end), rest) = followed(head, signs, Word::Semicolon)?;
         Ok((Top::Prototype { head, end }, rest))
     }
 }
@@ -138,9 +138,9 @@ fn function(alloc: Global, head: Head, signs: &[Sign]) -> Result<(Top, &[Sign]),
 fn block(alloc: Global, head: Head, signs: &[Sign]) -> Result<(Top, &[Sign]), ReadError>
     ensures { Gives (λ x. (top_view x.0, x.1.now)) result (body_of (part_at 64) (head_view head) true signs.now) }
 {
-    let (opening, rest) = expected(signs, Word::OpenBrace)?;
+    let ((head, opening), rest) = followed(head, signs, Word::OpenBrace)?;
     let (parts, rest) = parts(alloc, DEPTHS, rest)?;
-    let (closing, rest) = expected(rest, Word::CloseBrace)?;
+    let ((parts, closing), rest) = followed(parts, rest, Word::CloseBrace)?;
     let function = Top::Function {
         head,
         opening,

@@ -16,21 +16,21 @@ use Rattle.c_program.specs.declared.expr.Expr.{Expr}
 use Rattle.c_program.specs.declared.expr.Place.{Place}
 use Rattle.c_program.specs.declared.statement.Simple.TheVariants as l
 use Rattle.c_check.specs.Calls.{arguments_of, call_faults, format_faults, inside, is_format, misfit_faults, numbers_faults, print_faults, right_faults, value_faults}
-use Rattle.c_check.specs.Expressions.{expr_faults, int_faults, place_faults, takes_index, wanted_faults}
-use Rattle.c_check.specs.Kinds.{cell_kind, kind_faults, place_start, whole_kind}
-use Rattle.c_check.specs.Least.{unless}
-use Rattle.c_check.specs.Scopes.{Env, cut, meaning, name_faults}
+use Rattle.c_scope.specs.Expressions.{expr_faults, int_faults, place_faults, takes_index, wanted_faults}
+use Rattle.c_scope.specs.Kinds.{cell_kind, kind_faults, place_start, whole_kind}
+use Rattle.c_scope.specs.Least.{unless}
+use Rattle.c_scope.specs.Scopes.{Env, cut, meaning, name_faults}
 use Rattle.c_check.specs.Statements.{goal_kind, goal_takes, int_goal_faults, is_assign, is_goal, simple_faults}
-use Rattle.c_check.specs.declared.fault.Fault.{Fault}
-use Rattle.c_check.specs.declared.thing.ExprKind.{ExprKind}
-use Rattle.c_check.specs.declared.thing.ExprKind.TheVariants.{Of, Other}
-use Rattle.c_check.specs.declared.thing.Meaning.{Meaning}
-use Rattle.c_check.specs.declared.thing.Meaning.TheVariants as m
-use Rattle.c_check.specs.declared.thing.Thing.TheVariants as d
-use Rattle.c_check.proofs.Lists.{drop_got, drop_past}
-use Rattle.c_calls.specs.Calls.{IsValue}
-use Rattle.c_calls.specs.Exprs.{IsPlace}
-use Rattle.c_calls.specs.Shapes.{is_value}
+use Rattle.c_scope.specs.declared.fault.Fault.{Fault}
+use Rattle.c_scope.specs.declared.thing.ExprKind.{ExprKind}
+use Rattle.c_scope.specs.declared.thing.ExprKind.TheVariants.{Of, Other}
+use Rattle.c_scope.specs.declared.thing.Meaning.{Meaning}
+use Rattle.c_scope.specs.declared.thing.Meaning.TheVariants as m
+use Rattle.c_scope.specs.declared.thing.Thing.TheVariants as d
+use Rattle.c_scope.proofs.Lists.{drop_got, drop_past}
+use Rattle.c_arguments.specs.Calls.{IsValue}
+use Rattle.c_arguments.specs.Exprs.{IsPlace}
+use Rattle.c_arguments.specs.Shapes.{is_value}
 use Rattle.c_types.specs.Statements as x
 use Rattle.c_types.specs.Statements.{AreValues, IsSimple, one, update_of}
 use Rattle.c_types.proofs.Growing.{ended, grown, none_left, none_right}

@@ -1,5 +1,5 @@
 -- Each rule of typed declarations and statements at the variants of the tree, and what having no faults tells of their parts.
-use Rattle.std.proofs.Common.{◌≡◌, ◌++◌, ◌+◌, ◌≤◌, ◌<◌, ℕ, Bool, true, false, List, [], ◌∷◌, length, drop, get_or, Option, Some, None, option_map, refl, sym, subst, ap, ◌∙◌}
+use Rattle.std.proofs.Common.{◌≡◌, ◌++◌, ◌+◌, ◌≤◌, ◌<◌, ℕ, Bool, true, false, List, [], ◌∷◌, length, drop, get_or, Option, Some, None, option_map, Result, Ok, OnOk, refl, sym, subst, ap, ◌∙◌}
 use Rattle.std.specs.declared.alloc.Global.{Global}
 use Rattle.std.specs.declared.boxed.Box.{Box}
 use Rattle.std.specs.declared.vec.Vec.{Vec}
@@ -20,17 +20,17 @@ use Rattle.c_grammar.specs.Tree as t
 use Rattle.c_grammar.specs.View.{view}
 use Rattle.c_grammar.proofs.StmtViewed.{view-block, view-empty, view-simple, view-break, view-continue, view-return, view-if_only, view-if_else, view-while, view-do_while, view-for, view-declare, view-stmt}
 use Rattle.c_check.specs.Calls.{right_faults}
-use Rattle.c_check.specs.Expressions.{int_faults}
-use Rattle.c_check.specs.Kinds.{place_start}
-use Rattle.c_check.specs.Least.{unless}
-use Rattle.c_check.specs.Scopes.{Env, cut, opened, twice_faults}
+use Rattle.c_scope.specs.Expressions.{int_faults}
+use Rattle.c_scope.specs.Kinds.{place_start}
+use Rattle.c_scope.specs.Least.{unless}
+use Rattle.c_scope.specs.Scopes.{Env, cut, opened, twice_faults}
 use Rattle.c_check.specs.Statements.{after_item, after_items, after_part, after_parts, after_start, begins_with, begun_takes, can_begin, declaration_faults, declared_thing, initial_faults, item_faults, items_faults, part_faults, parts_faults, place_length_faults, return_faults, simple_faults, start_faults, step_faults, stmt_faults, test_faults}
-use Rattle.c_check.specs.declared.thing.ExprKind.{ExprKind}
-use Rattle.c_check.specs.declared.thing.ExprKind.TheVariants.{Of, Nothing}
-use Rattle.c_check.specs.declared.thing.Thing.{Thing}
-use Rattle.c_check.proofs.Lists.{drop_at, drop_past}
+use Rattle.c_scope.specs.declared.thing.ExprKind.{ExprKind}
+use Rattle.c_scope.specs.declared.thing.ExprKind.TheVariants.{Of, Nothing}
+use Rattle.c_scope.specs.declared.thing.Thing.{Thing}
+use Rattle.c_scope.proofs.Lists.{drop_at, drop_past}
 use Rattle.c_check.proofs.More.{after_items_next, after_parts_next}
-use Rattle.c_check.proofs.Rows.{behind_viewed}
+use Rattle.c_scope.proofs.Rows.{behind_viewed}
 use Rattle.c_lex.specs.declared.fault.Why.TheVariants.{WrongType}
 use Rattle.c_names.specs.declared.kind.Kind.{Kind}
 use Rattle.c_names.specs.declared.kind.Kind.TheVariants.{Int}
@@ -44,7 +44,7 @@ use Rattle.c_program.specs.declared.statement.Part.TheVariants as q
 use Rattle.c_program.specs.declared.statement.Simple.{Simple}
 use Rattle.c_program.specs.declared.statement.Stmt.{Stmt}
 use Rattle.c_program.specs.declared.statement.Stmt.TheVariants as s
-use Rattle.c_calls.specs.Exprs.{IsExpr}
+use Rattle.c_arguments.specs.Exprs.{IsExpr}
 use Rattle.c_types.specs.Statements as x
 use Rattle.c_types.specs.Statements.{AreExprs, AreItems, AreParts, IsDeclaration, IsItem, IsPart, IsReturn, IsSimple, IsStart, IsStep, IsStmt, IsTest}
 use Rattle.c_types.proofs.Growing.{ended, grown, none_left, none_right}
@@ -256,6 +256,10 @@ module _ (env : Env) (stmt : source.Stmt) (word opening : Spot) (start : source_
 
   pub for_rule : (typed : Stmt) → IsStmt env whole typed → IsStmt env (stmt_view stmt) typed
   for_rule typed h = rw (is, view-for) h
+
+-- what holds where there is an Ok
+pub on_ok : {A B : Type 0} {found : Result A B} {x : A} (P : Type 0) → found ≡ Ok x → OnOk found P → P
+on_ok {A} {B} P e h = let Q : Result A B → Type 0 = λ one. OnOk one P in subst Q e h
 
 pub for_typed : (env first now : Env) (start : source_start.ForStart) (test : Option source_expr.Expr) (step : Option source_simple.Simple) (body : source.Stmt)
     (typed_start : ForStart) (typed_test : Option Expr) (typed_step : Option Simple) (a : Box Stmt Global)

@@ -10,8 +10,8 @@ use Rattle.c_program.specs.declared.program.Parameter.{Parameter}
 use Rattle.c_program.specs.declared.program.ParameterKind.{ParameterKind}
 use Rattle.c_program.specs.declared.program.ParameterKind.TheVariants as k
 use Rattle.c_check.specs.Programs.{after_parameters, after_top, heads_of, is_main, parameter_name, text_env}
-use Rattle.c_check.specs.Scopes.{Env, cut, opened}
-use Rattle.c_check.specs.Signatures.{is_int, parameters_listed}
+use Rattle.c_scope.specs.Scopes.{Env, cut, opened}
+use Rattle.c_scope.specs.Signatures.{is_int, parameters_listed}
 use Rattle.c_types.specs.Statements.{AreParts}
 
 abbrev pub parameter_kind : t.Parameter → ParameterKind

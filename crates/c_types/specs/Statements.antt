@@ -34,14 +34,14 @@ use Rattle.c_program.specs.declared.statement.Simple.TheVariants as l
 use Rattle.c_program.specs.declared.statement.Stmt.{Stmt}
 use Rattle.c_program.specs.declared.statement.Stmt.TheVariants as s
 use Rattle.c_check.specs.Calls.{arguments_of, inside}
-use Rattle.c_check.specs.Constants.{length_of}
-use Rattle.c_check.specs.Kinds.{kind_of_word, place_start}
-use Rattle.c_check.specs.Scopes.{Env, cut, meaning, opened}
-use Rattle.c_check.specs.Signatures.{listed}
+use Rattle.c_scope.specs.Constants.{length_of}
+use Rattle.c_scope.specs.Kinds.{kind_of_word, place_start}
+use Rattle.c_scope.specs.Scopes.{Env, cut, meaning, opened}
+use Rattle.c_scope.specs.Signatures.{listed}
 use Rattle.c_check.specs.Statements.{after_item, after_part, after_start, is_assign}
-use Rattle.c_check.specs.declared.thing.Meaning.TheVariants as m
-use Rattle.c_calls.specs.Calls.{IsCall, IsRight, IsValue}
-use Rattle.c_calls.specs.Exprs.{IsExpr, IsPlace}
+use Rattle.c_scope.specs.declared.thing.Meaning.TheVariants as m
+use Rattle.c_arguments.specs.Calls.{IsCall, IsRight, IsValue}
+use Rattle.c_arguments.specs.Exprs.{IsExpr, IsPlace}
 use Rattle.c_calls.specs.MpiCalls.{IsMpiCall}
 
 -- ---- assignments and calls

@@ -9,23 +9,20 @@ ghost use Rattle.c_names.specs.Formats.{pieces_of};
 ghost use Rattle.c_names.specs.declared.predefined.Predefined.TheVariants as p;
 ghost use Rattle.c_check.specs.Calls.{arguments_of, call_faults, numbers_faults};
 ghost use Rattle.c_check.specs.Calls as checked;
-ghost use Rattle.c_check.specs.Scopes.{meaning, opened};
-ghost use Rattle.c_check.specs.Scopes as scopes;
-ghost use Rattle.c_check.specs.Signatures.{listed};
+ghost use Rattle.c_scope.specs.Scopes.{meaning, opened};
+ghost use Rattle.c_scope.specs.Scopes as scopes;
+ghost use Rattle.c_scope.specs.Signatures.{listed};
 ghost use Rattle.c_check.specs.Statements.{after_declaration, after_item, after_part, after_parts, after_start, declaration_faults, initial_faults, item_faults, part_faults, parts_faults, return_faults, simple_faults, start_faults, step_faults, stmt_faults, test_faults};
-ghost use Rattle.c_check.specs.declared.thing.Meaning.TheVariants as m;
-ghost use Rattle.c_check.specs.declared.thing.Thing.{Thing};
+ghost use Rattle.c_scope.specs.declared.thing.Meaning.TheVariants as m;
+ghost use Rattle.c_scope.specs.declared.thing.Thing.{Thing};
 ghost use Rattle.c_types.specs.Statements.{AreExprs, AreParts, AreValues, IsDeclaration, IsInitial, IsItem, IsPart, IsReturn, IsSimple, IsStart, IsStep, IsStmt, IsTest, length_in, update_of};
 
-use c_calls::call_of::{call_of, right_of, value_of};
-use c_calls::expr_of::{expr_of, place_of};
+use c_arguments::call_of::{call_of, right_of, value_of};
+use c_arguments::expr_of::{expr_of, place_of};
+use c_arguments::results::{both, boxed, three};
 use c_calls::mpi_of::mpi_call_of;
 use c_check::call::{argument_at, argument_count, inside};
-use c_check::constant::length_of;
-use c_check::kind::place_start;
-use c_check::scope::{Scope, cut};
 use c_check::statement::{declared_thing, is_assign};
-use c_check::thing::{Meaning, Thing, kind_of_word};
 use c_grammar::word::{Spot, Word};
 use c_grammar::{statement, tree};
 use c_names::format::{Piece, pieces};
@@ -34,6 +31,10 @@ use c_names::operator::Operator;
 use c_names::predefined::Predefined;
 use c_program::expr::{Expr, Right};
 use c_program::statement::{Declaration, ForStart, Initial, Item, Part, Simple, Stmt};
+use c_scope::constant::length_of;
+use c_scope::kind::place_start;
+use c_scope::scope::{Scope, cut};
+use c_scope::thing::{Meaning, Thing, kind_of_word};
 use std::alloc::{AllocError, Global};
 use wiz_base::Bytes;
 
@@ -146,7 +147,8 @@ fn call_statement(
         }
         Meaning::Known(Predefined::Mpi(function)) => {
             let typed = mpi_call_of(alloc, scope, function, call)?;
-            Ok(Simple::Mpi(Box::new(alloc, typed)?))
+            let typed = boxed(alloc, typed)?;
+            Ok(Simple::Mpi(typed))
         }
         Meaning::Known(Predefined::Printf) => print_of(alloc, scope, call),
         Meaning::Known(Predefined::Fflush) => Ok(Simple::Flush),
@@ -363,12 +365,6 @@ fn turn_of(
     }
 }
 
-fn boxed(alloc: Global, stmt: Stmt) -> Result<Box<Stmt>, AllocError>
-    ensures { IfOk result (λ found. found.value ≡ stmt) }
-{
-    Ok(Box::new(alloc, stmt)?)
-}
-
 fn push(typed: &mut Vec<Part>, part: Part) -> Result<(), AllocError>
     ensures { OnOk result (typed.new.items ≡ typed.old.items ++ part ∷ []) }
 {
@@ -464,9 +460,10 @@ fn for_of(
 {
     scope.open()?;
     let start = start_of(alloc, scope, start)?;
-    let test = test_of(alloc, scope, test)?;
-    let step = turn_of(alloc, scope, step)?;
-    let body = boxed_of(alloc, scope, body)?;
+    let test = test_of(alloc, scope, test);
+    let step = turn_of(alloc, scope, step);
+    let head = three(Ok(start), test, step);
+    let ((start, test, step), body) = both(head, boxed_of(alloc, scope, body))?;
     scope.close();
     Ok(Stmt::For {
         start,

@@ -1,15 +1,15 @@
 //! The replay of the script.
 ghost use Rattle.std.specs.Prelude.{◌≡◌, ◌≤◌, [], None, IfOk};
 ghost use Rattle.srr_replay.specs.Rounds.{IsReplayable, RunAll};
-ghost use Rattle.srr_replay.specs.Stands.{IsReplayed};
+ghost use Rattle.replay_model.specs.Stands.{IsReplayed};
 ghost use Rattle.replay_bench.specs.Logs.{log_of};
 ghost use Rattle.replay_bench.specs.Script.{next_of};
 
 use crate::script::Script;
 use crate::script_log::log_of;
 use crate::script_rank::ScriptRank;
+use replay_model::replayed::{Replayed, Stand};
 use srr_entry::log::Log;
-use srr_replay::replayed::{Replayed, Stand};
 use srr_replay::serial::replay_serial;
 use std::alloc::{AllocError, Global};
 

@@ -128,7 +128,14 @@ fn push_ints(out: &mut Bytes, ints: &[i32]) -> Result<(), AllocError>
         return Ok(());
     };
     push_number(out, *first as i64)?;
-    let mut rest = others;
+    push_others(out, others)
+}
+
+/// Each int behind a comma.
+fn push_others(out: &mut Bytes, ints: &[i32]) -> Result<(), AllocError>
+    ensures { OnOk result (out.new ≡ out.old ++ each_behind 44 (map number_text ints.now)) }
+{
+    let mut rest = ints;
     while let [int, after @ ..] = rest {
         push_text(out, b",")?;
         push_number(out, *int as i64)?;

@@ -14,10 +14,10 @@ use Rattle.run_model.proofs.Agreement.{input_length-agree}
 use Rattle.run_model.proofs.MemberLists.{below_member}
 use Rattle.run_model.proofs.Instances.{gather-at, gather-length}
 use Rattle.run_model.proofs.Views.{test_cases}
-use Rattle.srr_replay.specs.declared.step.Found.{Found}
-use Rattle.srr_replay.specs.Breaks.{break_enter, break_members, has_members, or_found}
+use Rattle.replay_model.specs.declared.step.Found.{Found}
+use Rattle.replay_model.specs.Breaks.{break_enter, break_members, has_members, or_found}
 use Rattle.srr_replay.specs.Collectives.{IsCollective}
-use Rattle.srr_replay.specs.Filling.{absent_of}
+use Rattle.replay_model.specs.Filling.{absent_of}
 use Rattle.srr_replay.proofs.FormLemmas.{IsInForm, in_form}
 
 same_ranks-is : (xs ys : List ℕ) → same_ranks xs ys ≡ true → xs ≡ ys

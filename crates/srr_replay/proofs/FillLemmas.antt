@@ -3,8 +3,8 @@ use Rattle.std.proofs.Common.{◌≡◌, ℕ, ℤ, List, [], ◌∷◌, ◌++◌
 use Rattle.mpi_call.specs.declared.reply.Got.{Got}
 use Rattle.mpi_call.specs.declared.reply.Item.{Item}
 use Rattle.run_model.specs.Inputs.{push_ints}
-use Rattle.srr_replay.specs.declared.step.Missing.{Missing}
-use Rattle.srr_replay.specs.Filling.{push_item}
+use Rattle.replay_model.specs.declared.step.Missing.{Missing}
+use Rattle.replay_model.specs.Filling.{push_item}
 
 -- items before those of the others
 abbrev pub items_before : List Item → Result (List Item) Missing → Result (List Item) Missing

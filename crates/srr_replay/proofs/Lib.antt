@@ -11,17 +11,4 @@ pub mod MemberTableLemmas
 pub mod InstanceLemmas
 pub mod ReplaysLemmas
 pub mod RoundsLemmas
-pub mod WorkedExamples
-pub mod Filled
-pub mod Answers
-pub mod Confluence
-pub mod Fillings
-pub mod ShapedFits
-pub mod Unbroken
-pub mod Prefix
-pub mod RunAnswers
-pub mod MissingLemmas
-pub mod NumberLemmas
-pub mod Cut
 pub mod WholeReplays
-pub mod Starved

@@ -9,10 +9,10 @@ use Rattle.mpi_call.specs.Calls.{comm_of, is_enter}
 use Rattle.run_model.specs.Communicators.{instance_of}
 use Rattle.run_model.specs.Views.{View, start_at}
 use Rattle.srr_entry.specs.declared.entry.Mark.TheVariants.{Inner, Made as MarkMade}
-use Rattle.srr_replay.specs.declared.step.Missing.{Missing}
-use Rattle.srr_replay.specs.declared.step.Missing.TheVariants.{Member}
-use Rattle.srr_replay.specs.Filling.{absent_of, joined, made_new, missing_of, push_item}
-use Rattle.srr_replay.specs.Fits.{IsEnterAt, mark_fits}
+use Rattle.replay_model.specs.declared.step.Missing.{Missing}
+use Rattle.replay_model.specs.declared.step.Missing.TheVariants.{Member}
+use Rattle.replay_model.specs.Filling.{absent_of, joined, made_new, missing_of, push_item}
+use Rattle.replay_model.specs.Fits.{IsEnterAt, mark_fits}
 
 -- nothing is missing for the first item, so what is missing is missing for the others
 pub missing_of-first : (index : ℕ) (first : Result Got Missing) (rest : Result (List Item) Missing) → missing_of first ≡ None → missing_of (push_item index first rest) ≡ missing_of rest

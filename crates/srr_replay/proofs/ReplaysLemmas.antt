@@ -12,8 +12,8 @@ use Rattle.run_model.proofs.Along.{Along-snoc, Along-keeps}
 use Rattle.run_model.proofs.Orders.{in_order, short_sends}
 use Rattle.run_model.proofs.Views.{test_cases, view_of-own, view_of-other}
 use Rattle.srr_entry.specs.declared.log.Log.{Log}
-use Rattle.srr_replay.specs.declared.step.Step.TheVariants.{Replied}
-use Rattle.srr_replay.specs.Replays.{Stop, IsStep, Replays, answer_of, event_of}
+use Rattle.replay_model.specs.declared.step.Step.TheVariants.{Replied}
+use Rattle.replay_model.specs.Replays.{Stop, IsStep, Replays, answer_of, event_of}
 use Rattle.srr_replay.specs.Rounds.{AreCounts, IsReplayable}
 use Rattle.srr_replay.specs.EnterTable.{AreEntersKnown}
 use Rattle.srr_replay.specs.StartTable.{TakesMade}

@@ -10,8 +10,8 @@ use Rattle.run_model.specs.Program.{Standing, IsAfter}
 use Rattle.run_model.specs.Views.{Next, view_of, replies_in}
 use Rattle.run_model.proofs.Views.{test_cases, view_of-own, view_of-other}
 use Rattle.srr_entry.specs.declared.log.Log.{Log}
-use Rattle.srr_replay.specs.declared.step.Step.TheVariants.{Replied}
-use Rattle.srr_replay.specs.Replays.{Stop, IsExhausted, answer_of, event_of}
+use Rattle.replay_model.specs.declared.step.Step.TheVariants.{Replied}
+use Rattle.replay_model.specs.Replays.{Stop, IsExhausted, answer_of, event_of}
 use Rattle.srr_replay.specs.Rounds.{GrowsBy, HasNoStep, RunAll}
 
 snoc-map : {A B : Type 0} (f : A → B) (xs : List A) (x : A) → map f (xs ++ x ∷ []) ≡ map f xs ++ f x ∷ []

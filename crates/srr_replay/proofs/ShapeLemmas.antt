@@ -40,18 +40,18 @@ use Rattle.srr_entry.specs.declared.entry.Mark.TheVariants.{Inner, Inside, Made 
 use Rattle.srr_entry.specs.declared.entry.Marked.{Marked}
 use Rattle.srr_entry.specs.declared.log.Log.{Log}
 use Rattle.srr_entry.specs.Entries.{entries_for, is_inner}
-use Rattle.srr_replay.specs.declared.step.Found.{Found}
-use Rattle.srr_replay.specs.declared.step.Missing.{Missing}
-use Rattle.srr_replay.specs.declared.step.Step.TheVariants.{Replied}
-use Rattle.srr_replay.specs.Breaks.{break_inner, break_mark, break_marks, break_send, broken, send_fits}
+use Rattle.replay_model.specs.declared.step.Found.{Found}
+use Rattle.replay_model.specs.declared.step.Missing.{Missing}
+use Rattle.replay_model.specs.declared.step.Step.TheVariants.{Replied}
+use Rattle.replay_model.specs.Breaks.{break_inner, break_mark, break_marks, break_send, broken, send_fits}
 use Rattle.srr_replay.specs.Collectives.{IsCollective}
-use Rattle.srr_replay.specs.Filling.{absent_of, as_took, fill_inner, fill_made, fill_mark, fill_marks, filled, joined, made_new, message_from, peeked_from, push_item}
-use Rattle.srr_replay.specs.Fits.{fits, mark_fits, marks_fit}
-use Rattle.srr_replay.specs.Replays.{Stop, answer_of, entry_answer, is_break, judged}
+use Rattle.replay_model.specs.Filling.{absent_of, as_took, fill_inner, fill_made, fill_mark, fill_marks, filled, joined, made_new, message_from, peeked_from, push_item}
+use Rattle.replay_model.specs.Fits.{fits, mark_fits, marks_fit}
+use Rattle.replay_model.specs.Replays.{Stop, answer_of, entry_answer, is_break, judged}
 use Rattle.srr_replay.proofs.CollectiveLemmas.{form_of, inputs_are, or_none-first, or_none-rest}
 use Rattle.srr_replay.proofs.LogLemmas.{both}
 use Rattle.srr_replay.proofs.MissingMarks.{enter_for-made}
-use Rattle.srr_replay.proofs.ShapedFits.{not_true, uncoloured_inner}
+use Rattle.replay_model.proofs.ShapedFits.{not_true, uncoloured_inner}
 
 -- a Send that a receive accepts within its room gives what has the receive's shape
 message_shaped : (n : ℕ) (group : List ℕ) (own : View) (me source start : ℕ) (taker : Option Call) (c dest tag : ℕ) (ints : List ℤ) → mark_fits n group me own taker (Inside source start) ≡ true → send_fits me source taker (Send c dest tag ints) ≡ true → got_fits n own me taker (Message source start tag ints) ≡ true

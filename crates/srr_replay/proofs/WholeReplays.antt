@@ -11,12 +11,12 @@ use Rattle.run_model.specs.Program.{ends}
 use Rattle.run_model.specs.Views.{Next}
 use Rattle.run_model.proofs.Views.{test_cases}
 use Rattle.srr_entry.specs.declared.log.Log.{Log}
-use Rattle.srr_replay.specs.declared.replayed.Replayed.{Replayed}
-use Rattle.srr_replay.specs.declared.replayed.Stand.{Stand}
-use Rattle.srr_replay.specs.declared.replayed.Stand.TheVariants.{AtBreak as StandAtBreak, Starved}
-use Rattle.srr_replay.specs.Laws.{BeginsRun, EachStand, HasAllOf, HasNotDiverged, HasTheCut, IsDone, IsReplayOfRun, StarvesBehindABreak}
-use Rattle.srr_replay.specs.Replays.{IsWholeReplay, Stop}
-use Rattle.srr_replay.specs.Stands.{IsReplayed, printed_of, stand_of}
+use Rattle.replay_model.specs.declared.replayed.Replayed.{Replayed}
+use Rattle.replay_model.specs.declared.replayed.Stand.{Stand}
+use Rattle.replay_model.specs.declared.replayed.Stand.TheVariants.{AtBreak as StandAtBreak, Starved}
+use Rattle.replay_model.specs.Laws.{BeginsRun, EachStand, HasAllOf, HasNotDiverged, HasTheCut, IsDone, IsReplayOfRun, StarvesBehindABreak}
+use Rattle.replay_model.specs.Replays.{IsWholeReplay, Stop}
+use Rattle.replay_model.specs.Stands.{IsReplayed, printed_of, stand_of}
 
 -- what holds of each stand of the group holds of the list of them
 all_stands : (P : Stand → Type 0) (f : ℕ → Option Stand) (group : List ℕ) (ends : List Stand) → map Some ends ≡ map f group

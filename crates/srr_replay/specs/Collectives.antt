@@ -6,8 +6,8 @@ use Rattle.run_model.specs.declared.event.Event.{Event}
 use Rattle.run_model.specs.Forms.{AreInOrder}
 use Rattle.run_model.specs.Inputs.{inputs_of}
 use Rattle.run_model.specs.Views.{start_at, view_of}
-use Rattle.srr_replay.specs.Breaks.{break_inner}
-use Rattle.srr_replay.specs.Filling.{absent_of}
+use Rattle.replay_model.specs.Breaks.{break_inner}
+use Rattle.replay_model.specs.Filling.{absent_of}
 
 -- start k of the rank is this Enter; each needed member has entered, and agrees
 pub record IsCollective (n : ℕ) (events : List Event) (rank k : ℕ) (enter : Call) : Type 0 where

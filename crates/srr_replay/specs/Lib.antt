@@ -1,13 +1,6 @@
-pub mod Fits
-pub mod Filling
-pub mod Breaks
-pub mod Replays
 pub mod Collectives
 pub mod Seen
 pub mod StartTable
 pub mod EnterTable
 pub mod MemberTable
 pub mod Rounds
-pub mod Stands
-pub mod Rests
-pub mod Laws

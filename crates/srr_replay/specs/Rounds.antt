@@ -7,7 +7,7 @@ use Rattle.run_model.specs.Lists.{are_below}
 use Rattle.run_model.specs.Program.{Standing, IsAfter}
 use Rattle.run_model.specs.Views.{Next, view_of}
 use Rattle.srr_entry.specs.declared.log.Log.{Log}
-use Rattle.srr_replay.specs.Replays.{Stop, IsStep}
+use Rattle.replay_model.specs.Replays.{Stop, IsStep}
 
 -- 1 to 64 ranks, a group of distinct ranks below their number, a list of entries for each, no longer than a log holds
 pub record IsReplayable (log : Log) : Type 0 where

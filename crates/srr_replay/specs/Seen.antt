@@ -4,7 +4,7 @@ use Rattle.run_model.specs.declared.event.Event.{Event}
 use Rattle.run_model.specs.Communicators.{Entered}
 use Rattle.srr_replay.specs.declared.clash.Clash.{Clash}
 use Rattle.srr_replay.specs.declared.seen.Enter.{Enter}
-use Rattle.srr_replay.specs.declared.step.Found.{Found}
+use Rattle.replay_model.specs.declared.step.Found.{Found}
 
 -- the number of ranks, and the events
 pub record SeenSoFar : Type 0 where

@@ -2,7 +2,7 @@
 ghost use Rattle.std.specs.Prelude.{◌≡◌, ◌<◌, IfOk, IsOk, Some, length, true};
 ghost use Rattle.run_model.specs.Forms.{AreInOrder};
 ghost use Rattle.run_model.specs.Views.{View, view_of};
-ghost use Rattle.srr_replay.specs.Replays.{answer_of, diverged, entry_answer, is_break, takes_none};
+ghost use Rattle.replay_model.specs.Replays.{answer_of, diverged, entry_answer, is_break, takes_none};
 
 use crate::asked::Asked;
 use crate::clash::find_clash;
@@ -11,8 +11,8 @@ use crate::find::find_entries;
 use crate::fit::fits;
 use crate::missing::find_missing;
 use crate::seen::Seen;
-use crate::step::{Divergence, Found, Step};
 use mpi_call::call;
+use replay_model::step::{Divergence, Found, Step};
 use srr_entry::entry;
 use srr_entry::entry::Entry;
 use srr_entry::log::Log;

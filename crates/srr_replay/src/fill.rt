@@ -8,10 +8,10 @@ ghost use Rattle.run_model.specs.Communicators.{enter_at};
 ghost use Rattle.run_model.specs.Forms.{AreInOrder};
 ghost use Rattle.run_model.specs.Inputs.{gather, inputs_of};
 ghost use Rattle.run_model.specs.Views.{start_at, view_of};
-ghost use Rattle.srr_replay.specs.Breaks.{break_inner, break_mark, break_marks, broken};
-ghost use Rattle.srr_replay.specs.Filling.{absent_of, fill_inner, fill_made, fill_mark, fill_marks, filled, joined, made_new, message_from, missing_of, peeked_from};
+ghost use Rattle.replay_model.specs.Breaks.{break_inner, break_mark, break_marks, broken};
+ghost use Rattle.replay_model.specs.Filling.{absent_of, fill_inner, fill_made, fill_mark, fill_marks, filled, joined, made_new, message_from, missing_of, peeked_from};
 ghost use Rattle.srr_replay.specs.Collectives.{IsCollective};
-ghost use Rattle.srr_replay.specs.Fits.{fits, mark_fits, marks_fit};
+ghost use Rattle.replay_model.specs.Fits.{fits, mark_fits, marks_fit};
 
 use crate::asked::Asked;
 use crate::fit::comm_of;
@@ -26,7 +26,7 @@ use srr_entry::entry::{Entry, Mark, Marked};
 use std::alloc::{AllocError, Global};
 
 /// The reply.
-#[tactic(auto, unfolding(crate::specs::Fits::fits))]
+#[tactic(auto, unfolding(replay_model::specs::Fits::fits))]
 pub fn reply(
     alloc: Global,
     seen: &Seen,

@@ -10,7 +10,7 @@ ghost use Rattle.run_model.specs.Views.{View, start_at, view_of};
 ghost use Rattle.srr_entry.specs.declared.entry.Mark.TheVariants.{Nothing, Inside, Outside};
 ghost use Rattle.srr_entry.specs.declared.entry.Marked.{Marked};
 ghost use Rattle.srr_entry.specs.Entries.{all_within, is_inner};
-ghost use Rattle.srr_replay.specs.Fits.{fits, mark_fits, marks_fit};
+ghost use Rattle.replay_model.specs.Fits.{fits, mark_fits, marks_fit};
 
 use crate::asked::Asked;
 use crate::seen::Seen;
@@ -23,7 +23,7 @@ use run_model::shape;
 use srr_entry::entry::{Entry, Mark, Marked};
 
 /// Whether an entry and the rank's call agree, as far as the rank's own earlier calls and replies tell.
-#[tactic(auto, unfolding(crate::specs::Fits::fits))]
+#[tactic(auto, unfolding(replay_model::specs::Fits::fits))]
 pub fn fits(group: &[u8], seen: &Seen, asked: &Asked<'_>, entry: &Entry) -> bool
     requires { IsInOrder seen.now.ranks asked.now.rank (view_of seen.now.events asked.now.rank) }
     ensures { result ≡ fits seen.now.ranks group.now asked.now.rank (view_of seen.now.events asked.now.rank) asked.now.call.now entry.now }

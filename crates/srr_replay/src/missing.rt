@@ -6,20 +6,20 @@ ghost use Rattle.run_model.specs.Communicators.{enter_at};
 ghost use Rattle.run_model.specs.Forms.{IsInOrder};
 ghost use Rattle.run_model.specs.Inputs.{gather, inputs_of};
 ghost use Rattle.run_model.specs.Views.{start_at, view_of};
-ghost use Rattle.srr_replay.specs.Filling.{absent_of, fill_inner, fill_made, fill_mark, fill_marks, filled, joined, made_new, message_from, missing_of, peeked_from};
-ghost use Rattle.srr_replay.specs.Fits.{IsEnterAt, fits, mark_fits, marks_fit};
+ghost use Rattle.replay_model.specs.Filling.{absent_of, fill_inner, fill_made, fill_mark, fill_marks, filled, joined, made_new, message_from, missing_of, peeked_from};
+ghost use Rattle.replay_model.specs.Fits.{IsEnterAt, fits, mark_fits, marks_fit};
 
 use crate::asked::Asked;
 use crate::fit::comm_of;
 use crate::seen::Seen;
-use crate::step::Missing;
 use mpi_call::call::{Call, Comm};
 use mpi_call::lists::Ranks;
 use mpi_call::needs::needs;
+use replay_model::step::Missing;
 use srr_entry::entry::{Entry, Mark, Marked};
 
 /// The first thing that an entry rests on and that is not there, in item order and then in member order. Takes no memory.
-#[tactic(auto, unfolding(crate::specs::Fits::fits))]
+#[tactic(auto, unfolding(replay_model::specs::Fits::fits))]
 pub fn find_missing(seen: &Seen, asked: &Asked<'_>, entry: &Entry) -> Option<Missing>
     requires order { IsInOrder seen.now.ranks asked.now.rank (view_of seen.now.events asked.now.rank) }
     requires fits { (group : List ℕ) × (fits seen.now.ranks group asked.now.rank (view_of seen.now.events asked.now.rank) asked.now.call.now entry.now ≡ true) }

@@ -4,17 +4,17 @@ ghost use Rattle.mpi_call.specs.Collectives.{is_member};
 ghost use Rattle.mpi_call.specs.declared.reply.Reply.{Reply};
 ghost use Rattle.run_model.specs.Program.{MayGive};
 ghost use Rattle.run_model.specs.Views.{view_of, replies_in};
-ghost use Rattle.srr_replay.specs.Replays.{answer_of, events_after, event_of, takes_none, Replays};
+ghost use Rattle.replay_model.specs.Replays.{answer_of, events_after, event_of, takes_none, Replays};
 ghost use Rattle.srr_replay.specs.Rounds.{IsReplayable};
-ghost use Rattle.srr_replay.specs.declared.step.Step.TheVariants.{Replied};
+ghost use Rattle.replay_model.specs.declared.step.Step.TheVariants.{Replied};
 
 use crate::answer::answer;
 use crate::asked::Asked;
 use crate::seen::Seen;
-use crate::step::Step;
 use mpi_call::call::Call;
 use mpi_call::reply::Reply;
 use mpi_call::{call, reply};
+use replay_model::step::Step;
 use run_model::event::Event;
 use run_model::history::History;
 use run_model::program::Program;
@@ -34,7 +34,7 @@ pub struct Replay<'a, P: Program> {
 
 impl<'a, P: Program> Model for Replay<'a, P> {
     ghost use Rattle.std.specs.Prelude.{◌≡◌};
-    ghost use Rattle.srr_replay.specs.Replays.{ReplayState, Replays};
+    ghost use Rattle.replay_model.specs.Replays.{ReplayState, Replays};
     ghost use Rattle.srr_replay.specs.Rounds.{IsReplayable};
 
     ghost Value = { ReplayState P };

@@ -3,7 +3,7 @@ use Rattle.std.proofs.Common.{◌≡◌, ◌⊎◌, ℕ, List, [], Option, Some,
 use Rattle.std.specs.Prelude.{IfErr}
 use Rattle.run_model.specs.Views.{Kept}
 use Rattle.srr_record.specs.declared.recording.Recording.{Recording}
-use Rattle.srr_replay.specs.declared.replayed.Replayed.{Replayed}
+use Rattle.replay_model.specs.declared.replayed.Replayed.{Replayed}
 use Rattle.wiz_cli.specs.declared.record_files.Unwritten.{Unwritten}
 use Rattle.wiz_cli.specs.declared.record_files.Unwritten.TheVariants.{Failed, NoMemory}
 use Rattle.wiz_cli.specs.declared.record_outcome.Inputs.{Inputs}

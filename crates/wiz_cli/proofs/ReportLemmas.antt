@@ -6,16 +6,16 @@ use Rattle.run_model.specs.declared.event.Event.{Event}
 use Rattle.mpi_call.specs.declared.reply.Reply.{Reply}
 use Rattle.run_model.specs.Views.{Kept, Next}
 use Rattle.srr_entry.specs.declared.log.Log.{Log}
-use Rattle.srr_replay.specs.declared.replayed.Replayed.{Replayed}
-use Rattle.srr_replay.specs.declared.replayed.Stand.{Stand}
-use Rattle.srr_replay.specs.Laws.{IsDone, IsRunWith}
+use Rattle.replay_model.specs.declared.replayed.Replayed.{Replayed}
+use Rattle.replay_model.specs.declared.replayed.Stand.{Stand}
+use Rattle.replay_model.specs.Laws.{IsDone, IsRunWith}
 use Rattle.wiz_cli.specs.declared.outcome.Refusal.TheVariants.{Words, Missing, ReadFault, Program, Plan, Order, Log as LogRefused, TooLong}
 use Rattle.wiz_cli.specs.declared.outcome.Outcome.{Outcome}
 use Rattle.wiz_cli.specs.declared.outcome.Outcome.TheVariants.{Refused, Replayed as WasReplayed}
 use Rattle.c_program.specs.Program.{next_of, output_of, SameMeaning}
 use Rattle.c_program.specs.declared.program.CProgram.{CProgram}
 use Rattle.c_types.specs.Checks.{IsProgramOf}
-use Rattle.srr_replay.specs.Laws.{IsReplayOfEveryRun}
+use Rattle.replay_model.specs.Laws.{IsReplayOfEveryRun}
 use Rattle.wiz_cli.specs.Reports.{GrewBy, GrewByPart, IsBytesOutcome, IsFileOutcome, IsOutcome, IsReplayOfLog, IsReport, IsShown, IsTold, IsTrace, ReplaysShowEveryRun, ShowsEveryRun, is_diverged, is_starved}
 use Rattle.wiz_trace.specs.TraceTexts.{trace_text}
 use Rattle.wiz_cli.specs.Words.{IsReplayOf}

@@ -1,7 +1,7 @@
 -- The report of any words.
 use Rattle.std.specs.Prelude.{◌≡◌, ◌⊎◌, ℕ, List, [], Option, None}
 use Rattle.run_model.specs.Views.{Kept}
-use Rattle.srr_replay.specs.declared.replayed.Replayed.{Replayed}
+use Rattle.replay_model.specs.declared.replayed.Replayed.{Replayed}
 use Rattle.wiz_cli.specs.RecordReports.{IsCutRecord, IsRecordReport, IsUntouched, Outside}
 use Rattle.wiz_cli.specs.RecordWords.{IsRecordOf, RecordNames}
 use Rattle.wiz_cli.specs.Reports.{IsCutShort, IsReport}

@@ -5,7 +5,7 @@ use Rattle.run_model.specs.declared.ending.Ending.{Ending}
 use Rattle.run_model.specs.declared.ending.Ending.TheVariants.{Finished, Halted}
 use Rattle.run_model.specs.Views.{Kept}
 use Rattle.srr_record.specs.declared.recording.Recording.{Recording}
-use Rattle.srr_replay.specs.declared.replayed.Replayed.{Replayed}
+use Rattle.replay_model.specs.declared.replayed.Replayed.{Replayed}
 use Rattle.wiz_cli.specs.declared.record_outcome.InputFile.{InputFile}
 use Rattle.wiz_cli.specs.declared.record_outcome.InputFile.TheVariants.{Program, Plan, Order}
 use Rattle.wiz_cli.specs.declared.record_outcome.Inputs.{Inputs}

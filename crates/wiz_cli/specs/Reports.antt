@@ -17,11 +17,11 @@ use Rattle.srr_log.specs.declared.fault.LogWhy.{LogWhy}
 use Rattle.srr_log.specs.declared.fault.LogWhy.TheVariants.{BadHead, BadNumber, BadGroup, BadEntry, Short, Extra, BadVersion, Digest, NoMemory}
 use Rattle.srr_log.specs.Faults.{IsFirstFault}
 use Rattle.srr_log.specs.LogText.{IsLogText}
-use Rattle.srr_replay.specs.declared.replayed.Replayed.{Replayed}
-use Rattle.srr_replay.specs.declared.replayed.Stand.{Stand}
-use Rattle.srr_replay.specs.declared.replayed.Stand.TheVariants.{AtBreak, Diverged, Starved}
-use Rattle.srr_replay.specs.Laws.{IsReplayOfEveryRun, IsRunWith}
-use Rattle.srr_replay.specs.Stands.{IsReplayed, printed_of}
+use Rattle.replay_model.specs.declared.replayed.Replayed.{Replayed}
+use Rattle.replay_model.specs.declared.replayed.Stand.{Stand}
+use Rattle.replay_model.specs.declared.replayed.Stand.TheVariants.{AtBreak, Diverged, Starved}
+use Rattle.replay_model.specs.Laws.{IsReplayOfEveryRun, IsRunWith}
+use Rattle.replay_model.specs.Stands.{IsReplayed, printed_of}
 use Rattle.wiz_cli.specs.declared.outcome.Refusal.{Refusal}
 use Rattle.wiz_cli.specs.declared.outcome.Refusal.TheVariants.{Words, Missing, ReadFault, Program, Plan, Order, Log as LogRefused, TooLong}
 use Rattle.wiz_cli.specs.declared.outcome.Outcome.{Outcome}

@@ -1,8 +1,8 @@
 //! What a command comes to, before it is told.
 use c_lex::SourceFault;
 use group_plan::{OrderFault, PlanFault};
+use replay_model::replayed::Replayed;
 use srr_log::fault::LogFault;
-use srr_replay::replayed::Replayed;
 
 /// Why a command is refused.
 #[derive(Clone, Copy, Debug, PartialEq, Eq)]

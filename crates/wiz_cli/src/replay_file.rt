@@ -1,9 +1,9 @@
 //! The replay of a log file.
 ghost use Rattle.std.specs.Prelude.{◌≡◌, [], IfOk, Err, length, ◌≤◌};
 ghost use Rattle.srr_entry.specs.declared.log.Log.{Log};
-ghost use Rattle.srr_replay.specs.Laws.{IsReplayOfEveryRun};
+ghost use Rattle.replay_model.specs.Laws.{IsReplayOfEveryRun};
 ghost use Rattle.srr_replay.specs.Rounds.{IsReplayable, RunAll};
-ghost use Rattle.srr_replay.specs.Stands.{IsReplayed};
+ghost use Rattle.replay_model.specs.Stands.{IsReplayed};
 ghost use Rattle.c_program.specs.Program.{next_of, output_of, variables_of};
 ghost use Rattle.wiz_cli.specs.Reports.{IsBytesOutcome, IsFileOutcome, IsLogOutcome};
 
@@ -13,10 +13,10 @@ use c_lex::Why;
 use c_meaning::text_fixes_meaning;
 use c_program::CProgram;
 use c_types::read_program;
+use replay_model::replayed::Replayed;
 use srr_entry::log::Log;
 use srr_log::fault::LogWhy;
 use srr_log::read_log::read_log;
-use srr_replay::replayed::Replayed;
 use srr_replay::serial::replay_serial;
 use std::alloc::{AllocError, Global};
 use wiz_io::{ReadFault, Store};

@@ -1,6 +1,6 @@
 //! What the top call answers.
+use replay_model::replayed::Replays;
 use run_model::history::History;
-use srr_replay::replayed::Replays;
 
 /// The outcome of a command.
 #[derive(Drop)]

@@ -12,7 +12,7 @@ use crate::replay_file::replay_file;
 use crate::report::Report;
 use crate::tell::tell;
 use crate::words::log_name;
-use srr_replay::replayed::Replays;
+use replay_model::replayed::Replays;
 use std::alloc::{AllocError, Global};
 use std::sync::Wait;
 use std::thread::Threads;

@@ -4,13 +4,13 @@ use Rattle.run_model.specs.declared.event.Event.{Event}
 use Rattle.run_model.specs.declared.lists.Variable.{Variable}
 use Rattle.run_model.specs.Views.{View, view_of}
 use Rattle.srr_log.specs.EntryText.{entry_line}
-use Rattle.srr_replay.specs.declared.replayed.Replayed.{Replayed}
-use Rattle.srr_replay.specs.declared.replayed.Stand.{Stand}
-use Rattle.srr_replay.specs.declared.replayed.Stand.TheVariants.{Ended, LogEnded, AtBreak, Diverged, Starved}
-use Rattle.srr_replay.specs.declared.step.Divergence.{Divergence}
-use Rattle.srr_replay.specs.declared.step.Found.{Found}
-use Rattle.srr_replay.specs.declared.step.Missing.{Missing}
-use Rattle.srr_replay.specs.declared.step.Missing.TheVariants.{Start, Member}
+use Rattle.replay_model.specs.declared.replayed.Replayed.{Replayed}
+use Rattle.replay_model.specs.declared.replayed.Stand.{Stand}
+use Rattle.replay_model.specs.declared.replayed.Stand.TheVariants.{Ended, LogEnded, AtBreak, Diverged, Starved}
+use Rattle.replay_model.specs.declared.step.Divergence.{Divergence}
+use Rattle.replay_model.specs.declared.step.Found.{Found}
+use Rattle.replay_model.specs.declared.step.Missing.{Missing}
+use Rattle.replay_model.specs.declared.step.Missing.TheVariants.{Start, Member}
 use Rattle.wiz_base.specs.Decimals.{decimal_text}
 use Rattle.wiz_trace.specs.CallTexts.{call_text, ints_text, name_text, reply_text}
 

@@ -4,11 +4,11 @@ ghost use Rattle.run_model.specs.Views.{view_of};
 ghost use Rattle.wiz_trace.specs.TraceTexts.{calls_text, divergence_text, found_text, missing_text, output_text, rank_text, ranks_text, stand_text, trace_text, variable_text};
 
 use crate::call_text::{push_call, push_ints, push_name, push_reply};
+use replay_model::replayed::{Replayed, Stand};
+use replay_model::step::{Divergence, Found, Missing};
 use run_model::event::Event;
 use run_model::lists::Variable;
 use srr_log::entry_text::entry_text;
-use srr_replay::replayed::{Replayed, Stand};
-use srr_replay::step::{Divergence, Found, Missing};
 use std::alloc::{AllocError, Global};
 use wiz_base::{Bytes, push_decimal, push_text};
 

@@ -1,5 +1,5 @@
 use Rattle.c_grammar.specs.StmtView.{call_view}
-use Rattle.c_calls.proofs.Faultless.{mpi_fits}
+use Rattle.c_arguments.proofs.Faultless.{mpi_fits}
 use Rattle.c_calls.proofs.mpi_of.mpi_call_of.Goals as goal
 
 pub typed-requires : goal.typed-requires

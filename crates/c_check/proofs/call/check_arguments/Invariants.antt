@@ -2,7 +2,7 @@ use Rattle.std.proofs.Common.{◌≡◌, drop}
 use Rattle.c_grammar.specs.StmtView.{call_view}
 use Rattle.c_check.specs.Calls.{arguments_faults, arguments_of}
 use Rattle.c_check.specs.CallView.{takes_view}
-use Rattle.c_check.specs.Least.{least_from}
+use Rattle.c_scope.specs.Least.{least_from}
 use Rattle.c_check.proofs.call.check_arguments.Given as goal
 
 abbrev pub invariant-loop-place : goal.invariant-loop-place

@@ -1,7 +1,7 @@
 use Rattle.std.proofs.Common.{◌≡◌, drop}
 use Rattle.c_grammar.specs.StmtView.{call_view}
 use Rattle.c_check.specs.Calls.{arguments_of, numbers_faults}
-use Rattle.c_check.specs.Least.{least_from}
+use Rattle.c_scope.specs.Least.{least_from}
 use Rattle.c_check.proofs.call.check_print.Given as goal
 
 abbrev pub invariant-loop-place : goal.invariant-loop-place

@@ -1,6 +1,7 @@
 use Rattle.c_grammar.specs.StmtView.{item_view}
-use Rattle.c_check.specs.Kinds.{kind_of_word}
+use Rattle.c_scope.specs.Kinds.{kind_of_word}
 use Rattle.c_check.proofs.More.{after_items_next, declaration_end, items_next}
+use Rattle.c_check.proofs.Walks.{declaration_after}
 use Rattle.c_check.proofs.statement.check_declaration.Goals as goal
 
 pub loop-behind-preserved : goal.loop-behind-preserved
@@ -21,3 +22,9 @@ returns-clause-faults c =
     c.deref-behind-items.result.now c.args.declaration.now.items.more.items c.loop-behind.behind-index
     c.kind_of_word-kind.ensures c.in_ok-check_item.ensures.scope c.loop-behind-test.false c.deref-behind-items.ensures.value c.in_ok-check_item.ensures.faults
     c.loop-behind.invariant.faults
+
+pub returns-clause-scope : goal.returns-clause-scope
+returns-clause-scope c =
+    declaration_after c.args.scope.now c.check_item.new.scope c.loop-behind.scope c.kind_of_word-kind.result (kind_of_word c.args.declaration.now.kind)
+    (item_view c.args.declaration.now.items.first) c.deref-behind-items.result.now c.args.declaration.now.items.more.items c.loop-behind.behind-index
+    c.kind_of_word-kind.ensures c.in_ok-check_item.ensures.scope c.loop-behind-test.false c.deref-behind-items.ensures.value c.loop-behind.invariant.scope

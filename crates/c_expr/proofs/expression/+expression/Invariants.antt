@@ -11,6 +11,12 @@ decreases-expr l = 40 * l.left + 39
 abbrev pub decreases-choice : goal.decreases-choice
 decreases-choice l = 40 * l.left + 38
 
+abbrev pub decreases-branches : goal.decreases-branches
+decreases-branches l = 40 * l.left + 1
+
+abbrev pub decreases-deeper : goal.decreases-deeper
+decreases-deeper l = 40 * l.left
+
 abbrev pub decreases-bin : goal.decreases-bin
 decreases-bin l = 40 * l.left + 3 * l.most + 5
 

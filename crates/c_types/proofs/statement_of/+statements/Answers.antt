@@ -4,7 +4,8 @@ use Rattle.c_grammar.specs.StmtView.{parts_view, start_view}
 use Rattle.c_grammar.proofs.StmtViewed.{view-declare, view-stmt}
 use Rattle.c_check.specs.Statements.{after_parts, after_start}
 use Rattle.c_check.proofs.Closed.{closed_parts, closed_start, closing}
-use Rattle.c_types.proofs.StatementRules.{block_parts, block_rule, both_rule, both_spared, both_taken, break_rule, continue_rule, declare_faultless, declare_rule, do_body, do_rule, empty_rule, for_body, for_rule, for_start, for_step, for_typed, if_rule, if_taken, part_next, parts_after, parts_end, parts_more, parts_next, return_faultless, return_rule, simple_faultless, simple_rule, stmt_faultless, stmt_rule, while_body, while_rule}
+use Rattle.c_calls.proofs.MpiRules.{of_ok}
+use Rattle.c_types.proofs.StatementRules.{block_parts, block_rule, both_rule, both_spared, both_taken, break_rule, continue_rule, declare_faultless, declare_rule, do_body, do_rule, empty_rule, for_body, for_rule, for_start, for_step, for_typed, if_rule, if_taken, on_ok, part_next, parts_after, parts_end, parts_more, parts_next, return_faultless, return_rule, simple_faultless, simple_rule, stmt_faultless, stmt_rule, while_body, while_rule}
 use Rattle.c_types.proofs.statement_of.+statements.Goals as goal
 
 pub stmt_of-block_of-requires : goal.stmt_of-block_of-requires
@@ -39,21 +40,25 @@ block_of-returns-clause-scope t c =
 pub for_of-start_of-requires : goal.for_of-start_of-requires
 for_of-start_of-requires t c = rw c.in_ok-open.ensures c.requires.start
 
-pub for_of-turn_of-requires : goal.for_of-turn_of-requires
-for_of-turn_of-requires t c = rw (c.in_ok-start.ensures.scope, c.in_ok-open.ensures) c.requires.step
+pub for_of-turn_of-step-requires : goal.for_of-turn_of-step-requires
+for_of-turn_of-step-requires t c = rw (c.in_ok-start.ensures.scope, c.in_ok-open.ensures) c.requires.step
 
 pub for_of-boxed_of-requires : goal.for_of-boxed_of-requires
 for_of-boxed_of-requires t c = (first_of (search (rules, the_lemmas), search (rules, arith, the_lemmas)), rw (c.in_ok-start.ensures.scope, c.in_ok-open.ensures) c.requires.body)
 
 pub for_of-returns-clause-typed : goal.for_of-returns-clause-typed
 for_of-returns-clause-typed t c =
+    let head = c.in_ok-start-2.ensures.first in
     for_typed c.args.scope.now _ _ c.args.start.now c.args.test.now c.args.step.now c.args.body.now _ _ _ _ c.in_ok-open.ensures c.in_ok-start.ensures.scope
-    c.in_ok-start.ensures.typed c.in_ok-test.ensures c.in_ok-step.ensures c.in_ok-body.ensures.typed
+    (of_ok _ (c.in_ok-start.was ∙ of_ok _ head c.three-head.ensures.first) c.start_of.ensures.typed)
+    (of_ok _ (of_ok _ head c.three-head.ensures.second) c.test_of-test.ensures)
+    (of_ok _ (of_ok _ head c.three-head.ensures.third) c.turn_of-step.ensures)
+    (of_ok _ c.in_ok-start-2.ensures.second c.boxed_of.ensures.typed)
 
 pub for_of-returns-clause-scope : goal.for_of-returns-clause-scope
 for_of-returns-clause-scope t c =
     c.close.ensures
-    ∙ ap closing (c.in_ok-body.ensures.scope ∙ c.in_ok-start.ensures.scope ∙ ap (λ env. after_start env (start_view c.args.start.now)) c.in_ok-open.ensures)
+    ∙ ap closing (on_ok _ c.in_ok-start-2.ensures.second c.boxed_of.ensures.scope ∙ c.in_ok-start.ensures.scope ∙ ap (λ env. after_start env (start_view c.args.start.now)) c.in_ok-open.ensures)
     ∙ closed_start c.args.scope.now (start_view c.args.start.now)
 
 pub stmt_of-returns-in-Empty-clause-typed : goal.stmt_of-returns-in-Empty-clause-typed

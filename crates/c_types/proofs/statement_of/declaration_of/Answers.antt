@@ -1,8 +1,8 @@
 use Rattle.std.proofs.Common.{rules, arith, refl}
 use Rattle.std.proofs.lemmas.Grind.{common_steps}
 use Rattle.c_grammar.specs.StmtView.{item_view}
-use Rattle.c_check.specs.Kinds.{kind_of_word}
-use Rattle.c_check.proofs.Rows.{behind_viewed}
+use Rattle.c_scope.specs.Kinds.{kind_of_word}
+use Rattle.c_scope.proofs.Rows.{behind_viewed}
 use Rattle.c_types.proofs.StatementRules.{item_next, items_after, items_begin, items_end, items_first, items_more, items_next, items_start}
 use Rattle.c_types.proofs.statement_of.declaration_of.Goals as goal
 

@@ -1,9 +1,9 @@
 use Rattle.std.proofs.Common.{◌≡◌, ◌++◌, List, [], drop}
 use Rattle.c_grammar.specs.StmtView.{item_view, row_view}
 use Rattle.c_program.specs.declared.statement.Item.{Item}
-use Rattle.c_check.specs.Signatures.{listed}
+use Rattle.c_scope.specs.Signatures.{listed}
 use Rattle.c_check.specs.Statements.{after_items, items_faults}
-use Rattle.c_check.proofs.Rows.{behind_viewed}
+use Rattle.c_scope.proofs.Rows.{behind_viewed}
 use Rattle.c_types.specs.Statements.{AreItems}
 use Rattle.c_types.proofs.statement_of.declaration_of.Given as goal
 

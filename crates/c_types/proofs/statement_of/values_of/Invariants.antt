@@ -2,8 +2,8 @@ use Rattle.std.proofs.Common.{◌++◌, List, drop}
 use Rattle.c_grammar.specs.StmtView.{row_view}
 use Rattle.c_grammar.specs.View.{view}
 use Rattle.c_program.specs.declared.expr.Expr.{Expr}
-use Rattle.c_check.specs.Signatures.{listed}
-use Rattle.c_check.proofs.Rows.{behind_viewed}
+use Rattle.c_scope.specs.Signatures.{listed}
+use Rattle.c_scope.proofs.Rows.{behind_viewed}
 use Rattle.c_types.specs.Statements.{AreExprs}
 use Rattle.c_types.proofs.statement_of.values_of.Given as goal
 

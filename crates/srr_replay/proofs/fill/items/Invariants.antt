@@ -1,8 +1,8 @@
 use Rattle.std.proofs.Common.{◌≡◌, ℕ, List, None, length, true}
 use Rattle.run_model.specs.Views.{view_of}
-use Rattle.srr_replay.specs.Breaks.{break_marks}
-use Rattle.srr_replay.specs.Filling.{fill_marks, missing_of}
-use Rattle.srr_replay.specs.Fits.{marks_fit}
+use Rattle.replay_model.specs.Breaks.{break_marks}
+use Rattle.replay_model.specs.Filling.{fill_marks, missing_of}
+use Rattle.replay_model.specs.Fits.{marks_fit}
 use Rattle.srr_replay.proofs.FillLemmas.{items_before}
 use Rattle.srr_replay.proofs.fill.items.Given as goal
 

@@ -1,6 +1,6 @@
 use Rattle.std.proofs.Common.{◌≡◌, length}
 use Rattle.run_model.specs.Views.{view_of}
-use Rattle.srr_replay.specs.Fits.{marks_fit}
+use Rattle.replay_model.specs.Fits.{marks_fit}
 use Rattle.srr_replay.proofs.fit.marks_fit.Given as goal
 
 abbrev pub invariant-loop-rest : goal.invariant-loop-rest

@@ -4,7 +4,7 @@ use Rattle.mpi_call.specs.Collectives.{needs}
 use Rattle.run_model.specs.Communicators.{enter_at}
 use Rattle.run_model.specs.Inputs.{gather}
 use Rattle.run_model.specs.Views.{view_of}
-use Rattle.srr_replay.specs.Filling.{absent_of}
+use Rattle.replay_model.specs.Filling.{absent_of}
 use Rattle.srr_replay.proofs.MemberLemmas.{AreAmong}
 use Rattle.srr_replay.proofs.missing.first_absent.Given as goal
 

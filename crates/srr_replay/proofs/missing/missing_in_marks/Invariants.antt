@@ -1,7 +1,7 @@
 use Rattle.std.proofs.Common.{◌≡◌, ℕ, List, length, true}
 use Rattle.run_model.specs.Views.{view_of}
-use Rattle.srr_replay.specs.Filling.{fill_marks, missing_of}
-use Rattle.srr_replay.specs.Fits.{marks_fit}
+use Rattle.replay_model.specs.Filling.{fill_marks, missing_of}
+use Rattle.replay_model.specs.Fits.{marks_fit}
 use Rattle.srr_replay.proofs.missing.missing_in_marks.Given as goal
 
 abbrev pub invariant-loop-rest : goal.invariant-loop-rest

@@ -1,7 +1,7 @@
 use Rattle.std.proofs.Common.{◌≡◌, ◌<◌, sym, ◌∙◌, ap, arith, length, map, Some, ◌∷◌, []}
 use Rattle.std.proofs.lemmas.List.{map-append}
 use Rattle.srr_replay.proofs.RoundsLemmas.{RunAll-kept, map_take-more}
-use Rattle.srr_replay.specs.Stands.{printed_of, stand_of}
+use Rattle.replay_model.specs.Stands.{printed_of, stand_of}
 use Rattle.srr_replay.proofs.serial.finish.Goals as goal
 
 pub loop-k-preserved : goal.loop-k-preserved

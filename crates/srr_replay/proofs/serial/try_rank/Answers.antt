@@ -1,5 +1,5 @@
 use Rattle.std.proofs.Common.{◌≡◌, ◌++◌, ◌∷◌, [], refl}
-use Rattle.srr_replay.specs.Replays.{event_of}
+use Rattle.replay_model.specs.Replays.{event_of}
 use Rattle.srr_replay.proofs.RoundsLemmas.{IsAfter-given, IsAfter-asked}
 use Rattle.srr_replay.proofs.serial.try_rank.Goals as goal
 

@@ -1,6 +1,6 @@
 use Rattle.c_calls.specs.MpiCalls as y
-use Rattle.c_calls.proofs.MpiRules.{by_places}
+use Rattle.c_calls.proofs.MpiRules.{by_places, of_ok}
 use Rattle.c_calls.proofs.mpi_of.Given.abort.Goals as goal
 
 pub returns : goal.returns
-returns c = by_places _ _ _ _ c.requires (y.abort c.in_ok-pair.ensures.first c.in_ok-pair.ensures.second)
+returns c = by_places _ _ _ _ c.requires (y.abort (of_ok _ c.in_ok-comm.ensures.first c.value.ensures) (of_ok _ c.in_ok-comm.ensures.second c.value-2.ensures))

@@ -1,0 +1,4 @@
+pub mod ExprRules
+pub mod CallRules
+pub mod Faultless
+pub mod ArgumentRules

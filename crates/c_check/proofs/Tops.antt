@@ -1,0 +1,31 @@
+-- The faults of what stands in a text, one after another.
+use Rattle.std.proofs.Common.{◌≡◌, ℕ, Bool, List, Option, sym, ◌∙◌, ap}
+use Rattle.c_grammar.specs.Tree as t
+use Rattle.c_grammar.specs.declared.word.Spot.{Spot}
+use Rattle.c_scope.specs.Least.{least_from}
+use Rattle.c_scope.specs.Scopes.{Env}
+use Rattle.c_scope.specs.Signatures.{parameters_listed}
+use Rattle.c_scope.specs.declared.fault.Fault.{Fault}
+use Rattle.c_scope.proofs.Wanted.{both}
+use Rattle.c_check.specs.Programs.{function_faults, is_main, prototype_faults, top_faults, top_twice_faults}
+
+pub define_top : (env : Env) (text : List ℕ) (seen : List (List ℕ)) (word name : Spot) (value : t.Value) (end : Spot) (top : t.Top) (old new : Option Fault)
+    → top ≡ t.define word name value end → text ≡ env.text → new ≡ least_from old (top_twice_faults text seen name)
+    → new ≡ least_from old (top_faults env seen top)
+define_top env text seen word name value end top old new is e n =
+    n ∙ ap (λ one. least_from old (top_twice_faults one seen name)) e ∙ ap (λ one. least_from old (top_faults env seen one)) (sym is)
+
+pub function_top : (env : Env) (text : List ℕ) (seen : List (List ℕ)) (head : t.Head) (opening : Spot) (parts : t.Parts) (closing : Spot) (top : t.Top) (old mid new : Option Fault)
+    → top ≡ t.function head opening parts closing → text ≡ env.text → mid ≡ least_from old (top_twice_faults text seen head.name)
+    → new ≡ least_from mid (function_faults env head parts) → new ≡ least_from old (top_faults env seen top)
+function_top env text seen head opening parts closing top old mid new is e m n =
+    both old mid new (top_twice_faults env.text seen head.name) (function_faults env head parts)
+    (m ∙ ap (λ one. least_from old (top_twice_faults one seen head.name)) e) n
+    ∙ ap (λ one. least_from old (top_faults env seen one)) (sym is)
+
+pub prototype_top : (env : Env) (text : List ℕ) (seen : List (List ℕ)) (head : t.Head) (end : Spot) (main : Bool) (top : t.Top) (old new : Option Fault)
+    → top ≡ t.prototype head end → text ≡ env.text → main ≡ is_main text head
+    → new ≡ least_from old (prototype_faults env main (parameters_listed head.listed)) → new ≡ least_from old (top_faults env seen top)
+prototype_top env text seen head end main top old new is e m n =
+    n ∙ ap (λ one. least_from old (prototype_faults env one (parameters_listed head.listed))) (m ∙ ap (λ one. is_main one head) e)
+    ∙ ap (λ one. least_from old (top_faults env seen one)) (sym is)

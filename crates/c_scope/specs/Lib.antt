@@ -1,0 +1,10 @@
+pub mod Least
+pub mod Scopes
+pub mod Signatures
+pub mod Rows
+pub mod ScopeView
+pub mod Variables
+pub mod Kinds
+pub mod Literals
+pub mod Constants
+pub mod Expressions

@@ -1,0 +1,4 @@
+//! The readers of statements.
+#![tactic(auto)]
+
+pub mod statement;

@@ -1,0 +1,98 @@
+-- The reply that an entry stands for, where all that it rests on has been replayed.
+-- V is what each rank has seen, `own` what rank `me` itself has.
+use Rattle.std.specs.Prelude.{ℕ, ℤ, List, [], ◌∷◌, Option, Some, None, ◌==◌, if◌then◌else◌, length, slice_index, Result, Ok, Err}
+use Rattle.mpi_call.specs.declared.call.Call.{Call}
+use Rattle.mpi_call.specs.declared.call.Call.TheVariants.{Send}
+use Rattle.mpi_call.specs.declared.reply.Got.{Got}
+use Rattle.mpi_call.specs.declared.reply.Got.TheVariants.{Sent, Nothing, Message, Joined, Made}
+use Rattle.mpi_call.specs.declared.reply.Item.{Item}
+use Rattle.mpi_call.specs.declared.reply.Reply.{Reply}
+use Rattle.mpi_call.specs.declared.reply.Reply.TheVariants.{Done, Took, NotYet, Peeked, Stopped}
+use Rattle.mpi_call.specs.Calls.{comm_of, listed_by}
+use Rattle.mpi_call.specs.Collectives.{members_made, result_of}
+use Rattle.run_model.specs.Views.{View, start_at}
+use Rattle.run_model.specs.Communicators.{instance_of, members_in}
+use Rattle.run_model.specs.Inputs.{inputs_of}
+use Rattle.srr_entry.specs.declared.entry.Mark.{Mark}
+use Rattle.srr_entry.specs.declared.entry.Mark.TheVariants.{Sent as MarkSent, Nothing as MarkNothing, Inside, Outside, Inner, Outer, Made as MarkMade, MadeOutside}
+use Rattle.srr_entry.specs.declared.entry.Marked.{Marked}
+use Rattle.srr_entry.specs.declared.entry.Entry.{Entry}
+use Rattle.srr_entry.specs.declared.entry.Entry.TheVariants.{Sent as EntrySent, Posted, Entered, Ended, Took as EntryTook, NotYet as EntryNotYet, PeekedInside, PeekedOutside, Stopped as EntryStopped}
+use Rattle.replay_model.specs.declared.step.Missing.{Missing}
+use Rattle.replay_model.specs.declared.step.Missing.TheVariants.{Start, Member}
+
+-- a collective's result and a new communicator, from the inputs of the members that are needed
+abbrev pub joined : ℕ → View → ℕ → ℕ → Call → Result (List (List ℤ)) ℕ → Result Got Missing
+joined n own me k enter (Ok inputs) = Ok (Joined (result_of enter (members_in n own (comm_of enter)) inputs me))
+joined n own me k enter (Err m) = Err (Member m (comm_of enter) (instance_of own k (comm_of enter)))
+
+abbrev pub made_new : ℕ → ℕ → View → ℕ → ℕ → Call → Result (List (List ℤ)) ℕ → Result Got Missing
+made_new comm n own me k enter (Ok inputs) = Ok (Made comm (members_made enter (members_in n own (comm_of enter)) inputs me))
+made_new comm n own me k enter (Err m) = Err (Member m (comm_of enter) (instance_of own k (comm_of enter)))
+
+-- the message of a named start. Where that start is no Send any value serves: the entry breaks on it.
+abbrev pub message_from : ℕ → ℕ → Option Call → Result Got Missing
+message_from source start None = Err (Start source start)
+message_from source start (Some (Send comm dest tag ints)) = Ok (Message source start tag ints)
+message_from source start (Some call) = Ok Nothing
+
+abbrev pub peeked_from : ℕ → ℕ → Option Call → Result Reply Missing
+peeked_from source start None = Err (Start source start)
+peeked_from source start (Some (Send comm dest tag ints)) = Ok (Peeked source start tag (length ints))
+peeked_from source start (Some call) = Ok NotYet
+
+abbrev pub fill_inner : ℕ → (ℕ → View) → View → ℕ → ℕ → Option Call → Result Got Missing
+fill_inner n V own me k (Some enter) = joined n own me k enter (inputs_of n V own me k enter)
+fill_inner n V own me k None = Ok Nothing
+
+abbrev pub fill_made : ℕ → ℕ → (ℕ → View) → View → ℕ → ℕ → Option Call → Result Got Missing
+fill_made comm n V own me k (Some enter) = made_new comm n own me k enter (inputs_of n V own me k enter)
+fill_made comm n V own me k None = Ok Nothing
+
+-- what a mark for start k stands for, or the first that it rests on and that is not there
+abbrev pub fill_mark : ℕ → (ℕ → View) → View → ℕ → ℕ → Mark → Result Got Missing
+fill_mark n V own me k MarkSent = Ok Sent
+fill_mark n V own me k MarkNothing = Ok Nothing
+fill_mark n V own me k (Inside source start) = message_from source start (start_at (V source) start)
+fill_mark n V own me k (Outside source start tag ints) = Ok (Message source start tag ints)
+fill_mark n V own me k Inner = fill_inner n V own me k (start_at own k)
+fill_mark n V own me k (Outer ints) = Ok (Joined ints)
+fill_mark n V own me k (MarkMade comm) =
+    if comm == 0 then Ok (Made 0 []) else fill_made comm n V own me k (start_at own k)
+fill_mark n V own me k (MadeOutside comm members) = Ok (Made comm members)
+
+abbrev pub push_item : ℕ → Result Got Missing → Result (List Item) Missing → Result (List Item) Missing
+push_item index (Err missing) rest = Err missing
+push_item index (Ok got) (Err missing) = Err missing
+push_item index (Ok got) (Ok items) = Ok ((record { index = index; got = got }) ∷ items)
+
+abbrev pub fill_marks : ℕ → (ℕ → View) → View → ℕ → List ℕ → List Marked → Result (List Item) Missing
+fill_marks n V own me starts [] = Ok []
+fill_marks n V own me starts (marked ∷ items) =
+    push_item marked.index (fill_mark n V own me (slice_index starts marked.index) marked.mark) (fill_marks n V own me starts items)
+
+abbrev pub as_took : Result (List Item) Missing → Result Reply Missing
+as_took (Ok items) = Ok (Took items)
+as_took (Err missing) = Err missing
+
+-- the reply of an entry, or the first that it rests on and that is not there, in item order and then in member order
+abbrev pub filled : ℕ → (ℕ → View) → View → ℕ → Call → Entry → Result Reply Missing
+filled n V own me call EntrySent = Ok Done
+filled n V own me call Posted = Ok Done
+filled n V own me call Entered = Ok Done
+filled n V own me call Ended = Ok Done
+filled n V own me call (EntryTook items) = as_took (fill_marks n V own me (listed_by call) items)
+filled n V own me call EntryNotYet = Ok NotYet
+filled n V own me call (PeekedInside source start) = peeked_from source start (start_at (V source) start)
+filled n V own me call (PeekedOutside source start tag count) = Ok (Peeked source start tag count)
+filled n V own me call (EntryStopped halt) = Ok (Stopped halt)
+
+-- what is missing where no reply can be made
+abbrev pub missing_of : {A : Type 0} → Result A Missing → Option Missing
+missing_of (Ok filled) = None
+missing_of (Err missing) = Some missing
+
+-- the needed member that has not entered yet
+abbrev pub absent_of : Result (List (List ℤ)) ℕ → Option ℕ
+absent_of (Ok inputs) = None
+absent_of (Err member) = Some member

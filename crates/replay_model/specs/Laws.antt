@@ -1,0 +1,73 @@
+-- What a replay of a run's log shows of the run.
+use Rattle.std.specs.Prelude.{◌≡◌, ◌<◌, ◌⊎◌, ◌↔◌, ℕ, List, [], Some, None, true, false, All, length, map}
+use Rattle.std.specs.List.{Contains}
+use Rattle.mpi_call.specs.declared.reply.Reply.{Reply}
+use Rattle.mpi_call.specs.Collectives.{is_member}
+use Rattle.run_model.specs.declared.event.Event.{Event}
+use Rattle.run_model.specs.declared.lists.Variable.{Variable}
+use Rattle.run_model.specs.Lists.{IsPrefixOf}
+use Rattle.run_model.specs.Run.{IsRun}
+use Rattle.run_model.specs.Views.{Next, view_of}
+use Rattle.srr_entry.specs.declared.log.Log.{Log}
+use Rattle.srr_entry.specs.Entries.{log_of}
+use Rattle.replay_model.specs.declared.replayed.Replayed.{Replayed}
+use Rattle.replay_model.specs.declared.replayed.Stand.{Stand}
+use Rattle.replay_model.specs.declared.replayed.Stand.TheVariants.{Ended, LogEnded, AtBreak, Diverged, Starved}
+use Rattle.replay_model.specs.declared.step.Divergence.{Divergence}
+use Rattle.replay_model.specs.declared.step.Missing.{Missing}
+use Rattle.replay_model.specs.Replays.{Stop}
+use Rattle.replay_model.specs.Rests.{IsInCut}
+use Rattle.replay_model.specs.Stands.{printed_of, stand_of}
+
+-- a run of the program that has this log
+pub record IsRunWith (next : Next) (log : Log) (run : List Event) : Type 0 where
+  pub is_run : IsRun next log.ranks run
+  pub same_log : log ≡ log_of log.program log.ranks run log.group
+
+-- no rank outside the group has taken a step, and each rank of it has a beginning of its calls, replies and output in the run
+pub record BeginsRun (output : ℕ → ℕ → List Reply → List ℕ) (log : Log) (events run : List Event) : Type 0 where
+  pub alone : (rank : ℕ) → is_member log.group rank ≡ false → view_of events rank ≡ []
+  pub views : (rank : ℕ) → is_member log.group rank ≡ true → IsPrefixOf (view_of events rank) (view_of run rank)
+  pub outputs : (rank : ℕ) → is_member log.group rank ≡ true → IsPrefixOf (printed_of output log.ranks events rank) (printed_of output log.ranks run rank)
+
+-- each rank of the group has all of them
+pub record HasAllOf (output : ℕ → ℕ → List Reply → List ℕ) (log : Log) (events run : List Event) : Type 0 where
+  pub views : (rank : ℕ) → is_member log.group rank ≡ true → view_of events rank ≡ view_of run rank
+  pub outputs : (rank : ℕ) → is_member log.group rank ≡ true → printed_of output log.ranks events rank ≡ printed_of output log.ranks run rank
+
+abbrev pub HasNotDiverged : Stand → Type 0
+HasNotDiverged stand = (divergence : Divergence) → stand ≡ Diverged divergence → ⊥
+
+-- it has come to the end of its program or of its log
+abbrev pub IsDone : Stand → Type 0
+IsDone stand = (stand ≡ Ended) ⊎ (stand ≡ LogEnded)
+
+-- the stand of each rank of the group, where it has one
+abbrev pub EachStand : (Stand → Type 0) → Next → (ℕ → ℕ → List Reply → List Variable) → Log → Stop → List Event → Type 0
+EachStand P next variables log stop events =
+    (rank : ℕ) (stand : Stand) → is_member log.group rank ≡ true → stand_of next variables log stop events rank ≡ Some stand → P stand
+
+-- where a rank of the group is starved, some rank of it stands at the breakpoint
+abbrev pub StarvesBehindABreak : Next → (ℕ → ℕ → List Reply → List Variable) → Log → Stop → List Event → Type 0
+StarvesBehindABreak next variables log stop events =
+    (rank : ℕ) (missing : Missing) → is_member log.group rank ≡ true → stand_of next variables log stop events rank ≡ Some (Starved missing)
+    → (at : ℕ) × (standing : List Variable) × (is_member log.group at ≡ true) × (stand_of next variables log stop events at ≡ Some (AtBreak standing))
+
+-- the places that were replayed are the cut of the breakpoint
+abbrev pub HasTheCut : Log → Stop → List Event → List Event → Type 0
+HasTheCut log stop events run =
+    (rank number : ℕ) → (number < length (view_of events rank)) ↔ IsInCut log.ranks log.group (view_of run) stop rank number
+
+-- a whole replay beside a run with its log
+pub record IsReplayOfRun (output : ℕ → ℕ → List Reply → List ℕ) (log : Log) (stop : Stop) (run : List Event) (replayed : Replayed) : Type 0 where
+  pub begins : BeginsRun output log replayed.events.events run
+  pub cut : HasTheCut log stop replayed.events.events run
+  pub agrees : All HasNotDiverged replayed.ends
+  pub starved : (missing : Missing) → Contains replayed.ends (Starved missing) → (standing : List Variable) × Contains replayed.ends (AtBreak standing)
+  pub views : stop ≡ None → (rank : ℕ) → is_member log.group rank ≡ true → view_of replayed.events.events rank ≡ view_of run rank
+  pub outputs : stop ≡ None → replayed.outputs ≡ map (printed_of output log.ranks run) log.group
+  pub ends : stop ≡ None → All IsDone replayed.ends
+
+-- beside every run with its log
+abbrev pub IsReplayOfEveryRun : Next → (ℕ → ℕ → List Reply → List ℕ) → Log → Stop → Replayed → Type 0
+IsReplayOfEveryRun next output log stop replayed = (run : List Event) → IsRunWith next log run → IsReplayOfRun output log stop run replayed

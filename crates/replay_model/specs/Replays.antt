@@ -1,0 +1,90 @@
+-- Replays of a group from its log: lists of events, each a step after those before it.
+use Rattle.std.specs.Prelude.{◌≡◌, ℕ, List, [], ◌∷◌, ◌++◌, Option, Some, None, Bool, true, false, ◌&&◌, ◌==◌, if◌then◌else◌, length, slice_get, Result, Ok, Err}
+use Rattle.mpi_call.specs.declared.call.Call.{Call}
+use Rattle.mpi_call.specs.declared.reply.Reply.{Reply}
+use Rattle.mpi_call.specs.Collectives.{is_member}
+use Rattle.run_model.specs.declared.event.Event.{Event}
+use Rattle.run_model.specs.Lists.{Along}
+use Rattle.run_model.specs.Views.{View, Next, view_of, replies_in}
+use Rattle.srr_entry.specs.declared.entry.Entry.{Entry}
+use Rattle.srr_entry.specs.declared.log.Log.{Log}
+use Rattle.srr_entry.specs.Entries.{entries_for}
+use Rattle.replay_model.specs.declared.step.Found.{Found}
+use Rattle.replay_model.specs.declared.step.Missing.{Missing}
+use Rattle.replay_model.specs.declared.step.Step.{Step}
+use Rattle.replay_model.specs.declared.step.Step.TheVariants.{Replied, Wait, LogEnded, AtBreak, Diverged}
+use Rattle.replay_model.specs.Fits.{fits}
+use Rattle.replay_model.specs.Filling.{filled}
+use Rattle.replay_model.specs.Breaks.{broken}
+
+-- a rank and the number of the call that it stops before
+abbrev pub Stop : Type 0
+Stop = Option (ℕ × ℕ)
+
+abbrev pub is_break : Stop → ℕ → ℕ → Bool
+is_break None rank number = false
+is_break (Some at) rank number = (at.0 == rank) && (at.1 == number)
+
+abbrev pub diverged : ℕ → View → Call → Entry → Option Found → Step
+diverged me own call entry found =
+    Diverged (record { rank = me; call_number = length own; entry = entry; call = call; found = found })
+
+-- first what is missing, then a replayed start that disagrees, else the reply
+abbrev pub judged : ℕ → View → Call → Entry → Result Reply Missing → Option Found → Step
+judged me own call entry (Err missing) found = Wait missing
+judged me own call entry (Ok reply) (Some found) = diverged me own call entry (Some found)
+judged me own call entry (Ok reply) None = Replied reply
+
+abbrev pub entry_answer : ℕ → List ℕ → (ℕ → View) → View → ℕ → Call → Option Entry → Step
+entry_answer n group V own me call None = LogEnded
+entry_answer n group V own me call (Some entry) =
+    if fits n group me own call entry
+    then judged me own call entry (filled n V own me call entry) (broken n V own me call entry)
+    else diverged me own call entry None
+
+-- the answer to rank `me`'s call: at its breakpoint, at its log's end, or by its next entry
+abbrev pub answer_of : Log → Stop → (ℕ → View) → View → ℕ → Call → Step
+answer_of log stop V own me call =
+    if is_break stop me (length own) then AtBreak
+    else entry_answer log.ranks log.group V own me call (slice_get (entries_for log.group log.lists me) (length own))
+
+-- an answer that makes no event and copies nothing
+abbrev pub takes_none : Step → Bool
+takes_none (Replied reply) = false
+takes_none (Diverged divergence) = false
+takes_none step = true
+
+-- the event that a reply makes
+abbrev pub event_of : ℕ → Call → Reply → Event
+event_of rank call reply = record { rank = rank; call = call; reply = reply; mate = None }
+
+-- the events after an answer
+abbrev pub events_after : List Event → ℕ → Call → Step → List Event
+events_after events rank call (Replied reply) = events ++ event_of rank call reply ∷ []
+events_after events rank call step = events
+
+-- an event of a rank of the group: its program's next call, answered by the log's next entry
+pub record IsStep (next : Next) (log : Log) (stop : Stop) (before : List Event) (event : Event) : Type 0 where
+  pub member : is_member log.group event.rank ≡ true
+  pub call : next log.ranks event.rank (replies_in (view_of before event.rank)) ≡ Some event.call
+  pub reply : answer_of log stop (view_of before) (view_of before event.rank) event.rank event.call ≡ Replied event.reply
+  pub mate : event.mate ≡ None
+
+abbrev pub Replays : Next → Log → Stop → List Event → Type 0
+Replays next log stop events = Along (IsStep next log stop) [] events
+
+-- no rank of the group has a step
+abbrev pub IsExhausted : Next → Log → Stop → List Event → Type 0
+IsExhausted next log stop events = (event : Event) → IsStep next log stop events event → ⊥
+
+-- a replay that can go no further
+pub record IsWholeReplay (next : Next) (log : Log) (stop : Stop) (events : List Event) : Type 0 where
+  pub replays : Replays next log stop events
+  pub exhausted : IsExhausted next log stop events
+
+-- what contracts see of a replay
+pub record ReplayState (P : Type 0) : Type 0 where
+  pub program : P
+  pub log : Log
+  pub stop : Stop
+  pub events : List Event
