@@ -27,8 +27,8 @@ use Rattle.c_arguments.specs.Calls.{IsCall, IsRight}
 use Rattle.c_calls.specs.MpiCalls.{IsMpiCall}
 use Rattle.c_meaning.proofs.SameEffects.{same_effect}
 use Rattle.c_meaning.proofs.SameValues.{same_cell, same_function, same_given, same_passed, same_value}
-use Rattle.c_types.specs.Statements as x
-use Rattle.c_types.specs.Statements.{AreExprs, AreItems, AreValues, IsDeclaration, IsInitial, IsItem, IsReturn, IsSimple, IsStart, IsStep, IsTest, update_of}
+use Rattle.c_blocks.specs.Statements as x
+use Rattle.c_blocks.specs.Statements.{AreExprs, AreItems, AreValues, IsDeclaration, IsInitial, IsItem, IsReturn, IsSimple, IsStart, IsStep, IsTest, update_of}
 
 module _ (rank : Rank) (calls : Calls) where
   -- ---- calls

@@ -14,8 +14,8 @@ use Rattle.c_program.specs.declared.expr.Expr.{Expr}
 use Rattle.c_program.specs.declared.statement.Part.{Part}
 use Rattle.c_program.specs.declared.statement.Stmt.{Stmt}
 use Rattle.c_meaning.proofs.SameValues.{same_value}
-use Rattle.c_types.specs.Statements as x
-use Rattle.c_types.specs.Statements.{AreParts, IsPart, IsStmt}
+use Rattle.c_blocks.specs.Statements as x
+use Rattle.c_blocks.specs.Statements.{AreParts, IsPart, IsStmt}
 use Rattle.c_meaning.proofs.SameSimples.{same_declaration, same_return, same_simple, same_start, same_step, same_test}
 
 -- ---- loops

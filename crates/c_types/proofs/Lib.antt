@@ -1,5 +1,2 @@
-pub mod Growing
-pub mod SimpleRules
-pub mod StatementRules
 pub mod ProgramRules
 pub mod CheckRules

@@ -20,8 +20,8 @@ use Rattle.c_check.specs.Statements.{parts_faults}
 use Rattle.c_scope.proofs.Lists.{drop_at, drop_got, drop_past}
 use Rattle.c_types.specs.Programs as x
 use Rattle.c_types.specs.Programs.{AreFunctions, AreParameters, IsFunction, IsFunctionOf, IsParameter}
-use Rattle.c_types.specs.Statements.{AreParts}
-use Rattle.c_types.proofs.Growing.{ended, grown, none_left, none_right}
+use Rattle.c_blocks.specs.Statements.{AreParts}
+use Rattle.c_blocks.proofs.Growing.{ended, grown, none_left, none_right}
 
 -- ---- parameters
 

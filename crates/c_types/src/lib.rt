@@ -1,7 +1,6 @@
 //! The typed program of a C text, or the first fault that it has.
 #![tactic(auto)]
 
-mod statement_of;
 pub mod typing;
 
 pub use typing::{check, one_program, read_program};

@@ -1,0 +1,4 @@
+//! The typed declarations and statements of a C text without faults.
+#![tactic(auto)]
+
+pub mod statement_of;
