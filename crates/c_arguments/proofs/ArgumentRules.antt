@@ -6,7 +6,7 @@ use Rattle.c_grammar.specs.Tree as t
 use Rattle.c_names.specs.declared.function.ArgumentKind.{ArgumentKind}
 use Rattle.c_program.specs.declared.expr.Argument.{Argument}
 use Rattle.c_scope.proofs.Lists.{drop_got, drop_past}
-use Rattle.c_check.specs.Calls.{argument_faults, arguments_faults, arguments_of, call_faults, signature_takes}
+use Rattle.c_call_check.specs.Calls.{argument_faults, arguments_faults, arguments_of, call_faults, signature_takes}
 use Rattle.c_scope.specs.Scopes.{Env, Signature, meaning}
 use Rattle.c_scope.specs.Signatures.{parameter_takes}
 use Rattle.c_scope.specs.declared.thing.Meaning.TheVariants as m

@@ -18,7 +18,7 @@ use Rattle.c_names.specs.declared.predefined.Predefined.{Predefined}
 use Rattle.c_names.specs.declared.predefined.Predefined.TheVariants as p
 use Rattle.c_program.specs.declared.expr.Expr.{Expr}
 use Rattle.c_program.specs.declared.expr.Reference.TheVariants as r
-use Rattle.c_check.specs.Calls.{array_sum, is_plus, name_alone, sum_base, word_of}
+use Rattle.c_call_check.specs.Calls.{array_sum, is_plus, name_alone, sum_base, word_of}
 use Rattle.c_scope.specs.Scopes.{Env}
 use Rattle.c_scope.specs.Variables.{variable}
 use Rattle.c_arguments.specs.Calls as y

@@ -15,7 +15,7 @@ use Rattle.c_names.specs.declared.predefined.Predefined.{Predefined}
 use Rattle.c_names.specs.declared.predefined.Predefined.TheVariants as p
 use Rattle.c_names.specs.declared.kind.Kind.{Kind}
 use Rattle.c_names.specs.declared.kind.Kind.TheVariants.{Int, Status, Request, Communicator}
-use Rattle.c_check.specs.Calls.{accepts_own, accepts_word, argument_faults, arguments_faults, arguments_of, array_faults, array_sum, call_faults, counted_faults, first_is_null, is_array_of, is_own, meant_faults, misfit_faults, mpi_takes, reference_faults, result_faults, right_faults, signature_takes, sum_faults, unaccepted_faults, value_faults, word_meant, word_of}
+use Rattle.c_call_check.specs.Calls.{accepts_own, accepts_word, argument_faults, arguments_faults, arguments_of, array_faults, array_sum, call_faults, counted_faults, first_is_null, is_array_of, is_own, meant_faults, misfit_faults, mpi_takes, reference_faults, result_faults, right_faults, signature_takes, sum_faults, unaccepted_faults, value_faults, word_meant, word_of}
 use Rattle.c_scope.specs.Expressions.{expr_faults, takes_index, wanted_faults}
 use Rattle.c_scope.specs.Kinds.{cell_kind, fits, kind_faults, kind_of, start_of, whole_kind}
 use Rattle.c_scope.specs.Least.{unless}

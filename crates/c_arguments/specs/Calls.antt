@@ -6,7 +6,7 @@ use Rattle.c_grammar.specs.Tree as t
 use Rattle.c_names.specs.declared.function.ArgumentKind.{ArgumentKind}
 use Rattle.c_names.specs.declared.function.ArgumentKind.TheVariants as k
 use Rattle.c_names.specs.declared.predefined.Predefined.TheVariants as p
-use Rattle.c_check.specs.Calls.{arguments_of, is_plus, signature_takes, word_of}
+use Rattle.c_call_check.specs.Calls.{arguments_of, is_plus, signature_takes, word_of}
 use Rattle.c_scope.specs.Scopes.{Env, meaning}
 use Rattle.c_scope.specs.declared.thing.Meaning.TheVariants as m
 use Rattle.c_scope.specs.declared.thing.Thing.TheVariants as d

@@ -9,7 +9,7 @@ use Rattle.c_names.specs.declared.function.ArgumentKind.TheVariants as a
 use Rattle.c_names.specs.declared.function.MpiFunction.{MpiFunction}
 use Rattle.c_names.specs.declared.predefined.Predefined.{Predefined}
 use Rattle.c_names.specs.declared.predefined.Predefined.TheVariants as p
-use Rattle.c_check.specs.Calls.{arguments_of, word_of}
+use Rattle.c_call_check.specs.Calls.{arguments_of, word_of}
 use Rattle.c_scope.specs.Scopes.{Env}
 use Rattle.c_arguments.specs.Shapes.{has_cells, is_reference, is_value}
 

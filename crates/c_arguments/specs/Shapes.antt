@@ -4,7 +4,7 @@ use Rattle.std.specs.Option.{is_some}
 use Rattle.c_grammar.specs.Tree as t
 use Rattle.c_names.specs.declared.predefined.Predefined.{Predefined}
 use Rattle.c_names.specs.declared.predefined.Predefined.TheVariants as p
-use Rattle.c_check.specs.Calls.{array_sum, name_alone, word_of}
+use Rattle.c_call_check.specs.Calls.{array_sum, name_alone, word_of}
 use Rattle.c_scope.specs.Scopes.{Env}
 
 abbrev pub is_value : t.Argument → Bool

@@ -5,7 +5,7 @@ ghost use Rattle.std.specs.Option.{is_some};
 ghost use Rattle.c_grammar.specs.StmtView.{argument_view, call_view, head_view, parameter_view, right_view};
 ghost use Rattle.c_grammar.specs.Tree as t;
 ghost use Rattle.c_grammar.specs.View.{place_view, view};
-ghost use Rattle.c_check.specs.Calls.{argument_faults, arguments_faults, arguments_of, array_sum, call_faults, right_faults, word_of};
+ghost use Rattle.c_call_check.specs.Calls.{argument_faults, arguments_faults, arguments_of, array_sum, call_faults, right_faults, word_of};
 ghost use Rattle.c_scope.specs.Scopes.{meaning};
 ghost use Rattle.c_scope.specs.Signatures.{parameter_takes, signature_of};
 ghost use Rattle.c_scope.specs.declared.thing.ExprKind.{ExprKind};
@@ -15,7 +15,9 @@ ghost use Rattle.c_arguments.specs.Calls.{AreArguments, IsArgument, IsCall, IsRe
 ghost use Rattle.c_arguments.specs.Shapes.{is_array, is_reference, is_value};
 
 use crate::expr_of::expr_of;
-use c_check::call::{argument_at, argument_count, array_sum, name_alone, parameter_at, word_of};
+use c_call_check::call::{
+    argument_at, argument_count, array_sum, name_alone, parameter_at, word_of,
+};
 use c_grammar::word::Spot;
 use c_grammar::{statement, tree};
 use c_program::expr::{Argument, Call, Expr, Reference, Right};

@@ -77,3 +77,11 @@ pub fn boxed<T: Drop>(alloc: Global, value: T) -> Result<Box<T>, AllocError>
 {
     Ok(Box::new(alloc, value)?)
 }
+
+/// The value of a result in a box.
+pub fn held<T: Drop>(alloc: Global, value: Result<T, AllocError>) -> Result<Box<T>, AllocError>
+    ensures { IfOk result (λ found. value ≡ Ok found.value) }
+{
+    let value = value?;
+    boxed(alloc, value)
+}

@@ -15,7 +15,7 @@ use Rattle.c_names.specs.declared.kind.Kind.TheVariants.{Int}
 use Rattle.c_program.specs.declared.expr.Expr.{Expr}
 use Rattle.c_program.specs.declared.expr.Place.{Place}
 use Rattle.c_program.specs.declared.statement.Simple.TheVariants as l
-use Rattle.c_check.specs.Calls.{arguments_of, call_faults, format_faults, inside, is_format, misfit_faults, numbers_faults, print_faults, right_faults, value_faults}
+use Rattle.c_call_check.specs.Calls.{arguments_of, call_faults, format_faults, inside, is_format, misfit_faults, numbers_faults, print_faults, right_faults, value_faults}
 use Rattle.c_scope.specs.Expressions.{expr_faults, int_faults, place_faults, takes_index, wanted_faults}
 use Rattle.c_scope.specs.Kinds.{cell_kind, kind_faults, place_start, whole_kind}
 use Rattle.c_scope.specs.Least.{unless}

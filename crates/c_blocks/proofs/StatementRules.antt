@@ -19,7 +19,7 @@ use Rattle.c_grammar.specs.StmtView.{declaration_view, item_view, part_view, par
 use Rattle.c_grammar.specs.Tree as t
 use Rattle.c_grammar.specs.View.{view}
 use Rattle.c_grammar.proofs.StmtViewed.{view-block, view-empty, view-simple, view-break, view-continue, view-return, view-if_only, view-if_else, view-while, view-do_while, view-for, view-declare, view-stmt}
-use Rattle.c_check.specs.Calls.{right_faults}
+use Rattle.c_call_check.specs.Calls.{right_faults}
 use Rattle.c_scope.specs.Expressions.{int_faults}
 use Rattle.c_scope.specs.Kinds.{place_start}
 use Rattle.c_scope.specs.Least.{unless}

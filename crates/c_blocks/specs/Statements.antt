@@ -33,7 +33,7 @@ use Rattle.c_program.specs.declared.statement.Simple.{Simple}
 use Rattle.c_program.specs.declared.statement.Simple.TheVariants as l
 use Rattle.c_program.specs.declared.statement.Stmt.{Stmt}
 use Rattle.c_program.specs.declared.statement.Stmt.TheVariants as s
-use Rattle.c_check.specs.Calls.{arguments_of, inside}
+use Rattle.c_call_check.specs.Calls.{arguments_of, inside}
 use Rattle.c_scope.specs.Constants.{length_of}
 use Rattle.c_scope.specs.Kinds.{kind_of_word, place_start}
 use Rattle.c_scope.specs.Scopes.{Env, cut, meaning, opened}

@@ -7,8 +7,8 @@ ghost use Rattle.c_grammar.specs.Tree as t;
 ghost use Rattle.c_grammar.specs.View.{place_view, view};
 ghost use Rattle.c_names.specs.Formats.{pieces_of};
 ghost use Rattle.c_names.specs.declared.predefined.Predefined.TheVariants as p;
-ghost use Rattle.c_check.specs.Calls.{arguments_of, call_faults, numbers_faults};
-ghost use Rattle.c_check.specs.Calls as checked;
+ghost use Rattle.c_call_check.specs.Calls.{arguments_of, call_faults, numbers_faults};
+ghost use Rattle.c_call_check.specs.Calls as checked;
 ghost use Rattle.c_scope.specs.Scopes.{meaning, opened};
 ghost use Rattle.c_scope.specs.Scopes as scopes;
 ghost use Rattle.c_scope.specs.Signatures.{listed};
@@ -20,9 +20,9 @@ ghost use Rattle.c_blocks.specs.Statements.{AreExprs, AreParts, AreValues, IsDec
 
 use c_arguments::call_of::{call_of, right_of, value_of};
 use c_arguments::expr_of::{expr_of, place_of};
-use c_arguments::results::{both, boxed, three};
+use c_arguments::results::{both, boxed, held, three};
+use c_call_check::call::{argument_at, argument_count, inside};
 use c_calls::mpi_of::mpi_call_of;
-use c_check::call::{argument_at, argument_count, inside};
 use c_check::statement::{declared_thing, is_assign};
 use c_grammar::word::{Spot, Word};
 use c_grammar::{statement, tree};
@@ -131,14 +131,6 @@ fn print_of(alloc: Global, scope: &Scope, call: &statement::Call) -> Result<Simp
     let format = format_of(alloc, scope, first_text(call))?;
     let arguments = numbers_of(alloc, scope, call)?;
     Ok(Simple::Print { format, arguments })
-}
-
-/// A value in a box, where there is one.
-fn held<T: Drop>(alloc: Global, value: Result<T, AllocError>) -> Result<Box<T>, AllocError>
-    ensures { IfOk result (λ found. value ≡ Ok found.value) }
-{
-    let value = value?;
-    boxed(alloc, value)
 }
 
 /// A call that is a statement.
@@ -524,6 +516,8 @@ fn part_of(alloc: Global, scope: &mut Scope, part: &statement::Part) -> Result<P
     }
 }
 
+/// The typed parts of a block without faults, which stand in an open scope. What they declare stays in it. The one error is want of
+/// memory, and then the scope is to be given up.
 #[cycle(statements)]
 pub fn parts_of(
     alloc: Global,

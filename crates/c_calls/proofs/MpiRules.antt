@@ -7,7 +7,7 @@ use Rattle.c_names.specs.declared.function.MpiFunction.{MpiFunction}
 use Rattle.c_names.specs.declared.predefined.Predefined.{Predefined}
 use Rattle.c_names.specs.declared.predefined.Predefined.TheVariants as p
 use Rattle.c_program.specs.declared.mpi.MpiCall.{MpiCall}
-use Rattle.c_check.specs.Calls.{word_of}
+use Rattle.c_call_check.specs.Calls.{word_of}
 use Rattle.c_scope.specs.Scopes.{Env}
 use Rattle.c_arguments.specs.Given.{Fits, argument, is_status, is_status_by}
 use Rattle.c_calls.specs.MpiCalls as y

@@ -10,7 +10,7 @@ use Rattle.c_program.specs.declared.expr.Reference.{Reference}
 use Rattle.c_program.specs.declared.mpi.Buffer.{Buffer}
 use Rattle.c_program.specs.declared.mpi.MpiCall.{MpiCall}
 use Rattle.c_program.specs.declared.mpi.MpiCall.TheVariants as c
-use Rattle.c_check.specs.Calls.{word_of}
+use Rattle.c_call_check.specs.Calls.{word_of}
 use Rattle.c_scope.specs.Scopes.{Env}
 use Rattle.c_arguments.specs.Calls.{IsReference, IsValue}
 

@@ -4,7 +4,7 @@ ghost use Rattle.std.specs.Prelude.{◌≡◌, IfOk, List, [], true};
 ghost use Rattle.c_grammar.specs.StmtView.{argument_view, call_view};
 ghost use Rattle.c_names.specs.declared.function.MpiFunction.TheVariants as f;
 ghost use Rattle.c_names.specs.declared.predefined.Predefined.TheVariants as p;
-ghost use Rattle.c_check.specs.Calls.{arguments_of, call_faults, word_of};
+ghost use Rattle.c_call_check.specs.Calls.{arguments_of, call_faults, word_of};
 ghost use Rattle.c_scope.specs.Scopes.{meaning};
 ghost use Rattle.c_scope.specs.declared.thing.Meaning.TheVariants as m;
 ghost use Rattle.c_arguments.specs.Calls.{IsReference, IsValue};
@@ -14,7 +14,7 @@ ghost use Rattle.c_arguments.specs.Shapes.{is_reference, is_value};
 
 use c_arguments::call_of::{reference_of, value_of};
 use c_arguments::results::{both, five, four, three};
-use c_check::call::{argument_at, word_of};
+use c_call_check::call::{argument_at, word_of};
 use c_grammar::statement::{Argument, Call};
 use c_names::function::MpiFunction;
 use c_names::predefined::Predefined;

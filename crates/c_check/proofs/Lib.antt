@@ -1,4 +1,3 @@
-pub mod Arguments
 pub mod Closed
 pub mod Walks
 pub mod Texts

@@ -1,4 +1,2 @@
-pub mod Calls
-pub mod CallView
 pub mod Statements
 pub mod Programs

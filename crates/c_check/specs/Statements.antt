@@ -13,7 +13,7 @@ use Rattle.c_scope.specs.Kinds.{cell_kind, kind_of_word, place_start, target_kin
 use Rattle.c_scope.specs.Signatures.{listed}
 use Rattle.c_scope.specs.Scopes.{Env, declare, meaning, opened, twice_faults}
 use Rattle.c_scope.specs.Expressions.{int_faults, place_faults}
-use Rattle.c_check.specs.Calls.{call_faults, right_faults, right_start}
+use Rattle.c_call_check.specs.Calls.{call_faults, right_faults, right_start}
 use Rattle.c_scope.specs.declared.fault.Fault.{Fault}
 use Rattle.c_scope.specs.declared.thing.ExprKind.{ExprKind}
 use Rattle.c_scope.specs.declared.thing.ExprKind.TheVariants.{Of, Other, Nothing}

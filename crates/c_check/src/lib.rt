@@ -1,6 +1,5 @@
 //! The faults of a C program against the rules of types.
 #![tactic(auto)]
 
-pub mod call;
 pub mod program;
 pub mod statement;

@@ -8,8 +8,8 @@ ghost use Rattle.c_check.specs.Programs.{after_parameter, after_parameters, afte
 ghost use Rattle.c_scope.specs.Scopes.{cut};
 ghost use Rattle.c_scope.specs.Signatures.{parameters_listed};
 
-use crate::call::{is_int, parameter_at, parameter_count};
 use crate::statement::check_parts;
+use c_call_check::call::{is_int, parameter_at, parameter_count};
 use c_grammar::statement::{Head, Parameter, Parameters, Part, Top, Tree, Value};
 use c_grammar::word::Spot;
 use c_lex::Why;

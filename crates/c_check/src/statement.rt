@@ -9,7 +9,7 @@ ghost use Rattle.c_scope.specs.Scopes.{opened};
 ghost use Rattle.c_scope.specs.Signatures.{listed};
 ghost use Rattle.c_check.specs.Statements.{after_declaration, after_item, after_part, after_parts, after_start, array_length, begins_with, begun_takes, braces_faults, can_begin, declaration_faults, declared_thing, goal_kind, goal_takes, initial_faults, int_goal_faults, is_assign, is_goal, is_int_array, is_int_goal, item_faults, part_faults, parts_faults, place_length_faults, return_faults, simple_faults, start_faults, step_faults, stmt_faults, test_faults, values_faults};
 
-use crate::call::{check_call, right_start, want_right};
+use c_call_check::call::{check_call, right_start, want_right};
 use c_grammar::statement::{
     Declaration, ForStart, Initial, Item, Listed, Part, Right, Simple, Stmt,
 };

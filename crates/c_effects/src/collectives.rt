@@ -1,10 +1,14 @@
 //! Collectives, and what makes communicators.
-ghost use Rattle.std.specs.Prelude.{◌≡◌, ◌≤◌};
+ghost use Rattle.std.specs.Prelude.{◌≡◌, ◌≤◌, ℕ, ℤ, IfErr, IfOk, Err, Ok};
 ghost use Rattle.c_program.specs.declared.mpi.MpiCall.TheVariants as c;
 ghost use Rattle.c_program.specs.declared.effect.Entered.TheVariants.{Nothing as EntersNothing};
 ghost use Rattle.c_program.specs.declared.effect.Into.TheVariants.{Nowhere};
-ghost use Rattle.c_program.specs.Effects.{at_root, effect_of, enters, gets, is_root, joins, same_count};
+ghost use Rattle.c_program.specs.Effects.{at_root, communicator, count_of, effect_of, enters, gets, joins, same_count};
+ghost use Rattle.c_program.specs.Values.{value};
+ghost use Rattle.c_effects.specs.Faults.{HasFault};
+ghost use Rattle.c_effects.specs.Shared.{reduces_for_all};
 
+use crate::arguments::{buffers_of, ints_of, operands_of};
 use crate::checks::{Comm, cell, colour, communicator, count_of, enters, gets, is_me, same_count};
 use c_cells::store::Store;
 use c_program::effect::{Collective, Effect, Entered, Into, Rank};
@@ -35,12 +39,26 @@ fn joins(
     }))
 }
 
+/// The communicator of an expression.
+fn comm_of<'a>(rank: Rank, comm: &Expr, store: &'a Store) -> Result<Comm<'a>, Fault>
+    requires { rank.ranks ≤ 64 }
+    ensures comm { IfOk result (λ found. (number : ℤ) × (value comm.now store.now ≡ Ok number) × (communicator rank store.now number ≡ Ok found)) }
+    ensures fault { IfErr result (λ fault. HasFault fault (value comm.now store.now) (λ number. communicator rank store.now number ≡ Err fault)) }
+{
+    let number = store.value(comm)?;
+    communicator(rank, store, number)
+}
+
 // ---- what only the root enters, gets or checks
 
-fn same_at_root(is_root: bool, count: u32, other: i32) -> Result<u32, Fault>
-    ensures { result ≡ at_root is_root count (same_count count other) }
+/// A count, and where it is asked for a second one that has to be the same.
+fn count_for_both(checks: bool, count: i32, other: i32) -> Result<u32, Fault>
+    ensures count { IfOk result (λ n. count_of count ≡ Ok n) }
+    ensures other { IfOk result (λ n. at_root checks n (same_count n other) ≡ Ok n) }
+    ensures fault { IfErr result (λ fault. HasFault fault (count_of count) (λ n. at_root checks n (same_count n other) ≡ Err fault)) }
 {
-    if is_root {
+    let count = count_of(count)?;
+    if checks {
         same_count(count, other)
     } else {
         Ok(count)
@@ -74,8 +92,7 @@ pub fn barrier(rank: Rank, comm: &Expr, store: &Store) -> Result<Effect, Fault>
     requires { rank.ranks ≤ 64 }
     ensures { result ≡ effect_of rank (c.Barrier comm.now) store.now }
 {
-    let comm = store.value(comm)?;
-    let comm = communicator(rank, store, comm)?;
+    let comm = comm_of(rank, comm, store)?;
     joins(
         &comm,
         Kind::Barrier,
@@ -98,14 +115,12 @@ pub fn bcast(
     requires { rank.ranks ≤ 64 }
     ensures { result ≡ effect_of rank (c.Bcast buffer.now root.now comm.now) store.now }
 {
-    let cells = store.range(&buffer.cells)?;
-    let count = store.value(&buffer.count)?;
+    let ints = ints_of(buffer, store)?;
     let root = store.value(root)?;
-    let comm = store.value(comm)?;
-    let comm = communicator(rank, store, comm)?;
-    let count = count_of(count)?;
+    let comm = comm_of(rank, comm, store)?;
+    let count = count_of(ints.count)?;
     let root = comm.member(root)?;
-    let cells = cells.first(count)?;
+    let cells = ints.cells.first(count)?;
     let entered = if is_me(rank, root) {
         Entered::Cells(cells)
     } else {
@@ -136,16 +151,13 @@ pub fn reduce(
     requires { rank.ranks ≤ 64 }
     ensures { result ≡ effect_of rank (c.Reduce out.now buffer.now count.now op root.now comm.now) store.now }
 {
-    let out = store.range(out)?;
-    let buffer = store.range(buffer)?;
-    let count = store.value(count)?;
+    let operands = operands_of(out, buffer, count, store)?;
     let root = store.value(root)?;
-    let comm = store.value(comm)?;
-    let comm = communicator(rank, store, comm)?;
-    let count = count_of(count)?;
+    let comm = comm_of(rank, comm, store)?;
+    let count = count_of(operands.count)?;
     let root = comm.member(root)?;
-    let entered = enters(count as usize, out)?;
-    let into = gets_at_root(is_me(rank, root), count as usize, buffer)?;
+    let entered = enters(count as usize, operands.out)?;
+    let into = gets_at_root(is_me(rank, root), count as usize, operands.buffer)?;
     joins(
         &comm,
         Kind::Reduce,
@@ -155,6 +167,28 @@ pub fn reduce(
         entered,
         into,
     )
+}
+
+/// `MPI_Allreduce` and `MPI_Scan`.
+fn reduces_for_all(
+    rank: Rank,
+    kind: Kind,
+    out: &Reference,
+    buffer: &Reference,
+    count: &Expr,
+    op: Op,
+    comm: &Expr,
+    store: &Store,
+) -> Result<Effect, Fault>
+    requires { rank.ranks ≤ 64 }
+    ensures { result ≡ reduces_for_all rank kind out.now buffer.now count.now op comm.now store.now }
+{
+    let operands = operands_of(out, buffer, count, store)?;
+    let comm = comm_of(rank, comm, store)?;
+    let count = count_of(operands.count)?;
+    let entered = enters(count as usize, operands.out)?;
+    let into = gets(count as usize, operands.buffer)?;
+    joins(&comm, kind, None, Some(op), count, entered, into)
 }
 
 /// `MPI_Allreduce`.
@@ -170,15 +204,7 @@ pub fn allreduce(
     requires { rank.ranks ≤ 64 }
     ensures { result ≡ effect_of rank (c.Allreduce out.now buffer.now count.now op comm.now) store.now }
 {
-    let out = store.range(out)?;
-    let buffer = store.range(buffer)?;
-    let count = store.value(count)?;
-    let comm = store.value(comm)?;
-    let comm = communicator(rank, store, comm)?;
-    let count = count_of(count)?;
-    let entered = enters(count as usize, out)?;
-    let into = gets(count as usize, buffer)?;
-    joins(&comm, Kind::Allreduce, None, Some(op), count, entered, into)
+    reduces_for_all(rank, Kind::Allreduce, out, buffer, count, op, comm, store)
 }
 
 /// `MPI_Scan`.
@@ -194,15 +220,7 @@ pub fn scan(
     requires { rank.ranks ≤ 64 }
     ensures { result ≡ effect_of rank (c.Scan out.now buffer.now count.now op comm.now) store.now }
 {
-    let out = store.range(out)?;
-    let buffer = store.range(buffer)?;
-    let count = store.value(count)?;
-    let comm = store.value(comm)?;
-    let comm = communicator(rank, store, comm)?;
-    let count = count_of(count)?;
-    let entered = enters(count as usize, out)?;
-    let into = gets(count as usize, buffer)?;
-    joins(&comm, Kind::Scan, None, Some(op), count, entered, into)
+    reduces_for_all(rank, Kind::Scan, out, buffer, count, op, comm, store)
 }
 
 /// `MPI_Gather`.
@@ -217,18 +235,13 @@ pub fn gather(
     requires { rank.ranks ≤ 64 }
     ensures { result ≡ effect_of rank (c.Gather out.now buffer.now root.now comm.now) store.now }
 {
-    let out_cells = store.range(&out.cells)?;
-    let out_count = store.value(&out.count)?;
-    let cells = store.range(&buffer.cells)?;
-    let count = store.value(&buffer.count)?;
+    let buffers = buffers_of(out, buffer, store)?;
     let root = store.value(root)?;
-    let comm = store.value(comm)?;
-    let comm = communicator(rank, store, comm)?;
-    let out_count = count_of(out_count)?;
-    let count = same_at_root(comm.is_root(rank, root), out_count, count)?;
+    let comm = comm_of(rank, comm, store)?;
+    let count = count_for_both(comm.is_root(rank, root), buffers.out_count, buffers.count)?;
     let root = comm.member(root)?;
-    let entered = enters(count as usize, out_cells)?;
-    let into = gets_at_root(is_me(rank, root), comm.pieces(count), cells)?;
+    let entered = enters(count as usize, buffers.out_cells)?;
+    let into = gets_at_root(is_me(rank, root), comm.pieces(count), buffers.cells)?;
     joins(&comm, Kind::Gather, Some(root), None, count, entered, into)
 }
 
@@ -244,18 +257,13 @@ pub fn scatter(
     requires { rank.ranks ≤ 64 }
     ensures { result ≡ effect_of rank (c.Scatter out.now buffer.now root.now comm.now) store.now }
 {
-    let out_cells = store.range(&out.cells)?;
-    let out_count = store.value(&out.count)?;
-    let cells = store.range(&buffer.cells)?;
-    let count = store.value(&buffer.count)?;
+    let buffers = buffers_of(out, buffer, store)?;
     let root = store.value(root)?;
-    let comm = store.value(comm)?;
-    let comm = communicator(rank, store, comm)?;
-    let count = count_of(count)?;
-    let count = same_at_root(comm.is_root(rank, root), count, out_count)?;
+    let comm = comm_of(rank, comm, store)?;
+    let count = count_for_both(comm.is_root(rank, root), buffers.count, buffers.out_count)?;
     let root = comm.member(root)?;
-    let entered = enters_at_root(is_me(rank, root), comm.pieces(count), out_cells)?;
-    let into = gets(count as usize, cells)?;
+    let entered = enters_at_root(is_me(rank, root), comm.pieces(count), buffers.out_cells)?;
+    let into = gets(count as usize, buffers.cells)?;
     joins(&comm, Kind::Scatter, Some(root), None, count, entered, into)
 }
 
@@ -270,16 +278,11 @@ pub fn allgather(
     requires { rank.ranks ≤ 64 }
     ensures { result ≡ effect_of rank (c.Allgather out.now buffer.now comm.now) store.now }
 {
-    let out_cells = store.range(&out.cells)?;
-    let out_count = store.value(&out.count)?;
-    let cells = store.range(&buffer.cells)?;
-    let count = store.value(&buffer.count)?;
-    let comm = store.value(comm)?;
-    let comm = communicator(rank, store, comm)?;
-    let out_count = count_of(out_count)?;
-    let count = same_count(out_count, count)?;
-    let entered = enters(count as usize, out_cells)?;
-    let into = gets(comm.pieces(count), cells)?;
+    let buffers = buffers_of(out, buffer, store)?;
+    let comm = comm_of(rank, comm, store)?;
+    let count = count_for_both(true, buffers.out_count, buffers.count)?;
+    let entered = enters(count as usize, buffers.out_cells)?;
+    let into = gets(comm.pieces(count), buffers.cells)?;
     joins(&comm, Kind::Allgather, None, None, count, entered, into)
 }
 
@@ -294,16 +297,11 @@ pub fn alltoall(
     requires { rank.ranks ≤ 64 }
     ensures { result ≡ effect_of rank (c.Alltoall out.now buffer.now comm.now) store.now }
 {
-    let out_cells = store.range(&out.cells)?;
-    let out_count = store.value(&out.count)?;
-    let cells = store.range(&buffer.cells)?;
-    let count = store.value(&buffer.count)?;
-    let comm = store.value(comm)?;
-    let comm = communicator(rank, store, comm)?;
-    let out_count = count_of(out_count)?;
-    let count = same_count(out_count, count)?;
-    let entered = enters(comm.pieces(count), out_cells)?;
-    let into = gets(comm.pieces(count), cells)?;
+    let buffers = buffers_of(out, buffer, store)?;
+    let comm = comm_of(rank, comm, store)?;
+    let count = count_for_both(true, buffers.out_count, buffers.count)?;
+    let entered = enters(comm.pieces(count), buffers.out_cells)?;
+    let into = gets(comm.pieces(count), buffers.cells)?;
     joins(&comm, Kind::Alltoall, None, None, count, entered, into)
 }
 

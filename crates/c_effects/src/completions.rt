@@ -3,6 +3,7 @@ ghost use Rattle.std.specs.Prelude.{◌≡◌};
 ghost use Rattle.c_program.specs.declared.effect.Rank.{Rank};
 ghost use Rattle.c_program.specs.declared.mpi.MpiCall.TheVariants as c;
 ghost use Rattle.c_program.specs.Effects.{answers, effect_of};
+ghost use Rattle.c_effects.specs.Shared.{completes_some};
 
 use crate::checks::{cell, handles_of, optional_first, status};
 use c_cells::store::Store;
@@ -89,8 +90,9 @@ pub fn waitany(
     })
 }
 
-/// `MPI_Waitsome`.
-pub fn waitsome(
+/// `MPI_Waitsome` and `MPI_Testsome`.
+fn completes_some(
+    mode: TakeMode,
     count: &Expr,
     requests: &Reference,
     outcount: &Reference,
@@ -98,7 +100,7 @@ pub fn waitsome(
     kept: &Option<Reference>,
     store: &Store,
 ) -> Result<Effect, Fault>
-    ensures { (rank : Rank) → result ≡ effect_of rank (c.Waitsome count.now requests.now outcount.now indices.now kept.now) store.now }
+    ensures { result ≡ completes_some mode count.now requests.now outcount.now indices.now kept.now store.now }
 {
     let count = store.value(count)?;
     let requests = store.range(requests)?;
@@ -112,13 +114,35 @@ pub fn waitsome(
     let statuses = optional_first(count, kept)?;
     Ok(Effect::Completes {
         requests,
-        mode: TakeMode::Several,
+        mode,
         answer: Answer {
             outcount: Some(outcount),
             indices: Some(indices),
             ..answers(statuses)
         },
     })
+}
+
+/// `MPI_Waitsome`.
+pub fn waitsome(
+    count: &Expr,
+    requests: &Reference,
+    outcount: &Reference,
+    indices: &Reference,
+    kept: &Option<Reference>,
+    store: &Store,
+) -> Result<Effect, Fault>
+    ensures { (rank : Rank) → result ≡ effect_of rank (c.Waitsome count.now requests.now outcount.now indices.now kept.now) store.now }
+{
+    completes_some(
+        TakeMode::Several,
+        count,
+        requests,
+        outcount,
+        indices,
+        kept,
+        store,
+    )
 }
 
 /// `MPI_Test`.
@@ -217,23 +241,13 @@ pub fn testsome(
 ) -> Result<Effect, Fault>
     ensures { (rank : Rank) → result ≡ effect_of rank (c.Testsome count.now requests.now outcount.now indices.now kept.now) store.now }
 {
-    let count = store.value(count)?;
-    let requests = store.range(requests)?;
-    let outcount = store.range(outcount)?;
-    let indices = store.range(indices)?;
-    let kept = status(kept, store)?;
-    let count = handles_of(count)?;
-    let requests = requests.first(count)?;
-    let outcount = cell(outcount)?;
-    let indices = indices.first(count)?;
-    let statuses = optional_first(count, kept)?;
-    Ok(Effect::Completes {
+    completes_some(
+        TakeMode::TestSeveral,
+        count,
         requests,
-        mode: TakeMode::TestSeveral,
-        answer: Answer {
-            outcount: Some(outcount),
-            indices: Some(indices),
-            ..answers(statuses)
-        },
-    })
+        outcount,
+        indices,
+        kept,
+        store,
+    )
 }

@@ -3,6 +3,7 @@ ghost use Rattle.std.specs.Prelude.{◌≡◌, ◌≤◌};
 ghost use Rattle.c_program.specs.declared.mpi.MpiCall.TheVariants as c;
 ghost use Rattle.c_program.specs.Effects.{effect_of, message, receive, send_after, sends, sends_from};
 
+use crate::arguments::{envelope_of, ints_of};
 use crate::checks::{
     Comm, cell, communicator, count_of, first, optional_cell, status, tag_of, wanted_tag,
 };
@@ -83,16 +84,13 @@ pub fn send(
     requires { rank.ranks ≤ 64 }
     ensures { result ≡ effect_of rank (c.Send buffer.now dest.now tag.now comm.now) store.now }
 {
-    let cells = store.range(&buffer.cells)?;
-    let count = store.value(&buffer.count)?;
-    let dest = store.value(dest)?;
-    let tag = store.value(tag)?;
-    let comm = store.value(comm)?;
-    let comm = communicator(rank, store, comm)?;
-    let count = count_of(count)?;
-    let dest = comm.destination(dest)?;
-    let tag = tag_of(tag)?;
-    let cells = cells.first(count)?;
+    let ints = ints_of(buffer, store)?;
+    let envelope = envelope_of(dest, tag, comm, store)?;
+    let comm = communicator(rank, store, envelope.comm)?;
+    let count = count_of(ints.count)?;
+    let dest = comm.destination(envelope.rank)?;
+    let tag = tag_of(envelope.tag)?;
+    let cells = ints.cells.first(count)?;
     Ok(sends(&comm, dest, tag, cells))
 }
 
@@ -109,17 +107,14 @@ pub fn recv(
     requires { rank.ranks ≤ 64 }
     ensures { result ≡ effect_of rank (c.Recv buffer.now source.now tag.now comm.now kept.now) store.now }
 {
-    let cells = store.range(&buffer.cells)?;
-    let count = store.value(&buffer.count)?;
-    let source = store.value(source)?;
-    let tag = store.value(tag)?;
-    let comm = store.value(comm)?;
+    let ints = ints_of(buffer, store)?;
+    let envelope = envelope_of(source, tag, comm, store)?;
     let kept = status(kept, store)?;
-    let comm = communicator(rank, store, comm)?;
-    let count = count_of(count)?;
-    let source = comm.source(source)?;
-    let tag = wanted_tag(tag)?;
-    let cells = cells.first(count)?;
+    let comm = communicator(rank, store, envelope.comm)?;
+    let count = count_of(ints.count)?;
+    let source = comm.source(envelope.rank)?;
+    let tag = wanted_tag(envelope.tag)?;
+    let cells = ints.cells.first(count)?;
     let kept = optional_cell(kept)?;
     Ok(Effect::Receives {
         receive: receive(&comm, source, tag, cells),
@@ -184,17 +179,14 @@ pub fn isend(
     requires { rank.ranks ≤ 64 }
     ensures { result ≡ effect_of rank (c.Isend buffer.now dest.now tag.now comm.now request.now) store.now }
 {
-    let cells = store.range(&buffer.cells)?;
-    let count = store.value(&buffer.count)?;
-    let dest = store.value(dest)?;
-    let tag = store.value(tag)?;
-    let comm = store.value(comm)?;
+    let ints = ints_of(buffer, store)?;
+    let envelope = envelope_of(dest, tag, comm, store)?;
     let request = store.range(request)?;
-    let comm = communicator(rank, store, comm)?;
-    let count = count_of(count)?;
-    let dest = comm.destination(dest)?;
-    let tag = tag_of(tag)?;
-    let cells = cells.first(count)?;
+    let comm = communicator(rank, store, envelope.comm)?;
+    let count = count_of(ints.count)?;
+    let dest = comm.destination(envelope.rank)?;
+    let tag = tag_of(envelope.tag)?;
+    let cells = ints.cells.first(count)?;
     let request = cell(request)?;
     Ok(sends_from(&comm, dest, tag, cells, request))
 }
@@ -212,17 +204,14 @@ pub fn irecv(
     requires { rank.ranks ≤ 64 }
     ensures { result ≡ effect_of rank (c.Irecv buffer.now source.now tag.now comm.now request.now) store.now }
 {
-    let cells = store.range(&buffer.cells)?;
-    let count = store.value(&buffer.count)?;
-    let source = store.value(source)?;
-    let tag = store.value(tag)?;
-    let comm = store.value(comm)?;
+    let ints = ints_of(buffer, store)?;
+    let envelope = envelope_of(source, tag, comm, store)?;
     let request = store.range(request)?;
-    let comm = communicator(rank, store, comm)?;
-    let count = count_of(count)?;
-    let source = comm.source(source)?;
-    let tag = wanted_tag(tag)?;
-    let cells = cells.first(count)?;
+    let comm = communicator(rank, store, envelope.comm)?;
+    let count = count_of(ints.count)?;
+    let source = comm.source(envelope.rank)?;
+    let tag = wanted_tag(envelope.tag)?;
+    let cells = ints.cells.first(count)?;
     let request = cell(request)?;
     Ok(Effect::Starts {
         start: Start::Receive(receive(&comm, source, tag, cells)),
@@ -242,13 +231,11 @@ pub fn probe(
     requires { rank.ranks ≤ 64 }
     ensures { result ≡ effect_of rank (c.Probe source.now tag.now comm.now kept.now) store.now }
 {
-    let source = store.value(source)?;
-    let tag = store.value(tag)?;
-    let comm = store.value(comm)?;
+    let envelope = envelope_of(source, tag, comm, store)?;
     let kept = status(kept, store)?;
-    let comm = communicator(rank, store, comm)?;
-    let source = comm.source(source)?;
-    let tag = wanted_tag(tag)?;
+    let comm = communicator(rank, store, envelope.comm)?;
+    let source = comm.source(envelope.rank)?;
+    let tag = wanted_tag(envelope.tag)?;
     let kept = optional_cell(kept)?;
     Ok(Effect::Probes {
         comm: comm.number(),
@@ -273,14 +260,12 @@ pub fn iprobe(
     requires { rank.ranks ≤ 64 }
     ensures { result ≡ effect_of rank (c.Iprobe source.now tag.now comm.now flag.now kept.now) store.now }
 {
-    let source = store.value(source)?;
-    let tag = store.value(tag)?;
-    let comm = store.value(comm)?;
+    let envelope = envelope_of(source, tag, comm, store)?;
     let flag = store.range(flag)?;
     let kept = status(kept, store)?;
-    let comm = communicator(rank, store, comm)?;
-    let source = comm.source(source)?;
-    let tag = wanted_tag(tag)?;
+    let comm = communicator(rank, store, envelope.comm)?;
+    let source = comm.source(envelope.rank)?;
+    let tag = wanted_tag(envelope.tag)?;
     let flag = cell(flag)?;
     let kept = optional_cell(kept)?;
     Ok(Effect::Probes {

@@ -1,13 +1,14 @@
-use Rattle.std.proofs.Common.{◌≡◌, ◌≢◌, ℕ, ℤ, zero, suc, pos, ◌+◌, ◌-◌, ◌<◌, ◌≤◌, List, [], ◌∷◌, Option, Some, None, refl, sym, ◌∙◌, ap, arith, slice_get}
+use Rattle.std.proofs.Common.{◌≡◌, ◌≢◌, ℕ, ℤ, zero, suc, ◌-◌, ◌<◌, ◌≤◌, List, Some, refl, sym, ◌∙◌, ap, arith, slice_get}
 use Rattle.mpi_call.specs.declared.reply.Reply.{Reply}
 use Rattle.c_program.specs.declared.effect.Rank.{Rank}
 use Rattle.c_program.specs.declared.program.Function.{Function}
 use Rattle.c_program.specs.declared.state.Mark.{Mark}
 use Rattle.c_program.specs.declared.state.Passed.{Passed}
 use Rattle.c_program.specs.Courses.{Course, after}
-use Rattle.c_program.specs.Meaning.{Exits, Meaning, Passing, act_list, call_at, exits_to, leaving, run_function, turn_exits}
+use Rattle.c_program.specs.Meaning.{Exits, Meaning, Passing, act_list, call_at, exits_to, leaving, turn_exits}
 use Rattle.c_program.specs.Performing.{Onward}
 use Rattle.c_program.specs.State.{State, leave, mark_of}
+use Rattle.c_replies.specs.Evaluated.{GoesOn}
 use Rattle.c_eval.specs.declared.flow.Flow.{Flow}
 use Rattle.c_eval.specs.declared.flow.Flow.TheVariants.{Next, Broke, Again, Back}
 use Rattle.c_eval.specs.Leaving.{exit}
@@ -42,11 +43,31 @@ exit-other k next Again s n = refl
 exit-other k next (Back v) s n = refl
 
 -- what a block left
-pub left-block : (mark : Mark) (k : Exits) (flow : Flow) (s t : State) (rest : List Reply) → t ≡ leave mark s → after (exit (leaving mark k) flow s) rest ≡ after (exit k flow t) rest
+left-block : (mark : Mark) (k : Exits) (flow : Flow) (s t : State) (rest : List Reply) → t ≡ leave mark s → after (exit (leaving mark k) flow s) rest ≡ after (exit k flow t) rest
 left-block mark k flow s t rest is = ap (λ c. after c rest) (exit-leaving mark k flow s ∙ ap (exit k flow) (sym is))
 
-pub left-call : (mark : Mark) (go : ℤ → Onward) (flow : Flow) (s t : State) (rest : List Reply) → t ≡ leave mark s → after (exit (exits_to mark go) flow s) rest ≡ after (go (value_in flow) t) rest
+left-call : (mark : Mark) (go : ℤ → Onward) (flow : Flow) (s t : State) (rest : List Reply) → t ≡ leave mark s → after (exit (exits_to mark go) flow s) rest ≡ after (go (value_in flow) t) rest
 left-call mark go flow s t rest is = ap (λ c. after c rest) (exit-call mark go flow s ∙ ap (go (value_in flow)) (sym is))
+
+-- ---- ends
+
+-- a block that comes to its end
+pub block-closes : (m body : Meaning) (mark : Mark) (flow : Flow) (s u v t : State) (r r' r'' : List Reply) → ((k : Exits) → after (m s k) r ≡ after (body u (leaving mark k)) r') → u.left ≤ s.left
+    → GoesOn exit body u r' flow v r'' → t ≡ leave mark v → GoesOn exit m s r flow t r''
+block-closes m body mark flow s u v t r r' r'' comes le g is =
+    let ran : v.left ≤ u.left = g.left in let same : t.left ≡ v.left = ap (λ (x : State). x.left) is in record {
+      at = λ k. comes k ∙ g.at (leaving mark k) ∙ left-block mark k flow v t r'' is;
+      left = omega arith;
+    }
+
+-- a function that comes to its end
+pub call-closes : (m : State → (ℤ → Onward) → Course) (body : Meaning) (mark : Mark) (flow : Flow) (s u v t : State) (r r' r'' : List Reply) → ((go : ℤ → Onward) → after (m s go) r ≡ after (body u (exits_to mark go)) r') → u.left ≤ s.left
+    → GoesOn exit body u r' flow v r'' → t ≡ leave mark v → GoesOn {K = ℤ → Onward} {A = ℤ} (λ go x. go x) m s r (value_in flow) t r''
+call-closes m body mark flow s u v t r r' r'' comes le g is =
+    let ran : v.left ≤ u.left = g.left in let same : t.left ≡ v.left = ap (λ (x : State). x.left) is in record {
+      at = λ go. comes go ∙ g.at (exits_to mark go) ∙ left-call mark go flow v t r'' is;
+      left = omega arith;
+    }
 
 -- a call, where one more may be open
 pub entering : (rank : Rank) (fs : List Function) (d number : ℕ) (f : Function) (arguments : List Passed) (s : State) (go : ℤ → Onward) → 0 < d → slice_get fs number ≡ Some f

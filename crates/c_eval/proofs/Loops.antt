@@ -1,17 +1,47 @@
-use Rattle.std.proofs.Common.{◌≡◌, ℕ, zero, suc, ◌+◌, ◌<◌, ◌≤◌, Bool, true, false, List, [], ◌∷◌, Option, Some, None, Result, Ok, Err, refl, sym, ◌∙◌, ap, arith}
+use Rattle.std.proofs.Common.{◌≡◌, ◌≢◌, ℕ, ℤ, zero, suc, ◌<◌, ◌≤◌, true, false, List, Option, Some, None, Ok, Err, refl, ◌∙◌, ap, arith}
 use Rattle.mpi_call.specs.declared.call.Fault.{Fault}
 use Rattle.mpi_call.specs.declared.reply.Reply.{Reply}
 use Rattle.c_program.specs.declared.expr.Expr.{Expr}
-use Rattle.c_program.specs.Courses.{Course, after, trapped}
-use Rattle.c_program.specs.Meaning.{Exits, Meaning, Passing, loop, test, turns}
+use Rattle.c_program.specs.Courses.{after, trapped}
+use Rattle.c_program.specs.Meaning.{Exits, Meaning, Passing, loop, step, test, turn_exits, turns}
+use Rattle.c_program.specs.Performing.{Onward}
 use Rattle.c_program.specs.State.{State}
 use Rattle.c_eval.specs.declared.flow.Flow.{Flow}
-use Rattle.c_eval.specs.declared.flow.Flow.TheVariants.{Next}
+use Rattle.c_eval.specs.declared.flow.Flow.TheVariants.{Next, Broke, Back}
 use Rattle.c_replies.specs.declared.outcome.Stop.{Stop}
-use Rattle.c_replies.specs.Evaluated.{Evaluated, GoesOn, StopsAt}
+use Rattle.c_replies.specs.Evaluated.{GoesOn, StopsAt}
 use Rattle.c_eval.specs.Leaving.{exit}
 use Rattle.c_eval.specs.Parts.{Ways, turn, way}
 use Rattle.c_replies.proofs.Evaluations.{stops-from}
+use Rattle.c_eval.proofs.Exits.{exit-turn}
+
+-- a turn whose step is taken
+module _ (update : Passing) (body : Meaning) (s t : State) (r : List Reply) (stepped : GoesOn {K = Onward} {A = Unit {0}} (λ go done. go) step s r (tt {0}) t r) where
+  begins : (ways : Ways) → after (turn update body s ways) r ≡ after (body t (turn_exits update ways.on ways.out)) r
+  begins ways = stepped.at (λ s. body s (turn_exits update ways.on ways.out))
+
+  pub turn-stops : (stop : Stop) (u : State) (r' : List Reply) → ((k : Exits) → StopsAt (after (body t k) r) stop u r') → (ways : Ways) → StopsAt (after (turn update body s ways) r) stop u r'
+  turn-stops stop u r' h ways = stops-from _ _ stop u r' (begins ways) (h (turn_exits update ways.on ways.out))
+
+  module _ (flow : Flow) (u : State) (r' : List Reply) (g : GoesOn exit body t r flow u r') where
+    pub turn-leaves : (out : Flow) → ((ways : Ways) → exit (turn_exits update ways.on ways.out) flow u ≡ exit ways.out out u) → GoesOn way (turn update body) s r (Some out) u r'
+    turn-leaves out is = let fewer : t.left ≤ s.left = stepped.left in let few : u.left ≤ t.left = g.left in record {
+      at = λ ways. begins ways ∙ g.at (turn_exits update ways.on ways.out) ∙ ap (λ course. after course r') (is ways);
+      left = omega arith;
+    }
+
+    module _ (b : flow ≢ Broke) (v : (v : ℤ) → flow ≢ Back v) where
+      updates : (ways : Ways) → after (turn update body s ways) r ≡ after (update u ways.on) r'
+      updates ways = begins ways ∙ g.at (turn_exits update ways.on ways.out) ∙ ap (λ course. after course r') (exit-turn update ways.on ways.out flow u b v)
+
+      pub update-stops : (stop : Stop) (w : State) (r'' : List Reply) → ((k : Onward) → StopsAt (after (update u k) r') stop w r'') → (ways : Ways) → StopsAt (after (turn update body s ways) r) stop w r''
+      update-stops stop w r'' h ways = stops-from _ _ stop w r'' (updates ways) (h ways.on)
+
+      pub turn-goes_on : (w : State) (r'' : List Reply) → GoesOn {K = Onward} {A = Unit {0}} (λ go done. go) update u r' (tt {0}) w r'' → GoesOn way (turn update body) s r None w r''
+      turn-goes_on w r'' h = let fewer : t.left ≤ s.left = stepped.left in let few : u.left ≤ t.left = g.left in let less : w.left ≤ u.left = h.left in record {
+        at = λ ways. updates ways ∙ h.at ways.on;
+        left = omega arith;
+      }
 
 -- a loop that began at `s0` has come to `s`; more turns are left than steps
 pub record Turning (e : Option Expr) (update : Passing) (body : Meaning) (s0 s : State) (r0 r : List Reply) : Type 0 where

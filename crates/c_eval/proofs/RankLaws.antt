@@ -1,19 +1,17 @@
-use Rattle.std.proofs.Common.{◌≡◌, ◌∙◌, ◌++◌, ◌<◌, ◌≤◌, ℕ, ℤ, Bool, true, false, List, [], ◌∷◌, Option, Some, None, refl, sym, ap, subst}
+use Rattle.std.proofs.Common.{◌≡◌, ◌∙◌, ◌++◌, ◌<◌, ◌≤◌, ℕ, ℤ, Bool, true, false, List, [], ◌∷◌, Some, refl, sym, ap, subst}
 use Rattle.std.proofs.lemmas.List.{map-append}
 use Rattle.mpi_call.specs.declared.call.Call.{Call}
 use Rattle.mpi_call.specs.declared.reply.Reply.{Reply}
-use Rattle.run_model.specs.declared.lists.Variable.{Variable}
 use Rattle.run_model.specs.declared.program.Want.{Want}
 use Rattle.run_model.specs.declared.program.Want.TheVariants.{Ask, Ended}
-use Rattle.run_model.specs.Lists.{Along}
-use Rattle.run_model.specs.Program.{IsSeen, IsViewOf, MayGive, Says, ends}
-use Rattle.run_model.specs.Views.{View, replies_in}
+use Rattle.run_model.specs.Program.{IsSeen, IsViewOf, MayGive, Says}
+use Rattle.run_model.specs.Views.{replies_in}
 use Rattle.run_model.proofs.Along.{Along-snoc}
 use Rattle.c_program.specs.declared.effect.Rank.{Rank}
 use Rattle.c_program.specs.declared.program.CProgram.{CProgram}
 use Rattle.c_program.specs.declared.program.Function.{Function}
 use Rattle.c_program.specs.declared.state.Passed.{Passed}
-use Rattle.c_program.specs.Courses.{Course, Asks, Over, after, asks_last, call_in, listed_of, state_in, variables_in}
+use Rattle.c_program.specs.Courses.{Course, Asks, Over, after, call_in, listed_of, state_in, variables_in}
 use Rattle.c_program.specs.Meaning.{call_at, course_of}
 use Rattle.c_program.specs.Performing.{Onward}
 use Rattle.c_program.specs.Program.{course_after, next_of, output_of, rank_of, variables_of}

@@ -1,5 +1,5 @@
 -- Where a rank stands that evaluates anew at each call.
-use Rattle.std.specs.Prelude.{◌≡◌, ◌<◌, ◌≤◌, ℕ, List, Bool, true}
+use Rattle.std.specs.Prelude.{◌≡◌, ◌<◌, ◌≤◌, List, Bool, true}
 use Rattle.mpi_call.specs.declared.reply.Reply.{Reply}
 use Rattle.run_model.specs.declared.program.Want.{Want}
 use Rattle.run_model.specs.declared.program.Want.TheVariants.{Ask, Ended}

@@ -4,15 +4,16 @@ ghost use Rattle.c_program.specs.Meaning.{act, act_list, act_part, call_at, decl
 ghost use Rattle.c_replies.specs.Evaluated.{Evaluated, Gives, Passes};
 ghost use Rattle.c_eval.specs.Leaving.{Leaves};
 ghost use Rattle.c_eval.specs.Parts.{blocked, calls_of, for_of, turn, value_in, way};
+ghost use Rattle.c_eval.specs.Statements.{assigns, chosen, otherwise};
 
 use crate::calls::Calls;
 use crate::flow::Flow;
 use crate::parts::{
-    add, arguments_of, call_mpi, enter, function_at, print, put_values_of, take_step,
+    add, arguments_of, call_mpi, enter, function_at, print, put_assigned, put_values_of, take_step,
 };
 use c_cells::store::Store;
-use c_cells::values::operated;
-use c_program::expr::{Call, Expr, Right};
+use c_names::operator::Operator;
+use c_program::expr::{Call, Expr, Place, Right};
 use c_program::state::Passed;
 use c_program::statement::{ForStart, Initial, Item, Part, Simple, Stmt};
 use c_replies::outcome::{Replies, Stop};
@@ -94,6 +95,24 @@ fn value_of<'p>(
     }
 }
 
+/// An assignment, by an operator or plain.
+#[cycle(statements)]
+fn assign<'p>(
+    calls: &Calls<'p>,
+    place: &'p Place,
+    operator: Option<Operator>,
+    right: &'p Right,
+    store: &mut Store<'p>,
+    replies: &mut Replies,
+) -> Result<(), Stop>
+    requires { calls.now.rank.ranks ≤ 64 }
+    ensures { Passes (assigns (calls_of calls.now) place.now operator right.now) store.old replies.old result store.new replies.new }
+{
+    let cell = store.cell_of(place)?;
+    let value = value_of(calls, right, store, replies)?;
+    put_assigned(operator, cell, value, store)
+}
+
 /// A statement that stands before a `;`.
 #[cycle(statements)]
 fn run_simple<'p>(
@@ -106,23 +125,12 @@ fn run_simple<'p>(
     ensures { Passes (simple calls.now.rank (calls_of calls.now) one.now) store.old replies.old result store.new replies.new }
 {
     match one {
-        Simple::Set { place, right } => {
-            let cell = store.cell_of(place)?;
-            let value = value_of(calls, right, store, replies)?;
-            store.put(cell, value);
-            Ok(())
-        }
+        Simple::Set { place, right } => assign(calls, place, None, right, store, replies),
         Simple::Update {
             place,
             operator,
             right,
-        } => {
-            let cell = store.cell_of(place)?;
-            let operand = value_of(calls, right, store, replies)?;
-            let value = operated(*operator, store.cell(cell), operand)?;
-            store.put(cell, value);
-            Ok(())
-        }
+        } => assign(calls, place, Some(*operator), right, store, replies),
         Simple::Call(call) => {
             invoke(calls, call, store, replies)?;
             Ok(())
@@ -337,19 +345,9 @@ fn act<'p>(
         Stmt::Break => Ok(Flow::Broke),
         Stmt::Continue => Ok(Flow::Again),
         Stmt::Return(value) => run_return(calls, value, store, replies),
-        Stmt::If { test, then } => {
-            if store.test(Some(test))? {
-                run(calls, then, store, replies)
-            } else {
-                Ok(Flow::Next)
-            }
-        }
+        Stmt::If { test, then } => run_if(calls, test, then, None, store, replies),
         Stmt::IfElse { test, then, other } => {
-            if store.test(Some(test))? {
-                run(calls, then, store, replies)
-            } else {
-                run(calls, other, store, replies)
-            }
+            run_if(calls, test, then, Some(other), store, replies)
         }
         Stmt::While { test, body } => repeat(calls, Some(test), None, body, store, replies),
         Stmt::Do { body, test } => repeat_after(calls, test, body, store, replies),
@@ -367,6 +365,28 @@ fn act<'p>(
             store,
             replies,
         ),
+    }
+}
+
+/// An `if`, with an `else` or without.
+#[cycle(statements)]
+fn run_if<'p>(
+    calls: &Calls<'p>,
+    test: &'p Expr,
+    then: &'p Stmt,
+    other: Option<&'p Stmt>,
+    store: &mut Store<'p>,
+    replies: &mut Replies,
+) -> Result<Flow, Stop>
+    requires { calls.now.rank.ranks ≤ 64 }
+    ensures { Leaves (chosen test.now (started (act calls.now.rank (calls_of calls.now) then.now)) (otherwise calls.now.rank (calls_of calls.now) (option_copied other.entry))) store.old replies.old result store.new replies.new }
+{
+    if store.test(Some(test))? {
+        return run(calls, then, store, replies);
+    }
+    match other {
+        None => Ok(Flow::Next),
+        Some(stmt) => run(calls, stmt, store, replies),
     }
 }
 

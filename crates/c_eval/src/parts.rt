@@ -8,12 +8,15 @@ ghost use Rattle.c_program.specs.Prints.{text_of};
 ghost use Rattle.c_program.specs.Values.{values};
 ghost use Rattle.c_replies.specs.Evaluated.{Evaluated, Gives, Passes};
 ghost use Rattle.c_eval.specs.Parts.{added, entered, mpi};
+ghost use Rattle.c_eval.specs.Statements.{assigned};
 
 use crate::calls::Calls;
 use c_cells::print::text_of;
 use c_cells::store::{Store, width_of};
+use c_cells::values::operated;
 use c_effects::effects::effect_of;
 use c_names::format::Piece;
+use c_names::operator::Operator;
 use c_program::expr::{Argument, Expr};
 use c_program::mpi::MpiCall;
 use c_program::program::{Function, Parameter, ParameterKind};
@@ -116,6 +119,28 @@ pub fn put_values_of(expressions: &[Expr], first: u32, store: &mut Store) -> Res
         cell += 1;
     }
     Ok(())
+}
+
+/// Puts a value into a cell, or what an operator makes of the cell and the value.
+pub fn put_assigned(
+    operator: Option<Operator>,
+    cell: u32,
+    value: i32,
+    store: &mut Store,
+) -> Result<(), Stop>
+    ensures { (rest : List Reply) → Passes (assigned operator cell value) store.old rest result store.new rest }
+{
+    match operator {
+        None => {
+            store.put(cell, value);
+            Ok(())
+        }
+        Some(operator) => {
+            let made = operated(operator, store.cell(cell), value)?;
+            store.put(cell, made);
+            Ok(())
+        }
+    }
 }
 
 /// The variable of an item, not yet begun; gives its first cell.

@@ -4,7 +4,7 @@ use Rattle.mpi_call.specs.declared.call.Op.{Op}
 use Rattle.c_grammar.specs.Tree as t
 use Rattle.c_names.specs.declared.function.MpiFunction.{MpiFunction}
 use Rattle.c_names.specs.declared.predefined.Predefined.TheVariants as p
-use Rattle.c_check.specs.Calls.{word_of}
+use Rattle.c_call_check.specs.Calls.{word_of}
 use Rattle.c_scope.specs.Scopes.{Env}
 use Rattle.c_program.specs.Effects.{effect_of, status}
 use Rattle.c_program.specs.State.{State}

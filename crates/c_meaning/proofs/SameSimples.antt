@@ -4,7 +4,7 @@ use Rattle.mpi_call.specs.Operations.{is_set}
 use Rattle.mpi_call.specs.declared.call.Fault.TheVariants.{Cells as CellsFault}
 use Rattle.c_grammar.specs.Tree as t
 use Rattle.c_names.specs.declared.kind.Kind.{Kind}
-use Rattle.c_check.specs.Calls.{arguments_of}
+use Rattle.c_call_check.specs.Calls.{arguments_of}
 use Rattle.c_scope.specs.Scopes.{Env}
 use Rattle.c_program.specs.Courses.{trapped}
 use Rattle.c_program.specs.Meaning as m

@@ -4,7 +4,7 @@ use Rattle.mpi_call.specs.Operations.{is_set, int_of}
 use Rattle.c_grammar.specs.Tree as t
 use Rattle.c_names.specs.Operators.{signed}
 use Rattle.c_names.specs.declared.function.ArgumentKind.{ArgumentKind}
-use Rattle.c_check.specs.Calls.{arguments_of, signature_takes}
+use Rattle.c_call_check.specs.Calls.{arguments_of, signature_takes}
 use Rattle.c_scope.specs.Constants.{sign_of}
 use Rattle.c_scope.specs.Scopes.{Env, cut}
 use Rattle.c_scope.specs.Variables.{variable}

@@ -1,1 +1,2 @@
+pub mod ByHead
 pub mod Left

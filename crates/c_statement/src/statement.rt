@@ -6,27 +6,23 @@ ghost use Rattle.c_grammar.specs.StmtView.{part_view, stmt_view};
 ghost use Rattle.c_grammar.specs.Words.{isnt, starts_part, starts_stmt};
 ghost use Rattle.c_grammar.specs.declared.word.Word.TheVariants as w;
 ghost use Rattle.c_grammar.specs.Reading.{expr_at, many, too_deep};
-ghost use Rattle.c_grammar.specs.StmtReading.{block_of, break_of, continue_of, do_of, else_of, empty_of, for_of, if_of, part_at, part_of, plain_of, return_of, stmt_at, stmt_of, while_of};
+ghost use Rattle.c_grammar.specs.StmtReading.{block_of, do_of, else_of, for_of, if_of, part_at, part_of, stmt_at, stmt_of, while_of};
 ghost use Rattle.c_expr.specs.Gives.{Fails, Gives};
 
-use c_expr::expression::expr;
 use c_expr::read::{ReadError, expected, first_of, followed, heads};
 use c_expr::words::{Class, starts_part, starts_stmt};
 use c_grammar::statement::{Part, Stmt};
-use c_grammar::tree::Expr;
-use c_grammar::word::{Sign, Spot, Word};
+use c_grammar::word::{Sign, Word};
 use c_lex::Why;
-use c_simple::pieces::{declared, for_start, for_step, for_test, value};
-use c_simple::simple::simple;
+use c_plain::heads::{TestHead, both, for_head, test_head, until};
+use c_plain::plain::{break_word, continue_word, empty, plain, return_word};
+use c_simple::pieces::declared;
 use std::alloc::{AllocError, Global};
 
 /// An `if` without its else.
 #[derive(Drop)]
 struct Branch {
-    word: Spot,
-    opening: Spot,
-    test: Expr,
-    closing: Spot,
+    head: TestHead,
     then: Box<Stmt>,
 }
 
@@ -82,7 +78,7 @@ fn block(alloc: Global, left: u8, signs: &[Sign]) -> Result<(Stmt, &[Sign]), Rea
 {
     let (opening, rest) = expected(signs, Word::OpenBrace)?;
     let (parts, rest) = parts(alloc, left - 1, rest)?;
-    let (closing, rest) = expected(rest, Word::CloseBrace)?;
+    let ((parts, closing), rest) = followed(parts, rest, Word::CloseBrace)?;
     let block = Stmt::Block {
         opening,
         parts,
@@ -126,24 +122,14 @@ fn part(alloc: Global, left: u8, signs: &[Sign]) -> Result<(Part, &[Sign]), Read
 }
 
 #[cycle(statement)]
-#[tactic(auto, using(c_grammar::proofs::StmtViewed::stmt_views))]
+#[tactic(auto, using(crate::proofs::ByHead::if_by_head))]
 fn if_word(alloc: Global, left: u8, signs: &[Sign]) -> Result<(Stmt, &[Sign]), ReadError>
     requires { 0 < left }
     ensures { Gives (λ x. (stmt_view x.0, x.1.now)) result (if_of (expr_at left true) (stmt_at (left - 1)) signs.now) }
 {
-    let (word, rest) = expected(signs, Word::If)?;
-    let (opening, rest) = expected(rest, Word::OpenParen)?;
-    let (test, rest) = expr(alloc, left, true, rest)?;
-    let ((test, closing), rest) = followed(test, rest, Word::CloseParen)?;
-    let (then, rest) = inner(alloc, left, rest)?;
-    let branch = Branch {
-        word,
-        opening,
-        test,
-        closing,
-        then,
-    };
-    otherwise(alloc, left, branch, rest)
+    let (head, rest) = test_head(alloc, left, Word::If, signs)?;
+    let ((head, then), rest) = both(head, inner(alloc, left, rest))?;
+    otherwise(alloc, left, Branch { head, then }, rest)
 }
 
 /// What stands behind the statement of an `if`.
@@ -157,155 +143,96 @@ fn otherwise(
 ) -> Result<(Stmt, &[Sign]), ReadError>
     requires { 0 < left }
     ensures { Gives (λ x. (stmt_view x.0, x.1.now)) result
-        (else_of (stmt_at (left - 1)) branch.word branch.opening (view branch.test) branch.closing (stmt_view branch.then.value) signs.now) }
+        (else_of (stmt_at (left - 1)) branch.head.word branch.head.opening (view branch.head.test) branch.head.closing
+        (stmt_view branch.then.value) signs.now) }
 {
     if heads(signs, Class::Is(Word::Else)) {
         let ((branch, other_word), rest) = followed(branch, signs, Word::Else)?;
-        let (other, rest) = inner(alloc, left, rest)?;
-        let both = Stmt::IfElse {
-            word: branch.word,
-            opening: branch.opening,
-            test: branch.test,
-            closing: branch.closing,
-            then: branch.then,
+        let ((branch, other), rest) = both(branch, inner(alloc, left, rest))?;
+        let Branch { head, then } = branch;
+        let full = Stmt::IfElse {
+            word: head.word,
+            opening: head.opening,
+            test: head.test,
+            closing: head.closing,
+            then,
             other_word,
             other,
         };
-        Ok((both, rest))
+        Ok((full, rest))
     } else {
+        let Branch { head, then } = branch;
         let alone = Stmt::If {
-            word: branch.word,
-            opening: branch.opening,
-            test: branch.test,
-            closing: branch.closing,
-            then: branch.then,
+            word: head.word,
+            opening: head.opening,
+            test: head.test,
+            closing: head.closing,
+            then,
         };
         Ok((alone, signs))
     }
 }
 
 #[cycle(statement)]
-#[tactic(auto, using(c_grammar::proofs::StmtViewed::stmt_views))]
+#[tactic(auto, using(crate::proofs::ByHead::while_by_head, c_grammar::proofs::StmtViewed::stmt_views))]
 fn while_word(alloc: Global, left: u8, signs: &[Sign]) -> Result<(Stmt, &[Sign]), ReadError>
     requires { 0 < left }
     ensures { Gives (λ x. (stmt_view x.0, x.1.now)) result (while_of (expr_at left true) (stmt_at (left - 1)) signs.now) }
 {
-    let (word, rest) = expected(signs, Word::While)?;
-    let (opening, rest) = expected(rest, Word::OpenParen)?;
-    let (test, rest) = expr(alloc, left, true, rest)?;
-    let ((test, closing), rest) = followed(test, rest, Word::CloseParen)?;
-    let (body, rest) = inner(alloc, left, rest)?;
+    let (head, rest) = test_head(alloc, left, Word::While, signs)?;
+    let ((head, body), rest) = both(head, inner(alloc, left, rest))?;
     let repeat = Stmt::While {
-        word,
-        opening,
-        test,
-        closing,
+        word: head.word,
+        opening: head.opening,
+        test: head.test,
+        closing: head.closing,
         body,
     };
     Ok((repeat, rest))
 }
 
 #[cycle(statement)]
-#[tactic(auto, using(c_grammar::proofs::StmtViewed::stmt_views))]
+#[tactic(auto, using(crate::proofs::ByHead::do_by_head, c_grammar::proofs::StmtViewed::stmt_views))]
 fn do_word(alloc: Global, left: u8, signs: &[Sign]) -> Result<(Stmt, &[Sign]), ReadError>
     requires { 0 < left }
     ensures { Gives (λ x. (stmt_view x.0, x.1.now)) result (do_of (expr_at left true) (stmt_at (left - 1)) signs.now) }
 {
     let (word, rest) = expected(signs, Word::Do)?;
     let (body, rest) = inner(alloc, left, rest)?;
-    let ((body, while_word), rest) = followed(body, rest, Word::While)?;
-    let ((body, opening), rest) = followed(body, rest, Word::OpenParen)?;
-    let (test, rest) = expr(alloc, left, true, rest)?;
-    let ((test, closing), rest) = followed(test, rest, Word::CloseParen)?;
-    let ((test, end), rest) = followed(test, rest, Word::Semicolon)?;
+    let ((body, (head, end)), rest) = both(body, until(alloc, left, rest))?;
     let repeat = Stmt::Do {
         word,
         body,
-        while_word,
-        opening,
-        test,
-        closing,
+        while_word: head.word,
+        opening: head.opening,
+        test: head.test,
+        closing: head.closing,
         end,
     };
     Ok((repeat, rest))
 }
 
 #[cycle(statement)]
-#[tactic(auto, using(c_grammar::proofs::StmtViewed::stmt_views))]
+#[tactic(auto, using(crate::proofs::ByHead::for_by_head, c_grammar::proofs::StmtViewed::stmt_views))]
 fn for_word(alloc: Global, left: u8, signs: &[Sign]) -> Result<(Stmt, &[Sign]), ReadError>
     requires { 0 < left }
     ensures { Gives (λ x. (stmt_view x.0, x.1.now)) result
         (for_of (expr_at left true) (expr_at (left - 1) true) (stmt_at (left - 1)) signs.now) }
 {
-    let (word, rest) = expected(signs, Word::For)?;
-    let (opening, rest) = expected(rest, Word::OpenParen)?;
-    let (start, rest) = for_start(alloc, left, rest)?;
-    let ((start, start_end), rest) = followed(start, rest, Word::Semicolon)?;
-    let (test, rest) = for_test(alloc, left, rest)?;
-    let ((test, test_end), rest) = followed(test, rest, Word::Semicolon)?;
-    let (step, rest) = for_step(alloc, left, rest)?;
-    let ((step, closing), rest) = followed(step, rest, Word::CloseParen)?;
-    let (body, rest) = inner(alloc, left, rest)?;
+    let (head, rest) = for_head(alloc, left, signs)?;
+    let ((head, body), rest) = both(head, inner(alloc, left, rest))?;
     let repeat = Stmt::For {
-        word,
-        opening,
-        start,
-        start_end,
-        test,
-        test_end,
-        step,
-        closing,
+        word: head.word,
+        opening: head.opening,
+        start: head.start.0,
+        start_end: head.start.1,
+        test: head.test.0,
+        test_end: head.test.1,
+        step: head.step.0,
+        closing: head.step.1,
         body,
     };
     Ok((repeat, rest))
-}
-
-#[tactic(auto, using(c_grammar::proofs::StmtViewed::stmt_views))]
-fn empty(signs: &[Sign]) -> Result<(Stmt, &[Sign]), ReadError>
-    ensures { Gives (λ x. (stmt_view x.0, x.1.now)) result (empty_of signs.now) }
-{
-    let (at, rest) = expected(signs, Word::Semicolon)?;
-    Ok((Stmt::Empty(at), rest))
-}
-
-#[tactic(auto, using(c_grammar::proofs::StmtViewed::stmt_views))]
-fn break_word(signs: &[Sign]) -> Result<(Stmt, &[Sign]), ReadError>
-    ensures { Gives (λ x. (stmt_view x.0, x.1.now)) result (break_of signs.now) }
-{
-    let (word, rest) = expected(signs, Word::Break)?;
-    let (end, rest) = expected(rest, Word::Semicolon)?;
-    Ok((Stmt::Break { word, end }, rest))
-}
-
-#[tactic(auto, using(c_grammar::proofs::StmtViewed::stmt_views))]
-fn continue_word(signs: &[Sign]) -> Result<(Stmt, &[Sign]), ReadError>
-    ensures { Gives (λ x. (stmt_view x.0, x.1.now)) result (continue_of signs.now) }
-{
-    let (word, rest) = expected(signs, Word::Continue)?;
-    let (end, rest) = expected(rest, Word::Semicolon)?;
-    Ok((Stmt::Continue { word, end }, rest))
-}
-
-#[tactic(auto, using(c_grammar::proofs::StmtViewed::stmt_views))]
-fn return_word(alloc: Global, left: u8, signs: &[Sign]) -> Result<(Stmt, &[Sign]), ReadError>
-    requires { 0 < left }
-    ensures { Gives (λ x. (stmt_view x.0, x.1.now)) result (return_of (expr_at left true) (expr_at (left - 1) true) signs.now) }
-{
-    let (word, rest) = expected(signs, Word::Return)?;
-    let (value, rest) = value(alloc, left, rest)?;
-    let ((value, end), rest) = followed(value, rest, Word::Semicolon)?;
-    Ok((Stmt::Return { word, value, end }, rest))
-}
-
-/// A simple statement and its `;`.
-#[tactic(auto, using(c_grammar::proofs::StmtViewed::stmt_views))]
-fn plain(alloc: Global, left: u8, signs: &[Sign]) -> Result<(Stmt, &[Sign]), ReadError>
-    requires { 0 < left }
-    ensures { Gives (λ x. (stmt_view x.0, x.1.now)) result (plain_of (expr_at left true) (expr_at (left - 1) true) signs.now) }
-{
-    let (simple, rest) = simple(alloc, left, signs)?;
-    let ((simple, end), rest) = followed(simple, rest, Word::Semicolon)?;
-    Ok((Stmt::Simple { simple, end }, rest))
 }
 
 /// A statement that stands too deep.
@@ -342,14 +269,14 @@ fn deep_part(signs: &[Sign]) -> ReadError
     }
 }
 
-fn push(found: &mut Vec<Part>, part: Part) -> Result<(), AllocError>
-    ensures { OnOk result (found.new.items ≡ found.old.items ++ part ∷ []) }
+fn push<T: Drop>(found: &mut Vec<T>, one: T) -> Result<(), AllocError>
+    ensures { OnOk result (found.new.items ≡ found.old.items ++ one ∷ []) }
 {
-    found.push(part)?;
+    found.push(one)?;
     Ok(())
 }
 
-fn boxed(alloc: Global, tree: Stmt) -> Result<Box<Stmt>, AllocError>
+fn boxed<T: Drop>(alloc: Global, tree: T) -> Result<Box<T>, AllocError>
     ensures { IfOk result (λ b. b.value ≡ tree) }
 {
     Ok(Box::new(alloc, tree)?)

@@ -14,7 +14,7 @@ ghost use Rattle.c_types.specs.Checks.{IsFaultOf, IsFirstIn, IsProgramOf};
 ghost use Rattle.c_types.specs.Programs.{AreFunctions, AreParameters, IsFunction, IsFunctionOf, IsParameter, IsProgram, parameter_kind};
 
 use c_blocks::statement_of::parts_of;
-use c_check::call::{is_int, parameter_at, parameter_count};
+use c_call_check::call::{is_int, parameter_at, parameter_count};
 use c_check::program::{
     define_value, first_fault, is_main, parameter_name, parameter_thing, text_scope,
 };

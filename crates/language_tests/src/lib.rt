@@ -10,6 +10,8 @@ mod programs;
 #[cfg(test)]
 mod replies;
 #[cfg(test)]
+mod stores;
+#[cfg(test)]
 mod tokens;
 #[cfg(test)]
 mod trees;

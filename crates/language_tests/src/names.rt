@@ -3,43 +3,55 @@ use c_names::format::{count_ints, pieces};
 use c_names::function::{ArgumentKind, accepts, arguments};
 use c_names::operator::{Operator, Sign, apply, apply_sign};
 use c_names::predefined::{Predefined, meaning_of};
+use std::alloc::{AllocError, Global};
 use std::test::Fail;
+
+/// Formats, how many ints they take, and how many pieces they have.
+static FORMATS: [(&str, Option<usize>, usize); 10] = [
+    ("", Some(0), 0),
+    ("%d\\n", Some(1), 2),
+    ("%-5i|%05x%%", Some(2), 4),
+    ("\\\"\\\\\\'", Some(0), 3),
+    ("%00d", None, 0),
+    ("%-0d", None, 0),
+    ("%100d", None, 0),
+    ("%s", None, 0),
+    ("%", None, 0),
+    ("\\a", None, 0),
+];
+
+/// How many pieces a format has, or 0 where it is none.
+fn count_pieces(alloc: Global, format: &[u8]) -> Result<usize, AllocError> {
+    Ok(pieces(alloc, format)?.map_or(0, |found| found.len()))
+}
 
 #[test]
 fn formats_take_ints(rt: HostRuntime) -> Result<(), Fail> {
-    for (format, ints, length) in [
-        ("", Some(0), 0),
-        ("%d\\n", Some(1), 2),
-        ("%-5i|%05x%%", Some(2), 4),
-        ("\\\"\\\\\\'", Some(0), 3),
-        ("%00d", None, 0),
-        ("%-0d", None, 0),
-        ("%100d", None, 0),
-        ("%s", None, 0),
-        ("%", None, 0),
-        ("\\a", None, 0),
-    ] {
+    for &(format, ints, length) in &FORMATS {
         assert_eq!(rt; count_ints(format.as_bytes()), ints, "{format}");
-        let found = pieces(rt.alloc(), format.as_bytes())?;
-        assert_eq!(rt; found.map_or(0, |found| found.len()), length, "{format}");
+        let count = count_pieces(rt.alloc(), format.as_bytes())?;
+        assert_eq!(rt; count, length, "{format}");
     }
     Ok(())
 }
 
+/// Operators, their operands, and what they give.
+static OPERATIONS: [(Operator, i32, i32, Option<i32>); 10] = [
+    (Operator::Plus, 2147483647, 1, Some(-2147483648)),
+    (Operator::Divide, -7, 2, Some(-3)),
+    (Operator::Remainder, -7, 2, Some(-1)),
+    (Operator::Divide, -2147483648, -1, Some(-2147483648)),
+    (Operator::Remainder, -2147483648, -1, Some(0)),
+    (Operator::Divide, 1, 0, None),
+    (Operator::ShiftLeft, 1, 33, Some(2)),
+    (Operator::ShiftRight, -8, 1, Some(-4)),
+    (Operator::LogicalOr, 0, 7, Some(1)),
+    (Operator::Xor, 6, 3, Some(5)),
+];
+
 #[test]
 fn operators_wrap(rt: HostRuntime) {
-    for (operator, left, right, expected) in [
-        (Operator::Plus, 2147483647, 1, Some(-2147483648)),
-        (Operator::Divide, -7, 2, Some(-3)),
-        (Operator::Remainder, -7, 2, Some(-1)),
-        (Operator::Divide, -2147483648, -1, Some(-2147483648)),
-        (Operator::Remainder, -2147483648, -1, Some(0)),
-        (Operator::Divide, 1, 0, None),
-        (Operator::ShiftLeft, 1, 33, Some(2)),
-        (Operator::ShiftRight, -8, 1, Some(-4)),
-        (Operator::LogicalOr, 0, 7, Some(1)),
-        (Operator::Xor, 6, 3, Some(5)),
-    ] {
+    for &(operator, left, right, expected) in &OPERATIONS {
         assert_eq!(rt; apply(operator, left, right), expected);
     }
     assert_eq!(rt; apply_sign(Sign::Complement, 0), -1);

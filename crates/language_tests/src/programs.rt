@@ -1,7 +1,9 @@
 //! Programs and their first faults, worked out by hand.
 use c_lex::{SourceFault, Why};
+use c_program::program::CProgram;
 use c_types::read_program;
-use std::alloc::Global;
+use std::alloc::{AllocError, Global};
+use std::process::Abort;
 use std::test::Fail;
 
 /// What every body has before it.
@@ -225,7 +227,23 @@ fn found_fault(alloc: Global, text: &[u8]) -> Result<Option<SourceFault>, Fail> 
     Ok(read_program(alloc, text).err())
 }
 
-/// The first row that is not taken as it tells, each row standing between two texts.
+/// A text between two others.
+fn between(alloc: Global, before: &str, text: &str, behind: &str) -> Result<String, AllocError> {
+    let mut whole = String::from_str(alloc, before)?;
+    whole.push_str(text)?;
+    whole.push_str(behind)?;
+    Ok(whole)
+}
+
+/// Whether a row, standing between two texts, is taken as it tells.
+fn is_taken(alloc: Global, row: &str, before: &str, behind: &str) -> Result<bool, Fail> {
+    let (word, text) = row.split_once(' ').ok_or("no word")?;
+    let whole = between(alloc, before, text, behind)?;
+    let program = program_of(alloc, &whole)?;
+    Ok(found_fault(alloc, &program)? == told_fault(word, &whole))
+}
+
+/// The first row that is not taken as it tells.
 fn first_wrong<'a>(
     alloc: Global,
     rows: &'a str,
@@ -233,13 +251,7 @@ fn first_wrong<'a>(
     behind: &str,
 ) -> Result<Option<&'a str>, Fail> {
     for row in rows.lines() {
-        let (word, text) = row.split_once(' ').ok_or("no word")?;
-        let mut whole = String::new(alloc);
-        for part in [before, text, behind] {
-            whole.push_str(part)?;
-        }
-        let found = found_fault(alloc, &program_of(alloc, &whole)?)?;
-        if found != told_fault(word, &whole) {
+        if !is_taken(alloc, row, before, behind)? {
             return Ok(Some(row));
         }
     }
@@ -260,14 +272,17 @@ fn texts_have_their_first_fault(rt: HostRuntime) -> Result<(), Fail> {
     Ok(())
 }
 
+fn check_functions(rt: &impl Abort, program: &CProgram) {
+    assert_eq!(rt; program.functions.len(), 2);
+    let parameters = program.functions[0].parameters.len();
+    let statements = program.functions[1].body.len();
+    assert_eq!(rt; (program.main, parameters, statements), (1, 1, 2));
+}
+
 #[test]
 fn a_program_has_typed_functions(rt: HostRuntime) -> Result<(), Fail> {
     let text =
         b"#define N 2\nint f(int a[N]){return a[1];}int main(void){int b[N]={1,2};return f(b);}";
-    let program = read_program(rt.alloc(), text).ok().ok_or("no program")?;
-    assert_eq!(rt; program.functions.len(), 2);
-    assert_eq!(rt; program.main, 1);
-    assert_eq!(rt; program.functions[0].parameters.len(), 1);
-    assert_eq!(rt; program.functions[1].body.len(), 2);
+    check_functions(&rt, &read_program(rt.alloc(), text)?);
     Ok(())
 }

@@ -1,6 +1,6 @@
 //! Effects over replies, worked out by hand from the standard.
+use crate::stores::with_array;
 use c_cells::store::Store;
-use c_names::kind::Kind;
 use c_program::effect::{Answer, Effect, Message, Rank, Receive, Start};
 use c_program::range::Range;
 use c_replies::outcome::{Replies, Stop};
@@ -9,6 +9,7 @@ use mpi_call::call::{Call, Fault, Source, Tag, TakeMode};
 use mpi_call::lists::Ints;
 use mpi_call::reply::{Got, Item, Items, Reply};
 use std::alloc::{AllocError, Global};
+use std::process::Abort;
 use std::test::Fail;
 use wiz_base::Bytes;
 
@@ -44,14 +45,31 @@ fn receive(cell: u32) -> Result<Receive, AllocError> {
     })
 }
 
-#[test]
-fn a_send_waits_with_its_ints(rt: HostRuntime) -> Result<(), Fail> {
-    let name = Bytes::from_slice(rt.alloc(), b"x")?;
-    let mut store = Store::new(rt.alloc())?;
-    if !store.has_room(3) {
-        return Err(Fail::from("room"));
+/// An effect over these replies.
+fn performed(
+    alloc: Global,
+    store: &mut Store,
+    effect: Effect,
+    given: &[Reply],
+) -> Result<(), Stop> {
+    perform(alloc, RANK, effect, store, &mut Replies::of(given))
+}
+
+fn waits_for(outcome: &Result<(), Stop>, call: &Call) -> bool {
+    match outcome {
+        Err(Stop::Waits(found)) => found == call,
+        _ => false,
     }
-    store.declare(&name, Kind::Int, 3)?;
+}
+
+fn traps(outcome: &Result<(), Stop>, fault: Fault) -> bool {
+    match outcome {
+        Err(Stop::Trapped(found)) => *found == fault,
+        _ => false,
+    }
+}
+
+fn check_send(rt: &(impl Abort + AllocGlobal), store: &mut Store) -> Result<(), Fail> {
     store.put(1, 7);
     let start = Start::Send(Message {
         comm: 0,
@@ -63,41 +81,47 @@ fn a_send_waits_with_its_ints(rt: HostRuntime) -> Result<(), Fail> {
         start,
         request: Some(0),
     };
-    let mut replies = Replies::of(&[]);
-    let Err(Stop::Waits(call)) = perform(rt.alloc(), RANK, effect, &mut store, &mut replies) else {
-        return Err(Fail::from("waits"));
-    };
     let expected = Call::Send {
         comm: 0,
         dest: 1,
         tag: 5,
         ints: Ints::from_slice(rt.alloc(), &[7, 0])?,
     };
-    assert!(rt; call == expected);
+    let outcome = performed(rt.alloc(), store, effect, &[]);
+    assert!(rt; waits_for(&outcome, &expected));
     assert_eq!(rt; store.start_count(), 0);
     Ok(())
 }
 
 #[test]
-fn waitany_tells_the_place_of_its_handle(rt: HostRuntime) -> Result<(), Fail> {
+fn a_send_waits_with_its_ints(rt: HostRuntime) -> Result<(), Fail> {
     let name = Bytes::from_slice(rt.alloc(), b"x")?;
-    let mut store = Store::new(rt.alloc())?;
-    if !store.has_room(9) {
-        return Err(Fail::from("room"));
-    }
-    store.declare(&name, Kind::Int, 9)?;
-    // handles in 0 to 2, the index in 3, the status in 4 to 6, messages in 7 and 8
-    store.put(1, -1);
-    for (handle, buffer) in [(0, 7), (2, 8)] {
-        let effect = Effect::Starts {
-            start: Start::Receive(receive(buffer)?),
-            request: Some(handle),
-        };
-        let mut replies = Replies::of(&[Reply::Done]);
-        let outcome = perform(rt.alloc(), RANK, effect, &mut store, &mut replies);
-        assert!(rt; matches!(&outcome, Ok(())));
-    }
-    let effect = Effect::Completes {
+    let mut store = with_array(rt.alloc(), &name, 3)?;
+    check_send(&rt, &mut store)
+}
+
+/// An effect goes through over these replies.
+fn check_done(rt: &(impl Abort + AllocGlobal), store: &mut Store, effect: Effect, given: &[Reply]) {
+    assert!(rt; performed(rt.alloc(), store, effect, given).is_ok());
+}
+
+fn start_receive(
+    rt: &(impl Abort + AllocGlobal),
+    store: &mut Store,
+    handle: u32,
+    buffer: u32,
+) -> Result<(), Fail> {
+    let effect = Effect::Starts {
+        start: Start::Receive(receive(buffer)?),
+        request: Some(handle),
+    };
+    check_done(rt, store, effect, &[Reply::Done]);
+    Ok(())
+}
+
+/// Handles stand in 0 to 2, the index in 3, the status in 4 to 6, messages in 7 and 8.
+fn waitany() -> Effect {
+    Effect::Completes {
         requests: Range::new(0, 3, 1),
         mode: TakeMode::Any,
         answer: Answer {
@@ -107,25 +131,32 @@ fn waitany_tells_the_place_of_its_handle(rt: HostRuntime) -> Result<(), Fail> {
             indices: None,
             statuses: Some(Range::new(4, 1, 3)),
         },
-    };
-    let given = [took(rt.alloc(), 1, 42)?];
-    let mut replies = Replies::of(&given);
-    let outcome = perform(rt.alloc(), RANK, effect, &mut store, &mut replies);
-    assert!(rt; matches!(&outcome, Ok(())));
-    for (cell, expected) in [
-        (0, 0),
-        (1, -1),
-        (2, -1),
-        (3, 2),
-        (4, 2),
-        (5, 9),
-        (6, 1),
-        (7, 0),
-        (8, 42),
-    ] {
-        assert_eq!(rt; store.cell(cell), expected, "{cell}");
     }
+}
+
+/// What stands in these cells after it.
+static CELLS: [i32; 9] = [0, -1, -1, 2, 2, 9, 1, 0, 42];
+
+fn check_cells(rt: &impl Abort, store: &Store) {
+    for cell in 0..9 {
+        assert_eq!(rt; store.cell(cell), CELLS[cell as usize], "{cell}");
+    }
+}
+
+fn check_waitany(rt: &(impl Abort + AllocGlobal), store: &mut Store) -> Result<(), Fail> {
+    store.put(1, -1);
+    start_receive(rt, store, 0, 7)?;
+    start_receive(rt, store, 2, 8)?;
+    check_done(rt, store, waitany(), &[took(rt.alloc(), 1, 42)?]);
+    check_cells(rt, store);
     Ok(())
+}
+
+#[test]
+fn waitany_tells_the_place_of_its_handle(rt: HostRuntime) -> Result<(), Fail> {
+    let name = Bytes::from_slice(rt.alloc(), b"x")?;
+    let mut store = with_array(rt.alloc(), &name, 9)?;
+    check_waitany(&rt, &mut store)
 }
 
 #[test]
@@ -137,11 +168,7 @@ fn a_message_whose_cells_are_gone_traps(rt: HostRuntime) -> Result<(), Fail> {
         status: None,
     };
     let given = [Reply::Done, took(rt.alloc(), 0, 42)?];
-    let mut replies = Replies::of(&given);
-    let Err(Stop::Trapped(fault)) = perform(rt.alloc(), RANK, effect, &mut store, &mut replies)
-    else {
-        return Err(Fail::from("traps"));
-    };
-    assert!(rt; fault == Fault::OutOfBounds);
+    let outcome = performed(rt.alloc(), &mut store, effect, &given);
+    assert!(rt; traps(&outcome, Fault::OutOfBounds));
     Ok(())
 }

@@ -83,37 +83,50 @@ int main() {
 }
 ";
 
-fn read(rt: &impl Abort, alloc: Global, text: &str) -> Result<Tree, SourceFault> {
+fn read(rt: &(impl Abort + AllocGlobal), text: &str) -> Result<Tree, SourceFault> {
     assert!(rt; text.len() <= 65536);
-    let list = tokens(alloc, text.as_bytes())?;
-    parse(alloc, text.as_bytes(), &list)
+    let list = tokens(rt.alloc(), text.as_bytes())?;
+    parse(rt.alloc(), text.as_bytes(), &list)
 }
+
+/// Programs, and how many tops their trees have.
+static PROGRAMS: [(&str, usize); 5] = [(FIRST, 1), (ORDINARY, 2), (DEMO, 3), (EVERY, 4), ("", 0)];
 
 #[test]
 fn programs_are_read(rt: HostRuntime) -> Result<(), Fail> {
-    for (text, tops) in [(FIRST, 1), (ORDINARY, 2), (DEMO, 3), (EVERY, 4), ("", 0)] {
-        assert_eq!(rt; read(&rt, rt.alloc(), text)?.tops.len(), tops);
+    for &(text, tops) in &PROGRAMS {
+        let found = read(&rt, text)?.tops.len();
+        assert_eq!(rt; found, tops);
     }
     Ok(())
 }
 
+/// Texts, and the line and the column of the first token that is unexpected.
+static FAULTS: [(&str, u32, u32); 6] = [
+    ("int x;", 1, 6),
+    ("int main(void){return 0", 1, 24),
+    ("int f(int){}", 1, 11),
+    ("int main(void){\n  x = f(1) + 2;}", 2, 12),
+    ("int main(void){if(x){}else{}else;}", 1, 29),
+    ("void f(void){x = a + + b; x = a ++ b;}", 1, 33),
+];
+
 #[test]
-fn the_first_fault_is_given(rt: HostRuntime) -> Result<(), Fail> {
-    for (text, line, column, why) in [
-        ("int x;", 1, 6, Why::Unexpected),
-        ("int main(void){return 0", 1, 24, Why::Unexpected),
-        ("int f(int){}", 1, 11, Why::Unexpected),
-        ("int main(void){\n  x = f(1) + 2;}", 2, 12, Why::Unexpected),
-        ("int main(void){if(x){}else{}else;}", 1, 29, Why::Unexpected),
-        (
-            "void f(void){x = a + + b; x = a ++ b;}",
-            1,
-            33,
-            Why::Unexpected,
-        ),
-    ] {
-        let fault = SourceFault { line, column, why };
-        assert_eq!(rt; read(&rt, rt.alloc(), text).err(), Some(fault));
+fn the_first_fault_is_given(rt: HostRuntime) {
+    for &(text, line, column) in &FAULTS {
+        let fault = SourceFault {
+            line,
+            column,
+            why: Why::Unexpected,
+        };
+        let found = read(&rt, text).err();
+        assert_eq!(rt; found, Some(fault));
+    }
+}
+
+fn push_times(text: &mut String, part: &str, count: usize) -> Result<(), AllocError> {
+    for _ in 0..count {
+        text.push_str(part)?;
     }
     Ok(())
 }
@@ -129,34 +142,38 @@ fn nested(
 ) -> Result<String, AllocError> {
     let mut text = String::from_str(alloc, "int main(void){")?;
     text.push_str(before)?;
-    for _ in 0..count {
-        text.push_str(opening)?;
-    }
+    push_times(&mut text, opening, count)?;
     text.push_str(inner)?;
-    for _ in 0..count {
-        text.push_str(closing)?;
-    }
+    push_times(&mut text, closing, count)?;
     text.push_str(";}")?;
     Ok(text)
 }
 
+/// What `nested` is given, and the column at which it is too deep, or 0.
+static DEPTHS: [(&str, &str, usize, &str, &str, u32); 7] = [
+    ("return ", "(", 63, "1", ")", 0),
+    ("return ", "(", 64, "1", ")", 87),
+    ("", "{", 64, "", "}", 0),
+    ("", "{", 65, "", "}", 80),
+    ("", "{", 64, "int x;", "}", 80),
+    ("", "if(1)", 63, ";", "", 0),
+    ("", "if(1)", 64, ";", "", 336),
+];
+
+/// A text is too deep at this column, or has no fault where it is 0.
+fn check_depth(rt: &(impl Abort + AllocGlobal), text: &str, column: u32) {
+    let fault = read(rt, text).err();
+    assert_eq!(rt;
+        fault.map_or((0, Why::TooDeep), |fault| (fault.column, fault.why)),
+        (column, Why::TooDeep)
+    );
+}
+
 #[test]
 fn depth_has_a_limit(rt: HostRuntime) -> Result<(), Fail> {
-    for (before, opening, count, inner, closing, column) in [
-        ("return ", "(", 63, "1", ")", 0),
-        ("return ", "(", 64, "1", ")", 87),
-        ("", "{", 64, "", "}", 0),
-        ("", "{", 65, "", "}", 80),
-        ("", "{", 64, "int x;", "}", 80),
-        ("", "if(1)", 63, ";", "", 0),
-        ("", "if(1)", 64, ";", "", 336),
-    ] {
+    for &(before, opening, count, inner, closing, column) in &DEPTHS {
         let text = nested(rt.alloc(), before, opening, count, inner, closing)?;
-        let fault = read(&rt, rt.alloc(), text.as_str()).err();
-        assert_eq!(rt;
-            fault.map_or((0, Why::TooDeep), |fault| (fault.column, fault.why)),
-            (column, Why::TooDeep)
-        );
+        check_depth(&rt, text.as_str(), column);
     }
     Ok(())
 }

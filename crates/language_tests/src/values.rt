@@ -1,4 +1,5 @@
 //! Values worked out by hand, and what C's `printf` prints.
+use crate::stores::declare;
 use c_cells::print::text_of;
 use c_cells::store::Store;
 use c_names::format::pieces;
@@ -7,27 +8,33 @@ use c_names::operator::Operator;
 use c_program::expr::{Expr, Link, Place};
 use mpi_call::call::Fault;
 use std::alloc::{AllocError, Global};
+use std::process::Abort;
 use std::test::Fail;
 use wiz_base::Bytes;
 
+/// Formats, an int, and what they print of it.
+static PRINTED: [(&str, i32, &str); 10] = [
+    ("%d\\n", 5, "5\n"),
+    ("%5d|", -42, "  -42|"),
+    ("%-5d|", -42, "-42  |"),
+    ("%05d", -42, "-0042"),
+    ("%2d", 12345, "12345"),
+    ("%d%%", -2147483648, "-2147483648%"),
+    ("%x", 0, "0"),
+    ("%x", -1, "ffffffff"),
+    ("%08x", 48879, "0000beef"),
+    ("%4x", 16, "  10"),
+];
+
+fn printed(alloc: Global, format: &str, value: i32) -> Result<Vec<u8>, Fail> {
+    let format = pieces(alloc, format.as_bytes())?.ok_or("no format")?;
+    Ok(text_of(alloc, &format, &[value])?)
+}
+
 #[test]
 fn ints_are_printed(rt: HostRuntime) -> Result<(), Fail> {
-    for (format, value, expected) in [
-        ("%d\\n", 5, "5\n"),
-        ("%5d|", -42, "  -42|"),
-        ("%-5d|", -42, "-42  |"),
-        ("%05d", -42, "-0042"),
-        ("%2d", 12345, "12345"),
-        ("%d%%", -2147483648, "-2147483648%"),
-        ("%x", 0, "0"),
-        ("%x", -1, "ffffffff"),
-        ("%08x", 48879, "0000beef"),
-        ("%4x", 16, "  10"),
-    ] {
-        let Some(format) = pieces(rt.alloc(), format.as_bytes())? else {
-            return Err(Fail::from(expected));
-        };
-        let text = text_of(rt.alloc(), &format, &[value])?;
+    for &(format, value, expected) in &PRINTED {
+        let text = printed(rt.alloc(), format, value)?;
         assert_eq!(rt; text.as_slice(), expected.as_bytes(), "{expected}");
     }
     Ok(())
@@ -46,27 +53,83 @@ fn element(alloc: Global, index: i32) -> Result<Expr, AllocError> {
     Ok(Expr::Read(Place::Element { variable: 0, index }))
 }
 
+/// A first int, an operator, a second int, and what they give.
+static OPERATIONS: [(i32, Operator, i32, Result<i32, Fault>); 5] = [
+    (7, Operator::Minus, 2, Ok(5)),
+    (7, Operator::Divide, 0, Err(Fault::DivideByZero)),
+    (0, Operator::LogicalAnd, 0, Ok(0)),
+    (7, Operator::LogicalOr, 0, Ok(1)),
+    (0, Operator::LogicalOr, 7, Err(Fault::DivideByZero)),
+];
+
+/// What an operator gives of a first int and, behind `&&` and `||`, an operand that has no value; else of a second int.
+fn operated(
+    store: &Store,
+    alloc: Global,
+    first: i32,
+    operator: Operator,
+    second: i32,
+) -> Result<Result<i32, Fault>, AllocError> {
+    let operand = match operator {
+        Operator::LogicalAnd | Operator::LogicalOr => {
+            chain(alloc, second, Operator::Remainder, Expr::Number(0))?
+        }
+        _ => Expr::Number(second),
+    };
+    Ok(store.value(&chain(alloc, first, operator, operand)?))
+}
+
+fn check_operations(rt: &(impl Abort + AllocGlobal), store: &Store) -> Result<(), Fail> {
+    for &(first, operator, second, expected) in &OPERATIONS {
+        let value = operated(store, rt.alloc(), first, operator, second)?;
+        assert!(rt; value == expected, "{first} {second}");
+    }
+    Ok(())
+}
+
 #[test]
 fn operands_are_evaluated_from_left_to_right(rt: HostRuntime) -> Result<(), Fail> {
     let store = Store::new(rt.alloc())?;
-    for (first, operator, second, expected) in [
-        (7, Operator::Minus, 2, Ok(5)),
-        (7, Operator::Divide, 0, Err(Fault::DivideByZero)),
-        (0, Operator::LogicalAnd, 0, Ok(0)),
-        (7, Operator::LogicalOr, 0, Ok(1)),
-        (0, Operator::LogicalOr, 7, Err(Fault::DivideByZero)),
-    ] {
-        // behind `&&` and `||` the second operand is one that has no value
-        let operand = match operator {
-            Operator::LogicalAnd | Operator::LogicalOr => {
-                chain(rt.alloc(), second, Operator::Remainder, Expr::Number(0))?
-            }
-            _ => Expr::Number(second),
-        };
-        let expr = chain(rt.alloc(), first, operator, operand)?;
-        let value = store.value(&expr);
-        assert!(rt; value == expected, "{first} {second}");
+    check_operations(&rt, &store)
+}
+
+/// Indices into an array of three ints whose last is 7, and what stands there.
+static ELEMENTS: [(i32, Result<i32, Fault>); 4] = [
+    (2, Ok(7)),
+    (0, Ok(0)),
+    (3, Err(Fault::OutOfBounds)),
+    (-1, Err(Fault::OutOfBounds)),
+];
+
+/// What stands at an index of the first variable.
+fn value_at(store: &Store, alloc: Global, index: i32) -> Result<Result<i32, Fault>, AllocError> {
+    Ok(store.value(&element(alloc, index)?))
+}
+
+fn check_elements(rt: &(impl Abort + AllocGlobal), store: &Store) -> Result<(), Fail> {
+    for &(index, expected) in &ELEMENTS {
+        let value = value_at(store, rt.alloc(), index)?;
+        assert!(rt; value == expected, "{index}");
     }
+    Ok(())
+}
+
+/// The array stands in the store until its block is left.
+fn check_block<'p>(
+    rt: &(impl Abort + AllocGlobal),
+    store: &mut Store<'p>,
+    name: &'p Bytes,
+) -> Result<(), Fail> {
+    let outside = store.mark();
+    declare(store, name, Kind::Int, 3)?;
+    store.put(2, 7);
+    check_elements(rt, store)?;
+    let variables = store.variables(rt.alloc())?.as_slice().len();
+    assert_eq!(rt; variables, 1);
+    store.leave(outside);
+    assert_eq!(rt; store.height(), 0);
+    let value = value_at(store, rt.alloc(), 2)?;
+    assert!(rt; value == Err(Fault::OutOfBounds));
     Ok(())
 }
 
@@ -74,25 +137,5 @@ fn operands_are_evaluated_from_left_to_right(rt: HostRuntime) -> Result<(), Fail
 fn variables_stand_in_their_block(rt: HostRuntime) -> Result<(), Fail> {
     let name = Bytes::from_slice(rt.alloc(), b"x")?;
     let mut store = Store::new(rt.alloc())?;
-    let outside = store.mark();
-    if !store.has_room(3) {
-        return Err(Fail::from("room"));
-    }
-    store.declare(&name, Kind::Int, 3)?;
-    store.put(2, 7);
-    for (index, expected) in [
-        (2, Ok(7)),
-        (0, Ok(0)),
-        (3, Err(Fault::OutOfBounds)),
-        (-1, Err(Fault::OutOfBounds)),
-    ] {
-        let value = store.value(&element(rt.alloc(), index)?);
-        assert!(rt; value == expected, "{index}");
-    }
-    let variables = store.variables(rt.alloc())?;
-    assert_eq!(rt; variables.as_slice().len(), 1);
-    store.leave(outside);
-    assert_eq!(rt; store.height(), 0);
-    assert!(rt; store.value(&element(rt.alloc(), 2)?) == Err(Fault::OutOfBounds));
-    Ok(())
+    check_block(&rt, &mut store, &name)
 }

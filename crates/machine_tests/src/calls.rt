@@ -135,7 +135,7 @@ fn are_inputs_of(call: &Call, members: &Ranks, inputs: &Inputs, me: u8) -> bool
 }
 
 /// A collective on the world, with what each member enters.
-#[derive(Drop)]
+#[derive(Clone, Copy)]
 struct Row<'a> {
     kind: Kind,
     root: Option<u8>,
@@ -191,243 +191,309 @@ fn makes(call: &Call) -> bool
     }
 }
 
+/// The members of a row, what they enter, and its rank's own call.
+#[derive(Drop)]
+struct Collective {
+    members: Ranks,
+    inputs: Inputs,
+    enter: Call,
+    me: u8,
+}
+
+fn collective_of(alloc: Global, row: &Row) -> Result<Collective, AllocError> {
+    Ok(Collective {
+        members: members_of(alloc, row)?,
+        inputs: inputs_of(alloc, row)?,
+        enter: enter_of(alloc, row)?,
+        me: row.me,
+    })
+}
+
+/// Whether a collective is as its kind wants it.
+fn is_collective(call: &Call, members: &Ranks, inputs: &Inputs, me: u8) -> bool
+    ensures member { IsTrue result → IsTrue (is_member members.now me) }
+    ensures form { IsTrue result → IsEnterOf call.now members.now me }
+    ensures inputs { IsTrue result → AreInputsOf call.now members.now inputs.now me }
+{
+    if !is_member(members, me) || !is_enter_of(call, members, me) {
+        return false;
+    }
+    are_inputs_of(call, members, inputs, me)
+}
+
 /// The result of a row, or nothing where the row is not as its kind wants it.
 fn result_of(alloc: Global, row: &Row) -> Result<Option<Ints>, AllocError> {
-    let members = members_of(alloc, row)?;
-    let inputs = inputs_of(alloc, row)?;
-    let enter = enter_of(alloc, row)?;
-    if makes(&enter) || !is_member(&members, row.me) || !is_enter_of(&enter, &members, row.me) {
+    let Collective {
+        members,
+        inputs,
+        enter,
+        me,
+    } = &collective_of(alloc, row)?;
+    if makes(enter) || !is_collective(enter, members, inputs, *me) {
         return Ok(None);
     }
-    if !are_inputs_of(&enter, &members, &inputs, row.me) {
-        return Ok(None);
-    }
-    Ok(Some(result(alloc, &enter, &members, &inputs, row.me)?))
+    Ok(Some(result(alloc, enter, members, inputs, *me)?))
 }
 
 /// The members that a row makes.
 fn made_by(alloc: Global, row: &Row) -> Result<Option<Ranks>, AllocError> {
-    let members = members_of(alloc, row)?;
-    let inputs = inputs_of(alloc, row)?;
-    let enter = enter_of(alloc, row)?;
-    if !makes(&enter) || !is_member(&members, row.me) || !is_enter_of(&enter, &members, row.me) {
+    let Collective {
+        members,
+        inputs,
+        enter,
+        me,
+    } = &collective_of(alloc, row)?;
+    if !makes(enter) || !is_collective(enter, members, inputs, *me) {
         return Ok(None);
     }
-    if !are_inputs_of(&enter, &members, &inputs, row.me) {
-        return Ok(None);
-    }
-    Ok(Some(made(alloc, &enter, &members, &inputs, row.me)?))
+    Ok(Some(made(alloc, enter, members, inputs, *me)?))
 }
 
-/// A row's name, kind, root, operation, count, entered ints, rank, and what it gives.
-type ResultRow<'a> = (
-    &'a str,
-    Kind,
-    Option<u8>,
-    Option<Op>,
-    u32,
-    &'a [&'a [i32]],
-    u8,
-    &'a [i32],
-);
-
-#[test]
-fn results_are_as_the_tables_say(rt: HostRuntime) -> Result<(), Fail> {
-    let rows: [ResultRow; 10] = [
-        (
-            "a sum of three",
-            Kind::Allreduce,
-            None,
-            Some(Op::Sum),
-            1,
-            &[&[1], &[2], &[3]],
-            0,
-            &[6],
-        ),
-        (
-            "a product up to the second",
-            Kind::Scan,
-            None,
-            Some(Op::Prod),
-            1,
-            &[&[2], &[3], &[]],
-            1,
-            &[6],
-        ),
-        (
-            "exclusive or of truth values",
-            Kind::Allreduce,
-            None,
-            Some(Op::Lxor),
-            1,
-            &[&[0], &[7], &[5]],
-            0,
-            &[0],
-        ),
-        (
-            "a sum that wraps",
-            Kind::Allreduce,
-            None,
-            Some(Op::Sum),
-            1,
-            &[&[2147483647], &[1], &[0]],
-            2,
-            &[-2147483648],
-        ),
-        (
-            "a piece of the root's",
-            Kind::Scatter,
-            Some(0),
-            None,
-            2,
-            &[&[1, 2, 3, 4, 5, 6], &[], &[]],
-            1,
-            &[3, 4],
-        ),
-        (
-            "all pieces at the root",
-            Kind::Gather,
-            Some(2),
-            None,
-            1,
-            &[&[4], &[5], &[6]],
-            2,
-            &[4, 5, 6],
-        ),
-        (
-            "each member's piece",
-            Kind::Alltoall,
-            None,
-            None,
-            1,
-            &[&[1, 2], &[3, 4]],
-            1,
-            &[2, 4],
-        ),
-        (
-            "nothing away from the root",
-            Kind::Reduce,
-            Some(0),
-            Some(Op::Max),
-            1,
-            &[&[], &[9], &[]],
-            1,
-            &[],
-        ),
-        (
-            "the root's ints",
-            Kind::Bcast,
-            Some(0),
-            None,
-            1,
-            &[&[5], &[], &[]],
-            2,
-            &[5],
-        ),
-        (
-            "no member's ints",
-            Kind::Barrier,
-            None,
-            None,
-            0,
-            &[&[], &[], &[]],
-            1,
-            &[],
-        ),
-    ];
-    for (name, kind, root, op, count, inputs, me, want) in rows {
-        let row = Row {
-            kind,
-            root,
-            op,
-            count,
-            inputs,
-            me,
-        };
-        let ints = result_of(rt.alloc(), &row)?;
-        assert!(rt; ints.is_some(), "{name}");
-        if let Some(ints) = ints {
-            assert_eq!(rt; ints.as_slice(), want, "{name}");
-        }
-    }
-    Ok(())
+/// What a row gives, under its name.
+#[derive(Clone, Copy)]
+struct Wanted<'a, T> {
+    name: &'a str,
+    row: Row<'a>,
+    want: &'a [T],
 }
 
-#[test]
-fn splits_are_by_key_and_then_by_place(rt: HostRuntime) -> Result<(), Fail> {
-    let rows: [(&str, Kind, &[&[i32]], u8, &[u8]); 4] = [
-        (
-            "the lower key first, ties by place",
-            Kind::Split,
-            &[&[0, 5], &[0, 1], &[0, 5]],
-            0,
-            &[1, 0, 2],
-        ),
-        (
-            "two of one colour",
-            Kind::Split,
-            &[&[1, 0], &[-32766, 0], &[1, 0]],
-            0,
-            &[0, 2],
-        ),
-        (
-            "no colour, others not needed",
-            Kind::Split,
-            &[&[], &[-32766, 0], &[]],
-            1,
-            &[],
-        ),
-        ("the old members", Kind::Dup, &[&[], &[]], 1, &[0, 1]),
-    ];
-    for (name, kind, inputs, me, want) in rows {
-        let row = Row {
-            kind,
+static RESULTS: [Wanted<i32>; 10] = [
+    Wanted {
+        name: "a sum of three",
+        row: Row {
+            kind: Kind::Allreduce,
+            root: None,
+            op: Some(Op::Sum),
+            count: 1,
+            inputs: &[&[1], &[2], &[3]],
+            me: 0,
+        },
+        want: &[6],
+    },
+    Wanted {
+        name: "a product up to the second",
+        row: Row {
+            kind: Kind::Scan,
+            root: None,
+            op: Some(Op::Prod),
+            count: 1,
+            inputs: &[&[2], &[3], &[]],
+            me: 1,
+        },
+        want: &[6],
+    },
+    Wanted {
+        name: "exclusive or of truth values",
+        row: Row {
+            kind: Kind::Allreduce,
+            root: None,
+            op: Some(Op::Lxor),
+            count: 1,
+            inputs: &[&[0], &[7], &[5]],
+            me: 0,
+        },
+        want: &[0],
+    },
+    Wanted {
+        name: "a sum that wraps",
+        row: Row {
+            kind: Kind::Allreduce,
+            root: None,
+            op: Some(Op::Sum),
+            count: 1,
+            inputs: &[&[2147483647], &[1], &[0]],
+            me: 2,
+        },
+        want: &[-2147483648],
+    },
+    Wanted {
+        name: "a piece of the root's",
+        row: Row {
+            kind: Kind::Scatter,
+            root: Some(0),
+            op: None,
+            count: 2,
+            inputs: &[&[1, 2, 3, 4, 5, 6], &[], &[]],
+            me: 1,
+        },
+        want: &[3, 4],
+    },
+    Wanted {
+        name: "all pieces at the root",
+        row: Row {
+            kind: Kind::Gather,
+            root: Some(2),
+            op: None,
+            count: 1,
+            inputs: &[&[4], &[5], &[6]],
+            me: 2,
+        },
+        want: &[4, 5, 6],
+    },
+    Wanted {
+        name: "each member's piece",
+        row: Row {
+            kind: Kind::Alltoall,
+            root: None,
+            op: None,
+            count: 1,
+            inputs: &[&[1, 2], &[3, 4]],
+            me: 1,
+        },
+        want: &[2, 4],
+    },
+    Wanted {
+        name: "nothing away from the root",
+        row: Row {
+            kind: Kind::Reduce,
+            root: Some(0),
+            op: Some(Op::Max),
+            count: 1,
+            inputs: &[&[], &[9], &[]],
+            me: 1,
+        },
+        want: &[],
+    },
+    Wanted {
+        name: "the root's ints",
+        row: Row {
+            kind: Kind::Bcast,
+            root: Some(0),
+            op: None,
+            count: 1,
+            inputs: &[&[5], &[], &[]],
+            me: 2,
+        },
+        want: &[5],
+    },
+    Wanted {
+        name: "no member's ints",
+        row: Row {
+            kind: Kind::Barrier,
             root: None,
             op: None,
             count: 0,
-            inputs,
-            me,
-        };
-        let members = made_by(rt.alloc(), &row)?;
-        assert!(rt; members.is_some(), "{name}");
-        if let Some(members) = members {
-            assert_eq!(rt; members.as_slice(), want, "{name}");
+            inputs: &[&[], &[], &[]],
+            me: 1,
+        },
+        want: &[],
+    },
+];
+
+#[test]
+fn results_are_as_the_tables_say(rt: HostRuntime) -> Result<(), Fail> {
+    for Wanted { name, row, want } in &RESULTS {
+        let ints = result_of(rt.alloc(), row)?;
+        assert!(rt; ints.is_some(), "{name}");
+        if let Some(ints) = ints {
+            assert_eq!(rt; ints.as_slice(), *want, "{name}");
         }
     }
     Ok(())
+}
+
+static SPLITS: [Wanted<u8>; 4] = [
+    Wanted {
+        name: "the lower key first, ties by place",
+        row: Row {
+            kind: Kind::Split,
+            root: None,
+            op: None,
+            count: 0,
+            inputs: &[&[0, 5], &[0, 1], &[0, 5]],
+            me: 0,
+        },
+        want: &[1, 0, 2],
+    },
+    Wanted {
+        name: "two of one colour",
+        row: Row {
+            kind: Kind::Split,
+            root: None,
+            op: None,
+            count: 0,
+            inputs: &[&[1, 0], &[-32766, 0], &[1, 0]],
+            me: 0,
+        },
+        want: &[0, 2],
+    },
+    Wanted {
+        name: "no colour, others not needed",
+        row: Row {
+            kind: Kind::Split,
+            root: None,
+            op: None,
+            count: 0,
+            inputs: &[&[], &[-32766, 0], &[]],
+            me: 1,
+        },
+        want: &[],
+    },
+    Wanted {
+        name: "the old members",
+        row: Row {
+            kind: Kind::Dup,
+            root: None,
+            op: None,
+            count: 0,
+            inputs: &[&[], &[]],
+            me: 1,
+        },
+        want: &[0, 1],
+    },
+];
+
+#[test]
+fn splits_are_by_key_and_then_by_place(rt: HostRuntime) -> Result<(), Fail> {
+    for Wanted { name, row, want } in &SPLITS {
+        let members = made_by(rt.alloc(), row)?;
+        assert!(rt; members.is_some(), "{name}");
+        if let Some(members) = members {
+            assert_eq!(rt; members.as_slice(), *want, "{name}");
+        }
+    }
+    Ok(())
+}
+
+/// A broadcast of rank 0, which enters one int.
+static ROOT: Row = Row {
+    kind: Kind::Bcast,
+    root: Some(0),
+    op: None,
+    count: 1,
+    inputs: &[&[5], &[]],
+    me: 0,
+};
+
+/// The same without the int.
+static SAME: Row = Row {
+    kind: Kind::Bcast,
+    root: Some(0),
+    op: None,
+    count: 1,
+    inputs: &[&[], &[]],
+    me: 0,
+};
+
+/// One of two ints.
+static LONGER: Row = Row {
+    kind: Kind::Bcast,
+    root: Some(0),
+    op: None,
+    count: 2,
+    inputs: &[&[], &[]],
+    me: 0,
+};
+
+/// Whether the Enters of two rows agree.
+fn rows_agree(alloc: Global, one: &Row, two: &Row) -> Result<bool, AllocError> {
+    let enter = enter_of(alloc, one)?;
+    Ok(agree(&enter, &enter_of(alloc, two)?))
 }
 
 #[test]
 fn enters_agree_but_for_their_ints(rt: HostRuntime) -> Result<(), Fail> {
-    let alloc = rt.alloc();
-    let root: &[&[i32]] = &[&[5], &[]];
-    let other: &[&[i32]] = &[&[], &[]];
-    let row = Row {
-        kind: Kind::Bcast,
-        root: Some(0),
-        op: None,
-        count: 1,
-        inputs: root,
-        me: 0,
-    };
-    let same = Row {
-        kind: Kind::Bcast,
-        root: Some(0),
-        op: None,
-        count: 1,
-        inputs: other,
-        me: 0,
-    };
-    let differs = Row {
-        kind: Kind::Bcast,
-        root: Some(0),
-        op: None,
-        count: 2,
-        inputs: other,
-        me: 0,
-    };
-    let enter = enter_of(alloc, &row)?;
-    assert!(rt; agree(&enter, &enter_of(alloc, &same)?));
-    assert!(rt; !agree(&enter, &enter_of(alloc, &differs)?));
+    assert!(rt; rows_agree(rt.alloc(), &ROOT, &SAME)?);
+    assert!(rt; !rows_agree(rt.alloc(), &ROOT, &LONGER)?);
     Ok(())
 }

@@ -6,12 +6,12 @@ use run_model::event::Event;
 use run_model::history::History;
 use run_model::lists::{Outputs, Variable, Variables, View};
 use run_model::shape::{Fit, shape};
+use std::alloc::{AllocError, Global};
 use wiz_base::Bytes;
 
 #[test]
-fn histories_and_lists_grow(rt: HostRuntime) {
-    let alloc = rt.alloc();
-    let mut history = History::new(alloc);
+fn a_history_grows(rt: HostRuntime) {
+    let mut history = History::new(rt.alloc());
     assert!(&rt; history.len() == 0);
     history.reserve(1).expect(&rt, "room");
     history.push(Event {
@@ -21,62 +21,117 @@ fn histories_and_lists_grow(rt: HostRuntime) {
         mate: None,
     });
     assert!(&rt; history.get(0).rank == 1 && history.as_slice().len() == 1);
-
-    let mut view = View::new(alloc);
-    assert!(&rt; view.push((Call::End, Reply::Done)).is_ok());
-    assert!(&rt; view.as_slice().len() == 1);
-
-    let mut outputs = Outputs::new(alloc);
-    let printed = Bytes::from_slice(alloc, b"7\n").expect(&rt, "bytes");
-    assert!(&rt; outputs.push(printed).is_ok());
-    assert!(&rt; outputs.as_slice()[0].as_slice() == b"7\n".as_slice());
-
-    let mut variables = Variables::new(alloc);
-    let name = Bytes::from_slice(alloc, b"x").expect(&rt, "a name");
-    let values = Ints::from_slice(alloc, &[7]).expect(&rt, "values");
-    let variable = Variable {
-        depth: 0,
-        name,
-        values,
-    };
-    assert!(&rt; variables.push(variable).is_ok());
-    assert!(&rt; variables.as_slice()[0].values.as_slice()[0] == 7);
 }
 
 #[test]
-fn replies_have_the_shape_of_their_calls(rt: HostRuntime) {
-    let alloc = rt.alloc();
-    let mut view = View::new(alloc);
-    let post = Call::Post {
+fn a_view_grows(rt: HostRuntime) {
+    let mut view = View::new(rt.alloc());
+    assert!(&rt; view.push((Call::End, Reply::Done)).is_ok());
+    assert!(&rt; view.as_slice().len() == 1);
+}
+
+#[test]
+fn outputs_grow(rt: HostRuntime) {
+    let mut outputs = Outputs::new(rt.alloc());
+    let printed = Bytes::from_slice(rt.alloc(), b"7\n").expect(&rt, "bytes");
+    assert!(&rt; outputs.push(printed).is_ok());
+    assert!(&rt; outputs.as_slice()[0].as_slice() == b"7\n".as_slice());
+}
+
+fn variable(alloc: Global, name: &[u8], values: &[i32]) -> Result<Variable, AllocError> {
+    Ok(Variable {
+        depth: 0,
+        name: Bytes::from_slice(alloc, name)?,
+        values: Ints::from_slice(alloc, values)?,
+    })
+}
+
+#[test]
+fn variables_grow(rt: HostRuntime) {
+    let mut variables = Variables::new(rt.alloc());
+    let seven = variable(rt.alloc(), b"x", &[7]).expect(&rt, "a variable");
+    assert!(&rt; variables.push(seven).is_ok());
+    assert!(&rt; variables.as_slice()[0].values.as_slice() == [7].as_slice());
+}
+
+/// A receive of one int from rank 0 with tag 5.
+fn post() -> Call {
+    Call::Post {
         comm: 0,
         source: Source::From(0),
         tag: Tag::Is(5),
         room: 1,
-    };
-    assert!(&rt; shape(2, 1, &view, &post, &Reply::Done) == Fit::Fits);
-    assert!(&rt; shape(2, 1, &view, &post, &Reply::NotYet) == Fit::Misfits);
-    assert!(&rt; view.push((post, Reply::Done)).is_ok());
-    let take = Call::Take {
-        starts: Starts::from_slice(alloc, &[0]).expect(&rt, "a start"),
+    }
+}
+
+#[test]
+fn a_post_is_done_at_once(rt: HostRuntime) {
+    let view = View::new(rt.alloc());
+    assert!(&rt; shape(2, 1, &view, &post(), &Reply::Done) == Fit::Fits);
+    assert!(&rt; shape(2, 1, &view, &post(), &Reply::NotYet) == Fit::Misfits);
+}
+
+/// A completion of the first start.
+fn take(alloc: Global) -> Result<Call, AllocError> {
+    Ok(Call::Take {
+        starts: Starts::from_slice(alloc, &[0])?,
         mode: TakeMode::All,
+    })
+}
+
+/// A message from rank 0, and whether the receive may give it.
+#[derive(Clone, Copy)]
+struct Message<'a> {
+    tag: u32,
+    ints: &'a [i32],
+    fit: Fit,
+}
+
+static MESSAGES: [Message; 4] = [
+    Message {
+        tag: 5,
+        ints: &[7],
+        fit: Fit::Fits,
+    },
+    Message {
+        tag: 5,
+        ints: &[],
+        fit: Fit::Fits,
+    },
+    Message {
+        tag: 5,
+        ints: &[7, 8],
+        fit: Fit::Misfits,
+    },
+    Message {
+        tag: 6,
+        ints: &[7],
+        fit: Fit::Misfits,
+    },
+];
+
+/// A reply that gives a message, where there is memory for it.
+fn took(alloc: Global, message: Message) -> Result<Reply, AllocError> {
+    let got = Got::Message {
+        source: 0,
+        start: 0,
+        tag: message.tag,
+        ints: Ints::from_slice(alloc, message.ints)?,
     };
-    // A message by its tag and how many ints it has, and whether the receive may give it.
-    let rows: [(u32, &[i32], Fit); 4] = [
-        (5, &[7], Fit::Fits),
-        (5, &[], Fit::Fits),
-        (5, &[7, 8], Fit::Misfits),
-        (6, &[7], Fit::Misfits),
-    ];
-    for (tag, ints, fit) in rows {
-        let ints = Ints::from_slice(alloc, ints).expect(&rt, "ints");
-        let mut items = Items::new(alloc);
-        let got = Got::Message {
-            source: 0,
-            start: 0,
-            tag,
-            ints,
-        };
-        assert!(&rt; items.push(Item { index: 0, got }).is_ok());
-        assert!(&rt; shape(2, 1, &view, &take, &Reply::Took(items)) == fit);
+    let mut items = Items::new(alloc);
+    match items.push(Item { index: 0, got }) {
+        Ok(()) => Ok(Reply::Took(items)),
+        Err(_) => Err(AllocError),
+    }
+}
+
+#[test]
+fn replies_have_the_shape_of_their_calls(rt: HostRuntime) {
+    let mut view = View::new(rt.alloc());
+    assert!(&rt; view.push((post(), Reply::Done)).is_ok());
+    let take = take(rt.alloc()).expect(&rt, "a call");
+    for message in &MESSAGES {
+        let reply = took(rt.alloc(), *message).expect(&rt, "a reply");
+        assert!(&rt; shape(2, 1, &view, &take, &reply) == message.fit);
     }
 }

@@ -86,153 +86,197 @@ fn attempt(
 }
 
 /// The events of the run in which rank 0, or rank 1 where it is true, attempts once in each of these turns.
-fn run(
-    alloc: Global,
-    zeroth: &[Step],
-    first: &[Step],
-    turns: &[bool],
-) -> Result<Vec<Short>, AllocError> {
-    let script = script_of(alloc, [zeroth, first, &[]])?;
-    let mut machine = Machine::new(alloc, &script, 2)?;
+fn run(alloc: Global, script: &Script, turns: &[bool]) -> Result<Vec<Short>, AllocError> {
+    let mut machine = Machine::new(alloc, script, 2)?;
     for turn in turns.iter() {
-        attempt(alloc, &mut machine, &script, u8::from(*turn))?;
+        attempt(alloc, &mut machine, script, u8::from(*turn))?;
     }
-    let mut events = Vec::new(alloc);
-    for event in machine.history().as_slice().iter() {
-        events.push(in_short(event))?;
-    }
-    Ok(events)
+    all_in_short(alloc, machine.history().as_slice())
 }
+
+fn all_in_short(alloc: Global, events: &[Event]) -> Result<Vec<Short>, AllocError> {
+    let mut short = Vec::new(alloc);
+    for event in events.iter() {
+        short.push(in_short(event))?;
+    }
+    Ok(short)
+}
+
+const ALL: TakeMode = TakeMode::All;
+
+const TOO_LONG: Halt = Halt::Truncated { rank: 1, start: 0 };
+
+const NOT_MADE: Halt = Halt::BadRequest { rank: 0, start: 0 };
+
+const ABORTED: Halt = Halt::Aborted { rank: 0, code: 3 };
+
+const MISMATCHED: Halt = Halt::Mismatched { rank: 1 };
+
+const TRAPPED: Halt = Halt::Trapped {
+    rank: 0,
+    fault: Fault::DivideByZero,
+};
+
+/// What the two ranks do, in whose turns, and the events.
+#[derive(Clone, Copy)]
+struct Row<'a> {
+    zeroth: &'a [Step],
+    first: &'a [Step],
+    turns: &'a [bool],
+    want: &'a [Short],
+}
+
+static RUNS: [Row; 11] = [
+    // The results of a collective are there once both ranks have entered.
+    Row {
+        zeroth: &[Step::Enter(0, Kind::Barrier), Step::Take(ALL, 0)],
+        first: &[Step::Enter(0, Kind::Barrier), Step::Take(ALL, 0)],
+        turns: &[false, false, true, false, true],
+        want: &[
+            Short::Done(0, None),
+            Short::Done(1, None),
+            Short::Joined(0),
+            Short::Joined(1),
+        ],
+    },
+    Row {
+        zeroth: &[Step::Enter(0, Kind::Dup), Step::Take(ALL, 0)],
+        first: &[Step::Enter(0, Kind::Dup), Step::Take(ALL, 0)],
+        turns: &[true, false, false, true],
+        want: &[
+            Short::Done(1, None),
+            Short::Done(0, None),
+            Short::Made(0, 1),
+            Short::Made(1, 1),
+        ],
+    },
+
+    // The second rank's collective does not agree with the first's.
+    Row {
+        zeroth: &[Step::Enter(0, Kind::Barrier), Step::Take(ALL, 0)],
+        first: &[Step::Enter(0, Kind::Dup)],
+        turns: &[false, true, false],
+        want: &[
+            Short::Done(0, None),
+            Short::Stopped(1, MISMATCHED),
+            Short::Stopped(0, MISMATCHED),
+        ],
+    },
+
+    // The message with tag 5 goes to the first of two receives that accept it.
+    Row {
+        zeroth: &[Step::Send(1, 5), Step::Send(1, 6)],
+        first: &[
+            Step::Post(Tag::Is(5), 1),
+            Step::Post(Tag::Any, 1),
+            Step::TakeTwo(ALL, 0, 1),
+        ],
+        turns: &[true, true, false, true, false, true, false, true],
+        want: &[
+            Short::Done(1, None),
+            Short::Done(1, None),
+            Short::Done(0, Some(0)),
+            Short::Done(0, Some(1)),
+            Short::Both(1, 0, 1),
+            Short::Done(0, None),
+            Short::Done(1, None),
+        ],
+    },
+
+    // A message of two ints is too long for one; then the other rank stops too.
+    Row {
+        zeroth: &[Step::SendTwo(1, 5)],
+        first: &[Step::Post(Tag::Is(5), 1), Step::Take(ALL, 0)],
+        turns: &[false, true, true, false, true],
+        want: &[
+            Short::Done(0, None),
+            Short::Done(1, Some(0)),
+            Short::Stopped(1, TOO_LONG),
+            Short::Stopped(0, TOO_LONG),
+        ],
+    },
+
+    // Both receive before anything is sent: the second that waits is stuck.
+    Row {
+        zeroth: &[Step::Post(Tag::Any, 1), Step::Take(ALL, 0)],
+        first: &[Step::Post(Tag::Any, 1), Step::Peek(Tag::Any, true)],
+        turns: &[false, true, false, true, false],
+        want: &[
+            Short::Done(0, None),
+            Short::Done(1, None),
+            Short::Stopped(1, Halt::Stuck),
+            Short::Stopped(0, Halt::Stuck),
+        ],
+    },
+
+    // A test is told that there is nothing yet.
+    Row {
+        zeroth: &[Step::Send(1, 5)],
+        first: &[
+            Step::Post(Tag::Is(5), 1),
+            Step::Take(TakeMode::TestAll, 0),
+            Step::Take(TakeMode::TestAny, 0),
+        ],
+        turns: &[true, true, false, true],
+        want: &[
+            Short::Done(1, None),
+            Short::NotYet(1),
+            Short::Done(0, Some(0)),
+            Short::Took(1, 0, 0),
+        ],
+    },
+
+    // A probe finds a message and leaves it; one that waits is answered once the message is there.
+    Row {
+        zeroth: &[Step::Send(1, 3)],
+        first: &[
+            Step::Peek(Tag::Any, false),
+            Step::Peek(Tag::Any, true),
+            Step::Post(Tag::Is(3), 1),
+            Step::Take(TakeMode::Any, 0),
+        ],
+        turns: &[true, true, false, true, true, true],
+        want: &[
+            Short::NotYet(1),
+            Short::Done(0, None),
+            Short::Peeked(1, 0, 0),
+            Short::Done(1, Some(1)),
+            Short::Took(1, 0, 0),
+        ],
+    },
+
+    // A start that was never made, an abort and a trap.
+    Row {
+        zeroth: &[Step::Take(ALL, 0)],
+        first: &[],
+        turns: &[false, true],
+        want: &[Short::Stopped(0, NOT_MADE), Short::Stopped(1, NOT_MADE)],
+    },
+    Row {
+        zeroth: &[Step::Abort(3)],
+        first: &[],
+        turns: &[true, false],
+        want: &[Short::Done(1, None), Short::Stopped(0, ABORTED)],
+    },
+    Row {
+        zeroth: &[Step::Trap(Fault::DivideByZero)],
+        first: &[],
+        turns: &[false],
+        want: &[Short::Stopped(0, TRAPPED)],
+    },
+];
 
 #[test]
 fn runs_are_made(rt: HostRuntime) -> Result<(), Fail> {
-    use Short::*;
-    let all = TakeMode::All;
-    let long = Halt::Truncated { rank: 1, start: 0 };
-    let bad = Halt::BadRequest { rank: 0, start: 0 };
-    let aborted = Halt::Aborted { rank: 0, code: 3 };
-    let trapped = Halt::Trapped {
-        rank: 0,
-        fault: Fault::DivideByZero,
-    };
-    let other = Halt::Mismatched { rank: 1 };
-    // What the ranks do, in whose turns, and the events.
-    let rows: [(&[Step], &[Step], &[bool], &[Short]); 11] = [
-        // The results of a collective are there once both ranks have entered.
-        (
-            &[Step::Enter(0, Kind::Barrier), Step::Take(all, 0)],
-            &[Step::Enter(0, Kind::Barrier), Step::Take(all, 0)],
-            &[false, false, true, false, true],
-            &[Done(0, None), Done(1, None), Joined(0), Joined(1)],
-        ),
-        (
-            &[Step::Enter(0, Kind::Dup), Step::Take(all, 0)],
-            &[Step::Enter(0, Kind::Dup), Step::Take(all, 0)],
-            &[true, false, false, true],
-            &[Done(1, None), Done(0, None), Made(0, 1), Made(1, 1)],
-        ),
-        // The second rank's collective does not agree with the first's.
-        (
-            &[Step::Enter(0, Kind::Barrier), Step::Take(all, 0)],
-            &[Step::Enter(0, Kind::Dup)],
-            &[false, true, false],
-            &[Done(0, None), Stopped(1, other), Stopped(0, other)],
-        ),
-        // The message with tag 5 goes to the first of two receives that accept it.
-        (
-            &[Step::Send(1, 5), Step::Send(1, 6)],
-            &[
-                Step::Post(Tag::Is(5), 1),
-                Step::Post(Tag::Any, 1),
-                Step::TakeTwo(all, 0, 1),
-            ],
-            &[true, true, false, true, false, true, false, true],
-            &[
-                Done(1, None),
-                Done(1, None),
-                Done(0, Some(0)),
-                Done(0, Some(1)),
-                Both(1, 0, 1),
-                Done(0, None),
-                Done(1, None),
-            ],
-        ),
-        // A message of two ints is too long for one; then the other rank stops too.
-        (
-            &[Step::SendTwo(1, 5)],
-            &[Step::Post(Tag::Is(5), 1), Step::Take(all, 0)],
-            &[false, true, true, false, true],
-            &[
-                Done(0, None),
-                Done(1, Some(0)),
-                Stopped(1, long),
-                Stopped(0, long),
-            ],
-        ),
-        // Both receive before anything is sent: the second that waits is stuck.
-        (
-            &[Step::Post(Tag::Any, 1), Step::Take(all, 0)],
-            &[Step::Post(Tag::Any, 1), Step::Peek(Tag::Any, true)],
-            &[false, true, false, true, false],
-            &[
-                Done(0, None),
-                Done(1, None),
-                Stopped(1, Halt::Stuck),
-                Stopped(0, Halt::Stuck),
-            ],
-        ),
-        // A test is told that there is nothing yet.
-        (
-            &[Step::Send(1, 5)],
-            &[
-                Step::Post(Tag::Is(5), 1),
-                Step::Take(TakeMode::TestAll, 0),
-                Step::Take(TakeMode::TestAny, 0),
-            ],
-            &[true, true, false, true],
-            &[Done(1, None), NotYet(1), Done(0, Some(0)), Took(1, 0, 0)],
-        ),
-        // A probe finds a message and leaves it; one that waits is answered once the message is there.
-        (
-            &[Step::Send(1, 3)],
-            &[
-                Step::Peek(Tag::Any, false),
-                Step::Peek(Tag::Any, true),
-                Step::Post(Tag::Is(3), 1),
-                Step::Take(TakeMode::Any, 0),
-            ],
-            &[true, true, false, true, true, true],
-            &[
-                NotYet(1),
-                Done(0, None),
-                Peeked(1, 0, 0),
-                Done(1, Some(1)),
-                Took(1, 0, 0),
-            ],
-        ),
-        // A start that was never made, an abort and a trap.
-        (
-            &[Step::Take(all, 0)],
-            &[],
-            &[false, true],
-            &[Stopped(0, bad), Stopped(1, bad)],
-        ),
-        (
-            &[Step::Abort(3)],
-            &[],
-            &[true, false],
-            &[Done(1, None), Stopped(0, aborted)],
-        ),
-        (
-            &[Step::Trap(Fault::DivideByZero)],
-            &[],
-            &[false],
-            &[Stopped(0, trapped)],
-        ),
-    ];
-    for at in 0..rows.len() {
-        let (zero, one, turns, want) = rows[at];
-        let events = run(rt.alloc(), zero, one, turns)?;
+    for at in 0..RUNS.len() {
+        let Row {
+            zeroth,
+            first,
+            turns,
+            want,
+        } = RUNS[at];
+        let script = script_of(rt.alloc(), [zeroth, first, &[]])?;
+        let events = run(rt.alloc(), &script, turns)?;
         assert_eq!(rt; events.as_slice(), want, "{at}");
     }
     Ok(())

@@ -60,32 +60,98 @@ fn answer(
     }
 }
 
+/// Who, what it does, and the position of the partner or of the message that a probe finds.
+#[derive(Clone, Copy)]
+struct Row {
+    rank: u8,
+    step: Step,
+    want: Option<u32>,
+}
+
+static STEPS: [Row; 14] = [
+    // The message with tag 5 goes to the first of two receives that accept it.
+    Row {
+        rank: 1,
+        step: Step::Post(Source::Any, Tag::Is(5)),
+        want: None,
+    },
+    Row {
+        rank: 1,
+        step: Step::Post(Source::From(0), Tag::Any),
+        want: None,
+    },
+    Row {
+        rank: 0,
+        step: Step::Send(1, 5),
+        want: Some(0),
+    },
+    Row {
+        rank: 0,
+        step: Step::Send(1, 6),
+        want: Some(1),
+    },
+
+    // Messages with tags 1 and 2 are received in the other order.
+    Row {
+        rank: 0,
+        step: Step::Send(1, 1),
+        want: None,
+    },
+    Row {
+        rank: 0,
+        step: Step::Send(1, 2),
+        want: None,
+    },
+    Row {
+        rank: 1,
+        step: Step::Post(Source::From(0), Tag::Is(2)),
+        want: Some(5),
+    },
+    Row {
+        rank: 1,
+        step: Step::Post(Source::From(0), Tag::Is(1)),
+        want: Some(4),
+    },
+
+    // A probe finds a message and leaves it; a wildcard receive takes a sender's first message.
+    Row {
+        rank: 1,
+        step: Step::Peek(Source::Any, Tag::Any),
+        want: None,
+    },
+    Row {
+        rank: 0,
+        step: Step::Send(1, 3),
+        want: None,
+    },
+    Row {
+        rank: 0,
+        step: Step::Send(1, 3),
+        want: None,
+    },
+    Row {
+        rank: 1,
+        step: Step::Peek(Source::Any, Tag::Any),
+        want: Some(9),
+    },
+    Row {
+        rank: 1,
+        step: Step::Post(Source::Null, Tag::Any),
+        want: None,
+    },
+    Row {
+        rank: 1,
+        step: Step::Post(Source::Any, Tag::Any),
+        want: Some(9),
+    },
+];
+
 #[test]
 fn sends_meet_receives(rt: HostRuntime) -> Result<(), Fail> {
     let alloc = rt.alloc();
     let mut matcher = Matcher::new(alloc);
-    // Who, what it does, and the position of the partner or of the message that a probe finds.
-    let rows = [
-        // The message with tag 5 goes to the first of two receives that accept it.
-        (1, Step::Post(Source::Any, Tag::Is(5)), None),
-        (1, Step::Post(Source::From(0), Tag::Any), None),
-        (0, Step::Send(1, 5), Some(0)),
-        (0, Step::Send(1, 6), Some(1)),
-        // Messages with tags 1 and 2 are received in the other order.
-        (0, Step::Send(1, 1), None),
-        (0, Step::Send(1, 2), None),
-        (1, Step::Post(Source::From(0), Tag::Is(2)), Some(5)),
-        (1, Step::Post(Source::From(0), Tag::Is(1)), Some(4)),
-        // A probe finds a message and leaves it; a wildcard receive takes a sender's first message.
-        (1, Step::Peek(Source::Any, Tag::Any), None),
-        (0, Step::Send(1, 3), None),
-        (0, Step::Send(1, 3), None),
-        (1, Step::Peek(Source::Any, Tag::Any), Some(9)),
-        (1, Step::Post(Source::Null, Tag::Any), None),
-        (1, Step::Post(Source::Any, Tag::Any), Some(9)),
-    ];
-    for at in 0..rows.len() {
-        let (rank, step, want) = rows[at];
+    for at in 0..STEPS.len() {
+        let Row { rank, step, want } = STEPS[at];
         let got = answer(alloc, &mut matcher, at as u32, rank, step)?;
         assert_eq!(rt; got, want, "{at}");
     }

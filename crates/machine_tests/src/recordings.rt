@@ -151,397 +151,578 @@ fn are_printed(outputs: &[Bytes]) -> bool {
     true
 }
 
-/// What is wanted of a run: the order of its events, the entries of each rank in its log, and how it ends.
+/// What the ranks do by a plan and turns, the order of the events, the entries of each rank in its log, and how the run ends.
 #[derive(Clone, Copy)]
-struct Wanted<'a> {
+struct Row<'a> {
+    steps: [&'a [Step]; 3],
+    plan: &'a [u8],
+    turns: &'a [u8],
     order: &'a [u8],
     entries: &'a [Short],
     ending: Ending,
 }
 
-/// The order of a recording's events, where all is as wanted.
-fn check(
-    rt: &(impl Abort + AllocGlobal),
-    recording: &Recording,
-    wanted: Wanted<'_>,
-) -> Result<Vec<u8>, Fail> {
+/// The recording is as the row says.
+fn check(rt: &(impl Abort + AllocGlobal), recording: &Recording, row: &Row) -> Result<(), Fail> {
     let order = order_of(rt.alloc(), recording)?;
-    assert_eq!(rt; order.as_slice(), wanted.order);
-    let entries = entries_in(rt.alloc(), recording.logs.as_slice())?;
-    assert_eq!(rt; entries.as_slice(), wanted.entries);
-    assert_eq!(rt; recording.ending, wanted.ending);
+    assert_eq!(rt; order.as_slice(), row.order);
+    check_entries(rt, recording.logs.as_slice(), row.entries)?;
+    assert_eq!(rt; recording.ending, row.ending);
     assert!(rt; are_printed(recording.outputs.as_slice()));
-    Ok(order)
+    Ok(())
 }
+
+fn check_entries(
+    rt: &(impl Abort + AllocGlobal),
+    logs: &[Log],
+    want: &[Short],
+) -> Result<(), Fail> {
+    let entries = entries_in(rt.alloc(), logs)?;
+    assert_eq!(rt; entries.as_slice(), want);
+    Ok(())
+}
+
+fn check_row(rt: &(impl Abort + AllocGlobal), row: &Row) -> Result<(), Fail> {
+    let script = script_of(rt.alloc(), row.steps)?;
+    let plan = read_plan(rt.alloc(), row.plan).expect(rt, "a plan");
+    check_recordings(rt, &script, &plan, row)
+}
+
+/// The recording by the row's turns is as it says, and so is that by the written order.
+fn check_recordings(
+    rt: &(impl Abort + AllocGlobal),
+    script: &Script,
+    plan: &Plan,
+    row: &Row,
+) -> Result<(), Fail> {
+    check_turns(rt, script, plan, row.turns, row)?;
+    if row.turns.is_empty() {
+        check(rt, &finish(rt.alloc(), script, plan)?, row)?;
+    }
+    // The written order makes the same run again, where no rank was stuck.
+    if row.ending != Ending::Halted(Halt::Stuck) {
+        check_turns(rt, script, plan, row.order, row)?;
+    }
+    Ok(())
+}
+
+fn check_turns(
+    rt: &(impl Abort + AllocGlobal),
+    script: &Script,
+    plan: &Plan,
+    turns: &[u8],
+    row: &Row,
+) -> Result<(), Fail> {
+    check(rt, &record(rt.alloc(), script, plan, turns)?, row)
+}
+
+const ALL: TakeMode = TakeMode::All;
+
+const TEST: TakeMode = TakeMode::TestAll;
+
+const TRAPPED: Halt = Halt::Trapped {
+    rank: 0,
+    fault: Fault::BadRank,
+};
+
+const MISMATCHED: Halt = Halt::Mismatched { rank: 1 };
+
+static RUNS: [Row; 14] = [
+    // One message inside a group. Rank 1's second turn makes no event.
+    Row {
+        steps: [
+            &[Step::Send(1, 5)],
+            &[Step::Post(Tag::Is(5), 1), Step::Take(ALL, 0)],
+            &[],
+        ],
+        plan: b"0 1\n",
+        turns: &[1, 1],
+        order: &[1, 0, 1, 0, 1],
+        entries: &[
+            Short::Sent,
+            Short::Ended,
+            Short::Posted,
+            Short::Inside(0, 0),
+            Short::Ended,
+        ],
+        ending: Ending::Finished,
+    },
+
+    // The same message between two groups, without turns.
+    Row {
+        steps: [
+            &[Step::Send(1, 5)],
+            &[Step::Post(Tag::Is(5), 1), Step::Take(ALL, 0)],
+            &[],
+        ],
+        plan: b"0\n1\n",
+        turns: &[],
+        order: &[0, 1, 0, 1, 1],
+        entries: &[
+            Short::Sent,
+            Short::Ended,
+            Short::Posted,
+            Short::Outside(0, 0, 5, 7),
+            Short::Ended,
+        ],
+        ending: Ending::Finished,
+    },
+
+    // Both receive before anything is sent.
+    Row {
+        steps: [
+            &[Step::Post(Tag::Is(5), 1), Step::Take(ALL, 0)],
+            &[Step::Post(Tag::Is(5), 1), Step::Take(ALL, 0)],
+            &[],
+        ],
+        plan: b"0 1\n",
+        turns: &[],
+        order: &[0, 1, 1, 0],
+        entries: &[
+            Short::Posted,
+            Short::Stopped(Halt::Stuck),
+            Short::Posted,
+            Short::Stopped(Halt::Stuck),
+        ],
+        ending: Ending::Halted(Halt::Stuck),
+    },
+
+    // Tags are received against their order.
+    Row {
+        steps: [
+            &[Step::Send(1, 1), Step::Send(1, 2)],
+            &[
+                Step::Post(Tag::Is(2), 1),
+                Step::Take(ALL, 0),
+                Step::Post(Tag::Is(1), 1),
+                Step::Take(ALL, 1),
+            ],
+            &[],
+        ],
+        plan: b"0 1\n",
+        turns: &[],
+        order: &[0, 1, 0, 1, 0, 1, 1, 1],
+        entries: &[
+            Short::Sent,
+            Short::Sent,
+            Short::Ended,
+            Short::Posted,
+            Short::Inside(0, 1),
+            Short::Posted,
+            Short::Inside(0, 0),
+            Short::Ended,
+        ],
+        ending: Ending::Finished,
+    },
+
+    // A message to oneself.
+    Row {
+        steps: [
+            &[
+                Step::Send(0, 5),
+                Step::Post(Tag::Is(5), 1),
+                Step::Take(ALL, 1),
+            ],
+            &[],
+            &[],
+        ],
+        plan: b"0\n",
+        turns: &[],
+        order: &[0, 0, 0, 0],
+        entries: &[
+            Short::Sent,
+            Short::Posted,
+            Short::Inside(0, 0),
+            Short::Ended,
+        ],
+        ending: Ending::Finished,
+    },
+
+    // A send to a rank that is not there.
+    Row {
+        steps: [
+            &[Step::Send(2, 5)],
+            &[Step::Post(Tag::Is(5), 1), Step::Take(ALL, 0)],
+            &[],
+        ],
+        plan: b"0 1\n",
+        turns: &[],
+        order: &[0, 1],
+        entries: &[Short::Stopped(TRAPPED), Short::Stopped(TRAPPED)],
+        ending: Ending::Halted(TRAPPED),
+    },
+
+    // A barrier inside a group, then a copy of the world.
+    Row {
+        steps: [
+            &[
+                Step::Enter(0, Kind::Barrier),
+                Step::Take(ALL, 0),
+                Step::Enter(0, Kind::Dup),
+                Step::Take(ALL, 1),
+            ],
+            &[
+                Step::Enter(0, Kind::Barrier),
+                Step::Take(ALL, 0),
+                Step::Enter(0, Kind::Dup),
+                Step::Take(ALL, 1),
+            ],
+            &[],
+        ],
+        plan: b"0 1\n",
+        turns: &[1],
+        order: &[1, 0, 1, 0, 1, 0, 1, 0, 1, 0],
+        entries: &[
+            Short::Entered,
+            Short::Inner,
+            Short::Entered,
+            Short::Made(1),
+            Short::Ended,
+            Short::Entered,
+            Short::Inner,
+            Short::Entered,
+            Short::Made(1),
+            Short::Ended,
+        ],
+        ending: Ending::Finished,
+    },
+
+    // A barrier across groups.
+    Row {
+        steps: [
+            &[Step::Enter(0, Kind::Barrier), Step::Take(ALL, 0)],
+            &[Step::Enter(0, Kind::Barrier), Step::Take(ALL, 0)],
+            &[],
+        ],
+        plan: b"0\n1\n",
+        turns: &[],
+        order: &[0, 1, 0, 1, 0, 1],
+        entries: &[
+            Short::Entered,
+            Short::Outer,
+            Short::Ended,
+            Short::Entered,
+            Short::Outer,
+            Short::Ended,
+        ],
+        ending: Ending::Finished,
+    },
+
+    // Two collectives that do not agree.
+    Row {
+        steps: [
+            &[Step::Enter(0, Kind::Barrier), Step::Take(ALL, 0)],
+            &[Step::Enter(0, Kind::Dup), Step::Take(ALL, 0)],
+            &[],
+        ],
+        plan: b"0 1\n",
+        turns: &[],
+        order: &[0, 1, 0],
+        entries: &[
+            Short::Entered,
+            Short::Stopped(MISMATCHED),
+            Short::Stopped(MISMATCHED),
+        ],
+        ending: Ending::Halted(MISMATCHED),
+    },
+
+    // Two wildcard receives of two senders: the later rank sends first.
+    Row {
+        steps: [
+            &[
+                Step::Post(Tag::Is(9), 1),
+                Step::Take(ALL, 0),
+                Step::Post(Tag::Is(9), 1),
+                Step::Take(ALL, 1),
+            ],
+            &[Step::Send(0, 9)],
+            &[Step::Send(0, 9)],
+        ],
+        plan: b"0-2\n",
+        turns: &[2],
+        order: &[2, 0, 1, 2, 0, 1, 0, 0, 0],
+        entries: &[
+            Short::Posted,
+            Short::Inside(2, 0),
+            Short::Posted,
+            Short::Inside(1, 0),
+            Short::Ended,
+            Short::Sent,
+            Short::Ended,
+            Short::Sent,
+            Short::Ended,
+        ],
+        ending: Ending::Finished,
+    },
+
+    // The same in the other order.
+    Row {
+        steps: [
+            &[
+                Step::Post(Tag::Is(9), 1),
+                Step::Take(ALL, 0),
+                Step::Post(Tag::Is(9), 1),
+                Step::Take(ALL, 1),
+            ],
+            &[Step::Send(0, 9)],
+            &[Step::Send(0, 9)],
+        ],
+        plan: b"0-2\n",
+        turns: &[1],
+        order: &[1, 0, 1, 2, 0, 2, 0, 0, 0],
+        entries: &[
+            Short::Posted,
+            Short::Inside(1, 0),
+            Short::Posted,
+            Short::Inside(2, 0),
+            Short::Ended,
+            Short::Sent,
+            Short::Ended,
+            Short::Sent,
+            Short::Ended,
+        ],
+        ending: Ending::Finished,
+    },
+
+    // Tests until the message is there.
+    Row {
+        steps: [
+            &[
+                Step::Post(Tag::Is(5), 1),
+                Step::Take(TEST, 0),
+                Step::Take(TEST, 0),
+                Step::Take(TEST, 0),
+            ],
+            &[Step::Send(0, 5)],
+            &[],
+        ],
+        plan: b"0 1\n",
+        turns: &[0, 0],
+        order: &[0, 0, 0, 1, 0, 1, 0],
+        entries: &[
+            Short::Posted,
+            Short::NotYet,
+            Short::NotYet,
+            Short::Inside(1, 0),
+            Short::Ended,
+            Short::Sent,
+            Short::Ended,
+        ],
+        ending: Ending::Finished,
+    },
+
+    // The second of two receives is complete.
+    Row {
+        steps: [
+            &[
+                Step::Post(Tag::Is(1), 1),
+                Step::Post(Tag::Is(2), 1),
+                Step::TakeTwo(TakeMode::Any, 0, 1),
+            ],
+            &[Step::Send(0, 2)],
+            &[],
+        ],
+        plan: b"0 1\n",
+        turns: &[],
+        order: &[0, 1, 0, 1, 0, 0],
+        entries: &[
+            Short::Posted,
+            Short::Posted,
+            Short::Second(1, 0),
+            Short::Ended,
+            Short::Sent,
+            Short::Ended,
+        ],
+        ending: Ending::Finished,
+    },
+
+    // A probe waits for the message and leaves it.
+    Row {
+        steps: [
+            &[
+                Step::Peek(Tag::Is(5), true),
+                Step::Post(Tag::Is(5), 1),
+                Step::Take(ALL, 0),
+            ],
+            &[Step::Send(0, 5)],
+            &[],
+        ],
+        plan: b"0 1\n",
+        turns: &[],
+        order: &[1, 0, 1, 0, 0, 0],
+        entries: &[
+            Short::Found(1, 0),
+            Short::Posted,
+            Short::Inside(1, 0),
+            Short::Ended,
+            Short::Sent,
+            Short::Ended,
+        ],
+        ending: Ending::Finished,
+    },
+];
 
 #[test]
 fn runs_are_recorded(rt: HostRuntime) -> Result<(), Fail> {
-    use Short::*;
-    use Step::*;
-    let all = TakeMode::All;
-    let test = TakeMode::TestAll;
-    let trapped = Halt::Trapped {
-        rank: 0,
-        fault: Fault::BadRank,
-    };
-    let mismatched = Halt::Mismatched { rank: 1 };
-    // What the ranks do, the plan, the turns, the order of the events, the entries, and how the run ends.
-    let rows: [(&[Step], &[Step], &[u8], &[u8], &[u8], &[Short], Ending); 14] = [
-        // One message inside a group. Rank 1's second turn makes no event.
-        (
-            &[Send(1, 5)],
-            &[Post(Tag::Is(5), 1), Take(all, 0)],
-            b"0 1\n",
-            &[1, 1],
-            &[1, 0, 1, 0, 1],
-            &[Sent, Ended, Posted, Inside(0, 0), Ended],
-            Ending::Finished,
-        ),
-        // The same message between two groups, without turns.
-        (
-            &[Send(1, 5)],
-            &[Post(Tag::Is(5), 1), Take(all, 0)],
-            b"0\n1\n",
-            &[],
-            &[0, 1, 0, 1, 1],
-            &[Sent, Ended, Posted, Outside(0, 0, 5, 7), Ended],
-            Ending::Finished,
-        ),
-        // Both receive before anything is sent.
-        (
-            &[Post(Tag::Is(5), 1), Take(all, 0)],
-            &[Post(Tag::Is(5), 1), Take(all, 0)],
-            b"0 1\n",
-            &[],
-            &[0, 1, 1, 0],
-            &[Posted, Stopped(Halt::Stuck), Posted, Stopped(Halt::Stuck)],
-            Ending::Halted(Halt::Stuck),
-        ),
-        // Tags are received against their order.
-        (
-            &[Send(1, 1), Send(1, 2)],
-            &[
-                Post(Tag::Is(2), 1),
-                Take(all, 0),
-                Post(Tag::Is(1), 1),
-                Take(all, 1),
-            ],
-            b"0 1\n",
-            &[],
-            &[0, 1, 0, 1, 0, 1, 1, 1],
-            &[
-                Sent,
-                Sent,
-                Ended,
-                Posted,
-                Inside(0, 1),
-                Posted,
-                Inside(0, 0),
-                Ended,
-            ],
-            Ending::Finished,
-        ),
-        // A message to oneself.
-        (
-            &[Send(0, 5), Post(Tag::Is(5), 1), Take(all, 1)],
-            &[],
-            b"0\n",
-            &[],
-            &[0, 0, 0, 0],
-            &[Sent, Posted, Inside(0, 0), Ended],
-            Ending::Finished,
-        ),
-        // A send to a rank that is not there.
-        (
-            &[Send(2, 5)],
-            &[Post(Tag::Is(5), 1), Take(all, 0)],
-            b"0 1\n",
-            &[],
-            &[0, 1],
-            &[Stopped(trapped), Stopped(trapped)],
-            Ending::Halted(trapped),
-        ),
-        // A barrier inside a group, then a copy of the world.
-        (
-            &[
-                Enter(0, Kind::Barrier),
-                Take(all, 0),
-                Enter(0, Kind::Dup),
-                Take(all, 1),
-            ],
-            &[
-                Enter(0, Kind::Barrier),
-                Take(all, 0),
-                Enter(0, Kind::Dup),
-                Take(all, 1),
-            ],
-            b"0 1\n",
-            &[1],
-            &[1, 0, 1, 0, 1, 0, 1, 0, 1, 0],
-            &[
-                Entered,
-                Inner,
-                Entered,
-                Made(1),
-                Ended,
-                Entered,
-                Inner,
-                Entered,
-                Made(1),
-                Ended,
-            ],
-            Ending::Finished,
-        ),
-        // A barrier across groups.
-        (
-            &[Enter(0, Kind::Barrier), Take(all, 0)],
-            &[Enter(0, Kind::Barrier), Take(all, 0)],
-            b"0\n1\n",
-            &[],
-            &[0, 1, 0, 1, 0, 1],
-            &[Entered, Outer, Ended, Entered, Outer, Ended],
-            Ending::Finished,
-        ),
-        // Two collectives that do not agree.
-        (
-            &[Enter(0, Kind::Barrier), Take(all, 0)],
-            &[Enter(0, Kind::Dup), Take(all, 0)],
-            b"0 1\n",
-            &[],
-            &[0, 1, 0],
-            &[Entered, Stopped(mismatched), Stopped(mismatched)],
-            Ending::Halted(mismatched),
-        ),
-        // Two wildcard receives of two senders: the later rank sends first.
-        (
-            &[
-                Post(Tag::Is(9), 1),
-                Take(all, 0),
-                Post(Tag::Is(9), 1),
-                Take(all, 1),
-            ],
-            &[Send(0, 9)],
-            b"0-2\n",
-            &[2],
-            &[2, 0, 1, 2, 0, 1, 0, 0, 0],
-            &[
-                Posted,
-                Inside(2, 0),
-                Posted,
-                Inside(1, 0),
-                Ended,
-                Sent,
-                Ended,
-                Sent,
-                Ended,
-            ],
-            Ending::Finished,
-        ),
-        // The same in the other order.
-        (
-            &[
-                Post(Tag::Is(9), 1),
-                Take(all, 0),
-                Post(Tag::Is(9), 1),
-                Take(all, 1),
-            ],
-            &[Send(0, 9)],
-            b"0-2\n",
-            &[1],
-            &[1, 0, 1, 2, 0, 2, 0, 0, 0],
-            &[
-                Posted,
-                Inside(1, 0),
-                Posted,
-                Inside(2, 0),
-                Ended,
-                Sent,
-                Ended,
-                Sent,
-                Ended,
-            ],
-            Ending::Finished,
-        ),
-        // Tests until the message is there.
-        (
-            &[
-                Post(Tag::Is(5), 1),
-                Take(test, 0),
-                Take(test, 0),
-                Take(test, 0),
-            ],
-            &[Send(0, 5)],
-            b"0 1\n",
-            &[0, 0],
-            &[0, 0, 0, 1, 0, 1, 0],
-            &[Posted, NotYet, NotYet, Inside(1, 0), Ended, Sent, Ended],
-            Ending::Finished,
-        ),
-        // The second of two receives is complete.
-        (
-            &[
-                Post(Tag::Is(1), 1),
-                Post(Tag::Is(2), 1),
-                TakeTwo(TakeMode::Any, 0, 1),
-            ],
-            &[Send(0, 2)],
-            b"0 1\n",
-            &[],
-            &[0, 1, 0, 1, 0, 0],
-            &[Posted, Posted, Second(1, 0), Ended, Sent, Ended],
-            Ending::Finished,
-        ),
-        // A probe waits for the message and leaves it.
-        (
-            &[Peek(Tag::Is(5), true), Post(Tag::Is(5), 1), Take(all, 0)],
-            &[Send(0, 5)],
-            b"0 1\n",
-            &[],
-            &[1, 0, 1, 0, 0, 0],
-            &[Found(1, 0), Posted, Inside(1, 0), Ended, Sent, Ended],
-            Ending::Finished,
-        ),
-    ];
-    for at in 0..rows.len() {
-        let (zeroth, others, plan, turns, order, entries, ending) = rows[at];
-        let wanted = Wanted {
-            order,
-            entries,
-            ending,
-        };
-        check_row(&rt, [zeroth, others, others], plan, turns, wanted)?;
+    for row in &RUNS {
+        check_row(&rt, row)?;
     }
     Ok(())
 }
 
-/// The recording of these steps by a plan and turns is as wanted, and so is that by the written order.
-fn check_row(
-    rt: &(impl Abort + AllocGlobal),
-    steps: [&[Step]; 3],
-    plan: &[u8],
-    turns: &[u8],
-    wanted: Wanted<'_>,
-) -> Result<(), Fail> {
-    let script = script_of(rt.alloc(), steps)?;
-    let plan = read_plan(rt.alloc(), plan).expect(rt, "a plan");
-    let recording = record(rt.alloc(), &script, &plan, turns)?;
-    let made = check(rt, &recording, wanted)?;
-    if turns.is_empty() {
-        check(rt, &finish(rt.alloc(), &script, &plan)?, wanted)?;
-    }
-    // The written order makes the same run again, where no rank was stuck.
-    if wanted.ending != Ending::Halted(Halt::Stuck) {
-        let again = record(rt.alloc(), &script, &plan, made.as_slice())?;
-        check(rt, &again, wanted)?;
-    }
-    Ok(())
-}
+/// `MPI_UNDEFINED`
+const UNDEFINED: i32 = -32_766;
+
+const APART: Short = Short::MadeOutside(1, 0, Some(2));
+
+const LOW: Short = Short::MadeOutside(2, 0, Some(1));
+
+const HIGH: Short = Short::MadeOutside(1, 2, None);
+
+static SPLITS: [Row; 4] = [
+    // Rank 1 gets no communicator of a split.
+    Row {
+        steps: [
+            &[Step::Split(1), Step::Take(ALL, 0)],
+            &[Step::Split(UNDEFINED), Step::Take(ALL, 0)],
+            &[Step::Split(1), Step::Take(ALL, 0)],
+        ],
+        plan: b"0-2\n",
+        turns: &[],
+        order: &[0, 1, 2, 0, 1, 2, 0, 1, 2],
+        entries: &[
+            Short::Entered,
+            Short::Made(1),
+            Short::Ended,
+            Short::Entered,
+            Short::Made(0),
+            Short::Ended,
+            Short::Entered,
+            Short::Made(1),
+            Short::Ended,
+        ],
+        ending: Ending::Finished,
+    },
+
+    // The same in three groups.
+    Row {
+        steps: [
+            &[Step::Split(1), Step::Take(ALL, 0)],
+            &[Step::Split(UNDEFINED), Step::Take(ALL, 0)],
+            &[Step::Split(1), Step::Take(ALL, 0)],
+        ],
+        plan: b"0\n1\n2\n",
+        turns: &[],
+        order: &[0, 1, 2, 0, 1, 2, 0, 1, 2],
+        entries: &[
+            Short::Entered,
+            APART,
+            Short::Ended,
+            Short::Entered,
+            Short::Made(0),
+            Short::Ended,
+            Short::Entered,
+            APART,
+            Short::Ended,
+        ],
+        ending: Ending::Finished,
+    },
+
+    // Communicators are numbered by colours, and a barrier on the new one is inside each group.
+    Row {
+        steps: [
+            &[
+                Step::Split(1),
+                Step::Take(ALL, 0),
+                Step::Enter(2, Kind::Barrier),
+                Step::Take(ALL, 1),
+            ],
+            &[
+                Step::Split(1),
+                Step::Take(ALL, 0),
+                Step::Enter(2, Kind::Barrier),
+                Step::Take(ALL, 1),
+            ],
+            &[
+                Step::Split(0),
+                Step::Take(ALL, 0),
+                Step::Enter(1, Kind::Barrier),
+                Step::Take(ALL, 1),
+            ],
+        ],
+        plan: b"0 1\n2\n",
+        turns: &[],
+        order: &[0, 1, 2, 0, 1, 2, 0, 1, 2, 0, 1, 2, 0, 1, 2],
+        entries: &[
+            Short::Entered,
+            LOW,
+            Short::Entered,
+            Short::Inner,
+            Short::Ended,
+            Short::Entered,
+            LOW,
+            Short::Entered,
+            Short::Inner,
+            Short::Ended,
+            Short::Entered,
+            HIGH,
+            Short::Entered,
+            Short::Inner,
+            Short::Ended,
+        ],
+        ending: Ending::Finished,
+    },
+
+    // A broadcast needs its root alone, a sum all.
+    Row {
+        steps: [
+            &[
+                Step::Cast(Some(5)),
+                Step::Take(ALL, 0),
+                Step::Sum(1),
+                Step::Take(ALL, 1),
+            ],
+            &[
+                Step::Cast(None),
+                Step::Take(ALL, 0),
+                Step::Sum(2),
+                Step::Take(ALL, 1),
+            ],
+            &[
+                Step::Cast(None),
+                Step::Take(ALL, 0),
+                Step::Sum(3),
+                Step::Take(ALL, 1),
+            ],
+        ],
+        plan: b"0 1\n2\n",
+        turns: &[],
+        order: &[0, 1, 2, 0, 1, 2, 0, 1, 2, 0, 1, 2, 0, 1, 2],
+        entries: &[
+            Short::Entered,
+            Short::Inner,
+            Short::Entered,
+            Short::OuterOf(6),
+            Short::Ended,
+            Short::Entered,
+            Short::Inner,
+            Short::Entered,
+            Short::OuterOf(6),
+            Short::Ended,
+            Short::Entered,
+            Short::OuterOf(5),
+            Short::Entered,
+            Short::OuterOf(6),
+            Short::Ended,
+        ],
+        ending: Ending::Finished,
+    },
+];
 
 #[test]
 fn splits_are_recorded(rt: HostRuntime) -> Result<(), Fail> {
-    use Short::*;
-    use Step::*;
-    let all = TakeMode::All;
-    let barrier = Kind::Barrier;
-    // `MPI_UNDEFINED`
-    let undefined = -32_766;
-    let apart = MadeOutside(1, 0, Some(2));
-    let low = MadeOutside(2, 0, Some(1));
-    let high = MadeOutside(1, 2, None);
-    // What the three ranks do, the plan, the order of the events, and the entries.
-    let rows: [([&[Step]; 3], &[u8], &[u8], &[Short]); 4] = [
-        // Rank 1 gets no communicator of a split.
-        (
-            [
-                &[Split(1), Take(all, 0)],
-                &[Split(undefined), Take(all, 0)],
-                &[Split(1), Take(all, 0)],
-            ],
-            b"0-2\n",
-            &[0, 1, 2, 0, 1, 2, 0, 1, 2],
-            &[
-                Entered,
-                Made(1),
-                Ended,
-                Entered,
-                Made(0),
-                Ended,
-                Entered,
-                Made(1),
-                Ended,
-            ],
-        ),
-        // The same in three groups.
-        (
-            [
-                &[Split(1), Take(all, 0)],
-                &[Split(undefined), Take(all, 0)],
-                &[Split(1), Take(all, 0)],
-            ],
-            b"0\n1\n2\n",
-            &[0, 1, 2, 0, 1, 2, 0, 1, 2],
-            &[
-                Entered,
-                apart,
-                Ended,
-                Entered,
-                Made(0),
-                Ended,
-                Entered,
-                apart,
-                Ended,
-            ],
-        ),
-        // Communicators are numbered by colours, and a barrier on the new one is inside each group.
-        (
-            [
-                &[Split(1), Take(all, 0), Enter(2, barrier), Take(all, 1)],
-                &[Split(1), Take(all, 0), Enter(2, barrier), Take(all, 1)],
-                &[Split(0), Take(all, 0), Enter(1, barrier), Take(all, 1)],
-            ],
-            b"0 1\n2\n",
-            &[0, 1, 2, 0, 1, 2, 0, 1, 2, 0, 1, 2, 0, 1, 2],
-            &[
-                Entered, low, Entered, Inner, Ended, Entered, low, Entered, Inner, Ended, Entered,
-                high, Entered, Inner, Ended,
-            ],
-        ),
-        // A broadcast needs its root alone, a sum all.
-        (
-            [
-                &[Cast(Some(5)), Take(all, 0), Sum(1), Take(all, 1)],
-                &[Cast(None), Take(all, 0), Sum(2), Take(all, 1)],
-                &[Cast(None), Take(all, 0), Sum(3), Take(all, 1)],
-            ],
-            b"0 1\n2\n",
-            &[0, 1, 2, 0, 1, 2, 0, 1, 2, 0, 1, 2, 0, 1, 2],
-            &[
-                Entered,
-                Inner,
-                Entered,
-                OuterOf(6),
-                Ended,
-                Entered,
-                Inner,
-                Entered,
-                OuterOf(6),
-                Ended,
-                Entered,
-                OuterOf(5),
-                Entered,
-                OuterOf(6),
-                Ended,
-            ],
-        ),
-    ];
-    for at in 0..rows.len() {
-        let (steps, plan, order, entries) = rows[at];
-        let wanted = Wanted {
-            order,
-            entries,
-            ending: Ending::Finished,
-        };
-        check_row(&rt, steps, plan, &[], wanted)?;
+    for row in &SPLITS {
+        check_row(&rt, row)?;
     }
     Ok(())
 }

@@ -1,5 +1,5 @@
 //! Starts and their completions, on worked examples.
-ghost use Rattle.std.specs.Prelude.{◌≡◌, ◌+◌, ◌<◌, [], None, true, IsTrue, OnOk};
+ghost use Rattle.std.specs.Prelude.{◌≡◌, ◌+◌, ◌<◌, ◌^◌, [], None, true, IsTrue, OnOk, length};
 ghost use Rattle.std.specs.List.{range_with_len};
 ghost use Rattle.mpi_call.specs.declared.call.Call.TheVariants.{Enter};
 ghost use Rattle.mpi_call.specs.Calls.{comm_of, is_enter};
@@ -12,6 +12,7 @@ use mpi_call::lists::{Ints, Starts};
 use mpi_call::reply::{Got, Item};
 use requests::requests::{Readiness, Requests, Started, TakeAnswer};
 use std::alloc::{AllocError, Global};
+use std::process::Abort;
 use std::rt::HostRuntime;
 use std::test::Fail;
 
@@ -243,96 +244,158 @@ fn step_at(
     }
 }
 
-#[test]
-fn starts_are_completed(rt: HostRuntime) -> Result<(), Fail> {
+/// What a rank does, and what is answered; the position is the row's.
+#[derive(Clone, Copy)]
+struct Row {
+    rank: u8,
+    step: Step,
+    want: Answer,
+}
+
+/// The starts after the rows of a table, each answered as it says.
+fn started(rt: &(impl Abort + AllocGlobal), rows: &[Row]) -> Result<Requests, Fail>
+    requires { length rows.now < 2 ^ 32 }
+{
     let alloc = rt.alloc();
     let mut requests = Requests::new(alloc, 2)?;
-    // Who, what it does, and what is answered; the position is the row's.
-    let rows = [
-        // A start that was never made.
-        (0, Step::Take(TakeMode::All, 0, None), Answer::BadStart(0)),
-        // A receive is not ready before its message is there; a Test is told so.
-        (
-            1,
-            Step::Post(Source::Any, Tag::Is(5), 1),
-            Answer::Made(0, None),
-        ),
-        (1, Step::Take(TakeMode::All, 0, None), Answer::NotReady),
-        (1, Step::Take(TakeMode::TestAll, 0, None), Answer::NotReady),
-        (
-            1,
-            Step::Post(Source::From(0), Tag::Any, 1),
-            Answer::Made(1, None),
-        ),
-        // The message with tag 5 goes to the first of two receives that accept it.
-        (0, Step::Send(1, 5, false), Answer::Made(0, Some(1))),
-        (1, Step::Take(TakeMode::All, 0, Some(1)), Answer::NotReady),
-        (0, Step::Send(1, 6, false), Answer::Made(1, Some(4))),
-        (
-            1,
-            Step::Take(TakeMode::All, 0, Some(0)),
-            Answer::BadStart(0),
-        ),
-        // One of two that are ready: the first. The same again once it was taken back.
-        (
-            1,
-            Step::Take(TakeMode::Any, 0, Some(1)),
-            Answer::Took(1, 0, 0, 0),
-        ),
-        (
-            1,
-            Step::Take(TakeMode::Any, 0, Some(1)),
-            Answer::BadStart(0),
-        ),
-        (1, Step::TakeBack(1), Answer::TakenBack),
-        (
-            1,
-            Step::Take(TakeMode::All, 1, None),
-            Answer::Took(1, 0, 0, 1),
-        ),
-        // A send is complete at once, and so is a receive from the null process.
-        (
-            0,
-            Step::Take(TakeMode::Several, 0, Some(1)),
-            Answer::Took(2, 0, 0, 0),
-        ),
-        (
-            0,
-            Step::Post(Source::Null, Tag::Any, 0),
-            Answer::Made(2, None),
-        ),
-        (
-            0,
-            Step::Take(TakeMode::TestAny, 2, None),
-            Answer::Took(1, 0, 0, 0),
-        ),
-        // A probe finds a message and leaves it.
-        (0, Step::Send(1, 7, true), Answer::Made(3, None)),
-        (1, Step::Peek(Tag::Is(6)), Answer::Found(None)),
-        (1, Step::Peek(Tag::Any), Answer::Found(Some(16))),
-        // A message of two ints is too long for one; an unmade start is named first.
-        (
-            1,
-            Step::Post(Source::From(0), Tag::Is(7), 1),
-            Answer::Made(2, Some(16)),
-        ),
-        (
-            1,
-            Step::Take(TakeMode::All, 2, Some(3)),
-            Answer::BadStart(3),
-        ),
-        (
-            1,
-            Step::Take(TakeMode::TestSeveral, 2, None),
-            Answer::TooLong(2),
-        ),
-    ];
     for at in 0..rows.len() {
-        let (rank, step, want) = rows[at];
+        let Row { rank, step, want } = rows[at];
         assert!(rt; rank < 2, "{at}");
         let got = step_at(alloc, &mut requests, at as u32, rank, step)?;
         assert_eq!(rt; got, want, "{at}");
     }
+    Ok(requests)
+}
+
+static MESSAGES: [Row; 22] = [
+    // A start that was never made.
+    Row {
+        rank: 0,
+        step: Step::Take(TakeMode::All, 0, None),
+        want: Answer::BadStart(0),
+    },
+
+    // A receive is not ready before its message is there; a Test is told so.
+    Row {
+        rank: 1,
+        step: Step::Post(Source::Any, Tag::Is(5), 1),
+        want: Answer::Made(0, None),
+    },
+    Row {
+        rank: 1,
+        step: Step::Take(TakeMode::All, 0, None),
+        want: Answer::NotReady,
+    },
+    Row {
+        rank: 1,
+        step: Step::Take(TakeMode::TestAll, 0, None),
+        want: Answer::NotReady,
+    },
+    Row {
+        rank: 1,
+        step: Step::Post(Source::From(0), Tag::Any, 1),
+        want: Answer::Made(1, None),
+    },
+
+    // The message with tag 5 goes to the first of two receives that accept it.
+    Row {
+        rank: 0,
+        step: Step::Send(1, 5, false),
+        want: Answer::Made(0, Some(1)),
+    },
+    Row {
+        rank: 1,
+        step: Step::Take(TakeMode::All, 0, Some(1)),
+        want: Answer::NotReady,
+    },
+    Row {
+        rank: 0,
+        step: Step::Send(1, 6, false),
+        want: Answer::Made(1, Some(4)),
+    },
+    Row {
+        rank: 1,
+        step: Step::Take(TakeMode::All, 0, Some(0)),
+        want: Answer::BadStart(0),
+    },
+
+    // One of two that are ready: the first. The same again once it was taken back.
+    Row {
+        rank: 1,
+        step: Step::Take(TakeMode::Any, 0, Some(1)),
+        want: Answer::Took(1, 0, 0, 0),
+    },
+    Row {
+        rank: 1,
+        step: Step::Take(TakeMode::Any, 0, Some(1)),
+        want: Answer::BadStart(0),
+    },
+    Row {
+        rank: 1,
+        step: Step::TakeBack(1),
+        want: Answer::TakenBack,
+    },
+    Row {
+        rank: 1,
+        step: Step::Take(TakeMode::All, 1, None),
+        want: Answer::Took(1, 0, 0, 1),
+    },
+
+    // A send is complete at once, and so is a receive from the null process.
+    Row {
+        rank: 0,
+        step: Step::Take(TakeMode::Several, 0, Some(1)),
+        want: Answer::Took(2, 0, 0, 0),
+    },
+    Row {
+        rank: 0,
+        step: Step::Post(Source::Null, Tag::Any, 0),
+        want: Answer::Made(2, None),
+    },
+    Row {
+        rank: 0,
+        step: Step::Take(TakeMode::TestAny, 2, None),
+        want: Answer::Took(1, 0, 0, 0),
+    },
+
+    // A probe finds a message and leaves it.
+    Row {
+        rank: 0,
+        step: Step::Send(1, 7, true),
+        want: Answer::Made(3, None),
+    },
+    Row {
+        rank: 1,
+        step: Step::Peek(Tag::Is(6)),
+        want: Answer::Found(None),
+    },
+    Row {
+        rank: 1,
+        step: Step::Peek(Tag::Any),
+        want: Answer::Found(Some(16)),
+    },
+
+    // A message of two ints is too long for one; an unmade start is named first.
+    Row {
+        rank: 1,
+        step: Step::Post(Source::From(0), Tag::Is(7), 1),
+        want: Answer::Made(2, Some(16)),
+    },
+    Row {
+        rank: 1,
+        step: Step::Take(TakeMode::All, 2, Some(3)),
+        want: Answer::BadStart(3),
+    },
+    Row {
+        rank: 1,
+        step: Step::Take(TakeMode::TestSeveral, 2, None),
+        want: Answer::TooLong(2),
+    },
+];
+
+#[test]
+fn starts_are_completed(rt: HostRuntime) -> Result<(), Fail> {
+    let requests = started(&rt, &MESSAGES)?;
     assert_eq!(rt; requests.ready(1, 2), Readiness::Ready);
     assert_eq!(rt; requests.ready(1, 1), Readiness::Taken);
     assert_eq!(rt; requests.ready(1, 3), Readiness::NoSuch);
@@ -340,56 +403,92 @@ fn starts_are_completed(rt: HostRuntime) -> Result<(), Fail> {
     Ok(())
 }
 
+static COLLECTIVES: [Row; 15] = [
+    // A barrier is not complete before both have entered; a split in its place does not agree, and is not added.
+    Row {
+        rank: 0,
+        step: Step::Barrier,
+        want: Answer::Made(0, None),
+    },
+    Row {
+        rank: 0,
+        step: Step::Take(TakeMode::All, 0, None),
+        want: Answer::NotReady,
+    },
+    Row {
+        rank: 1,
+        step: Step::Split(7),
+        want: Answer::Disagrees(0),
+    },
+    Row {
+        rank: 1,
+        step: Step::Take(TakeMode::TestAny, 0, None),
+        want: Answer::BadStart(0),
+    },
+    Row {
+        rank: 1,
+        step: Step::Barrier,
+        want: Answer::Made(0, None),
+    },
+    Row {
+        rank: 0,
+        step: Step::Take(TakeMode::All, 0, None),
+        want: Answer::Took(1, 0, 0, 0),
+    },
+
+    // A split gives rank 0 its communicator of one, and rank 1, whose colour is undefined, none; that one waits for
+    // nobody.
+    Row {
+        rank: 1,
+        step: Step::Split(-32766),
+        want: Answer::Made(1, None),
+    },
+    Row {
+        rank: 1,
+        step: Step::Take(TakeMode::Any, 0, Some(1)),
+        want: Answer::Took(1, 0, 0, 0),
+    },
+    Row {
+        rank: 1,
+        step: Step::Take(TakeMode::All, 1, None),
+        want: Answer::Gave(0, 0, 0),
+    },
+    Row {
+        rank: 0,
+        step: Step::Split(7),
+        want: Answer::Made(1, None),
+    },
+    Row {
+        rank: 0,
+        step: Step::Take(TakeMode::TestAll, 1, None),
+        want: Answer::Gave(0, 1, 1),
+    },
+
+    // The next number is a dup's, which has both members.
+    Row {
+        rank: 1,
+        step: Step::Dup,
+        want: Answer::Made(2, None),
+    },
+    Row {
+        rank: 0,
+        step: Step::Dup,
+        want: Answer::Made(2, None),
+    },
+    Row {
+        rank: 1,
+        step: Step::Take(TakeMode::All, 2, None),
+        want: Answer::Gave(0, 2, 2),
+    },
+    Row {
+        rank: 0,
+        step: Step::Take(TakeMode::Several, 2, None),
+        want: Answer::Gave(0, 2, 2),
+    },
+];
+
 #[test]
 fn collectives_are_completed(rt: HostRuntime) -> Result<(), Fail> {
-    let alloc = rt.alloc();
-    let mut requests = Requests::new(alloc, 2)?;
-    let rows = [
-        // A barrier is not complete before both have entered; a split in its place does not agree, and is not added.
-        (0, Step::Barrier, Answer::Made(0, None)),
-        (0, Step::Take(TakeMode::All, 0, None), Answer::NotReady),
-        (1, Step::Split(7), Answer::Disagrees(0)),
-        (
-            1,
-            Step::Take(TakeMode::TestAny, 0, None),
-            Answer::BadStart(0),
-        ),
-        (1, Step::Barrier, Answer::Made(0, None)),
-        (
-            0,
-            Step::Take(TakeMode::All, 0, None),
-            Answer::Took(1, 0, 0, 0),
-        ),
-        // A split gives rank 0 its communicator of one, and rank 1, whose colour is undefined, none; that one waits for
-        // nobody.
-        (1, Step::Split(-32766), Answer::Made(1, None)),
-        (
-            1,
-            Step::Take(TakeMode::Any, 0, Some(1)),
-            Answer::Took(1, 0, 0, 0),
-        ),
-        (1, Step::Take(TakeMode::All, 1, None), Answer::Gave(0, 0, 0)),
-        (0, Step::Split(7), Answer::Made(1, None)),
-        (
-            0,
-            Step::Take(TakeMode::TestAll, 1, None),
-            Answer::Gave(0, 1, 1),
-        ),
-        // The next number is a dup's, which has both members.
-        (1, Step::Dup, Answer::Made(2, None)),
-        (0, Step::Dup, Answer::Made(2, None)),
-        (1, Step::Take(TakeMode::All, 2, None), Answer::Gave(0, 2, 2)),
-        (
-            0,
-            Step::Take(TakeMode::Several, 2, None),
-            Answer::Gave(0, 2, 2),
-        ),
-    ];
-    for at in 0..rows.len() {
-        let (rank, step, want) = rows[at];
-        assert!(rt; rank < 2, "{at}");
-        let got = step_at(alloc, &mut requests, at as u32, rank, step)?;
-        assert_eq!(rt; got, want, "{at}");
-    }
+    started(&rt, &COLLECTIVES)?;
     Ok(())
 }

@@ -15,8 +15,8 @@ use Rattle.srr_entry.specs.declared.entry.Entry.{Entry}
 use Rattle.srr_entry.specs.declared.entry.Entry.TheVariants.{Sent, Posted, Entered, Ended, Took, NotYet, PeekedInside, PeekedOutside, Stopped}
 use Rattle.wiz_base.specs.Decimals.{decimal_text, number_text}
 use Rattle.wiz_base.proofs.DecimalLaws.{decimal_text-excludes, decimal_text-digit}
-use Rattle.srr_log.specs.EntryText.{each_behind, name_text, mark_text, item_text, halt_number, halt_details, entry_line}
-use Rattle.srr_log.specs.Bounds.{RiseFrom, IsSmallNumber, IsSender, IsTag, IsMark, IsHalt, IsEntry}
+use Rattle.srr_text.specs.EntryText.{each_behind, name_text, mark_text, item_text, halt_number, halt_details, entry_line}
+use Rattle.srr_text.specs.Bounds.{RiseFrom, IsSmallNumber, IsSender, IsTag, IsMark, IsHalt, IsEntry}
 use Rattle.srr_log.specs.Pieces.{◌>>=◌, behind, cut, number_in, int_in, rank_in}
 use Rattle.srr_log.specs.EntryReading.{rises, indices, inside_in, outside_in, mark_in, item_in, all_items_in, items_in, peek_cut, peek_in, fault_of, detail_in, detailed_in, named_in, halt_in, long_entry, long_entry_in, entry_in}
 use Rattle.srr_log.proofs.PieceLaws.{some, bind_some, guard_some, same_word, behind_some, cut_at, cut_some, number_read, number_said, int_read, int_said, rank_read, rank_said}

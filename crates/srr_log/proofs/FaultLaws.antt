@@ -8,8 +8,8 @@ use Rattle.wiz_base.specs.Lines.{HasNoNewline}
 use Rattle.srr_log.specs.declared.fault.LogFault.{LogFault}
 use Rattle.srr_log.specs.declared.fault.LogWhy.{LogWhy}
 use Rattle.srr_log.specs.declared.fault.LogWhy.TheVariants.{Short}
-use Rattle.srr_log.specs.LogText.{line, log_text, IsLogText}
-use Rattle.srr_log.specs.Bounds.{IsInBounds}
+use Rattle.srr_text.specs.LogText.{line, log_text, IsLogText}
+use Rattle.srr_text.specs.Bounds.{IsInBounds}
 use Rattle.srr_log.specs.Parts.{Part, head_line, ranks_line, group_line, size_line, program_bytes, rank_line, entry_part, end_line, part_line, part_text, parts_text, lists_parts, log_parts}
 use Rattle.srr_log.specs.Faults.{IsWhole, HasNoEnd, IsReason, IsShort, IsBad, IsExtra, IsFirstFault, no_memory}
 use Rattle.srr_log.specs.Reading.{State, at_head, at_ranks, at_group, at_size, at_program, at_list, at_entry, at_end, Allows, next, after, Runs, expected, IsOpen, FaultAt, FaultFrom, Reads, IsWithin, IsPlaced}

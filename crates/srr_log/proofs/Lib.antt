@@ -8,5 +8,4 @@ pub mod StateLaws
 pub mod LogLaws
 pub mod ReadLaws
 pub mod FaultLaws
-pub mod WriteLaws
 pub mod WorkedExamples

@@ -8,8 +8,8 @@ use Rattle.wiz_base.specs.Decimals.{decimal_text}
 use Rattle.wiz_base.specs.Readings.{IsDecimal}
 use Rattle.wiz_base.proofs.DecimalLaws.{decimal_text-digit}
 use Rattle.srr_log.specs.declared.fault.LogWhy.TheVariants.{BadHead, BadVersion}
-use Rattle.srr_log.specs.EntryText.{each_behind, entry_line}
-use Rattle.srr_log.specs.Bounds.{IsGroup, IsEntry, is_last}
+use Rattle.srr_text.specs.EntryText.{each_behind, entry_line}
+use Rattle.srr_text.specs.Bounds.{IsGroup, IsEntry, is_last}
 use Rattle.srr_log.specs.Faults.{IsReason}
 use Rattle.srr_log.specs.Parts.{head_line}
 use Rattle.srr_log.specs.Pieces.{◌>>=◌, behind, cut, number_in}

@@ -9,9 +9,9 @@ use Rattle.run_model.specs.Lists.{are_below}
 use Rattle.srr_entry.specs.declared.entry.Entry.{Entry}
 use Rattle.srr_entry.specs.declared.entry.Entry.TheVariants.{Sent}
 use Rattle.srr_entry.specs.declared.log.Log.{Log}
-use Rattle.srr_log.specs.EntryText.{entry_line}
-use Rattle.srr_log.specs.LogText.{line, head_text, group_text, program_text, entries_text, list_head_text, lists_text, log_text}
-use Rattle.srr_log.specs.Bounds.{IsGroup, AreEntries, IsList, IsInBounds}
+use Rattle.srr_text.specs.EntryText.{entry_line}
+use Rattle.srr_text.specs.LogText.{line, head_text, group_text, program_text, entries_text, list_head_text, lists_text, log_text}
+use Rattle.srr_text.specs.Bounds.{IsGroup, AreEntries, IsList, IsInBounds}
 use Rattle.srr_log.specs.Parts.{Part, head_line, ranks_line, group_line, size_line, program_bytes, rank_line, entry_part, end_line, parts_text, lists_parts, log_parts}
 use Rattle.srr_log.specs.Faults.{SomeLog}
 use Rattle.srr_log.specs.Reading.{State, at_head, at_ranks, at_group, at_size, at_program, at_list, at_entry, at_end, entries_left, Allows, next, after, Runs, expected, IsOpen}

@@ -14,8 +14,8 @@ use Rattle.srr_entry.specs.declared.entry.Mark.{Mark}
 use Rattle.srr_entry.specs.declared.entry.Mark.TheVariants.{Sent as MarkSent, Nothing, Inside, Outside, Inner, Outer, Made, MadeOutside}
 use Rattle.wiz_base.specs.Decimals.{decimal_text, number_text}
 use Rattle.wiz_base.proofs.DecimalLaws.{decimal_text-bytes, decimal_text-nonempty, decimal_text-excludes, number_text-nonempty}
-use Rattle.srr_log.specs.EntryText.{each_behind, by_commas, ints_text, name_text, mark_text}
-use Rattle.srr_log.specs.Bounds.{RiseFrom, IsSmallNumber, IsTag, AreInts, IsSender, IsMark}
+use Rattle.srr_text.specs.EntryText.{each_behind, by_commas, ints_text, name_text, mark_text}
+use Rattle.srr_text.specs.Bounds.{RiseFrom, IsSmallNumber, IsTag, AreInts, IsSender, IsMark}
 use Rattle.srr_log.specs.Pieces.{◌>>=◌, behind, cut, pieces, all_of, number_in, int_in, rank_in}
 use Rattle.srr_log.specs.EntryReading.{rises, ints_in, few_ints_in, ranks_in, inside_in, outside_in, message_cut, message_in, made_cut, made_in, long_mark, long_mark_in, mark_in}
 use Rattle.srr_log.proofs.PieceLaws.{some, bind_some, guard_some, guard_none, same_word, behind_some, cut_at, cut_none, cut_some, pieces_joined, joined_pieces, some_pieces, all_of_map, map_all_of, number_read, number_said, int_read, int_said, rank_read, rank_said}

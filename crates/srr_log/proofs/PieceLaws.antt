@@ -21,7 +21,7 @@ use Rattle.wiz_base.specs.declared.fault.NumberFault.{NumberFault}
 use Rattle.wiz_base.specs.Readings.{IsDecimalUpTo, IsReading}
 use Rattle.wiz_base.proofs.ReadingLaws.{IsReading-unique}
 use Rattle.wiz_base.proofs.DecimalLaws.{decimal_text-is, decimal_text-bytes, decimal_text-nonempty, number_text_injective}
-use Rattle.srr_log.specs.EntryText.{each_behind}
+use Rattle.srr_text.specs.EntryText.{each_behind}
 use Rattle.srr_log.specs.Pieces.{◌>>=◌, GivesText, GivesCut, behind, with_byte, cut, pieces, all_of, number_in, signed_value, is_int, int_in, rank_in}
 
 abbrev pub some : {A : Type 0} → A → Option A

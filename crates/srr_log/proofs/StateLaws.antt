@@ -14,8 +14,8 @@ use Rattle.srr_log.specs.declared.stop.Stop.{Stop}
 use Rattle.srr_log.specs.declared.stop.Stop.TheVariants.{NoMemory, Fault}
 use Rattle.srr_log.specs.declared.stop.Unread.{Unread}
 use Rattle.srr_log.specs.declared.stop.Unread.TheVariants.{NotAllowed, NoMemory as UnreadMemory}
-use Rattle.srr_log.specs.EntryText.{each_behind}
-use Rattle.srr_log.specs.LogText.{line}
+use Rattle.srr_text.specs.EntryText.{each_behind}
+use Rattle.srr_text.specs.LogText.{line}
 use Rattle.srr_log.specs.Parts.{Part, head_line, ranks_line, group_line, size_line, program_bytes, rank_line, entry_part, end_line, part_line, part_text, parts_text, lists_parts}
 use Rattle.srr_log.specs.Faults.{IsWhole, HasNoEnd, IsReason}
 use Rattle.srr_log.specs.Pieces.{◌>>=◌, Gives}

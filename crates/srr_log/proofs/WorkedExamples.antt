@@ -7,8 +7,8 @@ use Rattle.srr_entry.specs.declared.entry.Entry.TheVariants.{Sent, Posted, Ended
 use Rattle.srr_entry.specs.declared.log.Log.{Log}
 use Rattle.wiz_base.specs.Decimals.{decimal_text}
 use Rattle.srr_log.specs.declared.fault.LogWhy.TheVariants.{Short, Extra, BadVersion}
-use Rattle.srr_log.specs.LogText.{log_text}
-use Rattle.srr_log.specs.Bounds.{IsList, IsInBounds}
+use Rattle.srr_text.specs.LogText.{log_text}
+use Rattle.srr_text.specs.Bounds.{IsList, IsInBounds}
 use Rattle.srr_log.specs.Parts.{Part, head_line, ranks_line, group_line, size_line, program_bytes, rank_line, entry_part, end_line, part_text, log_parts}
 use Rattle.srr_log.specs.Faults.{SomeLog, IsFirstFault}
 use Rattle.srr_log.specs.Reading.{at_head, Allows}

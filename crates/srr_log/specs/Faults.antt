@@ -6,7 +6,7 @@ use Rattle.wiz_base.specs.Lines.{HasNoNewline}
 use Rattle.srr_log.specs.declared.fault.LogFault.{LogFault}
 use Rattle.srr_log.specs.declared.fault.LogWhy.{LogWhy}
 use Rattle.srr_log.specs.declared.fault.LogWhy.TheVariants.{BadHead, BadNumber, BadGroup, BadEntry, Short, Extra, BadVersion, NoMemory}
-use Rattle.srr_log.specs.Bounds.{IsInBounds}
+use Rattle.srr_text.specs.Bounds.{IsInBounds}
 use Rattle.srr_log.specs.Parts.{Part, head_line, ranks_line, group_line, size_line, program_bytes, rank_line, entry_part, end_line, part_text, parts_text, log_parts}
 
 -- some log has a text of these parts

@@ -1,6 +1,3 @@
-pub mod EntryText
-pub mod Bounds
-pub mod LogText
 pub mod Parts
 pub mod Faults
 pub mod Pieces

@@ -1,7 +1,7 @@
 -- What a line says that is no entry's.
 use Rattle.std.specs.Prelude.{ℕ, List, ◌&&◌, ◌==◌, if◌then◌else◌, nat_lt, codes, Option, Some, None}
 use Rattle.srr_entry.specs.declared.entry.Entry.{Entry}
-use Rattle.srr_log.specs.Bounds.{is_last}
+use Rattle.srr_text.specs.Bounds.{is_last}
 use Rattle.srr_log.specs.Pieces.{◌>>=◌, behind, cut, number_in}
 use Rattle.srr_log.specs.EntryReading.{rises, ranks_in, entry_in}
 

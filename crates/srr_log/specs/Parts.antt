@@ -3,8 +3,8 @@ use Rattle.std.specs.Prelude.{ℕ, List, [], ◌∷◌, ◌++◌, map, codes, le
 use Rattle.srr_entry.specs.declared.entry.Entry.{Entry}
 use Rattle.srr_entry.specs.declared.log.Log.{Log}
 use Rattle.wiz_base.specs.Decimals.{decimal_text}
-use Rattle.srr_log.specs.EntryText.{each_behind, entry_line}
-use Rattle.srr_log.specs.LogText.{line}
+use Rattle.srr_text.specs.EntryText.{each_behind, entry_line}
+use Rattle.srr_text.specs.LogText.{line}
 
 pub data Part : Type 0 where
   head_line : Part

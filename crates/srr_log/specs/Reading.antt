@@ -7,7 +7,7 @@ use Rattle.srr_log.specs.declared.fault.LogWhy.{LogWhy}
 use Rattle.srr_log.specs.declared.fault.LogWhy.TheVariants.{Short, Extra}
 use Rattle.srr_log.specs.declared.stop.Stop.{Stop}
 use Rattle.srr_log.specs.declared.stop.Stop.TheVariants.{NoMemory, Fault}
-use Rattle.srr_log.specs.Bounds.{IsGroup, IsEntry, is_last}
+use Rattle.srr_text.specs.Bounds.{IsGroup, IsEntry, is_last}
 use Rattle.srr_log.specs.Parts.{Part, head_line, ranks_line, group_line, size_line, program_bytes, rank_line, entry_part, end_line, part_text, parts_text}
 use Rattle.srr_log.specs.declared.fault.LogFault.{LogFault}
 use Rattle.srr_log.specs.Faults.{IsWhole, HasNoEnd, IsReason, no_memory}

@@ -16,22 +16,14 @@ use std::alloc::Global;
 pub fn entry(alloc: Global, line: &[u8], ranks: u8, group: &[u8]) -> Result<Entry, Unread>
     ensures { Gives result (entry_in ranks group.now line.now) }
 {
-    if line == b"s".as_slice() {
-        return Ok(Entry::Sent);
+    match line {
+        [b's'] => Ok(Entry::Sent),
+        [b'p'] => Ok(Entry::Posted),
+        [b'e'] => Ok(Entry::Entered),
+        [b'z'] => Ok(Entry::Ended),
+        [b'n'] => Ok(Entry::NotYet),
+        _ => long_entry(alloc, line, ranks, group),
     }
-    if line == b"p".as_slice() {
-        return Ok(Entry::Posted);
-    }
-    if line == b"e".as_slice() {
-        return Ok(Entry::Entered);
-    }
-    if line == b"z".as_slice() {
-        return Ok(Entry::Ended);
-    }
-    if line == b"n".as_slice() {
-        return Ok(Entry::NotYet);
-    }
-    long_entry(alloc, line, ranks, group)
 }
 
 /// An entry whose line has more than one letter.
@@ -47,7 +39,9 @@ fn long_entry(alloc: Global, line: &[u8], ranks: u8, group: &[u8]) -> Result<Ent
         return peek(found, ranks, group).ok_or(Unread::NotAllowed);
     }
     if let Some(named) = behind(line, b"x ") {
-        let halt = halt(named, ranks).ok_or(Unread::NotAllowed)?;
+        let Some(halt) = halt(named, ranks) else {
+            return Err(Unread::NotAllowed);
+        };
         return Ok(Entry::Stopped(halt));
     }
     Err(Unread::NotAllowed)
@@ -92,7 +86,10 @@ fn add_item(
         Ok(item) => item,
         Err(unread) => return Err(unread),
     };
-    found.push(item).map_err(|_| Unread::NoMemory)
+    match found.push(item) {
+        Ok(()) => Ok(()),
+        Err(_) => Err(Unread::NoMemory),
+    }
 }
 
 /// A completed start: its index in the call's list, and its mark.
@@ -100,8 +97,12 @@ fn add_item(
 fn item(alloc: Global, text: &[u8], ranks: u8, group: &[u8]) -> Result<Marked, Unread>
     ensures { Gives result (item_in ranks group.now text.now) }
 {
-    let (index, kept) = cut(text, b'=').ok_or(Unread::NotAllowed)?;
-    let index = number(index, 999_999).ok_or(Unread::NotAllowed)?;
+    let Some((index, kept)) = cut(text, b'=') else {
+        return Err(Unread::NotAllowed);
+    };
+    let Some(index) = number(index, 999_999) else {
+        return Err(Unread::NotAllowed);
+    };
     let mark = mark(alloc, kept, ranks, group)?;
     Ok(Marked { index, mark })
 }
@@ -129,13 +130,11 @@ fn peek(text: &[u8], ranks: u8, group: &[u8]) -> Option<Entry>
 fn halt(text: &[u8], ranks: u8) -> Option<Halt>
     ensures { result ≡ halt_in ranks text.now }
 {
-    if text == b"6".as_slice() {
-        return Some(Halt::Limit);
+    match text {
+        [b'6'] => Some(Halt::Limit),
+        [b'7'] => Some(Halt::Stuck),
+        _ => named(text, ranks),
     }
-    if text == b"7".as_slice() {
-        return Some(Halt::Stuck);
-    }
-    named(text, ranks)
 }
 
 /// A halt that names a rank.
@@ -144,7 +143,7 @@ fn named(text: &[u8], ranks: u8) -> Option<Halt>
     ensures { result ≡ named_in ranks text.now }
 {
     let (kind, others) = cut(text, b' ')?;
-    if kind == b"4".as_slice() {
+    if let [b'4'] = kind {
         let rank = rank(others, ranks)?;
         return Some(Halt::Mismatched { rank });
     }
@@ -165,23 +164,25 @@ fn detailed(kind: &[u8], text: &[u8], ranks: u8) -> Option<Halt>
 fn detail(kind: &[u8], rank: u8, text: &[u8]) -> Option<Halt>
     ensures { result ≡ detail_in kind.now rank text.now }
 {
-    if kind == b"1".as_slice() {
-        let code = int(text)?;
-        return Some(Halt::Aborted { rank, code });
+    match kind {
+        [b'1'] => {
+            let code = int(text)?;
+            Some(Halt::Aborted { rank, code })
+        }
+        [b'2'] => {
+            let fault = fault(number(text, 10)?)?;
+            Some(Halt::Trapped { rank, fault })
+        }
+        [b'3'] => {
+            let start = number(text, 999_999)?;
+            Some(Halt::Truncated { rank, start })
+        }
+        [b'5'] => {
+            let start = number(text, 999_999)?;
+            Some(Halt::BadRequest { rank, start })
+        }
+        _ => None,
     }
-    if kind == b"2".as_slice() {
-        let fault = fault(number(text, 10)?)?;
-        return Some(Halt::Trapped { rank, fault });
-    }
-    if kind == b"3".as_slice() {
-        let start = number(text, 999_999)?;
-        return Some(Halt::Truncated { rank, start });
-    }
-    if kind == b"5".as_slice() {
-        let start = number(text, 999_999)?;
-        return Some(Halt::BadRequest { rank, start });
-    }
-    None
 }
 
 /// Faults are numbered from 1.

@@ -2,7 +2,6 @@
 #![tactic(auto)]
 
 mod entry_line;
-pub mod entry_text;
 pub mod fault;
 mod line;
 mod lists;
@@ -10,4 +9,3 @@ mod mark;
 mod pieces;
 pub mod read_log;
 mod stop;
-pub mod write_log;

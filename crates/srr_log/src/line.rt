@@ -1,6 +1,6 @@
 //! Reading the lines that are no entries.
 ghost use Rattle.std.specs.Prelude.{◌≡◌, ◌≢◌, ◌++◌, ◌∷◌, [], codes};
-ghost use Rattle.srr_log.specs.Bounds.{is_last};
+ghost use Rattle.srr_text.specs.Bounds.{is_last};
 ghost use Rattle.srr_log.specs.Faults.{IsReason};
 ghost use Rattle.srr_log.specs.LineReading.{entry_line_in, group_line_in, rank_line_in, ranks_line_in, size_line_in};
 ghost use Rattle.srr_log.specs.Parts.{head_line};
@@ -47,7 +47,9 @@ pub fn ranks_line(line: &[u8]) -> Option<u8>
 pub fn group_line(alloc: Global, line: &[u8], ranks: u8) -> Result<Ranks, Unread>
     ensures { Gives result (group_line_in ranks line.now) }
 {
-    let listed = behind(line, b"group ").ok_or(Unread::NotAllowed)?;
+    let Some(listed) = behind(line, b"group ") else {
+        return Err(Unread::NotAllowed);
+    };
     let group = crate::lists::ranks(alloc, listed, b' ', ranks)?;
     if rise(group.as_slice()) {
         Ok(group)
@@ -70,10 +72,8 @@ pub fn rank_line(line: &[u8], rank: u8) -> Option<u32>
     ensures { result ≡ rank_line_in rank line.now }
 {
     let (named, count) = cut(behind(line, b"rank ")?, b' ')?;
-    let named = number(named, 255)?;
-    let count = number(count, 999_064)?;
-    if named == rank as u32 {
-        Some(count)
+    if number(named, 255)? == rank as u32 {
+        number(count, 999_064)
     } else {
         None
     }

@@ -44,7 +44,10 @@ fn add_int(found: &mut Ints, piece: &[u8]) -> Result<(), Unread>
     let Some(value) = int(piece) else {
         return Err(Unread::NotAllowed);
     };
-    found.push(value).map_err(|_| Unread::NoMemory)
+    match found.push(value) {
+        Ok(()) => Ok(()),
+        Err(_) => Err(Unread::NoMemory),
+    }
 }
 
 /// Ranks of the run with such marks between.
@@ -67,7 +70,10 @@ fn add_rank(found: &mut Ranks, piece: &[u8], ranks: u8) -> Result<(), Unread>
     let Some(value) = rank(piece, ranks) else {
         return Err(Unread::NotAllowed);
     };
-    found.push(value).map_err(|_| Unread::NoMemory)
+    match found.push(value) {
+        Ok(()) => Ok(()),
+        Err(_) => Err(Unread::NoMemory),
+    }
 }
 
 /// Whether each rank is above the one before it.

@@ -45,16 +45,12 @@ pub fn outside(text: &[u8], ranks: u8, group: &[u8]) -> Option<(u8, u32, u32)>
 pub fn mark(alloc: Global, text: &[u8], ranks: u8, group: &[u8]) -> Result<Mark, Unread>
     ensures { Gives result (mark_in ranks group.now text.now) }
 {
-    if text == b"s".as_slice() {
-        return Ok(Mark::Sent);
+    match text {
+        [b's'] => Ok(Mark::Sent),
+        [b'n'] => Ok(Mark::Nothing),
+        [b'c'] => Ok(Mark::Inner),
+        _ => long_mark(alloc, text, ranks, group),
     }
-    if text == b"n".as_slice() {
-        return Ok(Mark::Nothing);
-    }
-    if text == b"c".as_slice() {
-        return Ok(Mark::Inner);
-    }
-    long_mark(alloc, text, ranks, group)
 }
 
 /// A mark of more than one letter.
@@ -78,10 +74,14 @@ fn made(alloc: Global, text: &[u8], ranks: u8) -> Result<Mark, Unread>
     ensures { Gives result (made_in ranks text.now) }
 {
     let Some((comm, listed)) = cut(text, b':') else {
-        let comm = number(text, 999_999).ok_or(Unread::NotAllowed)?;
+        let Some(comm) = number(text, 999_999) else {
+            return Err(Unread::NotAllowed);
+        };
         return Ok(Mark::Made { comm });
     };
-    let comm = number(comm, 999_999).ok_or(Unread::NotAllowed)?;
+    let Some(comm) = number(comm, 999_999) else {
+        return Err(Unread::NotAllowed);
+    };
     let members = crate::lists::ranks(alloc, listed, b',', ranks)?;
     if comm > 0 && members.as_slice().len() <= 64 {
         Ok(Mark::MadeOutside { comm, members })
@@ -96,10 +96,14 @@ fn message(alloc: Global, text: &[u8], ranks: u8, group: &[u8]) -> Result<Mark, 
     ensures { Gives result (message_in ranks group.now text.now) }
 {
     let Some((name, ints)) = cut(text, b':') else {
-        let (source, start) = inside(text, ranks, group).ok_or(Unread::NotAllowed)?;
+        let Some((source, start)) = inside(text, ranks, group) else {
+            return Err(Unread::NotAllowed);
+        };
         return Ok(Mark::Inside { source, start });
     };
-    let (source, start, tag) = outside(name, ranks, group).ok_or(Unread::NotAllowed)?;
+    let Some((source, start, tag)) = outside(name, ranks, group) else {
+        return Err(Unread::NotAllowed);
+    };
     let ints = few_ints(alloc, ints, 65_536)?;
     Ok(Mark::Outside {
         source,

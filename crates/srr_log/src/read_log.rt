@@ -2,9 +2,9 @@
 ghost use Rattle.std.specs.Prelude.{◌≡◌, ◌↔◌, ◌<◌, ◌^◌, ◌⊎◌, ◌++◌, ◌∷◌, [], ℕ, List, OnOk, IfOk, IfErr, MatchResult, IsTrue, length, map};
 ghost use Rattle.srr_entry.specs.declared.log.Log.{Log};
 ghost use Rattle.srr_log.specs.declared.fault.LogFault.{LogFault};
-ghost use Rattle.srr_log.specs.Bounds.{IsInBounds};
+ghost use Rattle.srr_text.specs.Bounds.{IsInBounds};
 ghost use Rattle.srr_log.specs.Faults.{IsFirstFault, no_memory};
-ghost use Rattle.srr_log.specs.LogText.{IsLogText, log_text};
+ghost use Rattle.srr_text.specs.LogText.{IsLogText, log_text};
 ghost use Rattle.srr_log.specs.Parts.{Part, head_line, ranks_line, group_line, size_line, program_bytes, rank_line, entry_part, end_line, lists_parts, log_parts, parts_text};
 ghost use Rattle.srr_log.specs.Reading.{IsNextLine, IsPlaced, IsWithin, Reads, at_end, at_entry, at_group, at_head, at_list, at_program, at_ranks, at_size, entries_left};
 
@@ -178,7 +178,10 @@ fn entries(
 fn add_entry(entries: &mut Entries, entry: Entry) -> Result<(), AllocError>
     ensures { OnOk result (entries.new ≡ entries.old ++ entry ∷ []) }
 {
-    entries.push(entry).map_err(|_| AllocError)
+    match entries.push(entry) {
+        Ok(()) => Ok(()),
+        Err(_) => Err(AllocError),
+    }
 }
 
 /// The list of one rank.
@@ -211,7 +214,10 @@ fn lists(alloc: Global, cursor: &mut Cursor<'_>, ranks: u8, group: &[u8]) -> Res
 fn add_list(lists: &mut Lists, entries: Entries) -> Result<(), AllocError>
     ensures { OnOk result (lists.new ≡ lists.old ++ entries ∷ []) }
 {
-    lists.push(entries).map_err(|_| AllocError)
+    match lists.push(entries) {
+        Ok(()) => Ok(()),
+        Err(_) => Err(AllocError),
+    }
 }
 
 /// The last line.
@@ -229,6 +235,28 @@ fn end(cursor: &mut Cursor<'_>) -> Result<(), Stop>
     })
 }
 
+/// The list of each rank, the last line, and nothing behind it.
+fn lists_and_end(
+    alloc: Global,
+    cursor: &mut Cursor<'_>,
+    ranks: u8,
+    group: &[u8],
+) -> Result<Lists, Stop>
+    ensures read { Reads (at_list ranks group.now group.now) (λ lists. lists_parts group.now lists (end_line ∷ [])) cursor.old result [] }
+    ensures many { IfOk result (λ lists. length lists ≡ length group.now) }
+{
+    let lists = lists(alloc, cursor, ranks, group)?;
+    end(cursor)?;
+    let left = cursor.rest().len();
+    if left > 0 {
+        return Err(Stop::Fault {
+            why: LogWhy::Extra,
+            left,
+        });
+    }
+    Ok(lists)
+}
+
 /// All parts, and nothing behind them.
 fn read(alloc: Global, text: &[u8]) -> Result<Log, Stop>
     ensures parts { Reads at_head log_parts text.now result [] }
@@ -239,15 +267,7 @@ fn read(alloc: Global, text: &[u8]) -> Result<Log, Stop>
     let ranks = ranks(&mut cursor)?;
     let group = group(alloc, &mut cursor, ranks)?;
     let program = program(alloc, &mut cursor)?;
-    let lists = lists(alloc, &mut cursor, ranks, group.as_slice())?;
-    end(&mut cursor)?;
-    let left = cursor.rest().len();
-    if left > 0 {
-        return Err(Stop::Fault {
-            why: LogWhy::Extra,
-            left,
-        });
-    }
+    let lists = lists_and_end(alloc, &mut cursor, ranks, group.as_slice())?;
     Ok(Log {
         ranks,
         group,

@@ -105,12 +105,6 @@ EntersKnown-Replays next log stop events laws fine all rank comm instance one be
     let is = (order.ranks rank below).entered comm instance one at in
     is.known ∙ sym is.stays
 
-pub EntersKnown-same : (n : ℕ) (events : List Event) (rank : ℕ) (call copied : Call) (reply also : Reply) → copied ≡ call → also ≡ reply → AreEntersKnown n (events ++ event_of rank call reply ∷ []) → AreEntersKnown n (events ++ event_of rank copied also ∷ [])
-EntersKnown-same n events rank call copied reply also e f known =
-    let P : Call → Type 0 = λ c. AreEntersKnown n (events ++ event_of rank c reply ∷ []) in
-    let Q : Reply → Type 0 = λ r. AreEntersKnown n (events ++ event_of rank copied r ∷ []) in
-    subst Q (sym f) (subst P (sym e) known)
-
 -- the counts after one more event of a rank
 pub AreCounts-after : (n : ℕ) (events : List Event) (counts : List ℕ) (event : Event) → event.rank < n → AreCounts n events counts → AreCounts n (events ++ event ∷ []) (set counts event.rank (slice_index counts event.rank + 1))
 AreCounts-after n events counts event below each =

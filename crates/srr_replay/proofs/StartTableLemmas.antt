@@ -322,12 +322,6 @@ taken_absent events own starts k are none =
       | inr t ↦ sym t
     ]
 
-pub TakesMade-same : (own : View) (call copied : Call) (reply also : Reply) → copied ≡ call → also ≡ reply → TakesMade own call reply → TakesMade own copied also
-TakesMade-same own call copied reply also e f made =
-    let P : Call → Type 0 = λ c. TakesMade own c reply in
-    let Q : Reply → Type 0 = λ r. TakesMade own copied r in
-    subst Q (sym f) (subst P (sym e) made)
-
 -- a reply in its call's shape completes starts that were made alone
 listed_made : (own : View) (starts : List ℕ) (index : ℕ) → list_all (λ k. can_take own k) starts ≡ true → index < length starts → is_some (start_at own (slice_index starts index)) ≡ true
 listed_made own [] index all h = absurd (omega (arith, h))

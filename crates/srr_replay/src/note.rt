@@ -1,5 +1,5 @@
 //! Noting an event in the tables.
-ghost use Rattle.std.specs.Prelude.{◌≡◌, ◌<◌, ◌++◌, ◌∷◌, [], OnErr, OnOk};
+ghost use Rattle.std.specs.Prelude.{◌≡◌, ◌<◌, ◌+◌, ◌^◌, ◌++◌, ◌∷◌, [], OnErr, OnOk, length};
 ghost use Rattle.run_model.specs.Views.{view_of};
 ghost use Rattle.srr_replay.specs.EnterTable.{IsEnterTable, entered_by};
 ghost use Rattle.srr_replay.specs.MemberTable.{IsMemberTable};
@@ -27,8 +27,36 @@ fn entered_by(call: &Call, reply: &Reply) -> Option<Comm>
     }
 }
 
+/// Makes room for one more event, and notes it in the tables. For want of memory they and the events are as before.
+pub fn prepare(
+    starts: &mut StartTable,
+    enters: &mut EnterTable,
+    members: &mut MemberTable,
+    ranks: u8,
+    events: &mut History,
+    event: &Event,
+) -> Result<(), AllocError>
+    requires rank { event.now.rank < ranks }
+    requires takes { TakesMade (view_of events.old.events event.now.rank) event.now.call event.now.reply }
+    requires starts { IsStartTable ranks events.old.events starts.old }
+    requires enters { IsEnterTable ranks events.old.events enters.old }
+    requires members { IsMemberTable ranks events.old.events members.old }
+    ensures same { events.new.events ≡ events.old.events }
+    ensures room { OnOk result (0 < events.new.spare) }
+    ensures short { OnOk result (length events.old.events + 1 < 2 ^ 32) }
+    ensures ok { OnOk result (IsStartTable ranks (events.old.events ++ event.now ∷ []) starts.new × IsEnterTable ranks (events.old.events ++ event.now ∷ []) enters.new × IsMemberTable ranks (events.old.events ++ event.now ∷ []) members.new) }
+    ensures err { OnErr result (IsStartTable ranks events.old.events starts.new × IsEnterTable ranks events.old.events enters.new × IsMemberTable ranks events.old.events members.new) }
+{
+    // A log's bounds keep the events far below this.
+    if events.len() >= u32::MAX {
+        return Err(AllocError);
+    }
+    events.reserve(1)?;
+    note(starts, enters, members, ranks, events, event)
+}
+
 /// Notes the event after these in the tables. For want of memory they are as before.
-pub fn note(
+fn note(
     starts: &mut StartTable,
     enters: &mut EnterTable,
     members: &mut MemberTable,

@@ -78,14 +78,26 @@ impl<'a, P: Program> Replay<'a, P> {
         ensures sure { takes_none (answer_of self.old.log self.old.stop (view_of self.old.events) (view_of self.old.events rank) rank call.now) ≡ true → IsOk result }
         ensures err { OnErr result (self.new ≡ self.old) }
     {
+        match self.answer(rank, call)? {
+            Step::Replied(reply) => {
+                self.append(rank, call, &reply)?;
+                Ok(Step::Replied(reply))
+            }
+            step => Ok(step),
+        }
+    }
+
+    /// The answer to the rank's call.
+    fn answer(&self, rank: u8, call: &Call) -> Result<Step, AllocError>
+        requires member { is_member self.now.log.group rank ≡ true }
+        requires next { P.next self.now.program self.now.log.ranks rank (replies_in (view_of self.now.events rank)) ≡ Some call.now }
+        ensures answer { IfOk result (λ step. step ≡ answer_of self.now.log self.now.stop (view_of self.now.events) (view_of self.now.events rank) rank call.now) }
+        ensures shape { IfOk result (λ step. (reply : Reply) → step ≡ Replied reply → MayGive (P.next self.now.program) self.now.log.ranks rank (replies_in (view_of self.now.events rank)) reply) }
+        ensures sure { takes_none (answer_of self.now.log self.now.stop (view_of self.now.events) (view_of self.now.events rank) rank call.now) ≡ true → IsOk result }
+    {
         let number = self.seen.count(rank);
         let asked = Asked { rank, number, call };
-        let step = answer(self.alloc, self.log, &self.stop, &self.seen, &asked)?;
-        if let Step::Replied(reply) = &step {
-            self.append(rank, call, reply)?;
-            return Ok(step);
-        }
-        Ok(step)
+        answer(self.alloc, self.log, &self.stop, &self.seen, &asked)
     }
 
     /// Adds the event of a reply.
@@ -96,14 +108,8 @@ impl<'a, P: Program> Replay<'a, P> {
         ensures ok { OnOk result (self.new ≡ record self.old { events = self.old.events ++ event_of rank call.now reply.now ∷ [] }) }
         ensures err { OnErr result (self.new ≡ self.old) }
     {
-        let reply = reply::copy_of(reply)?;
-        let call = call::copy_of(call)?;
-        self.seen.add(Event {
-            rank,
-            call,
-            reply,
-            mate: None,
-        })?;
+        let event = event_of(rank, call, reply)?;
+        self.seen.add(event)?;
         Ok(())
     }
 
@@ -129,4 +135,18 @@ impl<'a, P: Program> Replay<'a, P> {
     {
         self.seen.into_events()
     }
+}
+
+/// The event of a reply, which it copies with the call.
+fn event_of(rank: u8, call: &Call, reply: &Reply) -> Result<Event, AllocError>
+    ensures { IfOk result (λ event. event ≡ event_of rank call.now reply.now) }
+{
+    let reply = reply::copy_of(reply)?;
+    let call = call::copy_of(call)?;
+    Ok(Event {
+        rank,
+        call,
+        reply,
+        mate: None,
+    })
 }

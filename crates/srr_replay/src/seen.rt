@@ -12,7 +12,7 @@ ghost use Rattle.srr_replay.specs.StartTable.{TakesMade};
 use crate::counts::Counts;
 use crate::enter_table::{EnterTable, count_below};
 use crate::member_table::MemberTable;
-use crate::note::note;
+use crate::note::prepare;
 use crate::start_table::StartTable;
 use mpi_call::call::{Call, Comm};
 use mpi_call::lists::Ranks;
@@ -189,18 +189,13 @@ impl Seen {
         ensures ok { OnOk result (self.new ≡ record self.old { events = self.old.events ++ event ∷ [] }) }
         ensures err { OnErr result (self.new ≡ self.old) }
     {
-        // A log's bounds keep the events far below this.
-        if self.events.len() >= u32::MAX {
-            return Err(AllocError);
-        }
         let rank = event.rank;
-        self.events.reserve(1)?;
-        note(
+        prepare(
             &mut self.starts,
             &mut self.enters,
             &mut self.members,
             self.ranks,
-            &self.events,
+            &mut self.events,
             &event,
         )?;
         self.events.push(event);

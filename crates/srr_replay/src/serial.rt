@@ -3,17 +3,19 @@ ghost use Rattle.std.specs.Prelude.{◌≡◌, ◌<◌, ◌≤◌, ◌++◌, ◌
 ghost use Rattle.mpi_call.specs.Collectives.{is_distinct, is_member};
 ghost use Rattle.run_model.specs.declared.event.Event.{Event};
 ghost use Rattle.run_model.specs.Program.{IsAfter};
-ghost use Rattle.run_model.specs.Views.{view_of};
+ghost use Rattle.run_model.specs.Views.{view_of, replies_in};
 ghost use Rattle.replay_model.specs.Laws.{IsReplayOfEveryRun};
 ghost use Rattle.replay_model.specs.Replays.{IsExhausted, IsWholeReplay, Replays};
 ghost use Rattle.srr_replay.specs.Rounds.{GrowsBy, HasNoStep, IsReplayable, RunAll};
 ghost use Rattle.replay_model.specs.Stands.{IsReplayed, printed_of, stand_of};
 
 use crate::replay::Replay;
+use mpi_call::call::Call;
 use mpi_call::lists::Ranks;
 use replay_model::laws::{begins_every_run, has_all_of_every_run, has_the_cut, replays_agree};
 use replay_model::replayed::{Replayed, Stand, Stands};
 use replay_model::step::Step;
+use run_model::history::History;
 use run_model::lists::Outputs;
 use run_model::program::{Program, RankRun, Want};
 use srr_entry::log::Log;
@@ -35,11 +37,31 @@ fn try_rank<P: Program, R: RankRun<Of = P>>(
     ensures grows { IfOk result (λ moved. GrowsBy rank replay.old.events replay.new.events moved) }
     ensures rests { IfOk result (λ moved. moved ≡ false → HasNoStep (P.next replay.old.program) replay.old.log replay.old.stop replay.old.events rank) }
 {
-    let call = match run.want()? {
-        Want::Ended => return Ok(false),
-        Want::Ask(call) => call,
-    };
-    match replay.attempt(rank, &call)? {
+    match run.want()? {
+        Want::Ended => Ok(false),
+        Want::Ask(call) => try_call(replay, run, rank, &call),
+    }
+}
+
+/// One attempt of a rank with its next call.
+fn try_call<P: Program, R: RankRun<Of = P>>(
+    replay: &mut Replay<'_, P>,
+    run: &mut R,
+    rank: u8,
+    call: &Call,
+) -> Result<bool, AllocError>
+    requires member { is_member replay.old.log.group rank ≡ true }
+    requires run { IsAfter replay.old.program replay.old.log.ranks rank replay.old.events (R.standing run.old) }
+    requires asked { (R.standing run.old).asked ≡ true }
+    requires next { P.next replay.old.program replay.old.log.ranks rank (replies_in (view_of replay.old.events rank)) ≡ Some call.now }
+    ensures program { replay.new.program ≡ replay.old.program }
+    ensures log { replay.new.log ≡ replay.old.log }
+    ensures stop { replay.new.stop ≡ replay.old.stop }
+    ensures run { OnOk result (IsAfter replay.old.program replay.old.log.ranks rank replay.new.events (R.standing run.new)) }
+    ensures grows { IfOk result (λ moved. GrowsBy rank replay.old.events replay.new.events moved) }
+    ensures rests { IfOk result (λ moved. moved ≡ false → HasNoStep (P.next replay.old.program) replay.old.log replay.old.stop replay.old.events rank) }
+{
+    match replay.attempt(rank, call)? {
         Step::Replied(reply) => {
             run.give(&reply)?;
             Ok(true)
@@ -73,39 +95,6 @@ fn round<P: Program, R: RankRun<Of = P>>(
     Ok(moved)
 }
 
-/// A rank's stand where it has no step, and what it printed.
-fn stand_of_rank<P: Program, R: RankRun<Of = P>>(
-    alloc: Global,
-    replay: &mut Replay<'_, P>,
-    run: &mut R,
-    rank: u8,
-) -> Result<(Stand, Bytes), AllocError>
-    requires member { is_member replay.old.log.group rank ≡ true }
-    requires run { IsAfter replay.old.program replay.old.log.ranks rank replay.old.events (R.standing run.old) }
-    requires rests { HasNoStep (P.next replay.old.program) replay.old.log replay.old.stop replay.old.events rank }
-    ensures replay { replay.new ≡ replay.old }
-    ensures run { OnOk result (IsAfter replay.old.program replay.old.log.ranks rank replay.old.events (R.standing run.new)) }
-    ensures stand { IfOk result (λ found. Some found.0 ≡ stand_of (P.next replay.old.program) (P.variables replay.old.program) replay.old.log replay.old.stop replay.old.events rank) }
-    ensures printed { IfOk result (λ found. found.1 ≡ printed_of (P.output replay.old.program) replay.old.log.ranks replay.old.events rank) }
-{
-    let wanted = run.want()?;
-    let printed = Bytes::from_slice(alloc, run.printed())?;
-    let call = match wanted {
-        Want::Ended => return Ok((Stand::Ended, printed)),
-        Want::Ask(call) => call,
-    };
-    match replay.attempt(rank, &call)? {
-        Step::AtBreak => {
-            let variables = run.variables()?;
-            Ok((Stand::AtBreak { variables }, printed))
-        }
-        Step::LogEnded => Ok((Stand::LogEnded, printed)),
-        Step::Wait(missing) => Ok((Stand::Starved(missing), printed)),
-        Step::Diverged(divergence) => Ok((Stand::Diverged(divergence), printed)),
-        Step::Replied(_) => unreachable!(),
-    }
-}
-
 /// Replays the group on one thread: rounds over its ranks, rising, until a round has no event. Run k is the k-th rank of
 /// the group, just started; no rank outside the group is run.
 pub fn replay_serial<P: Program, R: RankRun<Of = P>>(
@@ -121,17 +110,7 @@ pub fn replay_serial<P: Program, R: RankRun<Of = P>>(
     ensures runs { IfOk result (λ replayed. IsReplayOfEveryRun (P.next program.now) (P.output program.now) log.now stop replayed) }
     ensures alike { IfOk result (λ replayed. (other : List Event) → IsWholeReplay (P.next program.now) log.now stop other → (rank : ℕ) → view_of replayed.events.events rank ≡ view_of other rank) }
 {
-    let mut replay = Replay::new(alloc, program, log, stop)?;
-    let all = runs.as_mut_slice();
-    let mut count = 0;
-    loop {
-        let moved = round(&mut replay, log.group.as_slice(), all)?;
-        if !moved {
-            break;
-        }
-        count = replay.len();
-    }
-    let replayed = finish(alloc, log, replay, all)?;
+    let replayed = replay_all(alloc, program, log, runs.as_mut_slice(), stop)?;
     begins_every_run(program, log, &stop, &replayed.events);
     has_the_cut(program, log, &stop, &replayed.events);
     has_all_of_every_run(program, log, &stop, &replayed.events);
@@ -139,47 +118,198 @@ pub fn replay_serial<P: Program, R: RankRun<Of = P>>(
     Ok(replayed)
 }
 
-/// The stands and outputs of a replay that can go no further, with its events.
-fn finish<P: Program, R: RankRun<Of = P>>(
+/// The whole replay of these runs.
+fn replay_all<P: Program, R: RankRun<Of = P>>(
     alloc: Global,
+    program: &P,
     log: &Log,
-    mut replay: Replay<'_, P>,
     runs: &mut [R],
+    stop: Option<(u8, u32)>,
 ) -> Result<Replayed, AllocError>
-    requires log { replay.log ≡ log.now }
-    requires runs { RunAll R.standing replay.program replay.log replay.events runs.old }
-    requires rests { IsExhausted (P.next replay.program) replay.log replay.stop replay.events }
-    ensures { IfOk result (λ replayed. IsReplayed (P.next replay.entry.program) (P.output replay.entry.program) (P.variables replay.entry.program) log.now replay.entry.stop replayed) }
+    requires log { IsReplayable log.now }
+    requires runs { RunAll R.standing program.now log.now [] runs.old }
+    ensures { IfOk result (λ replayed. IsReplayed (P.next program.now) (P.output program.now) (P.variables program.now) log.now stop replayed) }
 {
     let group = log.group.as_slice();
-    let mut outputs = Outputs::new(alloc);
-    let mut ends = Stands::new(alloc);
-    for (k, run) in runs.iter_mut().enumerate() {
-        let (stand, printed) = stand_of_rank(alloc, &mut replay, run, group[k])?;
-        keep(&mut outputs, &mut ends, stand, printed)?;
-    }
+    let mut replay = Replay::new(alloc, program, log, stop)?;
+    let ends = run_all(alloc, &mut replay, group, runs);
+    replayed(alloc, group, replay.into_events(), ends?)
+}
+
+/// The replay of a group, of its parts.
+fn replayed(
+    alloc: Global,
+    group: &[u8],
+    events: History,
+    ends: Ends,
+) -> Result<Replayed, AllocError>
+    ensures { IfOk result (λ replayed. replayed ≡ record { group = group.now; events = events; outputs = ends.outputs; ends = ends.stands }) }
+{
     let group = Ranks::from_slice(alloc, group)?;
-    let events = replay.into_events();
     Ok(Replayed {
         group,
         events,
-        outputs,
-        ends,
+        outputs: ends.outputs,
+        ends: ends.stands,
     })
 }
 
-/// Adds a rank's stand and output.
-fn keep(
-    outputs: &mut Outputs,
-    ends: &mut Stands,
-    stand: Stand,
-    printed: Bytes,
-) -> Result<(), AllocError>
-    ensures outputs { OnOk result (outputs.new ≡ outputs.old ++ printed ∷ []) }
-    ensures ends { OnOk result (ends.new ≡ ends.old ++ stand ∷ []) }
+/// What some ranks printed, and where they stand, in order.
+#[derive(Drop)]
+struct Ends {
+    outputs: Outputs,
+    stands: Stands,
+}
+
+/// Replays until no rank has a step. Gives the outputs and stands of the group.
+fn run_all<P: Program, R: RankRun<Of = P>>(
+    alloc: Global,
+    replay: &mut Replay<'_, P>,
+    group: &[u8],
+    runs: &mut [R],
+) -> Result<Ends, AllocError>
+    requires group { group.now ≡ replay.old.log.group }
+    requires distinct { is_distinct replay.old.log.group ≡ true }
+    requires runs { RunAll R.standing replay.old.program replay.old.log replay.old.events runs.old }
+    ensures program { replay.new.program ≡ replay.old.program }
+    ensures log { replay.new.log ≡ replay.old.log }
+    ensures stop { replay.new.stop ≡ replay.old.stop }
+    ensures rests { OnOk result (IsExhausted (P.next replay.old.program) replay.old.log replay.old.stop replay.new.events) }
+    ensures outputs { IfOk result (λ found. found.outputs ≡ map (printed_of (P.output replay.old.program) replay.old.log.ranks replay.new.events) replay.old.log.group) }
+    ensures stands { IfOk result (λ found. map Some found.stands ≡ map (stand_of (P.next replay.old.program) (P.variables replay.old.program) replay.old.log replay.old.stop replay.new.events) replay.old.log.group) }
 {
-    if outputs.push(printed).is_err() || ends.push(stand).is_err() {
-        return Err(AllocError);
+    exhaust(replay, group, runs)?;
+    ends_of(alloc, replay, group, runs)
+}
+
+/// Rounds until one has no event.
+fn exhaust<P: Program, R: RankRun<Of = P>>(
+    replay: &mut Replay<'_, P>,
+    group: &[u8],
+    runs: &mut [R],
+) -> Result<(), AllocError>
+    requires group { group.now ≡ replay.old.log.group }
+    requires distinct { is_distinct replay.old.log.group ≡ true }
+    requires runs { RunAll R.standing replay.old.program replay.old.log replay.old.events runs.old }
+    ensures program { replay.new.program ≡ replay.old.program }
+    ensures log { replay.new.log ≡ replay.old.log }
+    ensures stop { replay.new.stop ≡ replay.old.stop }
+    ensures runs { OnOk result (RunAll R.standing replay.old.program replay.old.log replay.new.events runs.new) }
+    ensures rests { OnOk result (IsExhausted (P.next replay.old.program) replay.old.log replay.old.stop replay.new.events) }
+{
+    let mut count = replay.len();
+    while round(replay, group, runs)? {
+        count = replay.len();
     }
     Ok(())
+}
+
+/// The outputs and stands of the group, where no rank has a step.
+fn ends_of<P: Program, R: RankRun<Of = P>>(
+    alloc: Global,
+    replay: &mut Replay<'_, P>,
+    group: &[u8],
+    runs: &mut [R],
+) -> Result<Ends, AllocError>
+    requires group { group.now ≡ replay.old.log.group }
+    requires runs { RunAll R.standing replay.old.program replay.old.log replay.old.events runs.old }
+    requires rests { IsExhausted (P.next replay.old.program) replay.old.log replay.old.stop replay.old.events }
+    ensures replay { replay.new ≡ replay.old }
+    ensures outputs { IfOk result (λ found. found.outputs ≡ map (printed_of (P.output replay.old.program) replay.old.log.ranks replay.old.events) replay.old.log.group) }
+    ensures stands { IfOk result (λ found. map Some found.stands ≡ map (stand_of (P.next replay.old.program) (P.variables replay.old.program) replay.old.log replay.old.stop replay.old.events) replay.old.log.group) }
+{
+    let mut ends = Ends {
+        outputs: Outputs::new(alloc),
+        stands: Stands::new(alloc),
+    };
+    for (k, run) in runs.iter_mut().enumerate() {
+        add_end(alloc, &mut ends, replay, run, group[k])?;
+    }
+    Ok(ends)
+}
+
+/// Adds what a rank printed, and where it stands.
+fn add_end<P: Program, R: RankRun<Of = P>>(
+    alloc: Global,
+    ends: &mut Ends,
+    replay: &mut Replay<'_, P>,
+    run: &mut R,
+    rank: u8,
+) -> Result<(), AllocError>
+    requires member { is_member replay.old.log.group rank ≡ true }
+    requires run { IsAfter replay.old.program replay.old.log.ranks rank replay.old.events (R.standing run.old) }
+    requires rests { HasNoStep (P.next replay.old.program) replay.old.log replay.old.stop replay.old.events rank }
+    ensures replay { replay.new ≡ replay.old }
+    ensures run { OnOk result (IsAfter replay.old.program replay.old.log.ranks rank replay.old.events (R.standing run.new)) }
+    ensures outputs { OnOk result (ends.new.outputs ≡ ends.old.outputs ++ printed_of (P.output replay.old.program) replay.old.log.ranks replay.old.events rank ∷ []) }
+    ensures stands { OnOk result (map Some ends.new.stands ≡ map Some ends.old.stands ++ stand_of (P.next replay.old.program) (P.variables replay.old.program) replay.old.log replay.old.stop replay.old.events rank ∷ []) }
+{
+    let stand = stand_of_rank(replay, run, rank)?;
+    add_stand(&mut ends.stands, stand)?;
+    let printed = Bytes::from_slice(alloc, run.printed())?;
+    add_output(&mut ends.outputs, printed)
+}
+
+/// A rank's stand where it has no step.
+fn stand_of_rank<P: Program, R: RankRun<Of = P>>(
+    replay: &mut Replay<'_, P>,
+    run: &mut R,
+    rank: u8,
+) -> Result<Stand, AllocError>
+    requires member { is_member replay.old.log.group rank ≡ true }
+    requires run { IsAfter replay.old.program replay.old.log.ranks rank replay.old.events (R.standing run.old) }
+    requires rests { HasNoStep (P.next replay.old.program) replay.old.log replay.old.stop replay.old.events rank }
+    ensures replay { replay.new ≡ replay.old }
+    ensures asked { OnOk result (R.standing run.new ≡ record (R.standing run.old) { asked = true }) }
+    ensures stand { IfOk result (λ stand. Some stand ≡ stand_of (P.next replay.old.program) (P.variables replay.old.program) replay.old.log replay.old.stop replay.old.events rank) }
+{
+    match run.want()? {
+        Want::Ended => Ok(Stand::Ended),
+        Want::Ask(call) => stand_at(replay, run, rank, &call),
+    }
+}
+
+/// A rank's stand at its next call, which makes no event.
+fn stand_at<P: Program, R: RankRun<Of = P>>(
+    replay: &mut Replay<'_, P>,
+    run: &R,
+    rank: u8,
+    call: &Call,
+) -> Result<Stand, AllocError>
+    requires member { is_member replay.old.log.group rank ≡ true }
+    requires run { IsAfter replay.old.program replay.old.log.ranks rank replay.old.events (R.standing run.now) }
+    requires asked { (R.standing run.now).asked ≡ true }
+    requires next { P.next replay.old.program replay.old.log.ranks rank (replies_in (view_of replay.old.events rank)) ≡ Some call.now }
+    requires rests { HasNoStep (P.next replay.old.program) replay.old.log replay.old.stop replay.old.events rank }
+    ensures replay { replay.new ≡ replay.old }
+    ensures stand { IfOk result (λ stand. Some stand ≡ stand_of (P.next replay.old.program) (P.variables replay.old.program) replay.old.log replay.old.stop replay.old.events rank) }
+{
+    match replay.attempt(rank, call)? {
+        Step::AtBreak => {
+            let variables = run.variables()?;
+            Ok(Stand::AtBreak { variables })
+        }
+        Step::LogEnded => Ok(Stand::LogEnded),
+        Step::Wait(missing) => Ok(Stand::Starved(missing)),
+        Step::Diverged(divergence) => Ok(Stand::Diverged(divergence)),
+        Step::Replied(_) => unreachable!(),
+    }
+}
+
+fn add_stand(stands: &mut Stands, stand: Stand) -> Result<(), AllocError>
+    ensures { OnOk result (stands.new ≡ stands.old ++ stand ∷ []) }
+{
+    match stands.push(stand) {
+        Ok(()) => Ok(()),
+        Err(_) => Err(AllocError),
+    }
+}
+
+fn add_output(outputs: &mut Outputs, printed: Bytes) -> Result<(), AllocError>
+    ensures { OnOk result (outputs.new ≡ outputs.old ++ printed ∷ []) }
+{
+    match outputs.push(printed) {
+        Ok(()) => Ok(()),
+        Err(_) => Err(AllocError),
+    }
 }

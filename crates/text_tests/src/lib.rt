@@ -10,6 +10,8 @@ mod entries;
 #[cfg(test)]
 mod logs;
 #[cfg(test)]
+mod memory;
+#[cfg(test)]
 mod plans;
 #[cfg(test)]
 mod stores;

@@ -1,123 +1,135 @@
 //! Lines and texts worked out by hand from the format.
 ghost use Rattle.std.specs.Prelude.{IfOk};
-ghost use Rattle.srr_log.specs.Bounds.{IsInBounds};
+ghost use Rattle.srr_text.specs.Bounds.{IsInBounds};
 
+use crate::memory::pushed;
 use mpi_call::call::{Fault, Halt};
 use mpi_call::lists::{Ints, Ranks};
 use srr_entry::entry::{Entry, Mark, Marked, MarkedItems};
 use srr_entry::log::Log;
-use srr_log::entry_text::entry_text;
 use srr_log::fault::{LogFault, LogWhy};
 use srr_log::read_log::{one_reading, read_log};
-use srr_log::write_log::write_log;
+use srr_text::entry_text::entry_text;
+use srr_text::write_log::write_log;
 use std::alloc::Global;
+use std::process::Abort;
+use std::rt::HostRuntime;
 use std::test::Fail;
 use wiz_base::Bytes;
 
-fn took(alloc: Global, marks: Vec<Mark>) -> Result<Entry, Fail> {
-    let mut items = MarkedItems::new(alloc);
-    let mut index: u32 = 0;
-    for mark in marks {
-        items.push(Marked { index, mark }).ok().ok_or("memory")?;
-        index = index.wrapping_add(2);
-    }
-    Ok(Entry::Took(items))
+/// An entry has this line.
+fn check_entry(rt: &(impl Abort + AllocGlobal), entry: Entry, expected: &str) -> Result<(), Fail> {
+    let mut out = Bytes::new(rt.alloc());
+    entry_text(rt.alloc(), &mut out, &entry)?;
+    assert_eq!(rt; out.as_slice(), expected.as_bytes());
+    Ok(())
 }
 
 #[test]
 fn entries_have_their_lines(rt: HostRuntime) -> Result<(), Fail> {
-    let alloc = rt.alloc();
-    let inside = vec![in alloc;
-        Mark::Inside {
-            source: 0,
-            start: 0
+    check_entry(&rt, Entry::Sent, "s")?;
+    check_entry(&rt, Entry::Posted, "p")?;
+    check_entry(&rt, Entry::Entered, "e")?;
+    check_entry(&rt, Entry::Ended, "z")?;
+    check_entry(&rt, Entry::NotYet, "n")?;
+    let inside = Entry::PeekedInside {
+        source: 0,
+        start: 12,
+    };
+    check_entry(&rt, inside, "k 0.12")?;
+    let outside = Entry::PeekedOutside {
+        source: 0,
+        start: 0,
+        tag: 3,
+        count: 1,
+    };
+    check_entry(&rt, outside, "k 0.0.3:1")
+}
+
+static HALTS: [(Halt, &str); 7] = [
+    (Halt::Aborted { rank: 1, code: -4 }, "x 1 1 -4"),
+    (
+        Halt::Trapped {
+            rank: 0,
+            fault: Fault::Cells,
         },
-        Mark::Sent,
-        Mark::Nothing,
-        Mark::Inner,
-        Mark::Made { comm: 1 },
-    ]?;
-    let outside = vec![in alloc;
-        Mark::Outside {
-            source: 1,
-            start: 0,
-            tag: 9,
-            ints: Ints::from_slice(alloc, &[1, -20])?
-        },
-        Mark::Outside {
-            source: 0,
-            start: 0,
-            tag: 5,
-            ints: Ints::new(alloc)
-        },
-        Mark::Outer {
-            ints: Ints::from_slice(alloc, &[6])?
-        },
-        Mark::MadeOutside {
-            comm: 1,
-            members: Ranks::from_slice(alloc, &[0, 2])?
-        },
-    ]?;
-    let rows = [
-        (Entry::Sent, "s"),
-        (Entry::Posted, "p"),
-        (Entry::Entered, "e"),
-        (Entry::Ended, "z"),
-        (Entry::NotYet, "n"),
-        (took(alloc, inside)?, "t 0=0.0 2=s 4=n 6=c 8=m.1"),
-        (
-            took(alloc, outside)?,
-            "t 0=1.0.9:1,-20 2=0.0.5: 4=c:6 6=m.1:0,2",
-        ),
-        (
-            Entry::PeekedInside {
-                source: 0,
-                start: 12,
-            },
-            "k 0.12",
-        ),
-        (
-            Entry::PeekedOutside {
-                source: 0,
-                start: 0,
-                tag: 3,
-                count: 1,
-            },
-            "k 0.0.3:1",
-        ),
-        (
-            Entry::Stopped(Halt::Aborted { rank: 1, code: -4 }),
-            "x 1 1 -4",
-        ),
-        (
-            Entry::Stopped(Halt::Trapped {
-                rank: 0,
-                fault: Fault::Cells,
-            }),
-            "x 2 0 10",
-        ),
-        (
-            Entry::Stopped(Halt::Truncated { rank: 1, start: 0 }),
-            "x 3 1 0",
-        ),
-        (Entry::Stopped(Halt::Mismatched { rank: 63 }), "x 4 63"),
-        (
-            Entry::Stopped(Halt::BadRequest { rank: 2, start: 7 }),
-            "x 5 2 7",
-        ),
-        (Entry::Stopped(Halt::Limit), "x 6"),
-        (Entry::Stopped(Halt::Stuck), "x 7"),
-    ];
-    for (entry, expected) in rows {
-        let mut out = Bytes::new(alloc);
-        entry_text(alloc, &mut out, &entry)?;
-        assert_eq!(rt; out.as_slice(), expected.as_bytes());
+        "x 2 0 10",
+    ),
+    (Halt::Truncated { rank: 1, start: 0 }, "x 3 1 0"),
+    (Halt::Mismatched { rank: 63 }, "x 4 63"),
+    (Halt::BadRequest { rank: 2, start: 7 }, "x 5 2 7"),
+    (Halt::Limit, "x 6"),
+    (Halt::Stuck, "x 7"),
+];
+
+#[test]
+fn halts_have_their_lines(rt: HostRuntime) -> Result<(), Fail> {
+    for (halt, expected) in &HALTS {
+        check_entry(&rt, Entry::Stopped(*halt), expected)?;
     }
     Ok(())
 }
 
+fn add(items: &mut MarkedItems, index: u32, mark: Mark) -> Result<(), Fail> {
+    pushed(items.push(Marked { index, mark }))
+}
+
+#[test]
+fn marks_inside_have_their_texts(rt: HostRuntime) -> Result<(), Fail> {
+    let mut items = MarkedItems::new(rt.alloc());
+    let message = Mark::Inside {
+        source: 0,
+        start: 0,
+    };
+    add(&mut items, 0, message)?;
+    add(&mut items, 2, Mark::Sent)?;
+    add(&mut items, 4, Mark::Nothing)?;
+    add(&mut items, 6, Mark::Inner)?;
+    add(&mut items, 8, Mark::Made { comm: 1 })?;
+    check_entry(&rt, Entry::Took(items), "t 0=0.0 2=s 4=n 6=c 8=m.1")
+}
+
+fn add_outside(
+    items: &mut MarkedItems,
+    alloc: Global,
+    index: u32,
+    source: u8,
+    tag: u32,
+    ints: &[i32],
+) -> Result<(), Fail> {
+    let mark = Mark::Outside {
+        source,
+        start: 0,
+        tag,
+        ints: Ints::from_slice(alloc, ints)?,
+    };
+    add(items, index, mark)
+}
+
+#[test]
+fn marks_outside_have_their_texts(rt: HostRuntime) -> Result<(), Fail> {
+    let alloc = rt.alloc();
+    let mut items = MarkedItems::new(alloc);
+    add_outside(&mut items, alloc, 0, 1, 9, &[1, -20])?;
+    add_outside(&mut items, alloc, 2, 0, 5, &[])?;
+    let outer = Mark::Outer {
+        ints: Ints::from_slice(alloc, &[6])?,
+    };
+    add(&mut items, 4, outer)?;
+    let made = Mark::MadeOutside {
+        comm: 1,
+        members: Ranks::from_slice(alloc, &[0, 2])?,
+    };
+    add(&mut items, 6, made)?;
+    check_entry(
+        &rt,
+        Entry::Took(items),
+        "t 0=1.0.9:1,-20 2=0.0.5: 4=c:6 6=m.1:0,2",
+    )
+}
+
 /// The log of the first example.
-const FIRST: &[u8] = b"srr 1\nranks 2\ngroup 0 1\nprogram 209\n\
+static FIRST: &[u8] = b"srr 1\nranks 2\ngroup 0 1\nprogram 209\n\
 int main(void){int r,x=7;MPI_Comm_rank(MPI_COMM_WORLD,&r);if(r==0)MPI_Send(&x,1,MPI_INT,1,5,MPI_COMM_WORLD);\
 if(r==1){x=0;MPI_Recv(&x,1,MPI_INT,0,5,MPI_COMM_WORLD,MPI_STATUS_IGNORE);printf(\"%d\\n\",x);}return 0;}\n\
 rank 0 2\ns\nz\nrank 1 3\np\nt 0=0.0\nz\nend\n";
@@ -135,91 +147,121 @@ fn read(alloc: Global, text: &[u8]) -> Result<Log, LogFault>
     }
 }
 
-fn fault(at: usize, why: LogWhy) -> Option<LogFault> {
-    let at = u32::try_from(at).ok()?;
-    Some(LogFault { at, why })
+fn check_fault(rt: &(impl Abort + AllocGlobal), text: &[u8], at: u32, why: LogWhy) {
+    assert_eq!(rt; read(rt.alloc(), text).err(), Some(LogFault { at, why }));
 }
 
 #[test]
-fn the_first_log_is_read_to_its_end(rt: HostRuntime) -> Result<(), Fail> {
-    let alloc = rt.alloc();
+fn the_first_log_is_read_to_its_end(rt: HostRuntime) {
     assert_eq!(rt; FIRST.len(), 284);
-    for k in 0..FIRST.len() {
-        assert_eq!(rt; read(alloc, &FIRST[..k]).err(), fault(k, LogWhy::Short));
+    for at in 0..284 {
+        check_fault(&rt, &FIRST[..at as usize], at, LogWhy::Short);
     }
-    let mut longer = Bytes::from_slice(alloc, FIRST)?;
-    longer.extend(b"\n")?;
-    assert_eq!(rt;
-        read(alloc, longer.as_slice()).err(),
-        fault(284, LogWhy::Extra)
-    );
-    let mut other = Bytes::from_slice(alloc, &FIRST[..270])?;
-    other.extend(b"t 0=5.0\nz\nend\n")?;
-    assert_eq!(rt;
-        read(alloc, other.as_slice()).err(),
-        fault(270, LogWhy::BadEntry)
-    );
     one_reading();
+}
+
+/// The kept bytes of a log with others behind them have this fault.
+fn check_behind(
+    rt: &(impl Abort + AllocGlobal),
+    kept: &[u8],
+    other: &[u8],
+    at: u32,
+    why: LogWhy,
+) -> Result<(), Fail> {
+    let mut text = Bytes::from_slice(rt.alloc(), kept)?;
+    text.extend(other)?;
+    check_fault(rt, text.as_slice(), at, why);
     Ok(())
 }
 
 #[test]
+fn other_ends_have_faults(rt: HostRuntime) -> Result<(), Fail> {
+    check_behind(&rt, FIRST, b"\n", 284, LogWhy::Extra)?;
+    check_behind(
+        &rt,
+        &FIRST[..270],
+        b"t 0=5.0\nz\nend\n",
+        270,
+        LogWhy::BadEntry,
+    )
+}
+
+/// The text of a log, the place of its fault, and the fault.
+static FAULTS: [(&[u8], u32, LogWhy); 11] = [
+    (b"srr 2\n", 0, LogWhy::BadVersion),
+    (b"srr 99999999999999999999\n", 0, LogWhy::BadVersion),
+    (b"srr 01\n", 0, LogWhy::BadHead),
+    (b"srr 1\nranks 0\n", 6, LogWhy::BadNumber),
+    (b"srr 1\nranks 02\n", 6, LogWhy::BadNumber),
+    (b"srr 1\nranks 2\ngroup 1 0\n", 14, LogWhy::BadGroup),
+    (
+        b"srr 1\nranks 2\ngroup 0\nprogram 65537\n",
+        22,
+        LogWhy::BadNumber,
+    ),
+    (
+        b"srr 1\nranks 2\ngroup 0\nprogram 1\n;;",
+        32,
+        LogWhy::BadNumber,
+    ),
+    (
+        b"srr 1\nranks 2\ngroup 0\nprogram 0\n\nrank 1 0\n",
+        33,
+        LogWhy::BadNumber,
+    ),
+    (
+        b"srr 1\nranks 2\ngroup 0\nprogram 0\n\nrank 0 2\nz\ns\nend\n",
+        42,
+        LogWhy::BadEntry,
+    ),
+    (
+        b"srr 1\nranks 2\ngroup 0\nprogram 0\n\nrank 0 0\nend \n",
+        42,
+        LogWhy::BadEntry,
+    ),
+];
+
+#[test]
 fn faults_have_their_places(rt: HostRuntime) {
-    let alloc = rt.alloc();
-    let rows = [
-        ("srr 2\n", 0, LogWhy::BadVersion),
-        ("srr 99999999999999999999\n", 0, LogWhy::BadVersion),
-        ("srr 01\n", 0, LogWhy::BadHead),
-        ("srr 1\nranks 0\n", 6, LogWhy::BadNumber),
-        ("srr 1\nranks 02\n", 6, LogWhy::BadNumber),
-        ("srr 1\nranks 2\ngroup 1 0\n", 14, LogWhy::BadGroup),
-        (
-            "srr 1\nranks 2\ngroup 0\nprogram 65537\n",
-            22,
-            LogWhy::BadNumber,
-        ),
-        (
-            "srr 1\nranks 2\ngroup 0\nprogram 1\n;;",
-            32,
-            LogWhy::BadNumber,
-        ),
-        (
-            "srr 1\nranks 2\ngroup 0\nprogram 0\n\nrank 1 0\n",
-            33,
-            LogWhy::BadNumber,
-        ),
-        (
-            "srr 1\nranks 2\ngroup 0\nprogram 0\n\nrank 0 2\nz\ns\nend\n",
-            42,
-            LogWhy::BadEntry,
-        ),
-        (
-            "srr 1\nranks 2\ngroup 0\nprogram 0\n\nrank 0 0\nend \n",
-            42,
-            LogWhy::BadEntry,
-        ),
-    ];
-    for (text, at, why) in rows {
-        assert_eq!(rt; read(alloc, text.as_bytes()).err(), fault(at, why));
+    for (text, at, why) in &FAULTS {
+        check_fault(&rt, text, *at, *why);
     }
+}
+
+/// A log with every kind of entry.
+static EVERY: &[u8] = b"srr 1\nranks 3\ngroup 0 2\nprogram 0\n\nrank 0 9\ns\np\ne\n\
+t 0=0.0 1=s 2=n 3=c 4=m.1 5=c:6 6=m.1:0,2\nt 1=1.0.9:1,-20 7=1.0.5:\nn\nk 2.12\nk 1.0.3:1\nz\n\
+rank 2 1\nx 1 1 -4\nend\n";
+
+fn written_back(alloc: Global, text: &[u8]) -> Result<Bytes, Fail> {
+    let log = read(alloc, text)?;
+    Ok(write_log(alloc, &log)?)
+}
+
+fn check_written(rt: &(impl Abort + AllocGlobal), text: &[u8]) -> Result<(), Fail> {
+    let written = written_back(rt.alloc(), text)?;
+    assert_eq!(rt; written.as_slice(), text);
+    Ok(())
 }
 
 #[test]
 fn logs_are_written_back(rt: HostRuntime) -> Result<(), Fail> {
-    let alloc = rt.alloc();
-    let every = b"srr 1\nranks 3\ngroup 0 2\nprogram 0\n\nrank 0 9\ns\np\ne\n\
-t 0=0.0 1=s 2=n 3=c 4=m.1 5=c:6 6=m.1:0,2\nt 1=1.0.9:1,-20 7=1.0.5:\nn\nk 2.12\nk 1.0.3:1\nz\n\
-rank 2 1\nx 1 1 -4\nend\n";
-    for text in [FIRST, every.as_slice()] {
-        let log = read(alloc, text)?;
-        let written = write_log(alloc, &log)?;
-        assert_eq!(rt; written.as_slice(), text);
-    }
+    check_written(&rt, FIRST)?;
+    check_written(&rt, EVERY)
+}
+
+fn check_halt(rt: &(impl Abort + AllocGlobal), halt: &str) -> Result<(), Fail> {
+    let text = format!(in rt.alloc();
+        "srr 1\nranks 3\ngroup 0\nprogram 0\n\nrank 0 1\n{halt}\nend\n"
+    )?;
+    assert!(rt; read(rt.alloc(), text.as_bytes()).is_ok());
+    Ok(())
+}
+
+#[test]
+fn halts_are_read(rt: HostRuntime) -> Result<(), Fail> {
     for halt in ["x 2 0 10", "x 3 1 0", "x 4 2", "x 5 2 7", "x 6", "x 7"] {
-        let text = format!(in alloc;
-            "srr 1\nranks 3\ngroup 0\nprogram 0\n\nrank 0 1\n{halt}\nend\n"
-        )?;
-        assert!(rt; read(alloc, text.as_bytes()).is_ok());
+        check_halt(&rt, halt)?;
     }
     Ok(())
 }

@@ -1,10 +1,50 @@
 //! Each form once: what it holds, and its refusals.
 use std::fs;
+use std::process::Abort;
+use std::rt::HostRuntime;
 use std::test::Fail;
 use wiz_io::{
     HostSink, HostStore, MemorySink, MemoryStore, PutFault, ReadFault, Sink, Store, SureSink,
     SureStore, WriteFault,
 };
+
+/// A read of at most so many bytes gives these, or is refused.
+fn check_read(
+    rt: &impl Abort,
+    store: &mut impl Store,
+    name: &str,
+    limit: u64,
+    expected: Result<&[u8], ReadFault>,
+) {
+    let read = store.read(name, limit);
+    let found = match &read {
+        Ok(bytes) => Ok(bytes.as_slice()),
+        Err(fault) => Err(*fault),
+    };
+    assert_eq!(rt; found, expected);
+}
+
+fn check_write(
+    rt: &impl Abort,
+    store: &mut impl Store,
+    name: &str,
+    bytes: &[u8],
+    expected: Result<(), WriteFault>,
+) {
+    assert_eq!(rt; store.write(name, bytes), expected);
+}
+
+fn check_put(rt: &impl Abort, sink: &mut impl Sink, bytes: &[u8], expected: Result<(), PutFault>) {
+    assert_eq!(rt; sink.put(bytes), expected);
+}
+
+fn check_file(rt: &impl Abort, store: &MemoryStore, name: &str, expected: Option<&[u8]>) {
+    let found = match store.file(name) {
+        Some(bytes) => Some(bytes.as_slice()),
+        None => None,
+    };
+    assert_eq!(rt; found, expected);
+}
 
 #[test]
 fn files_in_memory_and_named_calls(rt: HostRuntime) -> Result<(), Fail> {
@@ -12,23 +52,15 @@ fn files_in_memory_and_named_calls(rt: HostRuntime) -> Result<(), Fail> {
     store.add("a", b"first")?;
     store.fail(1)?;
     store.fail(2)?;
-    assert_eq!(rt; store.read("a", 5)?.as_slice(), b"first".as_slice());
-    assert_eq!(rt; store.read("a", 5), Err(ReadFault::Failed));
-    assert_eq!(rt; store.write("a", b"second"), Err(WriteFault::Failed));
-    assert_eq!(rt; store.read("a", 4), Err(ReadFault::TooLong));
-    assert_eq!(rt; store.read("b", 4), Err(ReadFault::Missing));
-    assert_eq!(rt; store.write("b", b"second"), Ok(()));
-    assert!(rt;
-        store
-            .file("a")
-            .is_some_and(|file| file.as_slice() == b"first".as_slice())
-    );
-    assert!(rt;
-        store
-            .file("b")
-            .is_some_and(|file| file.as_slice() == b"second".as_slice())
-    );
-    assert!(rt; store.file("c").is_none());
+    check_read(&rt, &mut store, "a", 5, Ok(b"first"));
+    check_read(&rt, &mut store, "a", 5, Err(ReadFault::Failed));
+    check_write(&rt, &mut store, "a", b"second", Err(WriteFault::Failed));
+    check_read(&rt, &mut store, "a", 4, Err(ReadFault::TooLong));
+    check_read(&rt, &mut store, "b", 4, Err(ReadFault::Missing));
+    check_write(&rt, &mut store, "b", b"second", Ok(()));
+    check_file(&rt, &store, "a", Some(b"first"));
+    check_file(&rt, &store, "b", Some(b"second"));
+    check_file(&rt, &store, "c", None);
     Ok(())
 }
 
@@ -36,39 +68,47 @@ fn files_in_memory_and_named_calls(rt: HostRuntime) -> Result<(), Fail> {
 fn output_in_memory_and_named_puts(rt: HostRuntime) -> Result<(), Fail> {
     let mut sink = MemorySink::new(rt.alloc());
     sink.fail(1)?;
-    assert_eq!(rt; sink.put(b"ab"), Ok(()));
-    assert_eq!(rt; sink.put(b"cd"), Err(PutFault::Failed));
-    assert_eq!(rt; sink.put(b"ef"), Ok(()));
+    check_put(&rt, &mut sink, b"ab", Ok(()));
+    check_put(&rt, &mut sink, b"cd", Err(PutFault::Failed));
+    check_put(&rt, &mut sink, b"ef", Ok(()));
     assert_eq!(rt; sink.bytes(), b"abef".as_slice());
     Ok(())
 }
 
 #[test]
-fn forms_without_faults(rt: HostRuntime) -> Result<(), Fail> {
+fn files_without_faults(rt: HostRuntime) -> Result<(), Fail> {
     let mut store = SureStore::new(rt.alloc());
     store.add("a", b"first")?;
-    assert_eq!(rt; store.write("a", b"second"), Ok(()));
-    assert_eq!(rt; store.read("a", 6)?.as_slice(), b"second".as_slice());
-    assert_eq!(rt; store.read("a", 5), Err(ReadFault::TooLong));
+    check_write(&rt, &mut store, "a", b"second", Ok(()));
+    check_read(&rt, &mut store, "a", 6, Ok(b"second"));
+    check_read(&rt, &mut store, "a", 5, Err(ReadFault::TooLong));
     assert!(rt; store.file("b").is_none());
-    let mut sink = SureSink::new(rt.alloc());
-    assert_eq!(rt; sink.put(b"ab"), Ok(()));
-    assert_eq!(rt; sink.bytes(), b"ab".as_slice());
     Ok(())
 }
 
 #[test]
-fn files_and_output_of_the_host(rt: HostRuntime) -> Result<(), Fail> {
-    let name = "files_and_output_of_the_host.txt";
+fn output_without_faults(rt: HostRuntime) {
+    let mut sink = SureSink::new(rt.alloc());
+    check_put(&rt, &mut sink, b"ab", Ok(()));
+    assert_eq!(rt; sink.bytes(), b"ab".as_slice());
+}
+
+#[test]
+fn files_of_the_host(rt: HostRuntime) -> Result<(), Fail> {
+    let name = "files_of_the_host.txt";
     let mut store = HostStore::new(&rt);
-    assert_eq!(rt; store.write(name, b"abc"), Ok(()));
-    assert_eq!(rt; store.read(name, 3)?.as_slice(), b"abc".as_slice());
-    assert_eq!(rt; store.read(name, 2), Err(ReadFault::TooLong));
-    assert_eq!(rt; store.read(name, 0), Err(ReadFault::TooLong));
+    check_write(&rt, &mut store, name, b"abc", Ok(()));
+    check_read(&rt, &mut store, name, 3, Ok(b"abc"));
+    check_read(&rt, &mut store, name, 2, Err(ReadFault::TooLong));
+    check_read(&rt, &mut store, name, 0, Err(ReadFault::TooLong));
     fs::remove_file(&rt, name)?;
-    assert_eq!(rt; store.read(name, 3), Err(ReadFault::Missing));
-    assert_eq!(rt; store.read(".", 3), Err(ReadFault::Failed));
-    assert_eq!(rt; store.write(".", b"abc"), Err(WriteFault::Failed));
-    assert_eq!(rt; HostSink::new(&rt).put(b"abc\n"), Ok(()));
+    check_read(&rt, &mut store, name, 3, Err(ReadFault::Missing));
+    check_read(&rt, &mut store, ".", 3, Err(ReadFault::Failed));
+    check_write(&rt, &mut store, ".", b"abc", Err(WriteFault::Failed));
     Ok(())
+}
+
+#[test]
+fn output_of_the_host(rt: HostRuntime) {
+    check_put(&rt, &mut HostSink::new(&rt), b"abc\n", Ok(()));
 }

@@ -1,4 +1,5 @@
 //! The texts of runs and replays worked out by hand.
+use crate::memory::pushed;
 use group_plan::read_order;
 use mpi_call::call::{Call, Fault, Halt, Source, Tag, TakeMode};
 use mpi_call::lists::{Ints, Ranks, Starts};
@@ -11,6 +12,8 @@ use run_model::history::History;
 use run_model::lists::{Outputs, Variable, Variables};
 use srr_entry::entry::Entry;
 use std::alloc::Global;
+use std::process::Abort;
+use std::rt::HostRuntime;
 use std::test::Fail;
 use wiz_base::Bytes;
 use wiz_trace::order::order_text;
@@ -47,15 +50,16 @@ fn take(alloc: Global) -> Result<Call, Fail> {
     })
 }
 
-/// Rank 0 sends a 7, which rank 1 receives.
-fn first_run(alloc: Global) -> Result<History, Fail> {
-    let mut history = History::new(alloc);
-    let post = Call::Post {
+fn post() -> Call {
+    Call::Post {
         comm: 0,
         source: Source::From(0),
         tag: Tag::Is(5),
         room: 1,
-    };
+    }
+}
+
+fn took(alloc: Global) -> Result<Reply, Fail> {
     let got = Got::Message {
         source: 0,
         start: 0,
@@ -63,11 +67,17 @@ fn first_run(alloc: Global) -> Result<History, Fail> {
         ints: Ints::from_slice(alloc, &[7])?,
     };
     let mut items = Items::new(alloc);
-    items.push(Item { index: 0, got }).ok().ok_or("memory")?;
+    pushed(items.push(Item { index: 0, got }))?;
+    Ok(Reply::Took(items))
+}
+
+/// Rank 0 sends a 7, which rank 1 receives.
+fn first_run(alloc: Global) -> Result<History, Fail> {
+    let mut history = History::new(alloc);
     add(&mut history, 0, send(alloc, 1)?, Reply::Done)?;
-    add(&mut history, 1, post, Reply::Done)?;
+    add(&mut history, 1, post(), Reply::Done)?;
     add(&mut history, 0, Call::End, Reply::Done)?;
-    add(&mut history, 1, take(alloc)?, Reply::Took(items))?;
+    add(&mut history, 1, take(alloc)?, took(alloc)?)?;
     add(&mut history, 1, Call::End, Reply::Done)?;
     Ok(history)
 }
@@ -75,140 +85,175 @@ fn first_run(alloc: Global) -> Result<History, Fail> {
 fn outputs(alloc: Global, printed: &[&[u8]]) -> Result<Outputs, Fail> {
     let mut outputs = Outputs::new(alloc);
     for bytes in printed {
-        let bytes = Bytes::from_slice(alloc, bytes)?;
-        outputs.push(bytes).ok().ok_or("memory")?;
+        pushed(outputs.push(Bytes::from_slice(alloc, bytes)?))?;
     }
     Ok(outputs)
 }
 
+fn first_order(alloc: Global) -> Result<Bytes, Fail> {
+    Ok(order_text(alloc, &first_run(alloc)?)?)
+}
+
 #[test]
 fn orders_are_written_and_read_back(rt: HostRuntime) -> Result<(), Fail> {
-    let alloc = rt.alloc();
-    let text = order_text(alloc, &first_run(alloc)?)?;
+    let text = first_order(rt.alloc())?;
     assert!(&rt; text.as_slice() == b"0\n1\n0\n1\n1\n".as_slice());
-    let ranks = read_order(alloc, text.as_slice(), 2)
-        .ok()
-        .ok_or("an order")?;
+    let ranks = read_order(rt.alloc(), text.as_slice(), 2)?;
     assert!(&rt; ranks.as_slice() == [0, 1, 0, 1, 1].as_slice());
     Ok(())
 }
 
+/// What each rank printed, how the run ended, and the text of both.
+static RECORDS: [(&[&[u8]], Ending, &[u8]); 6] = [
+    (
+        &[b"", b"7\n"],
+        Ending::Finished,
+        b"rank 0 output 0\n\nrank 1 output 2\n7\n\nfinished\n",
+    ),
+    (
+        &[b"", b""],
+        Ending::Halted(Halt::Truncated { rank: 1, start: 0 }),
+        b"rank 0 output 0\n\nrank 1 output 0\n\nhalted truncated rank 1 start 0\n",
+    ),
+    (&[], Ending::Halted(Halt::Stuck), b"halted stuck\n"),
+    (
+        &[],
+        Ending::Halted(Halt::Trapped {
+            rank: 0,
+            fault: Fault::DivideByZero,
+        }),
+        b"halted trapped rank 0 divide by zero\n",
+    ),
+    (
+        &[],
+        Ending::Halted(Halt::Aborted { rank: 0, code: 3 }),
+        b"halted aborted rank 0 code 3\n",
+    ),
+    (
+        &[],
+        Ending::Halted(Halt::Mismatched { rank: 1 }),
+        b"halted mismatched rank 1\n",
+    ),
+];
+
 #[test]
 fn records_are_told(rt: HostRuntime) -> Result<(), Fail> {
-    let alloc = rt.alloc();
-    let rows: [(&[&[u8]], Ending, &[u8]); 6] = [
-        (
-            &[b"", b"7\n"],
-            Ending::Finished,
-            b"rank 0 output 0\n\nrank 1 output 2\n7\n\nfinished\n",
-        ),
-        (
-            &[b"", b""],
-            Ending::Halted(Halt::Truncated { rank: 1, start: 0 }),
-            b"rank 0 output 0\n\nrank 1 output 0\n\nhalted truncated rank 1 start 0\n",
-        ),
-        (&[], Ending::Halted(Halt::Stuck), b"halted stuck\n"),
-        (
-            &[],
-            Ending::Halted(Halt::Trapped {
-                rank: 0,
-                fault: Fault::DivideByZero,
-            }),
-            b"halted trapped rank 0 divide by zero\n",
-        ),
-        (
-            &[],
-            Ending::Halted(Halt::Aborted { rank: 0, code: 3 }),
-            b"halted aborted rank 0 code 3\n",
-        ),
-        (
-            &[],
-            Ending::Halted(Halt::Mismatched { rank: 1 }),
-            b"halted mismatched rank 1\n",
-        ),
-    ];
-    for (printed, ending, expected) in rows {
-        let text = record_text(alloc, &outputs(alloc, printed)?, &ending)?;
-        assert!(&rt; text.as_slice() == expected);
+    for (printed, ending, expected) in &RECORDS {
+        let text = record_text(rt.alloc(), &outputs(rt.alloc(), printed)?, ending)?;
+        assert!(&rt; text.as_slice() == *expected);
     }
     Ok(())
+}
+
+/// What a group replayed: the events, what each rank printed, and how each stands.
+fn replay(
+    alloc: Global,
+    group: &[u8],
+    events: History,
+    printed: &[&[u8]],
+    ends: Stands,
+) -> Result<Replayed, Fail> {
+    Ok(Replayed {
+        group: Ranks::from_slice(alloc, group)?,
+        events,
+        outputs: outputs(alloc, printed)?,
+        ends,
+    })
+}
+
+fn check_trace(
+    rt: &(impl Abort + AllocGlobal),
+    replayed: &Replayed,
+    expected: &[u8],
+) -> Result<(), Fail> {
+    assert!(rt; trace_text(rt.alloc(), replayed)?.as_slice() == expected);
+    Ok(())
+}
+
+fn both_ended(alloc: Global) -> Result<Stands, Fail> {
+    let mut ends = Stands::new(alloc);
+    pushed(ends.push(Stand::Ended))?;
+    pushed(ends.push(Stand::Ended))?;
+    Ok(ends)
 }
 
 #[test]
 fn a_replay_is_traced(rt: HostRuntime) -> Result<(), Fail> {
     let alloc = rt.alloc();
-    let mut ends = Stands::new(alloc);
-    ends.push(Stand::Ended).ok().ok_or("memory")?;
-    ends.push(Stand::Ended).ok().ok_or("memory")?;
-    let replayed = Replayed {
-        group: Ranks::from_slice(alloc, &[0, 1])?,
-        events: first_run(alloc)?,
-        outputs: outputs(alloc, &[b"", b"7\n"])?,
-        ends,
-    };
-    let expected: &[u8] =
-        b"rank 0\n0 send comm=0 to=1 tag=5 data=7 -> done\n1 end -> done\noutput 0\n\nended\nrank 1\n0 post comm=0 from=0 tag=5 room=1 -> done\n1 take all 0 -> took 0=0.0 tag=5 data=7\n2 end -> done\noutput 2\n7\n\nended\n";
-    assert!(&rt; trace_text(alloc, &replayed)?.as_slice() == expected);
-    Ok(())
+    let printed: &[&[u8]] = &[b"", b"7\n"];
+    let replayed = replay(
+        alloc,
+        &[0, 1],
+        first_run(alloc)?,
+        printed,
+        both_ended(alloc)?,
+    )?;
+    check_trace(
+        &rt,
+        &replayed,
+        b"rank 0\n0 send comm=0 to=1 tag=5 data=7 -> done\n1 end -> done\noutput 0\n\nended\nrank 1\n0 post comm=0 from=0 tag=5 room=1 -> done\n1 take all 0 -> took 0=0.0 tag=5 data=7\n2 end -> done\noutput 2\n7\n\nended\n",
+    )
 }
 
-/// The trace of a rank that has made no call and stands so.
-fn stand_trace(alloc: Global, stand: Stand) -> Result<Bytes, Fail> {
+/// A rank that has made no call, printed nothing and stands so.
+fn standing(alloc: Global, stand: Stand) -> Result<Replayed, Fail> {
     let mut ends = Stands::new(alloc);
-    ends.push(stand).ok().ok_or("memory")?;
-    let replayed = Replayed {
-        group: Ranks::from_slice(alloc, &[1])?,
-        events: History::new(alloc),
-        outputs: outputs(alloc, &[b""])?,
-        ends,
-    };
-    Ok(trace_text(alloc, &replayed)?)
+    pushed(ends.push(stand))?;
+    replay(alloc, &[1], History::new(alloc), &[b""], ends)
 }
 
-#[test]
-fn stands_are_told(rt: HostRuntime) -> Result<(), Fail> {
-    let alloc = rt.alloc();
-    let mut variables = Variables::new(alloc);
+fn check_stand(rt: &(impl Abort + AllocGlobal), stand: Stand, expected: &[u8]) -> Result<(), Fail> {
+    check_trace(rt, &standing(rt.alloc(), stand)?, expected)
+}
+
+fn at_break(alloc: Global) -> Result<Stand, Fail> {
     let variable = Variable {
         depth: 0,
         name: Bytes::from_slice(alloc, b"x")?,
         values: Ints::from_slice(alloc, &[0, -1])?,
     };
-    variables.push(variable).ok().ok_or("memory")?;
+    let mut variables = Variables::new(alloc);
+    pushed(variables.push(variable))?;
+    Ok(Stand::AtBreak { variables })
+}
+
+fn diverged(alloc: Global) -> Result<Stand, Fail> {
     let found = Found {
         rank: 0,
         start: 0,
         call: send(alloc, 0)?,
     };
-    let divergence = Divergence {
+    Ok(Stand::Diverged(Divergence {
         rank: 1,
         call_number: 1,
         entry: Entry::Sent,
         call: take(alloc)?,
         found: Some(found),
-    };
+    }))
+}
+
+#[test]
+fn stands_are_told(rt: HostRuntime) -> Result<(), Fail> {
+    let alloc = rt.alloc();
+    check_stand(&rt, Stand::LogEnded, b"rank 1\noutput 0\n\nlog ended\n")?;
+    check_stand(
+        &rt,
+        at_break(alloc)?,
+        b"rank 1\noutput 0\n\nbreak\nvar 0 x 0,-1\n",
+    )?;
+    check_stand(
+        &rt,
+        diverged(alloc)?,
+        b"rank 1\noutput 0\n\ndiverged call 1 entry s made take all 0 found 0.0 send comm=0 to=0 tag=5 data=7\n",
+    )?;
     let member = Missing::Member {
         rank: 2,
         comm: 0,
         instance: 1,
     };
-    let rows: [(Stand, &[u8]); 4] = [
-        (Stand::LogEnded, b"rank 1\noutput 0\n\nlog ended\n"),
-        (
-            Stand::AtBreak { variables },
-            b"rank 1\noutput 0\n\nbreak\nvar 0 x 0,-1\n",
-        ),
-        (
-            Stand::Diverged(divergence),
-            b"rank 1\noutput 0\n\ndiverged call 1 entry s made take all 0 found 0.0 send comm=0 to=0 tag=5 data=7\n",
-        ),
-        (
-            Stand::Starved(member),
-            b"rank 1\noutput 0\n\nstarved rank 2 comm 0 instance 1\n",
-        ),
-    ];
-    for (stand, expected) in rows {
-        assert!(&rt; stand_trace(alloc, stand)?.as_slice() == expected);
-    }
-    Ok(())
+    check_stand(
+        &rt,
+        Stand::Starved(member),
+        b"rank 1\noutput 0\n\nstarved rank 2 comm 0 instance 1\n",
+    )
 }

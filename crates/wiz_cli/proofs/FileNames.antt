@@ -1,5 +1,5 @@
 -- The names of the files of a recording are apart.
-use Rattle.std.proofs.Common.{◌≡◌, ◌≢◌, ◌≤◌, ℕ, suc, List, [], ◌∷◌, ◌++◌, refl, sym, ap, ◌∙◌, codes, arith, get_or, append_assoc, ◌+◌, ◌<◌, ◌^◌, ◌/◌, ◌%◌}
+use Rattle.std.proofs.Common.{◌≡◌, ◌≢◌, ◌≤◌, ℕ, suc, List, [], ◌∷◌, ◌++◌, sym, ap, ◌∙◌, codes, arith, get_or, append_assoc, ◌+◌, ◌<◌, ◌^◌, ◌%◌}
 use Rattle.std.specs.Char.{IsAsciiDigit}
 use Rattle.std.specs.List.{AllByRecursion}
 use Rattle.std.proofs.lemmas.List.{append_cancel_left}

@@ -1,5 +1,5 @@
 -- Reading the input files of a recording, and what they hold.
-use Rattle.std.proofs.Common.{◌≡◌, ◌<◌, ◌≤◌, ℕ, List, [], ◌∷◌, Option, Some, None, All, refl, arith, length, map}
+use Rattle.std.proofs.Common.{◌<◌, ◌≤◌, ℕ, List, [], ◌∷◌, Option, Some, None, All, arith, map}
 use Rattle.std.specs.List.{AllZip}
 use Rattle.std.proofs.lemmas.List.{length-map}
 use Rattle.std.proofs.lemmas.List.Elements.{All-cons, All-nil}
@@ -12,7 +12,6 @@ use Rattle.c_program.specs.declared.program.CProgram.{CProgram}
 use Rattle.c_types.specs.Checks.{IsProgramOf}
 use Rattle.wiz_cli.specs.declared.outcome.Refusal.{Refusal}
 use Rattle.wiz_cli.specs.declared.outcome.Refusal.TheVariants.{Words, Missing, ReadFault, Program as BadProgram, Plan as BadPlan, Order as BadOrder, Log, TooLong}
-use Rattle.wiz_cli.specs.declared.record_outcome.InputFile.{InputFile}
 use Rattle.wiz_cli.specs.declared.record_outcome.InputFile.TheVariants.{Program, Plan, Order}
 use Rattle.wiz_cli.specs.declared.record_outcome.Inputs.{Inputs}
 use Rattle.wiz_cli.specs.declared.record_outcome.Unrecorded.{Unrecorded}

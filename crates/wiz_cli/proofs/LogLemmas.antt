@@ -4,8 +4,8 @@ use Rattle.std.proofs.lemmas.Bool.{eqb-true}
 use Rattle.mpi_call.specs.Collectives.{is_distinct, is_member}
 use Rattle.run_model.proofs.Views.{test_cases}
 use Rattle.srr_entry.specs.declared.log.Log.{Log}
-use Rattle.srr_log.specs.Bounds.{RiseFrom}
-use Rattle.srr_log.specs.LogText.{IsLogText}
+use Rattle.srr_text.specs.Bounds.{RiseFrom}
+use Rattle.srr_text.specs.LogText.{IsLogText}
 use Rattle.srr_replay.specs.Rounds.{IsReplayable}
 
 -- numbers that rise from above a number do not have it

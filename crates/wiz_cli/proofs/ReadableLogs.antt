@@ -1,5 +1,5 @@
 -- Each log of a recording is read back from its text.
-use Rattle.std.proofs.Common.{◌≡◌, ◌<◌, ◌≤◌, ◌+◌, ℕ, List, [], ◌∷◌, true, suc, length, map, max, arith, refl}
+use Rattle.std.proofs.Common.{◌≡◌, ◌<◌, ◌≤◌, ◌+◌, ℕ, List, [], ◌∷◌, true, suc, length, map, arith, refl}
 use Rattle.std.specs.List.{AllByRecursion}
 use Rattle.std.proofs.lemmas.Bool.{lt-ltb}
 use Rattle.group_plan.specs.Plans.{IsPlan, Rises, number_of_ranks, top, IsGroup as IsPlanGroup}
@@ -10,8 +10,8 @@ use Rattle.run_model.specs.Lists.{are_below}
 use Rattle.run_model.specs.Views.{Next}
 use Rattle.srr_entry.specs.declared.log.Log.{Log}
 use Rattle.srr_entry.specs.Entries.{log_of}
-use Rattle.srr_log.specs.Bounds.{IsGroup, RiseFrom}
-use Rattle.srr_log.specs.LogText.{IsLogText, log_text}
+use Rattle.srr_text.specs.Bounds.{IsGroup, RiseFrom}
+use Rattle.srr_text.specs.LogText.{IsLogText, log_text}
 
 abbrev IsReadable : Log → Type 0
 IsReadable log = IsLogText (log_text log) log

@@ -1,22 +1,18 @@
 -- Reports of recordings, from what their steps answer.
-use Rattle.std.proofs.Common.{◌≡◌, ◌⊎◌, ℕ, List, [], Option, Some, None, Result, Ok, Err, IfOk, OnErr, OnOk, inl, inr, refl}
+use Rattle.std.proofs.Common.{◌≡◌, ℕ, List, [], Option, Some, None, Result, Ok, Err, IfOk, OnErr, OnOk, inl, inr, refl}
 use Rattle.std.specs.Prelude.{IfErr}
 use Rattle.run_model.specs.Views.{Kept}
 use Rattle.srr_record.specs.declared.recording.Recording.{Recording}
 use Rattle.replay_model.specs.declared.replayed.Replayed.{Replayed}
-use Rattle.wiz_cli.specs.declared.record_files.Unwritten.{Unwritten}
-use Rattle.wiz_cli.specs.declared.record_files.Unwritten.TheVariants.{Failed, NoMemory}
 use Rattle.wiz_cli.specs.declared.record_outcome.Inputs.{Inputs}
 use Rattle.wiz_cli.specs.declared.record_outcome.RecordRefusal.{RecordRefusal}
 use Rattle.wiz_cli.specs.Commands.{IsCommandCut, IsCommandReport}
-use Rattle.wiz_cli.specs.RecordFiles.{AreWritten, ArePartlyWritten, IsStoppedAt, files_of}
+use Rattle.wiz_cli.specs.RecordFiles.{AreWritten, IsStoppedAt, files_of}
 use Rattle.wiz_cli.specs.Recordings.{AreInputs, IsRecordingOf, IsRefusal}
-use Rattle.wiz_cli.specs.RecordReports.{HasRecorded, IsCutRecord, IsCutRefusal, IsCutRun, IsRecordPut, IsRecordReport, IsRecordedReport, IsRefusalTold, IsRefusedReport, IsUntouched, IsUnwrittenReport, IsUnwrittenTold, Outside, refused_text, unwritten_text}
+use Rattle.wiz_cli.specs.RecordReports.{HasRecorded, IsCutAt, IsCutRecord, IsRecordPut, IsRecordReport, IsRefusalTold, IsUntouched, Outside, refused_text, unwritten_text}
 use Rattle.wiz_cli.specs.RecordWords.{RecordNames}
-use Rattle.wiz_cli.specs.Reports.{GrewByPart}
-use Rattle.wiz_cli.proofs.FileLemmas.{ArePartlyWritten-none}
+use Rattle.wiz_cli.specs.Reports.{GrewByPart, HasSaid}
 use Rattle.wiz_io.specs.Files.{HasRisen}
-use Rattle.wiz_trace.specs.RecordTexts.{record_text}
 
 untouched : (before after : Outside) → after.files ≡ before.files → after.writes ≡ before.writes → IsUntouched before after
 untouched before after files writes = record { files = files; writes = writes }
@@ -38,56 +34,37 @@ IsCutRecord-refused names before after refused files writes why said =
 pub IsCutRecord-silent : (names : RecordNames) (before after : Outside) → after.files ≡ before.files → after.writes ≡ before.writes → after.written ≡ before.written → IsCutRecord names before after
 IsCutRecord-silent names before after files writes same = inl (record { untouched = untouched before after files writes; said = inl same })
 
-has_recorded : (names : RecordNames) (before : Outside) (inputs : Inputs) (recording : Recording) → AreInputs before.files names inputs → IsRecordingOf inputs recording → HasRecorded names before recording
+pub has_recorded : (names : RecordNames) (before : Outside) (inputs : Inputs) (recording : Recording) → AreInputs before.files names inputs → IsRecordingOf inputs recording → HasRecorded names before recording
 has_recorded names before inputs recording are recorded = record { inputs = inputs; are_inputs = are; recorded = recorded }
 
 -- a run is recorded, and all files are written
-pub IsRecordReport-recorded : (names : RecordNames) (before after : Outside) (status : ℕ) (run : Option Kept) (replays : List Replayed) (inputs : Inputs) (recording : Recording)
-    → AreInputs before.files names inputs → IsRecordingOf inputs recording
+pub IsRecordReport-recorded : (names : RecordNames) (before after : Outside) (status : ℕ) (run : Option Kept) (replays : List Replayed) (recording : Recording)
+    → HasRecorded names before recording
     → AreWritten before.files after.files (files_of names.prefix recording) []
     → IsRecordPut recording before.written after.written before.puts after.puts status run replays
     → IsRecordReport names before after status run replays
-IsRecordReport-recorded names before after status run replays inputs recording are recorded files told =
-    inr (inr (inl (record { recording = recording; recorded = has_recorded names before inputs recording are recorded; files = files; told = told })))
-
-pub IsCutRecord-recorded : (names : RecordNames) (before after : Outside) (inputs : Inputs) (recording : Recording)
-    → AreInputs before.files names inputs → IsRecordingOf inputs recording
-    → AreWritten before.files after.files (files_of names.prefix recording) []
-    → GrewByPart before.written after.written (record_text recording.outputs recording.ending)
-    → IsCutRecord names before after
-IsCutRecord-recorded names before after inputs recording are recorded files said =
-    inr (record { recording = recording; recorded = has_recorded names before inputs recording are recorded; cut = inr (inl (files, said)) })
+IsRecordReport-recorded names before after status run replays recording recorded files told =
+    inr (inr (inl (record { recording = recording; recorded = recorded; files = files; told = told })))
 
 -- a file was not written
-pub IsRecordReport-unwritten : (names : RecordNames) (before after : Outside) (status : ℕ) (run : Option Kept) (replays : List Replayed) (inputs : Inputs) (recording : Recording) (name : List ℕ)
-    → AreInputs before.files names inputs → IsRecordingOf inputs recording → HasRisen before.writes after.writes
+pub IsRecordReport-unwritten : (names : RecordNames) (before after : Outside) (status : ℕ) (recording : Recording) (name : List ℕ)
+    → HasRecorded names before recording → HasRisen before.writes after.writes
     → IsStoppedAt before.files after.files (files_of names.prefix recording) name
-    → IsUnwrittenTold recording name before.written after.written before.puts after.puts status run replays
-    → IsRecordReport names before after status run replays
-IsRecordReport-unwritten names before after status run replays inputs recording name are recorded risen files told =
+    → status ≡ 4 → HasSaid before.written after.written before.puts after.puts (unwritten_text name)
+    → IsRecordReport names before after status (Some recording.history) []
+IsRecordReport-unwritten names before after status recording name recorded risen files is said =
     inr (inr (inr (record {
       recording = recording;
-      recorded = has_recorded names before inputs recording are recorded;
+      recorded = recorded;
       risen = risen;
       name = name;
       files = files;
-      told = told;
+      told = record { run_is = refl; no_replays = refl; status_is = is; said = said };
     })))
 
-pub IsCutRecord-unwritten : (names : RecordNames) (before after : Outside) (inputs : Inputs) (recording : Recording) (name : List ℕ)
-    → AreInputs before.files names inputs → IsRecordingOf inputs recording → HasRisen before.writes after.writes
-    → IsStoppedAt before.files after.files (files_of names.prefix recording) name
-    → GrewByPart before.written after.written (unwritten_text name)
-    → IsCutRecord names before after
-IsCutRecord-unwritten names before after inputs recording name are recorded risen files said =
-    inr (record { recording = recording; recorded = has_recorded names before inputs recording are recorded; cut = inr (inr (name, files, risen, said)) })
-
-pub IsCutRecord-partly : (names : RecordNames) (before after : Outside) (inputs : Inputs) (recording : Recording)
-    → AreInputs before.files names inputs → IsRecordingOf inputs recording
-    → ArePartlyWritten before.files after.files (files_of names.prefix recording) → after.written ≡ before.written
-    → IsCutRecord names before after
-IsCutRecord-partly names before after inputs recording are recorded files same =
-    inr (record { recording = recording; recorded = has_recorded names before inputs recording are recorded; cut = inl (files, same) })
+-- memory was wanting when a run was recorded
+pub IsCutRecord-run : (names : RecordNames) (before after : Outside) (recording : Recording) → HasRecorded names before recording → IsCutAt before after names.prefix recording → IsCutRecord names before after
+IsCutRecord-run names before after recording recorded cut = inr (record { recording = recording; recorded = recorded; cut = cut })
 
 -- a recording replays nothing
 pub no_replays : (names : RecordNames) (before after : Outside) (status : ℕ) (run : Option Kept) (replays : List Replayed) → IsRecordReport names before after status run replays → replays ≡ []

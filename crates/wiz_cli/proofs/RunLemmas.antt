@@ -1,5 +1,5 @@
 -- Ranks that are started, one after the other.
-use Rattle.std.proofs.Common.{◌≡◌, ◌<◌, ◌+◌, ℕ, zero, suc, List, [], ◌∷◌, ◌++◌, false, refl, ap, arith, length}
+use Rattle.std.proofs.Common.{◌≡◌, ◌<◌, ◌+◌, ℕ, zero, suc, List, [], ◌∷◌, ◌++◌, false, ap, arith, length}
 use Rattle.std.specs.List.{slice_index_or}
 use Rattle.run_model.specs.Program.{IsAfter, Standing}
 use Rattle.c_program.specs.declared.program.CProgram.{CProgram}

@@ -1,5 +1,5 @@
 -- The report of any words.
-use Rattle.std.specs.Prelude.{◌≡◌, ◌⊎◌, ℕ, List, [], Option, None}
+use Rattle.std.specs.Prelude.{◌⊎◌, ℕ, List, Option}
 use Rattle.run_model.specs.Views.{Kept}
 use Rattle.replay_model.specs.declared.replayed.Replayed.{Replayed}
 use Rattle.wiz_cli.specs.RecordReports.{IsCutRecord, IsRecordReport, IsUntouched, Outside}

@@ -2,10 +2,10 @@
 use Rattle.std.specs.Prelude.{◌≡◌, ◌≢◌, ◌⊎◌, ℕ, suc, List, [], ◌∷◌, ◌++◌, Option, Some, None, codes, map}
 use Rattle.std.specs.List.{AllByRecursion}
 use Rattle.srr_entry.specs.declared.log.Log.{Log}
-use Rattle.srr_log.specs.LogText.{log_text}
+use Rattle.srr_text.specs.LogText.{log_text}
 use Rattle.srr_record.specs.declared.recording.Recording.{Recording}
 use Rattle.wiz_base.specs.Decimals.{decimal_text}
-use Rattle.wiz_io.specs.Files.{Files, HasFile, HasRisen}
+use Rattle.wiz_io.specs.Files.{Files, HasFile}
 use Rattle.wiz_trace.specs.OrderTexts.{order_text}
 
 pub record NamedFile : Type 0 where

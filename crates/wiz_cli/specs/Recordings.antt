@@ -5,7 +5,7 @@ use Rattle.group_plan.specs.OrderText.{IsOrderText, IsFault as IsOrderFault}
 use Rattle.group_plan.specs.Plans.{number_of_ranks}
 use Rattle.group_plan.specs.PlanText.{IsPlanText, IsFault as IsPlanFault}
 use Rattle.srr_entry.specs.declared.log.Log.{Log}
-use Rattle.srr_log.specs.LogText.{IsLogText, log_text}
+use Rattle.srr_text.specs.LogText.{IsLogText, log_text}
 use Rattle.c_program.specs.declared.program.CProgram.{CProgram}
 use Rattle.c_program.specs.Program.{next_of, output_of}
 use Rattle.c_types.specs.Checks.{IsProgramOf}

@@ -16,7 +16,7 @@ use Rattle.c_types.specs.Checks.{IsFaultOf, IsProgramOf}
 use Rattle.srr_log.specs.declared.fault.LogWhy.{LogWhy}
 use Rattle.srr_log.specs.declared.fault.LogWhy.TheVariants.{BadHead, BadNumber, BadGroup, BadEntry, Short, Extra, BadVersion, Digest, NoMemory}
 use Rattle.srr_log.specs.Faults.{IsFirstFault}
-use Rattle.srr_log.specs.LogText.{IsLogText}
+use Rattle.srr_text.specs.LogText.{IsLogText}
 use Rattle.replay_model.specs.declared.replayed.Replayed.{Replayed}
 use Rattle.replay_model.specs.declared.replayed.Stand.{Stand}
 use Rattle.replay_model.specs.declared.replayed.Stand.TheVariants.{AtBreak, Diverged, Starved}

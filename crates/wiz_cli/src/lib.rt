@@ -3,6 +3,7 @@
 
 pub mod gate;
 pub mod outcome;
+mod ranks;
 pub mod record_files;
 mod record_inputs;
 pub mod record_outcome;

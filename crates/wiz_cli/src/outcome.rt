@@ -5,7 +5,7 @@ use replay_model::replayed::Replayed;
 use srr_log::fault::LogFault;
 
 /// Why a command is refused.
-#[derive(Clone, Copy, Debug, PartialEq, Eq)]
+#[derive(Clone, Copy)]
 pub enum Refusal {
     /// The words are no command.
     Words,

@@ -2,21 +2,21 @@
 ghost use Rattle.std.specs.Prelude.{◌≡◌, ◌+◌, ◌<◌, ◌≤◌, ◌^◌, ◌∷◌, [], IfErr, IfOk, OnOk, length};
 ghost use Rattle.std.specs.String.{string_bytes};
 ghost use Rattle.std.specs.List.{AllByRecursion};
-ghost use Rattle.srr_log.specs.LogText.{log_text};
+ghost use Rattle.srr_text.specs.LogText.{log_text};
 ghost use Rattle.wiz_cli.specs.RecordFiles.{AreWritten, files_of, log_files, log_name, order_name};
 ghost use Rattle.wiz_cli.specs.RecordSteps.{HasLists, IsStopped};
 ghost use Rattle.wiz_trace.specs.OrderTexts.{order_text};
 
 use run_model::history::History;
 use srr_entry::log::Log;
-use srr_log::write_log::write_log;
 use srr_record::Recording;
+use srr_text::write_log::write_log;
 use std::alloc::{AllocError, Global};
 use wiz_io::{Store, WriteFault};
 use wiz_trace::order::order_text;
 
 /// Why a file was not written.
-#[derive(Debug, Drop)]
+#[derive(Drop)]
 pub enum Unwritten {
     /// The store failed at the file of this name.
     Failed(String),

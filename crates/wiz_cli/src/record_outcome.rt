@@ -6,7 +6,7 @@ use std::alloc::AllocError;
 use wiz_base::Bytes;
 
 /// One of the input files.
-#[derive(Clone, Copy, Debug, PartialEq, Eq)]
+#[derive(Clone, Copy)]
 pub enum InputFile {
     Program,
     Plan,
@@ -14,14 +14,14 @@ pub enum InputFile {
 }
 
 /// Why nothing is recorded, and the input file that is refused.
-#[derive(Clone, Copy, Debug, PartialEq, Eq)]
+#[derive(Clone, Copy)]
 pub struct RecordRefusal {
     pub input: InputFile,
     pub refusal: Refusal,
 }
 
 /// Why there is no recording: it is refused, or memory is wanting.
-#[derive(Clone, Copy, Debug, PartialEq, Eq)]
+#[derive(Clone, Copy)]
 pub enum Unrecorded {
     Refused(RecordRefusal),
     NoMemory,

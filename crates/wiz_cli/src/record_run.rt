@@ -1,11 +1,12 @@
 //! A recording, from the files that its words name to its report.
-ghost use Rattle.std.specs.Prelude.{◌≤◌, [], ℕ, IfOk, OnErr, length};
+ghost use Rattle.std.specs.Prelude.{◌≤◌, [], ℕ, IfOk, OnErr, Some, length};
 ghost use Rattle.srr_record.specs.Recordings.{AreRuns};
 ghost use Rattle.wiz_cli.specs.Recordings.{AreInputs, ArePrepared, IsRecordingOf};
-ghost use Rattle.wiz_cli.specs.RecordReports.{IsCutRecord, IsRecordReport, outside};
+ghost use Rattle.wiz_cli.specs.RecordReports.{HasRecorded, IsCutAt, IsCutRecord, IsRecordReport, outside};
 ghost use Rattle.wiz_cli.specs.RecordSteps.{HasLists};
 ghost use Rattle.wiz_cli.specs.WordNames.{names_of};
 
+use crate::ranks::add_rank;
 use crate::record_files::{Unwritten, write_files};
 use crate::record_inputs::{prepare, read_inputs};
 use crate::record_outcome::{Inputs, Prepared, Unrecorded};
@@ -71,9 +72,26 @@ fn record_prepared<S: Store, K: Sink>(
     ensures short { OnErr result ((reads : ℕ) → IsCutRecord (names_of names.now) (outside (S.files store.old) reads (S.write_faults store.old) (K.written out.old) (K.faults out.old)) (outside (S.files store.new) (S.read_faults store.new) (S.write_faults store.new) (K.written out.new) (K.faults out.new))) }
 {
     let recording = make_recording(alloc, inputs, prepared)?;
-    match write_files(alloc, names.prefix, &recording, store) {
+    let status = write_recording(alloc, names, &recording, store, out)?;
+    Ok(Report::of_run(alloc, status, recording))
+}
+
+/// Writes the files of a recording and tells it. The answer is the exit status.
+fn write_recording<S: Store, K: Sink>(
+    alloc: Global,
+    names: &RecordWords<'_>,
+    recording: &Recording,
+    store: &mut S,
+    out: &mut K,
+) -> Result<u8, AllocError>
+    requires lists { HasLists recording.now.logs }
+    requires few { length recording.now.logs ≤ 64 }
+    ensures report { IfOk result (λ status. (reads : ℕ) → HasRecorded (names_of names.now) (outside (S.files store.old) reads (S.write_faults store.old) (K.written out.old) (K.faults out.old)) recording.now → IsRecordReport (names_of names.now) (outside (S.files store.old) reads (S.write_faults store.old) (K.written out.old) (K.faults out.old)) (outside (S.files store.new) (S.read_faults store.new) (S.write_faults store.new) (K.written out.new) (K.faults out.new)) status (Some recording.now.history) []) }
+    ensures short { OnErr result (IsCutAt (outside (S.files store.old) (S.read_faults store.old) (S.write_faults store.old) (K.written out.old) (K.faults out.old)) (outside (S.files store.new) (S.read_faults store.new) (S.write_faults store.new) (K.written out.new) (K.faults out.new)) names.now.prefix.now recording.now) }
+{
+    match write_files(alloc, names.prefix, recording, store) {
         Ok(()) => tell_recording(alloc, recording, out),
-        Err(Unwritten::Failed(name)) => tell_unwritten(alloc, recording, &name, out),
+        Err(Unwritten::Failed(name)) => tell_unwritten(alloc, &name, out),
         Err(Unwritten::NoMemory) => Err(AllocError),
     }
 }
@@ -116,7 +134,7 @@ fn start_all<'a>(
 {
     let mut runs = Vec::new(alloc);
     for rank in 0..n {
-        runs.push(EvalRank::start(alloc, program, n, rank)?)?;
+        add_rank(&mut runs, alloc, program, n, rank)?;
     }
     Ok(runs)
 }

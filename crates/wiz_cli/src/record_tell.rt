@@ -1,19 +1,19 @@
 //! Telling a recording, or why there is none.
-ghost use Rattle.std.specs.Prelude.{◌≡◌, IfOk, OnErr};
-ghost use Rattle.wiz_cli.specs.RecordReports.{IsRecordPut, IsRefusalTold, IsUnwrittenTold, ending_status, name_of, refused_text, unwritten_text};
-ghost use Rattle.wiz_cli.specs.Reports.{GrewByPart};
+ghost use Rattle.std.specs.Prelude.{◌≡◌, [], IfOk, OnErr, Some};
+ghost use Rattle.wiz_cli.specs.RecordReports.{IsRecordPut, IsRefusalTold, ending_status, name_of, refused_text, unwritten_text};
+ghost use Rattle.wiz_cli.specs.Reports.{GrewByPart, HasSaid};
 ghost use Rattle.wiz_trace.specs.RecordTexts.{record_text};
 ghost use Rattle.wiz_cli.specs.WordNames.{names_of};
 
 use crate::record_outcome::{InputFile, RecordRefusal};
 use crate::record_words::RecordWords;
 use crate::report::Report;
-use crate::tell::{about_file, exit_status, put_message, say};
-use replay_model::replayed::Replays;
+use crate::tell::{push_about_file, put_message, put_text, report_refusal};
 use run_model::ending::Ending;
 use srr_record::Recording;
 use std::alloc::{AllocError, Global};
-use wiz_io::{PutFault, Sink};
+use wiz_base::Bytes;
+use wiz_io::Sink;
 use wiz_trace::recording::record_text;
 
 /// Tells why nothing is recorded.
@@ -26,12 +26,7 @@ pub fn tell_refusal<K: Sink>(
     ensures told { IfOk result (λ report. IsRefusalTold (names_of names.now) refused (K.written out.old) (K.written out.new) (K.faults out.old) (K.faults out.new) report.status report.run report.replayed) }
     ensures short { OnErr result (GrewByPart (K.written out.old) (K.written out.new) (refused_text (names_of names.now) refused)) }
 {
-    say(alloc, refused.refusal, name_of(names, refused.input), out)?;
-    Ok(Report {
-        status: exit_status(refused.refusal),
-        run: None,
-        replayed: Replays::new(alloc),
-    })
+    report_refusal(alloc, refused.refusal, name_of(names, refused.input), out)
 }
 
 /// The name of an input file.
@@ -45,26 +40,17 @@ fn name_of<'a>(names: &RecordWords<'a>, input: InputFile) -> &'a str
     }
 }
 
-/// Tells a run whose files are written.
+/// Tells a run whose files are written. The answer is the exit status.
 pub fn tell_recording<K: Sink>(
     alloc: Global,
-    recording: Recording,
+    recording: &Recording,
     out: &mut K,
-) -> Result<Report, AllocError>
-    ensures told { IfOk result (λ report. IsRecordPut recording (K.written out.old) (K.written out.new) (K.faults out.old) (K.faults out.new) report.status report.run report.replayed) }
-    ensures short { OnErr result (GrewByPart (K.written out.old) (K.written out.new) (record_text recording.outputs recording.ending)) }
+) -> Result<u8, AllocError>
+    ensures told { IfOk result (λ status. IsRecordPut recording.now (K.written out.old) (K.written out.new) (K.faults out.old) (K.faults out.new) status (Some recording.now.history) []) }
+    ensures short { OnErr result (GrewByPart (K.written out.old) (K.written out.new) (record_text recording.now.outputs recording.now.ending)) }
 {
     let text = record_text(alloc, &recording.outputs, &recording.ending)?;
-    let status = match out.put(text.as_slice()) {
-        Ok(()) => ending_status(&recording.ending),
-        Err(PutFault::Failed) => 4,
-        Err(PutFault::NoMemory) => return Err(AllocError),
-    };
-    Ok(Report {
-        status,
-        run: Some(recording.history),
-        replayed: Replays::new(alloc),
-    })
+    put_text(text.as_slice(), ending_status(&recording.ending), out)
 }
 
 /// The exit status of a recording.
@@ -77,21 +63,13 @@ fn ending_status(ending: &Ending) -> u8
     }
 }
 
-/// Tells a run one of whose files was not written.
-pub fn tell_unwritten<K: Sink>(
-    alloc: Global,
-    recording: Recording,
-    name: &str,
-    out: &mut K,
-) -> Result<Report, AllocError>
-    ensures told { IfOk result (λ report. IsUnwrittenTold recording name.now (K.written out.old) (K.written out.new) (K.faults out.old) (K.faults out.new) report.status report.run report.replayed) }
+/// Tells that a file was not written. The answer is the exit status.
+pub fn tell_unwritten<K: Sink>(alloc: Global, name: &str, out: &mut K) -> Result<u8, AllocError>
+    ensures told { IfOk result (λ status. (status ≡ 4) × HasSaid (K.written out.old) (K.written out.new) (K.faults out.old) (K.faults out.new) (unwritten_text name.now)) }
     ensures short { OnErr result (GrewByPart (K.written out.old) (K.written out.new) (unwritten_text name.now)) }
 {
-    let text = about_file(alloc, b"cannot write ", name)?;
+    let mut text = Bytes::new(alloc);
+    push_about_file(&mut text, b"cannot write ", name)?;
     put_message(text.as_slice(), out)?;
-    Ok(Report {
-        status: 4,
-        run: Some(recording.history),
-        replayed: Replays::new(alloc),
-    })
+    Ok(4)
 }

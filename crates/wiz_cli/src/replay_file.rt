@@ -8,6 +8,7 @@ ghost use Rattle.c_program.specs.Program.{next_of, output_of, variables_of};
 ghost use Rattle.wiz_cli.specs.Reports.{IsBytesOutcome, IsFileOutcome, IsLogOutcome};
 
 use crate::outcome::{Outcome, Refusal};
+use crate::ranks::add_rank;
 use c_eval::rank::EvalRank;
 use c_lex::Why;
 use c_meaning::text_fixes_meaning;
@@ -35,10 +36,7 @@ pub fn replay_file<S: Store>(
     ensures writes { S.write_faults store.new ≡ S.write_faults store.old }
 {
     match store.read(name, LOG_LIMIT) {
-        Ok(bytes) => {
-            let outcome = replay_bytes(alloc, bytes.as_slice())?;
-            Ok(outcome)
-        }
+        Ok(bytes) => replay_bytes(alloc, bytes.as_slice()),
         Err(ReadFault::Missing) => Ok(Outcome::Refused(Refusal::Missing)),
         Err(ReadFault::Failed) => Ok(Outcome::Refused(Refusal::ReadFault)),
         Err(ReadFault::TooLong) => Ok(Outcome::Refused(Refusal::TooLong)),
@@ -105,7 +103,7 @@ fn start_all<'a>(
 {
     let mut runs = Vec::new(alloc);
     for rank in log.group.as_slice() {
-        runs.push(EvalRank::start(alloc, program, log.ranks, *rank)?)?;
+        add_rank(&mut runs, alloc, program, log.ranks, *rank)?;
     }
     Ok(runs)
 }

@@ -1,6 +1,10 @@
 //! What the top call answers.
-use replay_model::replayed::Replays;
+ghost use Rattle.std.specs.Prelude.{◌≡◌, ◌∷◌, [], IfOk, None, Some};
+
+use replay_model::replayed::{Replayed, Replays};
 use run_model::history::History;
+use srr_record::Recording;
+use std::alloc::{AllocError, Global};
 
 /// The outcome of a command.
 #[derive(Drop)]
@@ -12,4 +16,43 @@ pub struct Report {
     pub run: Option<History>,
     /// The replays that were made; of a replay one where the status is 0, 4, 9 or 10.
     pub replayed: Replays,
+}
+
+impl Report {
+    /// A status alone. Takes no memory.
+    pub fn of_status(alloc: Global, status: u8) -> Self
+        ensures { result ≡ record { status = status; run = None; replayed = [] } }
+    {
+        Report {
+            status,
+            run: None,
+            replayed: Replays::new(alloc),
+        }
+    }
+
+    /// The run of a recording. Takes no memory.
+    pub fn of_run(alloc: Global, status: u8, recording: Recording) -> Self
+        ensures { result ≡ record { status = status; run = Some recording.history; replayed = [] } }
+    {
+        Report {
+            status,
+            run: Some(recording.history),
+            replayed: Replays::new(alloc),
+        }
+    }
+
+    /// One replay.
+    pub fn of_replay(alloc: Global, status: u8, replayed: Replayed) -> Result<Self, AllocError>
+        ensures { IfOk result (λ report. report ≡ record { status = status; run = None; replayed = replayed ∷ [] }) }
+    {
+        let mut replays = Replays::new(alloc);
+        match replays.push(replayed) {
+            Ok(()) => Ok(Report {
+                status,
+                run: None,
+                replayed: replays,
+            }),
+            Err(_) => Err(AllocError),
+        }
+    }
 }

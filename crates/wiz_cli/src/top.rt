@@ -12,7 +12,6 @@ use crate::replay_file::replay_file;
 use crate::report::Report;
 use crate::tell::tell;
 use crate::words::log_name;
-use replay_model::replayed::Replays;
 use std::alloc::{AllocError, Global};
 use std::sync::Wait;
 use std::thread::Threads;
@@ -33,11 +32,7 @@ pub fn wiz_serial<S: Store, K: Sink>(
 {
     match answer(alloc, words, store, out) {
         Ok(report) => report,
-        Err(_) => Report {
-            status: 11,
-            run: None,
-            replayed: Replays::new(alloc),
-        },
+        Err(_) => Report::of_status(alloc, 11),
     }
 }
 
@@ -87,14 +82,10 @@ fn answer_other<S: Store, K: Sink>(
     ensures writes { S.write_faults store.new ≡ S.write_faults store.old }
 {
     match log_name(words) {
-        None => {
-            let report = tell(alloc, Outcome::Refused(Refusal::Words), "", out)?;
-            Ok(report)
-        }
+        None => tell(alloc, Outcome::Refused(Refusal::Words), "", out),
         Some(name) => {
             let outcome = replay_file(alloc, name, store)?;
-            let report = tell(alloc, outcome, name, out)?;
-            Ok(report)
+            tell(alloc, outcome, name, out)
         }
     }
 }

@@ -8,7 +8,7 @@ use replay_model::replayed::{Replayed, Stand};
 use replay_model::step::{Divergence, Found, Missing};
 use run_model::event::Event;
 use run_model::lists::Variable;
-use srr_log::entry_text::entry_text;
+use srr_text::entry_text::entry_text;
 use std::alloc::{AllocError, Global};
 use wiz_base::{Bytes, push_decimal, push_text};
 

@@ -1,7 +1,7 @@
 use Rattle.std.proofs.Common.{◌≡◌, Some, None, sym, ap, ◌∙◌}
 use Rattle.c_grammar.specs.StmtView.{argument_view}
 use Rattle.c_grammar.specs.Tree as t
-use Rattle.c_check.specs.Calls.{argument_start}
+use Rattle.c_call_check.specs.Calls.{argument_start}
 use Rattle.c_blocks.proofs.statement_of.first_text.Goals as goal
 
 pub text_at-requires : goal.text_at-requires

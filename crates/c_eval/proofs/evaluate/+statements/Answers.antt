@@ -1,23 +1,24 @@
-use Rattle.std.proofs.Common.{◌≡◌, ◌∙◌, ℕ, ℤ, ◌+◌, ◌*◌, ◌-◌, ◌<◌, ◌≤◌, Bool, true, false, Option, Some, None, Result, Ok, Err, refl, sym, ap, arith, rules, drop, option_copied, w32, FitsSigned}
+use Rattle.std.proofs.Common.{◌≡◌, ◌∙◌, ℤ, ◌+◌, ◌*◌, ◌-◌, ◌<◌, ◌≤◌, true, false, Some, None, Ok, Err, refl, sym, ap, arith, rules, drop, option_copied, w32, FitsSigned}
 use Rattle.std.proofs.lemmas.Int.{to_z-of_z}
 use denote.Param.Weighed.{most}
 use Rattle.c_program.specs.declared.statement.Part.{size-Part}
 use Rattle.std.proofs.lemmas.Result.{err_from_is_err_and}
-use Rattle.mpi_call.specs.declared.call.Fault.{Fault}
 use Rattle.c_program.specs.Courses.{after}
 use Rattle.c_program.specs.Equations.{act-block}
-use Rattle.c_program.specs.Meaning.{act, act_list, act_part, begin, call_at, declare, declare_all, exits_to, for_start, for_update, invoke, leaving, loop, loop_after, no_update, passed_all, print, put_values, return, right, simple, started, test, trying, turn_exits}
+use Rattle.c_program.specs.Meaning.{act, act_list, act_part, begin, call_at, declare, declare_all, exits_to, for_start, for_update, invoke, leaving, loop, loop_after, no_update, passed_all, print, put_values, return, right, simple, started, test, trying}
 use Rattle.c_program.specs.Performing.{Onward}
 use Rattle.c_program.specs.Prints.{text_of}
-use Rattle.c_program.specs.State.{State, cell_at, leave, mark_of, put}
-use Rattle.c_program.specs.Values.{cell_of, operated, values}
+use Rattle.c_program.specs.State.{State, leave, mark_of, put}
+use Rattle.c_program.specs.Values.{cell_of, values}
 use Rattle.c_eval.specs.Leaving.{exit}
 use Rattle.c_eval.specs.Parts.{blocked, calls_of, for_of}
+use Rattle.c_eval.specs.Statements.{assigned, assigns, chosen, otherwise}
 use Rattle.c_eval.proofs.Depths.{deepest, deepest-at, fewer-calls, weight}
 use Rattle.c_replies.proofs.Evaluations.{from, stops-from}
-use Rattle.c_eval.proofs.Exits.{entering, exit-other, exit-turn, left-block, left-call}
+use Rattle.c_eval.specs.declared.flow.Flow.TheVariants.{Next, Broke, Back}
+use Rattle.c_eval.proofs.Exits.{block-closes, call-closes, entering, exit-other}
 use Rattle.c_eval.proofs.Lists.{at, behind_all}
-use Rattle.c_eval.proofs.Loops.{turning-ends, turning-fails, turning-leaves, turning-on, turning-stops}
+use Rattle.c_eval.proofs.Loops.{turn-goes_on, turn-leaves, turn-stops, turning-ends, turning-fails, turning-leaves, turning-on, turning-stops, update-stops}
 use Rattle.c_eval.proofs.evaluate.+statements.Goals as goal
 
 pub act-returns-in_err-run_simple-in-Simple : goal.act-returns-in_err-run_simple-in-Simple
@@ -40,23 +41,27 @@ act-returns-in-Block t c =
     from exit (act c.args.calls.now.rank (calls_of c.args.calls.now) c.args.stmt.now) (blocked (act_list c.args.calls.now.rank (calls_of c.args.calls.now) c.deref.result.now)) c.args.store.now c.args.store.now c.run_block.new.store c.args.replies.now c.args.replies.now c.run_block.new.replies c.run_block.result
     (λ k. rw (c.in-Block.is, c.deref.ensures.value) (ap (λ x. after x c.args.replies.now) (act-block c.args.calls.now.rank (calls_of c.args.calls.now) c.in-Block.parts c.args.store.now k))) (omega arith) (c.run_block.ensures)
 
-pub act-returns-then-branch : goal.act-returns-then-branch
-act-returns-then-branch t c =
-    let is : test (Some c.in-If.test) c.args.store.now ≡ Ok true = sym c.test.ensures ∙ c.in_ok-test-in-If.was ∙ ap Ok c.if-branch.true in
-    from exit (act c.args.calls.now.rank (calls_of c.args.calls.now) c.args.stmt.now) (started (act c.args.calls.now.rank (calls_of c.args.calls.now) c.deref-then-branch.result.now)) c.args.store.now c.args.store.now c.run.new.store c.args.replies.now c.args.replies.now c.run.new.replies c.run.result
-    (λ k. rw (c.in-If.is, is, c.deref-then-branch.ensures) refl) (omega arith) (c.run.ensures)
+pub act-returns-in-If : goal.act-returns-in-If
+act-returns-in-If t c =
+    from exit (act c.args.calls.now.rank (calls_of c.args.calls.now) c.args.stmt.now) (chosen c.in-If.test (started (act c.args.calls.now.rank (calls_of c.args.calls.now) c.deref-in-If.result.now)) (otherwise c.args.calls.now.rank (calls_of c.args.calls.now) None)) c.args.store.now c.args.store.now c.run_if.new.store c.args.replies.now c.args.replies.now c.run_if.new.replies c.run_if.result
+    (λ k. rw (c.in-If.is, c.deref-in-If.ensures) refl) (omega arith) (c.run_if.ensures)
 
-pub act-returns-then-branch-2 : goal.act-returns-then-branch-2
-act-returns-then-branch-2 t c =
-    let is : test (Some c.in-IfElse.test) c.args.store.now ≡ Ok true = sym c.test-in-IfElse.ensures ∙ c.in_ok-test-in-IfElse.was ∙ ap Ok c.if-branch-2.true in
-    from exit (act c.args.calls.now.rank (calls_of c.args.calls.now) c.args.stmt.now) (started (act c.args.calls.now.rank (calls_of c.args.calls.now) c.deref-then-branch-2.result.now)) c.args.store.now c.args.store.now c.run-then-branch-2.new.store c.args.replies.now c.args.replies.now c.run-then-branch-2.new.replies c.run-then-branch-2.result
-    (λ k. rw (c.in-IfElse.is, is, c.deref-then-branch-2.ensures) refl) (omega arith) (c.run-then-branch-2.ensures)
+pub act-returns-in-IfElse : goal.act-returns-in-IfElse
+act-returns-in-IfElse t c =
+    from exit (act c.args.calls.now.rank (calls_of c.args.calls.now) c.args.stmt.now) (chosen c.in-IfElse.test (started (act c.args.calls.now.rank (calls_of c.args.calls.now) c.deref-in-IfElse.result.now)) (otherwise c.args.calls.now.rank (calls_of c.args.calls.now) (Some c.deref-in-IfElse-2.result.now))) c.args.store.now c.args.store.now c.run_if-in-IfElse.new.store c.args.replies.now c.args.replies.now c.run_if-in-IfElse.new.replies c.run_if-in-IfElse.result
+    (λ k. rw (c.in-IfElse.is, c.deref-in-IfElse.ensures, c.deref-in-IfElse-2.ensures) refl) (omega arith) (c.run_if-in-IfElse.ensures)
 
-pub act-returns-else-branch-2 : goal.act-returns-else-branch-2
-act-returns-else-branch-2 t c =
-    let is : test (Some c.in-IfElse.test) c.args.store.now ≡ Ok false = sym c.test-in-IfElse.ensures ∙ c.in_ok-test-in-IfElse.was ∙ ap Ok c.if-branch-2.false in
-    from exit (act c.args.calls.now.rank (calls_of c.args.calls.now) c.args.stmt.now) (started (act c.args.calls.now.rank (calls_of c.args.calls.now) c.deref-else-branch-2.result.now)) c.args.store.now c.args.store.now c.run-else-branch-2.new.store c.args.replies.now c.args.replies.now c.run-else-branch-2.new.replies c.run-else-branch-2.result
-    (λ k. rw (c.in-IfElse.is, is, c.deref-else-branch-2.ensures) refl) (omega arith) (c.run-else-branch-2.ensures)
+pub run_if-returns-then-branch : goal.run_if-returns-then-branch
+run_if-returns-then-branch t c =
+    let is : test (Some c.args.test.now) c.args.store.now ≡ Ok true = sym c.test.ensures ∙ c.in_ok-test.was ∙ ap Ok c.if-branch.true in
+    from exit (chosen c.args.test.now (started (act c.args.calls.now.rank (calls_of c.args.calls.now) c.args.then.now)) (otherwise c.args.calls.now.rank (calls_of c.args.calls.now) (option_copied c.args.other))) (started (act c.args.calls.now.rank (calls_of c.args.calls.now) c.args.then.now)) c.args.store.now c.args.store.now c.run.new.store c.args.replies.now c.args.replies.now c.run.new.replies c.run.result
+    (λ k. rw is refl) (omega arith) (c.run.ensures)
+
+pub run_if-returns-in-Some : goal.run_if-returns-in-Some
+run_if-returns-in-Some t c =
+    let is : test (Some c.args.test.now) c.args.store.now ≡ Ok false = sym c.test.ensures ∙ c.in_ok-test.was ∙ ap Ok c.if-branch.false in
+    from exit (chosen c.args.test.now (started (act c.args.calls.now.rank (calls_of c.args.calls.now) c.args.then.now)) (otherwise c.args.calls.now.rank (calls_of c.args.calls.now) (option_copied c.args.other))) (started (act c.args.calls.now.rank (calls_of c.args.calls.now) c.in-Some.stmt.now)) c.args.store.now c.args.store.now c.run-in-Some.new.store c.args.replies.now c.args.replies.now c.run-in-Some.new.replies c.run-in-Some.result
+    (λ k. rw (is, c.in-Some.is) refl) (omega arith) (c.run-in-Some.ensures)
 
 pub act-returns-in-While : goal.act-returns-in-While
 act-returns-in-While t c =
@@ -93,14 +98,9 @@ call_function-returns-in_err-flow t c =
 pub call_function-returns : goal.call_function-returns
 call_function-returns t c =
     let is : c.leave.new.self ≡ leave (mark_of c.args.store.now) c.run_list.new.store = cc in
-    let entered : c.enter.new.store.left ≤ c.args.store.now.left = (c.in_ok-enter.ensures c.args.replies.now).left in
-    let ran : c.run_list.new.store.left ≤ c.enter.new.store.left = c.in_ok-flow.ensures.left in
-    let same : c.leave.new.self.left ≡ c.run_list.new.store.left = ap (λ (u : State). u.left) is in
     let fits : FitsSigned w32 c.value_in.result = search rules in
-    rw (to_z-of_z w32 c.value_in.result fits, c.value_in.ensures) record {
-      at = λ k. ap (λ x. after x c.args.replies.now) (entering c.args.calls.now.rank c.args.calls.now.functions.now c.args.calls.now.depth c.args.number c.in-Some.function.now c.args.arguments.now c.args.store.now k (omega arith) c.in-Some.ensures.some) ∙ (c.in_ok-enter.ensures c.args.replies.now).at (λ s. act_list c.args.calls.now.rank (call_at c.args.calls.now.rank c.args.calls.now.functions.now (c.args.calls.now.depth - 1)) c.in-Some.function.now.body.items s (exits_to (mark_of c.args.store.now) k)) ∙ rw (← c.deref.ensures.value) (c.in_ok-flow.ensures.at (exits_to (mark_of c.args.store.now) k)) ∙ left-call (mark_of c.args.store.now) k c.in_ok-flow.flow c.run_list.new.store c.leave.new.self c.run_list.new.replies is;
-      left = omega arith;
-    }
+    rw (to_z-of_z w32 c.value_in.result fits, c.value_in.ensures) (call-closes ((calls_of c.args.calls.now) c.args.number c.args.arguments.now) (act_list c.args.calls.now.rank (call_at c.args.calls.now.rank c.args.calls.now.functions.now (c.args.calls.now.depth - 1)) c.deref.result.now) (mark_of c.args.store.now) c.in_ok-flow.flow c.args.store.now c.enter.new.store c.run_list.new.store c.leave.new.self c.args.replies.now c.args.replies.now c.run_list.new.replies
+    (λ k. ap (λ x. after x c.args.replies.now) (entering c.args.calls.now.rank c.args.calls.now.functions.now c.args.calls.now.depth c.args.number c.in-Some.function.now c.args.arguments.now c.args.store.now k (omega arith) c.in-Some.ensures.some) ∙ (c.in_ok-enter.ensures c.args.replies.now).at (λ s. act_list c.args.calls.now.rank (call_at c.args.calls.now.rank c.args.calls.now.functions.now (c.args.calls.now.depth - 1)) c.in-Some.function.now.body.items s (exits_to (mark_of c.args.store.now) k)) ∙ rw c.deref.ensures.value refl) ((c.in_ok-enter.ensures c.args.replies.now).left) (c.in_ok-flow.ensures) is)
 
 pub declare-returns-in_err-cell : goal.declare-returns-in_err-cell
 declare-returns-in_err-cell t c =
@@ -215,12 +215,8 @@ run_block-returns-in_err-flow t c =
 pub run_block-returns : goal.run_block-returns
 run_block-returns t c =
     let is : c.leave.new.self ≡ leave (mark_of c.args.store.now) c.run_list.new.store = cc in
-    let same : c.leave.new.self.left ≡ c.run_list.new.store.left = ap (λ (u : State). u.left) is in
-    let ran : c.run_list.new.store.left ≤ c.args.store.now.left = c.in_ok-flow.ensures.left in
-    record {
-      at = λ k. c.in_ok-flow.ensures.at (leaving (mark_of c.args.store.now) k) ∙ left-block (mark_of c.args.store.now) k c.in_ok-flow.flow c.run_list.new.store c.leave.new.self c.run_list.new.replies is;
-      left = omega arith;
-    }
+    block-closes (blocked (act_list c.args.calls.now.rank (calls_of c.args.calls.now) c.args.parts.now)) (act_list c.args.calls.now.rank (calls_of c.args.calls.now) c.args.parts.now) (mark_of c.args.store.now) c.in_ok-flow.flow c.args.store.now c.args.store.now c.run_list.new.store c.leave.new.self c.args.replies.now c.args.replies.now c.run_list.new.replies
+    (λ k. refl) (omega arith) (c.in_ok-flow.ensures) is
 
 pub run_for-returns-in_err-start_for : goal.run_for-returns-in_err-start_for
 run_for-returns-in_err-start_for t c =
@@ -235,13 +231,8 @@ run_for-returns-in_err-flow t c =
 pub run_for-returns : goal.run_for-returns
 run_for-returns t c =
     let is : c.leave.new.self ≡ leave (mark_of c.args.store.now) c.repeat.new.store = cc in
-    let same : c.leave.new.self.left ≡ c.repeat.new.store.left = ap (λ (u : State). u.left) is in
-    let began : c.start_for.new.store.left ≤ c.args.store.now.left = c.in_ok-start_for.ensures.left in
-    let ran : c.repeat.new.store.left ≤ c.start_for.new.store.left = c.in_ok-flow.ensures.left in
-    record {
-      at = λ k. c.in_ok-start_for.ensures.at (λ s. loop (option_copied c.args.test) (for_update c.args.calls.now.rank (calls_of c.args.calls.now) (option_copied c.args.update)) (started (act c.args.calls.now.rank (calls_of c.args.calls.now) c.args.body.now)) s (leaving (mark_of c.args.store.now) k)) ∙ c.in_ok-flow.ensures.at (leaving (mark_of c.args.store.now) k) ∙ left-block (mark_of c.args.store.now) k c.in_ok-flow.flow c.repeat.new.store c.leave.new.self c.repeat.new.replies is;
-      left = omega arith;
-    }
+    block-closes (for_of c.args.calls.now.rank (calls_of c.args.calls.now) c.args.start.now (option_copied c.args.test) (option_copied c.args.update) (started (act c.args.calls.now.rank (calls_of c.args.calls.now) c.args.body.now))) (loop (option_copied c.args.test) (for_update c.args.calls.now.rank (calls_of c.args.calls.now) (option_copied c.args.update)) (started (act c.args.calls.now.rank (calls_of c.args.calls.now) c.args.body.now))) (mark_of c.args.store.now) c.in_ok-flow.flow c.args.store.now c.start_for.new.store c.repeat.new.store c.leave.new.self c.args.replies.now c.start_for.new.replies c.repeat.new.replies
+    (λ k. c.in_ok-start_for.ensures.at (λ s. loop (option_copied c.args.test) (for_update c.args.calls.now.rank (calls_of c.args.calls.now) (option_copied c.args.update)) (started (act c.args.calls.now.rank (calls_of c.args.calls.now) c.args.body.now)) s (leaving (mark_of c.args.store.now) k))) (c.in_ok-start_for.ensures.left) (c.in_ok-flow.ensures) is
 
 pub run_list-returns-in_err-flow : goal.run_list-returns-in_err-flow
 run_list-returns-in_err-flow t c =
@@ -289,59 +280,32 @@ run_part-returns-in-Stmt t c =
     from exit (started (act_part c.args.calls.now.rank (calls_of c.args.calls.now) c.args.part.now)) (act c.args.calls.now.rank (calls_of c.args.calls.now) c.in-Stmt.stmt) c.args.store.now c.take_step.new.store c.act.new.store c.args.replies.now c.args.replies.now c.act.new.replies c.act.result
     (λ k. (c.in_ok-take_step.ensures.evaluated c.args.replies.now).at (λ s. act_part c.args.calls.now.rank (calls_of c.args.calls.now) c.args.part.now s k) ∙ rw c.in-Stmt.is refl) ((c.in_ok-take_step.ensures.evaluated c.args.replies.now).left) (c.act.ensures)
 
-pub run_simple-returns-in_err-value-in-Set : goal.run_simple-returns-in_err-value-in-Set
-run_simple-returns-in_err-value-in-Set t c =
-    let p = err_from_is_err_and c.from_residual-in_err-value-in-Set.result c.from_residual-in_err-value-in-Set.ensures.1 in
-    let cell : cell_of c.in-Set.place c.args.store.now ≡ Ok c.in_ok-cell-in-Set.cell = sym c.cell_of.ensures.value ∙ c.in_ok-cell-in-Set.was in
-    rw (p.1, p.2) (λ k. stops-from _ _ _ _ _ (rw (c.in-Set.is, cell) refl) (c.in_err-value-in-Set.ensures (λ v s. k (put c.in_ok-cell-in-Set.cell v s))))
+pub assign-returns-in_err-value : goal.assign-returns-in_err-value
+assign-returns-in_err-value t c =
+    let p = err_from_is_err_and c.from_residual-in_err-value.result c.from_residual-in_err-value.ensures.1 in
+    let cell : cell_of c.args.place.now c.args.store.now ≡ Ok c.in_ok-cell.cell = sym c.cell_of.ensures.value ∙ c.in_ok-cell.was in
+    rw (p.1, p.2) (λ k. stops-from _ _ _ _ _ (rw cell refl) (c.in_err-value.ensures (λ v s. assigned c.args.operator c.in_ok-cell.cell v s k)))
 
-pub run_simple-returns-in_ok-value-in-Set : goal.run_simple-returns-in_ok-value-in-Set
-run_simple-returns-in_ok-value-in-Set t c =
-    let cell : cell_of c.in-Set.place c.args.store.now ≡ Ok c.in_ok-cell-in-Set.cell = sym c.cell_of.ensures.value ∙ c.in_ok-cell-in-Set.was in
-    let valued : c.value_of.new.store.left ≤ c.args.store.now.left = c.in_ok-value-in-Set.ensures.left in
-    let fits : FitsSigned w32 c.in_ok-value-in-Set.value = search rules in
-    let is : c.put.new.self ≡ put c.in_ok-cell-in-Set.cell c.in_ok-value-in-Set.value c.value_of.new.store = c.put.ensures ∙ ap (λ v. put c.in_ok-cell-in-Set.cell v c.value_of.new.store) (to_z-of_z w32 c.in_ok-value-in-Set.value fits) in
-    let same : c.put.new.self.left ≡ c.value_of.new.store.left = ap (λ (u : State). u.left) is in
-    record {
-      at = λ k. rw (c.in-Set.is, cell) (c.in_ok-value-in-Set.ensures.at (λ v s. k (put c.in_ok-cell-in-Set.cell v s))) ∙ ap (λ u. after (k u) c.value_of.new.replies) (sym is);
-      left = omega arith;
-    }
+pub assign-returns : goal.assign-returns
+assign-returns t c =
+    let cell : cell_of c.args.place.now c.args.store.now ≡ Ok c.in_ok-cell.cell = sym c.cell_of.ensures.value ∙ c.in_ok-cell.was in
+    let fits : FitsSigned w32 c.in_ok-value.value = search rules in
+    from {K = Onward} {A = Unit {0}} (λ go done. go) (assigns (calls_of c.args.calls.now) c.args.place.now c.args.operator c.args.right.now) (assigned c.args.operator c.in_ok-cell.cell c.in_ok-value.value) c.args.store.now c.value_of.new.store c.put_assigned.new.store c.args.replies.now c.value_of.new.replies c.value_of.new.replies c.put_assigned.result
+    (λ k. rw cell (c.in_ok-value.ensures.at (λ v s. assigned c.args.operator c.in_ok-cell.cell v s k))) (c.in_ok-value.ensures.left) (rw (to_z-of_z w32 c.in_ok-value.value fits) at c.put_assigned.ensures c.value_of.new.replies)
 
-pub run_simple-returns-in_err-operand-in-Update : goal.run_simple-returns-in_err-operand-in-Update
-run_simple-returns-in_err-operand-in-Update t c =
-    let p = err_from_is_err_and c.from_residual-in_err-operand-in-Update.result c.from_residual-in_err-operand-in-Update.ensures.1 in
-    let cell : cell_of c.in-Update.place c.args.store.now ≡ Ok c.in_ok-cell-in-Update.cell = sym c.cell_of-in-Update.ensures.value ∙ c.in_ok-cell-in-Update.was in
-    rw (p.1, p.2) (λ k. stops-from _ _ _ _ _ (rw (c.in-Update.is, cell) refl) (c.in_err-operand-in-Update.ensures (λ v s. trying (operated c.in-Update.operator (cell_at s c.in_ok-cell-in-Update.cell) v) s (λ w. k (put c.in_ok-cell-in-Update.cell w s)))))
+pub run_simple-returns-in-Set : goal.run_simple-returns-in-Set
+run_simple-returns-in-Set t c =
+    from {K = Onward} {A = Unit {0}} (λ go done. go) (simple c.args.calls.now.rank (calls_of c.args.calls.now) c.args.one.now) (assigns (calls_of c.args.calls.now) c.in-Set.place None c.in-Set.right) c.args.store.now c.args.store.now c.assign.new.store c.args.replies.now c.args.replies.now c.assign.new.replies c.assign.result
+    (λ k. rw c.in-Set.is refl) (omega arith) (c.assign.ensures)
 
-pub run_simple-returns-in_err-value-in-Update : goal.run_simple-returns-in_err-value-in-Update
-run_simple-returns-in_err-value-in-Update t c =
-    let p = err_from_is_err_and c.from_residual-in_err-value-in-Update.result c.from_residual-in_err-value-in-Update.ensures.1 in
-    let cell : cell_of c.in-Update.place c.args.store.now ≡ Ok c.in_ok-cell-in-Update.cell = sym c.cell_of-in-Update.ensures.value ∙ c.in_ok-cell-in-Update.was in
-    let fits_cell : FitsSigned w32 c.cell.result = search rules in
-    let fits_operand : FitsSigned w32 c.in_ok-operand-in-Update.operand = search rules in
-    let made : c.operated.result ≡ operated c.in-Update.operator (cell_at c.value_of-in-Update.new.store c.in_ok-cell-in-Update.cell) c.in_ok-operand-in-Update.operand = rw (to_z-of_z w32 c.cell.result fits_cell, to_z-of_z w32 c.in_ok-operand-in-Update.operand fits_operand, c.cell.ensures) at c.operated.ensures in
-    let fails : operated c.in-Update.operator (cell_at c.value_of-in-Update.new.store c.in_ok-cell-in-Update.cell) c.in_ok-operand-in-Update.operand ≡ Err c.in_err-value-in-Update.field-0.0 = sym made ∙ c.in_err-value-in-Update.was in
-    rw (p.1, p.2) (λ k. rw (c.in-Update.is, cell) (c.in_ok-operand-in-Update.ensures.at (λ v s. trying (operated c.in-Update.operator (cell_at s c.in_ok-cell-in-Update.cell) v) s (λ w. k (put c.in_ok-cell-in-Update.cell w s)))) ∙ ap (λ (found : Result ℤ Fault). after (trying found c.value_of-in-Update.new.store (λ w. k (put c.in_ok-cell-in-Update.cell w c.value_of-in-Update.new.store))) c.value_of-in-Update.new.replies) fails)
-
-pub run_simple-returns-in_ok-value-in-Update : goal.run_simple-returns-in_ok-value-in-Update
-run_simple-returns-in_ok-value-in-Update t c =
-    let cell : cell_of c.in-Update.place c.args.store.now ≡ Ok c.in_ok-cell-in-Update.cell = sym c.cell_of-in-Update.ensures.value ∙ c.in_ok-cell-in-Update.was in
-    let fits_cell : FitsSigned w32 c.cell.result = search rules in
-    let fits_operand : FitsSigned w32 c.in_ok-operand-in-Update.operand = search rules in
-    let made : c.operated.result ≡ operated c.in-Update.operator (cell_at c.value_of-in-Update.new.store c.in_ok-cell-in-Update.cell) c.in_ok-operand-in-Update.operand = rw (to_z-of_z w32 c.cell.result fits_cell, to_z-of_z w32 c.in_ok-operand-in-Update.operand fits_operand, c.cell.ensures) at c.operated.ensures in
-    let done : operated c.in-Update.operator (cell_at c.value_of-in-Update.new.store c.in_ok-cell-in-Update.cell) c.in_ok-operand-in-Update.operand ≡ Ok c.in_ok-value-in-Update.value = sym made ∙ c.in_ok-value-in-Update.was in
-    let valued : c.value_of-in-Update.new.store.left ≤ c.args.store.now.left = c.in_ok-operand-in-Update.ensures.left in
-    let fits : FitsSigned w32 c.in_ok-value-in-Update.value = search rules in
-    let is : c.put-in-Update.new.self ≡ put c.in_ok-cell-in-Update.cell c.in_ok-value-in-Update.value c.value_of-in-Update.new.store = c.put-in-Update.ensures ∙ ap (λ v. put c.in_ok-cell-in-Update.cell v c.value_of-in-Update.new.store) (to_z-of_z w32 c.in_ok-value-in-Update.value fits) in
-    let same : c.put-in-Update.new.self.left ≡ c.value_of-in-Update.new.store.left = ap (λ (u : State). u.left) is in
-    record {
-      at = λ k. rw (c.in-Update.is, cell) (c.in_ok-operand-in-Update.ensures.at (λ v s. trying (operated c.in-Update.operator (cell_at s c.in_ok-cell-in-Update.cell) v) s (λ w. k (put c.in_ok-cell-in-Update.cell w s)))) ∙ ap (λ (found : Result ℤ Fault). after (trying found c.value_of-in-Update.new.store (λ w. k (put c.in_ok-cell-in-Update.cell w c.value_of-in-Update.new.store))) c.value_of-in-Update.new.replies) done ∙ ap (λ u. after (k u) c.value_of-in-Update.new.replies) (sym is);
-      left = omega arith;
-    }
+pub run_simple-returns-in-Update : goal.run_simple-returns-in-Update
+run_simple-returns-in-Update t c =
+    from {K = Onward} {A = Unit {0}} (λ go done. go) (simple c.args.calls.now.rank (calls_of c.args.calls.now) c.args.one.now) (assigns (calls_of c.args.calls.now) c.in-Update.place (Some c.in-Update.operator) c.in-Update.right) c.args.store.now c.args.store.now c.assign-in-Update.new.store c.args.replies.now c.args.replies.now c.assign-in-Update.new.replies c.assign-in-Update.result
+    (λ k. rw c.in-Update.is refl) (omega arith) (c.assign-in-Update.ensures)
 
 pub run_simple-returns-in_err-invoke-in-Call : goal.run_simple-returns-in_err-invoke-in-Call
 run_simple-returns-in_err-invoke-in-Call t c =
-    let p = err_from_is_err_and c.from_residual-in_err-invoke-in-Call.result c.from_residual-in_err-invoke-in-Call.ensures.1 in
+    let p = err_from_is_err_and c.from_residual.result c.from_residual.ensures.1 in
     rw (p.1, p.2) (λ k. stops-from _ _ _ _ _ (rw c.in-Call.is refl) (c.in_err-invoke-in-Call.ensures (λ v s. k s)))
 
 pub run_simple-returns-in_ok-invoke-in-Call : goal.run_simple-returns-in_ok-invoke-in-Call
@@ -370,34 +334,25 @@ run_update-returns-in-Some t c =
 pub take_turn-returns-in_err-run-clause-evaluated : goal.take_turn-returns-in_err-run-clause-evaluated
 take_turn-returns-in_err-run-clause-evaluated t c =
     let p = err_from_is_err_and c.from_residual-in_err-run.result c.from_residual-in_err-run.ensures.1 in
-    rw (p.1, p.2) (λ ways. stops-from _ _ _ _ _ ((c.in_ok-take_step.ensures.evaluated c.args.replies.now).at (λ s. started (act c.args.calls.now.rank (calls_of c.args.calls.now) c.args.body.now) s (turn_exits (for_update c.args.calls.now.rank (calls_of c.args.calls.now) (option_copied c.args.update)) ways.on ways.out))) (c.in_err-run.ensures (turn_exits (for_update c.args.calls.now.rank (calls_of c.args.calls.now) (option_copied c.args.update)) ways.on ways.out)))
+    rw (p.1, p.2) (turn-stops (for_update c.args.calls.now.rank (calls_of c.args.calls.now) (option_copied c.args.update)) (started (act c.args.calls.now.rank (calls_of c.args.calls.now) c.args.body.now)) c.args.store.now c.take_step.new.store c.args.replies.now (c.in_ok-take_step.ensures.evaluated c.args.replies.now) _ c.run.new.store c.run.new.replies c.in_err-run.ensures)
 
 pub take_turn-returns-in-Broke-clause-evaluated : goal.take_turn-returns-in-Broke-clause-evaluated
 take_turn-returns-in-Broke-clause-evaluated t c =
-    let h = rw c.in-Broke.is at c.in_ok-run.ensures in
-    let stepped : c.take_step.new.store.left ≤ c.args.store.now.left = (c.in_ok-take_step.ensures.evaluated c.args.replies.now).left in
-    let ran : c.run.new.store.left ≤ c.take_step.new.store.left = h.left in
-    record { at = λ ways. (c.in_ok-take_step.ensures.evaluated c.args.replies.now).at (λ s. started (act c.args.calls.now.rank (calls_of c.args.calls.now) c.args.body.now) s (turn_exits (for_update c.args.calls.now.rank (calls_of c.args.calls.now) (option_copied c.args.update)) ways.on ways.out)) ∙ h.at (turn_exits (for_update c.args.calls.now.rank (calls_of c.args.calls.now) (option_copied c.args.update)) ways.on ways.out); left = omega arith }
+    turn-leaves (for_update c.args.calls.now.rank (calls_of c.args.calls.now) (option_copied c.args.update)) (started (act c.args.calls.now.rank (calls_of c.args.calls.now) c.args.body.now)) c.args.store.now c.take_step.new.store c.args.replies.now (c.in_ok-take_step.ensures.evaluated c.args.replies.now) Broke c.run.new.store c.run.new.replies (rw c.in-Broke.is at c.in_ok-run.ensures) Next (λ ways. refl)
 
 pub take_turn-returns-in-Back-clause-evaluated : goal.take_turn-returns-in-Back-clause-evaluated
 take_turn-returns-in-Back-clause-evaluated t c =
-    let h = rw c.in-Back.is at c.in_ok-run.ensures in
-    let stepped : c.take_step.new.store.left ≤ c.args.store.now.left = (c.in_ok-take_step.ensures.evaluated c.args.replies.now).left in
-    let ran : c.run.new.store.left ≤ c.take_step.new.store.left = h.left in
     let fits : FitsSigned w32 c.in-Back.value = search rules in
-    rw (to_z-of_z w32 c.in-Back.value fits) record { at = λ ways. (c.in_ok-take_step.ensures.evaluated c.args.replies.now).at (λ s. started (act c.args.calls.now.rank (calls_of c.args.calls.now) c.args.body.now) s (turn_exits (for_update c.args.calls.now.rank (calls_of c.args.calls.now) (option_copied c.args.update)) ways.on ways.out)) ∙ h.at (turn_exits (for_update c.args.calls.now.rank (calls_of c.args.calls.now) (option_copied c.args.update)) ways.on ways.out); left = omega arith }
+    rw (to_z-of_z w32 c.in-Back.value fits) (turn-leaves (for_update c.args.calls.now.rank (calls_of c.args.calls.now) (option_copied c.args.update)) (started (act c.args.calls.now.rank (calls_of c.args.calls.now) c.args.body.now)) c.args.store.now c.take_step.new.store c.args.replies.now (c.in_ok-take_step.ensures.evaluated c.args.replies.now) (Back c.in-Back.value) c.run.new.store c.run.new.replies (rw c.in-Back.is at c.in_ok-run.ensures) (Back c.in-Back.value) (λ ways. refl))
 
 pub take_turn-returns-in_err-run_update-clause-evaluated : goal.take_turn-returns-in_err-run_update-clause-evaluated
 take_turn-returns-in_err-run_update-clause-evaluated t c =
     let p = err_from_is_err_and c.from_residual-in_err-run_update.result c.from_residual-in_err-run_update.ensures.1 in
-    rw (p.1, p.2) (λ ways. stops-from _ _ _ _ _ ((c.in_ok-take_step.ensures.evaluated c.args.replies.now).at (λ s. started (act c.args.calls.now.rank (calls_of c.args.calls.now) c.args.body.now) s (turn_exits (for_update c.args.calls.now.rank (calls_of c.args.calls.now) (option_copied c.args.update)) ways.on ways.out)) ∙ c.in_ok-run.ensures.at (turn_exits (for_update c.args.calls.now.rank (calls_of c.args.calls.now) (option_copied c.args.update)) ways.on ways.out) ∙ ap (λ x. after x c.run.new.replies) (exit-turn (for_update c.args.calls.now.rank (calls_of c.args.calls.now) (option_copied c.args.update)) ways.on ways.out _ c.run.new.store c.in_default.not-Broke c.in_default.not-Back)) (c.in_err-run_update.ensures ways.on))
+    rw (p.1, p.2) (update-stops (for_update c.args.calls.now.rank (calls_of c.args.calls.now) (option_copied c.args.update)) (started (act c.args.calls.now.rank (calls_of c.args.calls.now) c.args.body.now)) c.args.store.now c.take_step.new.store c.args.replies.now (c.in_ok-take_step.ensures.evaluated c.args.replies.now) _ c.run.new.store c.run.new.replies c.in_ok-run.ensures c.in_default.not-Broke c.in_default.not-Back _ c.run_update.new.store c.run_update.new.replies c.in_err-run_update.ensures)
 
 pub take_turn-returns-clause-evaluated : goal.take_turn-returns-clause-evaluated
 take_turn-returns-clause-evaluated t c =
-    let stepped : c.take_step.new.store.left ≤ c.args.store.now.left = (c.in_ok-take_step.ensures.evaluated c.args.replies.now).left in
-    let ran : c.run.new.store.left ≤ c.take_step.new.store.left = c.in_ok-run.ensures.left in
-    let updated : c.run_update.new.store.left ≤ c.run.new.store.left = c.in_ok-run_update.ensures.left in
-    record { at = λ ways. (c.in_ok-take_step.ensures.evaluated c.args.replies.now).at (λ s. started (act c.args.calls.now.rank (calls_of c.args.calls.now) c.args.body.now) s (turn_exits (for_update c.args.calls.now.rank (calls_of c.args.calls.now) (option_copied c.args.update)) ways.on ways.out)) ∙ c.in_ok-run.ensures.at (turn_exits (for_update c.args.calls.now.rank (calls_of c.args.calls.now) (option_copied c.args.update)) ways.on ways.out) ∙ ap (λ x. after x c.run.new.replies) (exit-turn (for_update c.args.calls.now.rank (calls_of c.args.calls.now) (option_copied c.args.update)) ways.on ways.out _ c.run.new.store c.in_default.not-Broke c.in_default.not-Back) ∙ c.in_ok-run_update.ensures.at ways.on; left = omega arith }
+    turn-goes_on (for_update c.args.calls.now.rank (calls_of c.args.calls.now) (option_copied c.args.update)) (started (act c.args.calls.now.rank (calls_of c.args.calls.now) c.args.body.now)) c.args.store.now c.take_step.new.store c.args.replies.now (c.in_ok-take_step.ensures.evaluated c.args.replies.now) _ c.run.new.store c.run.new.replies c.in_ok-run.ensures c.in_default.not-Broke c.in_default.not-Back c.run_update.new.store c.run_update.new.replies c.in_ok-run_update.ensures
 
 pub value_of-returns-in-Call : goal.value_of-returns-in-Call
 value_of-returns-in-Call t c =

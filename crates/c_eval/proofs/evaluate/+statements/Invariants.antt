@@ -1,6 +1,6 @@
-use Rattle.std.proofs.Common.{◌≡◌, ℕ, ◌+◌, ◌*◌, ◌≤◌, drop, option_copied}
+use Rattle.std.proofs.Common.{◌≡◌, ℕ, ◌+◌, ◌*◌, ◌≤◌, Option, Some, None, drop, max, option_copied}
 use denote.Param.Weighed.{most}
-use Rattle.c_program.specs.declared.statement.Stmt.{size-Stmt}
+use Rattle.c_program.specs.declared.statement.Stmt.{Stmt, size-Stmt}
 use Rattle.c_program.specs.declared.statement.Part.{size-Part}
 use Rattle.c_program.specs.Courses.{after}
 use Rattle.c_program.specs.Meaning.{Exits, act, act_list, declare_all, for_update, started}
@@ -24,8 +24,11 @@ decreases-invoke l = depths l.calls.now + 1
 abbrev pub decreases-value_of : goal.decreases-value_of
 decreases-value_of l = depths l.calls.now + 2
 
+abbrev pub decreases-assign : goal.decreases-assign
+decreases-assign l = depths l.calls.now + 3
+
 abbrev pub decreases-run_simple : goal.decreases-run_simple
-decreases-run_simple l = depths l.calls.now + 3
+decreases-run_simple l = depths l.calls.now + 4
 
 abbrev pub decreases-declare : goal.decreases-declare
 decreases-declare l = depths l.calls.now + 3
@@ -37,7 +40,7 @@ abbrev pub decreases-start_for : goal.decreases-start_for
 decreases-start_for l = depths l.calls.now + 5
 
 abbrev pub decreases-run_update : goal.decreases-run_update
-decreases-run_update l = depths l.calls.now + 4
+decreases-run_update l = depths l.calls.now + 5
 
 abbrev pub decreases-run_return : goal.decreases-run_return
 decreases-run_return l = depths l.calls.now + 3
@@ -47,6 +50,14 @@ decreases-act l = depths l.calls.now + (16 * size-Stmt l.stmt.now + 30)
 
 abbrev pub decreases-run : goal.decreases-run
 decreases-run l = depths l.calls.now + (16 * size-Stmt l.stmt.now + 31)
+
+-- how deep an `else` is
+abbrev other_size : Option Stmt → ℕ
+other_size None = 0
+other_size (Some stmt) = size-Stmt stmt
+
+abbrev pub decreases-run_if : goal.decreases-run_if
+decreases-run_if l = depths l.calls.now + (16 * max (size-Stmt l.then.now) (other_size (option_copied l.other)) + 32)
 
 abbrev pub decreases-run_part : goal.decreases-run_part
 decreases-run_part l = depths l.calls.now + (16 * size-Part l.part.now + 31)

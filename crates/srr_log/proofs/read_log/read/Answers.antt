@@ -1,11 +1,11 @@
-use Rattle.std.proofs.Common.{ℕ, List, [], ◌∷◌, length, refl, sym, ◌∙◌, ap, subst, arith}
+use Rattle.std.proofs.Common.{ℕ, List, [], ◌∷◌, length, sym, subst}
 use Rattle.std.specs.Prelude.{Err}
 use Rattle.std.proofs.lemmas.Result.{err_from_is_err_and}
 use Rattle.srr_entry.specs.declared.entry.Entry.{Entry}
-use Rattle.srr_log.specs.Parts.{head_line, ranks_line, group_line, size_line, program_bytes, lists_parts, log_parts}
+use Rattle.srr_log.specs.Parts.{head_line, ranks_line, group_line, size_line, program_bytes, end_line, lists_parts, log_parts}
 use Rattle.srr_log.specs.Reading.{Reads, at_head, at_list}
-use Rattle.srr_log.proofs.ReadLaws.{read_ranks, read_group, read_program, read_lists, read_end, reads_end_stop, read_whole, reads_extra, read_all, log_of_parts}
-use Rattle.srr_log.proofs.StateLaws.{AreRead, reads_behind}
+use Rattle.srr_log.proofs.ReadLaws.{read_ranks, read_group, read_program, read_lists}
+use Rattle.srr_log.proofs.StateLaws.{AreRead, read_then, reads_behind}
 use Rattle.srr_log.proofs.read_log.read.Goals as goal
 
 pub returns-in_err-ranks-clause-parts : goal.returns-in_err-ranks-clause-parts
@@ -36,35 +36,9 @@ returns-in_err-lists-clause-parts c =
     let group = c.in_ok-group.group in
     let program = c.in_ok-program.program in
     let front = read_lists n group program c.args.text.now _ _ (read_program n group c.args.text.now _ _ (read_group n c.args.text.now _ _ (read_ranks c.args.text.now _ _ (sym c.new-cursor.ensures) c.in_ok-head.ensures) c.in_ok-ranks.ensures) c.in_ok-group.ensures) (c.in_ok-program.ensures n group) in
-    let P : List ℕ → Type 0 = λ g. Reads {A = List (List Entry)} (at_list n g g) (λ lists. lists_parts g lists []) c.program.new.cursor (Err c.in_err-lists.field-0.0) c.lists.new.cursor in
-    rw (p.1, p.2) (reads_behind at_head (head_line ∷ ranks_line n ∷ group_line group ∷ size_line (length program) ∷ program_bytes program ∷ []) (λ lists. lists_parts group lists []) log_parts c.args.text.now c.program.new.cursor c.lists.new.cursor [] c.in_err-lists.field-0.0 front.0 front.1
+    let P : List ℕ → Type 0 = λ g. Reads {A = List (List Entry)} (at_list n g g) (λ lists. lists_parts g lists (end_line ∷ [])) c.program.new.cursor (Err c.in_err-lists.field-0.0) [] in
+    rw (p.1, p.2) (reads_behind at_head (head_line ∷ ranks_line n ∷ group_line group ∷ size_line (length program) ∷ program_bytes program ∷ []) (λ lists. lists_parts group lists (end_line ∷ [])) log_parts c.args.text.now c.program.new.cursor [] [] c.in_err-lists.field-0.0 front.0 front.1
     (subst P c.as_slice.ensures c.in_err-lists.ensures.read))
-
-pub returns-in_err-end-clause-parts : goal.returns-in_err-end-clause-parts
-returns-in_err-end-clause-parts c =
-    let p = err_from_is_err_and c.from_residual-in_err-end.result c.from_residual-in_err-end.ensures.1 in
-    let n = c.in_ok-ranks.ranks in
-    let group = c.in_ok-group.group in
-    let program = c.in_ok-program.program in
-    let lists = c.in_ok-lists.lists in
-    let P : List ℕ → Type 0 = λ g. AreRead (at_list n g g) (lists_parts g lists []) c.program.new.cursor c.lists.new.cursor in
-    let front = read_end n group program lists c.args.text.now _ _ (c.in_ok-lists.ensures.many ∙ ap length c.as_slice.ensures)
-    (read_lists n group program c.args.text.now _ _ (read_program n group c.args.text.now _ _ (read_group n c.args.text.now _ _ (read_ranks c.args.text.now _ _ (sym c.new-cursor.ensures) c.in_ok-head.ensures) c.in_ok-ranks.ensures) c.in_ok-group.ensures) (c.in_ok-program.ensures n group))
-    (subst P c.as_slice.ensures c.in_ok-lists.ensures.read) in
-    rw (p.1, p.2) (reads_end_stop n group program lists c.args.text.now c.lists.new.cursor c.end.new.cursor c.in_err-end.field-0.0 front (c.in_err-end.ensures n group))
-
-pub returns-then-left-gt0-clause-parts : goal.returns-then-left-gt0-clause-parts
-returns-then-left-gt0-clause-parts c =
-    let n = c.in_ok-ranks.ranks in
-    let group = c.in_ok-group.group in
-    let program = c.in_ok-program.program in
-    let lists = c.in_ok-lists.lists in
-    let P : List ℕ → Type 0 = λ g. AreRead (at_list n g g) (lists_parts g lists []) c.program.new.cursor c.lists.new.cursor in
-    let front = read_end n group program lists c.args.text.now _ _ (c.in_ok-lists.ensures.many ∙ ap length c.as_slice.ensures)
-    (read_lists n group program c.args.text.now _ _ (read_program n group c.args.text.now _ _ (read_group n c.args.text.now _ _ (read_ranks c.args.text.now _ _ (sym c.new-cursor.ensures) c.in_ok-head.ensures) c.in_ok-ranks.ensures) c.in_ok-group.ensures) (c.in_ok-program.ensures n group))
-    (subst P c.as_slice.ensures c.in_ok-lists.ensures.read) in
-    let whole = read_whole n group program lists c.args.text.now c.lists.new.cursor c.end.new.cursor front (c.in_ok-end.ensures n group) in
-    reads_extra (log_of_parts n group program lists) c.args.text.now c.end.new.cursor c.rest-left.result.now _ whole c.rest-left.ensures refl c.if-left-gt0.true
 
 pub returns-clause-parts : goal.returns-clause-parts
 returns-clause-parts c =
@@ -72,9 +46,6 @@ returns-clause-parts c =
     let group = c.in_ok-group.group in
     let program = c.in_ok-program.program in
     let lists = c.in_ok-lists.lists in
-    let P : List ℕ → Type 0 = λ g. AreRead (at_list n g g) (lists_parts g lists []) c.program.new.cursor c.lists.new.cursor in
-    let front = read_end n group program lists c.args.text.now _ _ (c.in_ok-lists.ensures.many ∙ ap length c.as_slice.ensures)
-    (read_lists n group program c.args.text.now _ _ (read_program n group c.args.text.now _ _ (read_group n c.args.text.now _ _ (read_ranks c.args.text.now _ _ (sym c.new-cursor.ensures) c.in_ok-head.ensures) c.in_ok-ranks.ensures) c.in_ok-group.ensures) (c.in_ok-program.ensures n group))
-    (subst P c.as_slice.ensures c.in_ok-lists.ensures.read) in
-    let whole = read_whole n group program lists c.args.text.now c.lists.new.cursor c.end.new.cursor front (c.in_ok-end.ensures n group) in
-    read_all (log_of_parts n group program lists) c.args.text.now c.end.new.cursor c.rest-left.result.now whole c.rest-left.ensures (λ more. let less = c.if-left-gt0.false in omega arith)
+    let P : List ℕ → Type 0 = λ g. AreRead (at_list n g g) (lists_parts g lists (end_line ∷ [])) c.program.new.cursor [] in
+    let front = read_lists n group program c.args.text.now _ _ (read_program n group c.args.text.now _ _ (read_group n c.args.text.now _ _ (read_ranks c.args.text.now _ _ (sym c.new-cursor.ensures) c.in_ok-head.ensures) c.in_ok-ranks.ensures) c.in_ok-group.ensures) (c.in_ok-program.ensures n group) in
+    read_then at_head (head_line ∷ ranks_line n ∷ group_line group ∷ size_line (length program) ∷ program_bytes program ∷ []) (lists_parts group lists (end_line ∷ [])) c.args.text.now c.program.new.cursor [] front (subst P c.as_slice.ensures c.in_ok-lists.ensures.read)

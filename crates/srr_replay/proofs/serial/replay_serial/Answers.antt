@@ -1,14 +1,11 @@
-use Rattle.std.proofs.Common.{◌∙◌}
 use Rattle.srr_replay.proofs.WholeReplays.{IsReplayOfRun-laws, IsWholeReplay-replayed}
 use Rattle.srr_replay.proofs.serial.replay_serial.Goals as goal
 
 pub returns-clause-runs : goal.returns-clause-runs
 returns-clause-runs g c = λ run is.
-    let program = c.in_ok-moved.ensures.program ∙ c.loop-replay.invariant.program in
-    let stop = c.in_ok-moved.ensures.stop ∙ c.loop-replay.invariant.stop in
     IsReplayOfRun-laws (g.P.Program.next c.args.program.now) (g.P.Program.output c.args.program.now) (g.P.Program.variables c.args.program.now)
     c.args.log.now c.args.stop run _
-    (rw (program, stop) at c.in_ok-replayed.ensures)
+    c.in_ok-replayed.ensures
     (c.begins_every_run.ensures.begins run is)
     (c.begins_every_run.ensures.stands run is)
     (c.has_the_cut.ensures.places run is)
@@ -18,6 +15,4 @@ returns-clause-runs g c = λ run is.
 
 pub returns-clause-alike : goal.returns-clause-alike
 returns-clause-alike g c = λ other whole rank.
-    let program = c.in_ok-moved.ensures.program ∙ c.loop-replay.invariant.program in
-    let stop = c.in_ok-moved.ensures.stop ∙ c.loop-replay.invariant.stop in
-    c.replays_agree.ensures.views _ other (IsWholeReplay-replayed _ _ _ _ _ _ (rw (program, stop) at c.in_ok-replayed.ensures)) whole rank
+    c.replays_agree.ensures.views _ other (IsWholeReplay-replayed _ _ _ _ _ _ c.in_ok-replayed.ensures) whole rank

@@ -1,6 +1,5 @@
 use Rattle.std.proofs.Common.{[], ◌∷◌}
-use Rattle.wiz_cli.specs.RecordFiles.{AreWritten, files_of, log_files, order_name}
-use Rattle.wiz_cli.specs.RecordSteps.{IsStopped}
+use Rattle.wiz_cli.specs.RecordFiles.{log_files, order_name}
 use Rattle.wiz_trace.specs.OrderTexts.{order_text}
 use Rattle.wiz_cli.proofs.FileLemmas.{AreWritten-append, IsStopped-behind}
 use Rattle.wiz_cli.proofs.FileNames.{logs_apart}

@@ -1,5 +1,4 @@
-use Rattle.std.proofs.Common.{◌≡◌, Some, true, ◌∙◌}
-use Rattle.std.proofs.lemmas.Result.{IfOk-weaker}
+use Rattle.std.proofs.Common.{◌≡◌, Some, true}
 use Rattle.c_program.specs.Courses.{listed_of}
 use Rattle.c_program.specs.Program.{next_of, variables_of}
 use Rattle.c_eval.proofs.RankLaws.{rank-variables}

@@ -1,0 +1,4 @@
+//! The faults of calls and of right sides against the rules of types.
+#![tactic(auto)]
+
+pub mod call;

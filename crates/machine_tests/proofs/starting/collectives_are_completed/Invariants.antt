@@ -1,5 +1,0 @@
-use Rattle.requests.specs.States.{MayStart}
-use Rattle.machine_tests.proofs.starting.collectives_are_completed.Given as goal
-
-abbrev pub invariant-loop-at : goal.invariant-loop-at
-invariant-loop-at g l = MayStart 2 l.at-counter l.requests

@@ -1,0 +1,16 @@
+use Rattle.std.proofs.Common.{◌≡◌, length, ◌-◌, ◌^◌}
+use Rattle.srr_replay.specs.Rounds.{RunAll}
+use Rattle.srr_replay.proofs.serial.exhaust.Given as goal
+
+abbrev pub invariant-loop-replay : goal.invariant-loop-replay
+invariant-loop-replay g l =
+    record {
+      program : l.replay.program ≡ l.fn.replay.program;
+      log : l.replay.log ≡ l.fn.replay.log;
+      stop : l.replay.stop ≡ l.fn.replay.stop;
+      runs : RunAll g.R.RankRun.standing l.replay.program l.replay.log l.replay.events l.runs;
+      counted : l.count ≡ length l.replay.events;
+    }
+
+abbrev pub decreases-loop-replay : goal.decreases-loop-replay
+decreases-loop-replay g l = 2 ^ 32 - l.count
