@@ -40,7 +40,7 @@ pub fn has_all_of_every_run<P: Program>(
 /// Replay in any order: every replay of this log without a breakpoint, whatever the order of its ranks, shows each run with
 /// this log, at every moment a beginning and in the end all of it.
 pub fn every_order_shows_every_run<P: Program>(program: &P, log: &Log)
-    ensures { (run : List Event) → IsRunWith (P.next program.now) log.now run → ShowsInEveryOrder (P.next program.now) (P.output program.now) log.now run }
+    ensures shows { (run : List Event) → IsRunWith (P.next program.now) log.now run → ShowsInEveryOrder (P.next program.now) (P.output program.now) log.now run }
 {}
 
 /// The exact cut: a replay that can go no further has exactly the places of each run with this log that its breakpoint does

@@ -3,15 +3,17 @@ use Rattle.replay_model.proofs.Cut.{HasAllOf-whole}
 use Rattle.replay_model.proofs.Prefix.{BeginsRun-Replays}
 use Rattle.replay_model.proofs.laws.every_order_shows_every_run.Goals as goal
 
-pub returns-clause-0 : goal.returns-clause-0
-returns-clause-0 g c = λ run is.
-    record {
-      moments = λ events replays.
-          BeginsRun-Replays (g.P.Program.next c.args.program.now) (g.P.Program.output c.args.program.now) c.args.log.now None run events
-          (record { ends = g.P.Program.ends_exactly c.args.program.now; enters = g.P.Program.enters_in_form c.args.program.now })
-          (g.P.Program.prints_on c.args.program.now) is replays;
-      ends = λ events whole.
-          HasAllOf-whole (g.P.Program.next c.args.program.now) (g.P.Program.output c.args.program.now) c.args.log.now None run events refl
-          (record { ends = g.P.Program.ends_exactly c.args.program.now; enters = g.P.Program.enters_in_form c.args.program.now })
-          is whole;
-    }
+pub returns : goal.returns
+returns g c = record {
+  shows = λ run is.
+      record {
+        moments = λ events replays.
+            BeginsRun-Replays (g.P.Program.next c.args.program.now) (g.P.Program.output c.args.program.now) c.args.log.now None run events
+            (record { ends = g.P.Program.ends_exactly c.args.program.now; enters = g.P.Program.enters_in_form c.args.program.now })
+            (g.P.Program.prints_on c.args.program.now) is replays;
+        ends = λ events whole.
+            HasAllOf-whole (g.P.Program.next c.args.program.now) (g.P.Program.output c.args.program.now) c.args.log.now None run events refl
+            (record { ends = g.P.Program.ends_exactly c.args.program.now; enters = g.P.Program.enters_in_form c.args.program.now })
+            is whole;
+      };
+}
