@@ -6,8 +6,10 @@ use Rattle.mpi_call.specs.declared.call.Call.{Call}
 use Rattle.mpi_call.specs.declared.reply.Reply.{Reply}
 use Rattle.mpi_call.specs.Collectives.{is_distinct, is_member}
 use Rattle.run_model.specs.declared.event.Event.{Event}
+use Rattle.run_model.specs.Lists.{IsPrefixOf}
 use Rattle.run_model.specs.Program.{Standing, IsAfter}
 use Rattle.run_model.specs.Views.{Next, view_of, replies_in}
+use Rattle.run_model.proofs.Prefixes.{prefix_trans}
 use Rattle.run_model.proofs.Views.{test_cases, view_of-own, view_of-other}
 use Rattle.srr_entry.specs.declared.log.Log.{Log}
 use Rattle.replay_model.specs.declared.step.Step.TheVariants.{Replied}
@@ -142,6 +144,12 @@ longer rank before after grows = rw (grows.2, length-append) (omega arith)
 pub no_shorter : (moved : Bool) (start now : List Event) → (moved ≡ true → length start < length now) → (moved ≡ false → now ≡ start) → length start ≤ length now
 no_shorter true start now grown still = let h = grown refl in omega (arith, h)
 no_shorter false start now grown still = rw (still refl) (omega arith)
+
+-- what goes on with some events still goes on with them after one more
+pub grows_on : (rank : ℕ) (start before after : List Event) (moved : Bool) → IsPrefixOf start before → GrowsBy rank before after moved → IsPrefixOf start after
+grows_on rank start before after true begins grows =
+    prefix_trans start before after begins (grows.0 ∷ [], sym grows.2)
+grows_on rank start before after false begins grows = rw grows begins
 
 -- the runs after one of them was asked
 pub RunAll-kept : {P R : Type 0} (standing : R → Standing P) (program : P) (log : Log) (events : List Event) (runs : List R) (k : ℕ) (run : R) → RunAll standing program log events runs → k < length log.group → IsAfter program log.ranks (slice_index log.group k) events (standing run) → RunAll standing program log events (set runs k run)

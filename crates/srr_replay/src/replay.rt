@@ -113,6 +113,16 @@ impl<'a, P: Program> Replay<'a, P> {
         Ok(())
     }
 
+    /// What it was made of: the program, the log and the breakpoint. Takes no memory.
+    pub fn told(&self) -> (&'a P, &'a Log, Option<(u8, u32)>)
+        ensures program { result.0.now ≡ self.now.program }
+        ensures log { result.1.now ≡ self.now.log }
+        ensures stop { result.2 ≡ self.now.stop }
+        ensures replayable { IsReplayable self.now.log }
+    {
+        (self.program, self.log, self.stop)
+    }
+
     /// The number of events so far. Takes no memory.
     pub fn len(&self) -> u32
         ensures { result ≡ length self.now.events }

@@ -1,7 +1,8 @@
-//! A whole replay on one thread.
+//! A whole replay on one thread, from its beginning or from where it stands.
 ghost use Rattle.std.specs.Prelude.{◌≡◌, ◌<◌, ◌≤◌, ◌++◌, ◌∷◌, [], OnOk, OnErr, IfOk, length, map, Some, true, false, ℕ, List};
 ghost use Rattle.mpi_call.specs.Collectives.{is_distinct, is_member};
 ghost use Rattle.run_model.specs.declared.event.Event.{Event};
+ghost use Rattle.run_model.specs.Lists.{IsPrefixOf};
 ghost use Rattle.run_model.specs.Program.{IsAfter};
 ghost use Rattle.run_model.specs.Views.{view_of, replies_in};
 ghost use Rattle.replay_model.specs.Laws.{IsReplayOfEveryRun};
@@ -83,6 +84,7 @@ fn round<P: Program, R: RankRun<Of = P>>(
     ensures log { replay.new.log ≡ replay.old.log }
     ensures stop { replay.new.stop ≡ replay.old.stop }
     ensures runs { OnOk result (RunAll R.standing replay.old.program replay.old.log replay.new.events runs.new) }
+    ensures begins { OnOk result (IsPrefixOf replay.old.events replay.new.events) }
     ensures moved { IfOk result (λ moved. moved ≡ true → length replay.old.events < length replay.new.events) }
     ensures rests { IfOk result (λ moved. moved ≡ false → IsExhausted (P.next replay.old.program) replay.old.log replay.old.stop replay.new.events) }
 {
@@ -111,11 +113,60 @@ pub fn replay_serial<P: Program, R: RankRun<Of = P>>(
     ensures alike { IfOk result (λ replayed. (other : List Event) → IsWholeReplay (P.next program.now) log.now stop other → (rank : ℕ) → view_of replayed.events.events rank ≡ view_of other rank) }
 {
     let replayed = replay_all(alloc, program, log, runs.as_mut_slice(), stop)?;
-    begins_every_run(program, log, &stop, &replayed.events);
-    has_the_cut(program, log, &stop, &replayed.events);
-    has_all_of_every_run(program, log, &stop, &replayed.events);
-    replays_agree(program, log, &stop);
+    shows_every_run(program, log, &stop, &replayed);
     Ok(replayed)
+}
+
+/// Goes on with a replay, however it came to where it stands, until no rank of the group has a step: rounds over its ranks, rising.
+/// Run k is the k-th rank of the group where it stands.
+pub fn finish_replay<P: Program, R: RankRun<Of = P>>(
+    alloc: Global,
+    replay: Replay<'_, P>,
+    mut runs: Vec<R>,
+) -> Result<Replayed, AllocError>
+    requires runs { RunAll R.standing replay.program replay.log replay.events runs.items }
+    ensures begins { IfOk result (λ replayed. IsPrefixOf replay.entry.events replayed.events.events) }
+    ensures replay { IfOk result (λ replayed. IsReplayed (P.next replay.entry.program) (P.output replay.entry.program) (P.variables replay.entry.program) replay.entry.log replay.entry.stop replayed) }
+    ensures runs { IfOk result (λ replayed. IsReplayOfEveryRun (P.next replay.entry.program) (P.output replay.entry.program) replay.entry.log replay.entry.stop replayed) }
+    ensures alike { IfOk result (λ replayed. (other : List Event) → IsWholeReplay (P.next replay.entry.program) replay.entry.log replay.entry.stop other → (rank : ℕ) → view_of replayed.events.events rank ≡ view_of other rank) }
+{
+    let (program, log, stop) = replay.told();
+    let replayed = finish(alloc, replay, runs.as_mut_slice())?;
+    shows_every_run(program, log, &stop, &replayed);
+    Ok(replayed)
+}
+
+/// A whole replay shows every run with its log, by the laws of replay.
+fn shows_every_run<P: Program>(
+    program: &P,
+    log: &Log,
+    stop: &Option<(u8, u32)>,
+    replayed: &Replayed,
+)
+    requires { IsReplayed (P.next program.now) (P.output program.now) (P.variables program.now) log.now stop.now replayed.now }
+    ensures runs { IsReplayOfEveryRun (P.next program.now) (P.output program.now) log.now stop.now replayed.now }
+    ensures alike { (other : List Event) → IsWholeReplay (P.next program.now) log.now stop.now other → (rank : ℕ) → view_of replayed.now.events.events rank ≡ view_of other rank }
+{
+    begins_every_run(program, log, stop, &replayed.events);
+    has_the_cut(program, log, stop, &replayed.events);
+    has_all_of_every_run(program, log, stop, &replayed.events);
+    replays_agree(program, log, stop);
+}
+
+/// The rest of a replay, with these runs.
+fn finish<P: Program, R: RankRun<Of = P>>(
+    alloc: Global,
+    mut replay: Replay<'_, P>,
+    runs: &mut [R],
+) -> Result<Replayed, AllocError>
+    requires runs { RunAll R.standing replay.program replay.log replay.events runs.old }
+    ensures begins { IfOk result (λ replayed. IsPrefixOf replay.entry.events replayed.events.events) }
+    ensures replay { IfOk result (λ replayed. IsReplayed (P.next replay.entry.program) (P.output replay.entry.program) (P.variables replay.entry.program) replay.entry.log replay.entry.stop replayed) }
+{
+    let (_, log, _) = replay.told();
+    let group = log.group.as_slice();
+    let ends = run_all(alloc, &mut replay, group, runs);
+    replayed(alloc, group, replay.into_events(), ends?)
 }
 
 /// The whole replay of these runs.
@@ -130,10 +181,8 @@ fn replay_all<P: Program, R: RankRun<Of = P>>(
     requires runs { RunAll R.standing program.now log.now [] runs.old }
     ensures { IfOk result (λ replayed. IsReplayed (P.next program.now) (P.output program.now) (P.variables program.now) log.now stop replayed) }
 {
-    let group = log.group.as_slice();
-    let mut replay = Replay::new(alloc, program, log, stop)?;
-    let ends = run_all(alloc, &mut replay, group, runs);
-    replayed(alloc, group, replay.into_events(), ends?)
+    let replay = Replay::new(alloc, program, log, stop)?;
+    finish(alloc, replay, runs)
 }
 
 /// The replay of a group, of its parts.
@@ -171,6 +220,7 @@ fn run_all<P: Program, R: RankRun<Of = P>>(
     requires group { group.now ≡ replay.old.log.group }
     requires distinct { is_distinct replay.old.log.group ≡ true }
     requires runs { RunAll R.standing replay.old.program replay.old.log replay.old.events runs.old }
+    ensures begins { OnOk result (IsPrefixOf replay.old.events replay.new.events) }
     ensures program { replay.new.program ≡ replay.old.program }
     ensures log { replay.new.log ≡ replay.old.log }
     ensures stop { replay.new.stop ≡ replay.old.stop }
@@ -191,6 +241,7 @@ fn exhaust<P: Program, R: RankRun<Of = P>>(
     requires group { group.now ≡ replay.old.log.group }
     requires distinct { is_distinct replay.old.log.group ≡ true }
     requires runs { RunAll R.standing replay.old.program replay.old.log replay.old.events runs.old }
+    ensures begins { OnOk result (IsPrefixOf replay.old.events replay.new.events) }
     ensures program { replay.new.program ≡ replay.old.program }
     ensures log { replay.new.log ≡ replay.old.log }
     ensures stop { replay.new.stop ≡ replay.old.stop }

@@ -1,4 +1,5 @@
 use Rattle.std.proofs.Common.{◌≡◌, length, ◌-◌, ◌^◌}
+use Rattle.run_model.specs.Lists.{IsPrefixOf}
 use Rattle.srr_replay.specs.Rounds.{RunAll}
 use Rattle.srr_replay.proofs.serial.exhaust.Given as goal
 
@@ -8,6 +9,7 @@ invariant-loop-replay g l =
       program : l.replay.program ≡ l.fn.replay.program;
       log : l.replay.log ≡ l.fn.replay.log;
       stop : l.replay.stop ≡ l.fn.replay.stop;
+      begins : IsPrefixOf l.fn.replay.events l.replay.events;
       runs : RunAll g.R.RankRun.standing l.replay.program l.replay.log l.replay.events l.runs;
       counted : l.count ≡ length l.replay.events;
     }

@@ -1,6 +1,6 @@
 use Rattle.std.proofs.Common.{◌≡◌, ◌<◌, ap, sym, ◌∙◌, length, true, arith, below_more, slice_index}
 use Rattle.mpi_call.specs.Collectives.{is_distinct}
-use Rattle.srr_replay.proofs.RoundsLemmas.{RunAll-set, IsExhausted-each, longer, no_shorter}
+use Rattle.srr_replay.proofs.RoundsLemmas.{RunAll-set, IsExhausted-each, grows_on, longer, no_shorter}
 use Rattle.srr_replay.proofs.serial.round.Goals as goal
 use Rattle.srr_replay.proofs.serial.round.Goals.{then-branch, else-branch}
 
@@ -18,6 +18,7 @@ loop-k-preserved g c =
       stop = ok.stop ∙ inv.stop;
       runs = rw (ok.program, ok.log)
           (RunAll-set _ _ _ _ _ _ _ _ c.in_ok-try_rank.field-0 inv.runs distinct lt (rw group_is at ok.grows) (rw group_is at ok.run));
+      begins = grows_on (slice_index c.args.group.now c.loop-k.k) c.args.replay.now.events c.loop-k.replay.events c.try_rank.new.replay.events c.in_ok-try_rank.field-0 inv.begins ok.grows;
       grown = λ is. elim c.if-branch.branch [
         | then-branch w ↦
             let more = longer (slice_index c.args.group.now c.loop-k.k) c.loop-k.replay.events c.try_rank.new.replay.events (rw w.if-branch.true at ok.grows) in

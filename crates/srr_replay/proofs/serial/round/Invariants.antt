@@ -1,4 +1,5 @@
 use Rattle.std.proofs.Common.{◌≡◌, ◌<◌, ℕ, length, true, false, slice_index}
+use Rattle.run_model.specs.Lists.{IsPrefixOf}
 use Rattle.srr_replay.specs.Rounds.{HasNoStep, RunAll}
 use Rattle.srr_replay.proofs.serial.round.Given as goal
 
@@ -9,6 +10,7 @@ invariant-loop-k g l =
       log : l.replay.log ≡ l.fn.replay.log;
       stop : l.replay.stop ≡ l.fn.replay.stop;
       runs : RunAll g.R.RankRun.standing l.replay.program l.replay.log l.replay.events l.runs;
+      begins : IsPrefixOf l.fn.replay.events l.replay.events;
       grown : l.moved ≡ true → length l.fn.replay.events < length l.replay.events;
       still : l.moved ≡ false → l.replay.events ≡ l.fn.replay.events;
       rests : l.moved ≡ false → (j : ℕ) → j < l.k

@@ -1,0 +1,9 @@
+use Rattle.std.proofs.Common.{◌≡◌, false}
+use Rattle.rank_threads.specs.Workers.{HasWorked}
+use Rattle.rank_threads.proofs.worker.work.Given as goal
+
+abbrev pub invariant-loop : goal.invariant-loop
+invariant-loop g l = record {
+  worked : HasWorked g.M.Attempts.reading g.R.RankRun.standing l.lock l.fn.worker l.worker;
+  ample : l.worker.is_short ≡ false;
+}

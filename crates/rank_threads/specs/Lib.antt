@@ -1,0 +1,4 @@
+pub mod Reading
+pub mod Workers
+pub mod Numbered
+pub mod Readings

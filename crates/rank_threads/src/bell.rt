@@ -1,0 +1,173 @@
+//! Where ranks sleep until another rank does what they may wait for. No clause speaks of it: a rank that wakes attempts again, and a
+//! rank that is told that all sleep leaves its round. So a rank that is woken in vain, or not at all, costs time alone.
+use mpi_call::call::Call;
+use mpi_call::reply::Reply;
+use std::sync::Wait;
+use std::sync::atomic::{AtomicU64, Ordering};
+use std::thread::Parker;
+use std::{array, hint, thread};
+
+/// The most ranks that a program has.
+const RANKS: usize = 64;
+
+/// How often a thread lets others run before it goes on without those that have not started.
+const PATIENCE: u32 = 1000;
+
+/// How often a rank looks whether it was woken before its thread sleeps.
+const SPINS: u32 = 200;
+
+/// The rank works.
+const WORKS: u64 = 0;
+
+/// The rank sleeps.
+const SLEEPS: u64 = 1;
+
+/// The rank was told that all sleep.
+const LEAVES: u64 = 2;
+
+/// A rank's place to sleep.
+#[derive(Drop)]
+struct Place {
+    /// `WORKS`, `SLEEPS` or `LEAVES`.
+    state: AtomicU64,
+    parker: Parker,
+}
+
+/// The bell of one round: a place for each rank, by its number.
+#[derive(Drop)]
+pub struct Bell {
+    /// How many events it was rung for.
+    events: AtomicU64,
+    /// How many ranks have started, or have nothing to do.
+    started: AtomicU64,
+    /// How many ranks work.
+    awake: AtomicU64,
+    places: [Place; RANKS],
+}
+
+impl Bell {
+    /// A bell for a round in which no rank has started.
+    pub fn new() -> Bell {
+        Bell {
+            events: AtomicU64::new(0),
+            started: AtomicU64::new(0),
+            awake: AtomicU64::new(0),
+            places: array::from_fn(|_| Place {
+                state: AtomicU64::new(WORKS),
+                parker: Parker::new(),
+            }),
+        }
+    }
+
+    /// A rank begins to work. It waits a while for so many ranks to have started, so that none is taken for asleep.
+    pub fn start(&self, ranks: usize) {
+        let _ = self.awake.fetch_add(1, Ordering::SeqCst);
+        self.skip();
+        for _ in 0..PATIENCE {
+            if self.started.load(Ordering::SeqCst) >= ranks as u64 {
+                return;
+            }
+            thread::yield_now();
+        }
+    }
+
+    /// A rank has nothing to do in this round.
+    pub fn skip(&self) {
+        let _ = self.started.fetch_add(1, Ordering::SeqCst);
+    }
+
+    /// A rank that works leaves the round, or falls asleep. If all others sleep, they leave.
+    pub fn leave(&self) {
+        if self.awake.fetch_sub(1, Ordering::SeqCst) == 1 {
+            self.send_home();
+        }
+    }
+
+    /// How many events it was rung for.
+    pub fn heard(&self) -> u64 {
+        self.events.load(Ordering::SeqCst)
+    }
+
+    /// Rings for an event: whoever may wait for it wakes. Of a send that is its receiver; of an entry into a collective and of a
+    /// halt it may be anyone.
+    pub fn ring(&self, call: &Call, reply: &Reply) {
+        let _ = self.events.fetch_add(1, Ordering::SeqCst);
+        match reply {
+            Reply::Stopped(_) => self.wake_all(),
+            _ => match call {
+                Call::Send { dest, .. } => wake(&self.awake, self.place(*dest)),
+                Call::Enter { .. } => self.wake_all(),
+                _ => {}
+            },
+        }
+    }
+
+    /// A rank waits for an event after those that it has heard of. Tells whether there may be one; else all sleep, and the rank
+    /// has left the round.
+    pub fn sleep<R: Wait>(&self, rt: &R, rank: u8, heard: u64) -> bool {
+        let place = self.place(rank);
+        place.state.store(SLEEPS, Ordering::SeqCst);
+        if self.heard() != heard {
+            // Who woke it meanwhile has counted it once more.
+            if place.state.swap(WORKS, Ordering::SeqCst) == WORKS {
+                let _ = self.awake.fetch_sub(1, Ordering::SeqCst);
+            }
+            return true;
+        }
+        self.leave();
+        woken(rt, place)
+    }
+
+    fn place(&self, rank: u8) -> &Place {
+        &self.places[rank as usize % RANKS]
+    }
+
+    fn wake_all(&self) {
+        for place in &self.places {
+            wake(&self.awake, place);
+        }
+    }
+
+    /// Tells all that sleep to leave the round.
+    fn send_home(&self) {
+        for place in &self.places {
+            if change(place, SLEEPS, LEAVES) {
+                place.parker.unpark();
+            }
+        }
+    }
+}
+
+/// Waits until the rank of this place is woken, or told to leave. Tells whether it was woken.
+fn woken<R: Wait>(rt: &R, place: &Place) -> bool {
+    let mut spins = 0;
+    for _ in rt.forever() {
+        let state = place.state.load(Ordering::SeqCst);
+        if state != SLEEPS {
+            return state == WORKS;
+        }
+        if spins < SPINS {
+            spins += 1;
+            hint::spin_loop();
+        } else {
+            place.parker.park(rt);
+        }
+    }
+    unreachable!()
+}
+
+/// Wakes the rank of this place, if it sleeps, and counts it among those that work: who wakes it counts it, so that whoever falls
+/// asleep before its thread runs does not take all for asleep.
+fn wake(awake: &AtomicU64, place: &Place) {
+    if change(place, SLEEPS, WORKS) {
+        let _ = awake.fetch_add(1, Ordering::SeqCst);
+        place.parker.unpark();
+    }
+}
+
+fn change(place: &Place, from: u64, to: u64) -> bool {
+    place
+        .state
+        .compare_exchange(from, to, Ordering::SeqCst, Ordering::SeqCst)
+        .is_ok()
+}
