@@ -1,5 +1,5 @@
 -- Places that are opened and taken.
-use Rattle.std.proofs.Common.{◌≡◌, ◌≢◌, ◌∙◌, ◌+◌, ◌-◌, ◌*◌, ◌<◌, ◌≤◌, ◌++◌, ℕ, ℤ, zero, suc, pos, Bool, true, false, List, [], ◌∷◌, Option, Some, None, Result, Ok, Err, refl, sym, ap, subst, arith, length, slice_get, take, drop, get_or, option_copied}
+use Rattle.std.proofs.Common.{◌≡◌, ◌≢◌, ◌∙◌, ◌+◌, ◌-◌, ◌<◌, ◌≤◌, ◌++◌, ℕ, ℤ, suc, true, false, List, [], ◌∷◌, Option, Some, None, Result, Ok, Err, refl, sym, ap, subst, arith, length, slice_get, take, drop, get_or, option_copied}
 use Rattle.std.proofs.lemmas.List.{length-drop}
 use Rattle.mpi_call.specs.declared.call.Fault.{Fault}
 use Rattle.mpi_call.specs.declared.call.Fault.TheVariants.{Budget}
@@ -7,7 +7,6 @@ use Rattle.c_program.specs.declared.expr.Call.{Call as FunctionCall}
 use Rattle.c_program.specs.declared.expr.Expr.{Expr}
 use Rattle.c_program.specs.declared.statement.Item.{Item}
 use Rattle.std.specs.Borrow.{Bor}
-use Rattle.c_program.specs.declared.effect.Rank.{Rank}
 use Rattle.c_program.specs.declared.program.Function.{Function}
 use Rattle.c_program.specs.declared.state.Mark.{Mark}
 use Rattle.c_program.specs.declared.state.Passed.{Passed}
@@ -15,7 +14,7 @@ use Rattle.c_program.specs.declared.statement.Part.{Part}
 use Rattle.c_program.specs.Courses.{Course, trapped}
 use Rattle.c_program.specs.Meaning.{Exits, Meaning, Passing, act, act_list, act_part, call_at, declare_all, exits_to, for_update, invoke, started, step, test, turn_exits, turns}
 use Rattle.c_program.specs.Performing.{Onward}
-use Rattle.c_program.specs.State.{State, leave, mark_of, put}
+use Rattle.c_program.specs.State.{State, mark_of, put}
 use Rattle.c_parts.specs.Comes.{Fails, Leads}
 use Rattle.c_parts.specs.Parts.{entered}
 use Rattle.c_parts.proofs.PartLaws.{entering}
@@ -32,7 +31,7 @@ use Rattle.rank_machine.specs.declared.frame.Target.{Target}
 use Rattle.rank_machine.specs.declared.frame.Target.TheVariants.{Cell}
 use Rattle.c_program.specs.declared.statement.Simple.{Simple}
 use Rattle.rank_machine.specs.declared.stack.Stack.{Stack}
-use Rattle.rank_machine.specs.Frames.{IsAt, IsOpen, Open, Stands, calls_in, given_to, inside, inside_all, looping, outermost, turns_at, within}
+use Rattle.rank_machine.specs.Frames.{IsAt, Open, Stands, calls_in, given_to, inside, inside_all, looping, outermost, turns_at, within}
 
 inside_all-append : (code : Code) (o : Open) (xs : List Frame) (f : Frame) → inside_all code (xs ++ f ∷ []) o ≡ inside code f (inside_all code xs o)
 inside_all-append code o [] f = refl

@@ -1,7 +1,6 @@
 -- What a rank that uses replies up stands for.
 use Rattle.std.specs.Prelude.{◌≡◌, ◌≢◌, ◌<◌, ◌≤◌, List, Option, Some, None, Bool, true, drop, length, take}
 use Rattle.mpi_call.specs.declared.reply.Reply.{Reply}
-use Rattle.c_program.specs.declared.effect.Rank.{Rank}
 use Rattle.c_program.specs.declared.program.CProgram.{CProgram}
 use Rattle.c_program.specs.Courses.{Course, after}
 use Rattle.c_program.specs.Meaning.{course_of}

@@ -1,8 +1,7 @@
-use Rattle.std.proofs.Common.{◌≡◌, ◌∙◌, ◌++◌, ◌∷◌, [], ap, arith, refl, List}
+use Rattle.std.proofs.Common.{◌≡◌, ◌∙◌, ◌++◌, ◌∷◌, [], ap, arith, refl}
 use Rattle.std.proofs.lemmas.Result.{err_from_is_err_and}
 use Rattle.c_program.specs.declared.state.Mark.{Mark}
 use Rattle.c_program.specs.State.{mark_of}
-use Rattle.rank_machine.specs.declared.frame.Frame.{Frame}
 use Rattle.rank_machine.specs.declared.frame.Frame.TheVariants.{Called}
 use Rattle.rank_machine.specs.Frames.{given_to, within}
 use Rattle.rank_machine.proofs.Stacks.{body_of, call-opens, entry, fails-from}

@@ -1,7 +1,6 @@
-use Rattle.std.proofs.Common.{◌≡◌, ◌∙◌, ◌+◌, ◌≤◌, Some, None, Vec, Global, sym, ap, refl, arith, drop, rules}
+use Rattle.std.proofs.Common.{◌≡◌, ◌∙◌, ◌+◌, ◌≤◌, Some, None, Vec, Global, sym, ap, arith, drop, rules}
 use Rattle.std.proofs.lemmas.Result.{err_from_is_err_and}
 use Rattle.c_program.specs.Meaning.{declare_all}
-use Rattle.c_program.specs.Performing.{Onward}
 use Rattle.c_parts.proofs.Lists.{behind_all}
 use Rattle.rank_machine.specs.declared.frame.Frame.{Frame}
 use Rattle.rank_machine.specs.Frames.{Open, call_in, calls_in, within}

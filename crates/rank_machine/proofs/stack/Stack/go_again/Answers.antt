@@ -1,4 +1,4 @@
-use Rattle.std.proofs.Common.{◌≡◌, ◌∙◌, sym, ap, rules}
+use Rattle.std.proofs.Common.{◌∙◌, sym, ap, rules}
 use Rattle.rank_machine.specs.declared.frame.Frame.TheVariants.{Block, Called, Turn}
 use Rattle.rank_machine.specs.Frames.{Open, within}
 use Rattle.rank_machine.proofs.Stacks.{again-passes, at-is, opens-pass, pushed, stands-from}

@@ -1,4 +1,4 @@
-use Rattle.std.proofs.Common.{◌≡◌, ◌∙◌, ◌-◌, suc, Ok, true, false, sym, ap, refl, arith, option_copied}
+use Rattle.std.proofs.Common.{◌≡◌, ◌∙◌, ◌-◌, suc, Ok, true, sym, ap, refl, arith, option_copied}
 use Rattle.c_program.specs.Meaning.{test}
 use Rattle.rank_machine.specs.Frames.{turns_at, within}
 use Rattle.rank_machine.proofs.Stacks.{at-is, pushed-three, repeats}

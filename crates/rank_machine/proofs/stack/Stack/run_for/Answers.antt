@@ -1,9 +1,8 @@
-use Rattle.std.proofs.Common.{◌≡◌, ◌∙◌, sym, ap, refl}
-use Rattle.c_program.specs.declared.state.Mark.{Mark}
+use Rattle.std.proofs.Common.{◌∙◌, sym, ap, refl}
 use Rattle.c_program.specs.Meaning.{declare_all, leaving}
 use Rattle.c_program.specs.State.{State, mark_of}
 use Rattle.rank_machine.specs.declared.frame.Frame.TheVariants.{Block, Repeat}
-use Rattle.rank_machine.specs.Frames.{Open, calls_in, for_of, inside, looping, within}
+use Rattle.rank_machine.specs.Frames.{Open, calls_in, inside, looping, within}
 use Rattle.rank_machine.proofs.Stacks.{at-is, pushed-two, stands-from}
 use Rattle.rank_machine.proofs.stack.Stack.run_for.Goals as goal
 
