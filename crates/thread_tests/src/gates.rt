@@ -1,7 +1,6 @@
 //! A recording and a replay in which two ranks meet at the gate, which they can only on two threads.
-use crate::starting::{Source, are, read_back, record, replay};
+use crate::starting::{Source, are, program_of, read_back, record, replay};
 use c_program::CProgram;
-use c_types::read_program;
 use group_plan::read_plan;
 use rank_threads::Gate;
 use srr_record::Recording;
@@ -69,7 +68,7 @@ const OUTPUTS: &[&[u8]] = &[b"0\n", b"1\n", b"2\n"];
 #[test]
 fn two_ranks_meet_in_a_recording_and_in_its_replay(rt: HostRuntime) {
     let alloc = rt.alloc();
-    let program = read_program(alloc, PROGRAM).expect(&rt, "a program");
+    let program = program_of(alloc, PROGRAM).expect(&rt, "a program");
     let plan = read_plan(alloc, b"0-2").expect(&rt, "a plan");
     let source = Source {
         program: &program,

@@ -1,7 +1,6 @@
 //! An ordinary program recorded on threads, and its groups replayed on threads.
-use crate::starting::{Source, are, read_back, record, replay};
+use crate::starting::{Source, are, program_of, read_back, record, replay};
 use c_program::CProgram;
-use c_types::read_program;
 use group_plan::read_plan;
 use rank_threads::Gate;
 use run_model::ending::Ending;
@@ -56,7 +55,7 @@ impl Gate for Counter {
 #[test]
 fn a_program_is_recorded_and_replayed_by_groups(rt: HostRuntime) {
     let alloc = rt.alloc();
-    let program = read_program(alloc, PROGRAM).expect(&rt, "a program");
+    let program = program_of(alloc, PROGRAM).expect(&rt, "a program");
     let plan = read_plan(alloc, b"0-2\n3-5\n6 7 # rest\n").expect(&rt, "a plan");
     let source = Source {
         program: &program,

@@ -1,6 +1,5 @@
 //! Logs replayed on threads, as on one.
-use crate::starting::{read, replay, start_group};
-use c_types::read_program;
+use crate::starting::{program_of, read, replay, start_group};
 use rank_threads::OpenGate;
 use srr_replay::serial::replay_serial;
 use std::alloc::Global;
@@ -70,7 +69,7 @@ fn traces<W: Threads + Wait + Sync + AllocGlobal>(
     let Some(log) = read(alloc, log) else {
         return false;
     };
-    let Ok(program) = read_program(alloc, log.program.as_slice()) else {
+    let Some(program) = program_of(alloc, log.program.as_slice()) else {
         return false;
     };
     let Ok(replayed) = replay(rt, &program, &log, stop, &OpenGate) else {
@@ -87,7 +86,7 @@ fn traces_on_one(alloc: Global, log: &[u8], stop: Option<(u8, u32)>, trace: &[u8
     let Some(log) = read(alloc, log) else {
         return false;
     };
-    let Ok(program) = read_program(alloc, log.program.as_slice()) else {
+    let Some(program) = program_of(alloc, log.program.as_slice()) else {
         return false;
     };
     let Ok(runs) = start_group(alloc, &program, &log) else {

@@ -5,6 +5,7 @@ ghost use Rattle.srr_replay.specs.Rounds.{IsReplayable, RunAll};
 
 use c_eval::rank::EvalRank;
 use c_program::CProgram;
+use c_types::read_program;
 use group_plan::Plan;
 use rank_threads::{Gate, record_threads, replay_threads};
 use replay_model::replayed::Replayed;
@@ -16,6 +17,17 @@ use std::alloc::{AllocError, Global};
 use std::sync::Wait;
 use std::thread::Threads;
 use wiz_base::bytes::Bytes;
+
+/// The program of this text.
+pub fn program_of(alloc: Global, text: &[u8]) -> Option<CProgram> {
+    if text.len() > 65_536 {
+        return None;
+    }
+    match read_program(alloc, text) {
+        Ok(program) => Some(program),
+        Err(_) => None,
+    }
+}
 
 /// The ranks below n, before their first calls.
 fn start_ranks<'a>(
