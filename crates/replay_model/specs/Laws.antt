@@ -15,7 +15,7 @@ use Rattle.replay_model.specs.declared.replayed.Stand.{Stand}
 use Rattle.replay_model.specs.declared.replayed.Stand.TheVariants.{Ended, LogEnded, AtBreak, Diverged, Starved}
 use Rattle.replay_model.specs.declared.step.Divergence.{Divergence}
 use Rattle.replay_model.specs.declared.step.Missing.{Missing}
-use Rattle.replay_model.specs.Replays.{Stop}
+use Rattle.replay_model.specs.Replays.{IsWholeReplay, Replays, Stop}
 use Rattle.replay_model.specs.Rests.{IsInCut}
 use Rattle.replay_model.specs.Stands.{printed_of, stand_of}
 
@@ -34,6 +34,12 @@ pub record BeginsRun (output : ℕ → ℕ → List Reply → List ℕ) (log : L
 pub record HasAllOf (output : ℕ → ℕ → List Reply → List ℕ) (log : Log) (events run : List Event) : Type 0 where
   pub views : (rank : ℕ) → is_member log.group rank ≡ true → view_of events rank ≡ view_of run rank
   pub outputs : (rank : ℕ) → is_member log.group rank ≡ true → printed_of output log.ranks events rank ≡ printed_of output log.ranks run rank
+
+-- whatever the order of the group's ranks: at every moment of a replay each rank has a beginning of what it has in the run, and no
+-- other rank has taken a step; a replay that can go no further has all of it
+pub record ShowsInEveryOrder (next : Next) (output : ℕ → ℕ → List Reply → List ℕ) (log : Log) (run : List Event) : Type 0 where
+  pub moments : (events : List Event) → Replays next log None events → BeginsRun output log events run
+  pub ends : (events : List Event) → IsWholeReplay next log None events → HasAllOf output log events run
 
 abbrev pub HasNotDiverged : Stand → Type 0
 HasNotDiverged stand = (divergence : Divergence) → stand ≡ Diverged divergence → ⊥

@@ -3,7 +3,7 @@
 ghost use Rattle.std.specs.Prelude.{◌≡◌, ℕ, List, Option, None};
 ghost use Rattle.run_model.specs.declared.event.Event.{Event};
 ghost use Rattle.run_model.specs.Views.{view_of};
-ghost use Rattle.replay_model.specs.Laws.{BeginsRun, EachStand, HasAllOf, HasNotDiverged, HasTheCut, IsDone, IsRunWith, StarvesBehindABreak};
+ghost use Rattle.replay_model.specs.Laws.{BeginsRun, EachStand, HasAllOf, HasNotDiverged, HasTheCut, IsDone, IsRunWith, ShowsInEveryOrder, StarvesBehindABreak};
 ghost use Rattle.replay_model.specs.Replays.{IsWholeReplay, Replays};
 ghost use Rattle.replay_model.specs.Stands.{printed_of, stand_of};
 
@@ -35,6 +35,12 @@ pub fn has_all_of_every_run<P: Program>(
     requires { IsWholeReplay (P.next program.now) log.now stop.now events.now.events }
     ensures all { stop.now ≡ None → (run : List Event) → IsRunWith (P.next program.now) log.now run → HasAllOf (P.output program.now) log.now events.now.events run }
     ensures stands { stop.now ≡ None → (run : List Event) → IsRunWith (P.next program.now) log.now run → EachStand IsDone (P.next program.now) (P.variables program.now) log.now stop.now events.now.events }
+{}
+
+/// Replay in any order: every replay of this log without a breakpoint, whatever the order of its ranks, shows each run with
+/// this log, at every moment a beginning and in the end all of it.
+pub fn every_order_shows_every_run<P: Program>(program: &P, log: &Log)
+    ensures shows { (run : List Event) → IsRunWith (P.next program.now) log.now run → ShowsInEveryOrder (P.next program.now) (P.output program.now) log.now run }
 {}
 
 /// The exact cut: a replay that can go no further has exactly the places of each run with this log that its breakpoint does
