@@ -1,10 +1,9 @@
 //! Commands over files in memory: words, status and what is printed.
-ghost use Rattle.std.specs.Prelude.{[], IfOk};
-ghost use Rattle.srr_replay.specs.Rounds.{IsReplayable, RunAll};
+ghost use Rattle.srr_replay.specs.Rounds.{IsReplayable};
 
-use c_eval::rank::EvalRank;
 use c_program::CProgram;
 use c_types::read_program;
+use rank_threads::OpenGate;
 use replay_model::replayed::Replayed;
 use srr_entry::log::Log;
 use srr_log::read_log::read_log;
@@ -12,7 +11,7 @@ use srr_replay::serial::replay_serial;
 use std::alloc::{AllocError, Global};
 use std::sync::Wait;
 use std::thread::Threads;
-use wiz_cli::gate::OpenGate;
+use wiz_cli::ranks::start_group;
 use wiz_cli::top::wiz;
 use wiz_io::{MemorySink, MemoryStore};
 use wiz_trace::trace::trace_text;
@@ -89,7 +88,12 @@ fn answers<R: Threads + Wait + Sync + AllocGlobal>(
 #[test]
 fn commands_have_their_status_and_output(rt: HostRuntime) {
     let replay: &[&str] = &["replay", "L", "--serial"];
-    let table: [(&[&str], &[u8], u8, &[u8]); 19] = [
+    let on_threads: &[&str] = &["replay", "L"];
+    let table: [(&[&str], &[u8], u8, &[u8]); 23] = [
+        (on_threads, FIRST, 0, FIRST_TRACE),
+        (on_threads, DIVERGED, 9, DIVERGED_TRACE),
+        (on_threads, STARVED, 10, STARVED_TRACE),
+        (&["replay", "L9"], FIRST, 2, b"no file L9\n"),
         (replay, FIRST, 0, FIRST_TRACE),
         (replay, DIVERGED, 9, DIVERGED_TRACE),
         (replay, STARVED, 10, STARVED_TRACE),
@@ -196,22 +200,6 @@ fn a_failing_read_or_put_is_told(rt: HostRuntime) {
     assert!(&rt; unwritten.status == 4 && full.bytes().is_empty());
 }
 
-/// A run for each rank of the log's group, before its first call.
-fn start_all<'a>(
-    alloc: Global,
-    program: &'a CProgram,
-    log: &Log,
-) -> Result<Vec<EvalRank<'a>>, AllocError>
-    requires { IsReplayable log.now }
-    ensures { IfOk result (λ runs. RunAll (λ run. run) program.now log.now [] runs.items) }
-{
-    let mut runs = Vec::new(alloc);
-    for rank in log.group.as_slice() {
-        runs.push(EvalRank::start(alloc, program, log.ranks, *rank)?)?;
-    }
-    Ok(runs)
-}
-
 /// The replay of a log's group with a program; a rank stops before the call that `stop` names.
 fn replay_group(
     alloc: Global,
@@ -221,7 +209,7 @@ fn replay_group(
 ) -> Result<Replayed, AllocError>
     requires { IsReplayable log.now }
 {
-    let runs = start_all(alloc, program, log)?;
+    let runs = start_group(alloc, program, log)?;
     replay_serial(alloc, program, log, runs, stop)
 }
 
