@@ -29,11 +29,7 @@ use wiz_io::{ReadFault, Sink, Store};
 const LOG_LIMIT: u64 = 134_217_728;
 
 /// Replays the file's log, and tells what came of it: `run` makes the replay of a log with a program. The error is want of memory.
-pub fn replay<
-    S: Store,
-    K: Sink,
-    F: Fn(&CProgram, &Log) -> Result<Replayed, AllocError>,
->(
+pub fn replay<S: Store, K: Sink, F: Fn(&CProgram, &Log) -> Result<Replayed, AllocError>>(
     alloc: Global,
     name: &str,
     store: &mut S,
@@ -137,7 +133,8 @@ fn replay_log<F: Fn(&CProgram, &Log) -> Result<Replayed, AllocError>>(
         Ok(program) => {
             text_fixes_meaning(&program, log.program.as_slice());
             every_order_shows_every_run(&program, log);
-            Ok(Outcome::Replayed(run(&program, log)?))
+            let replayed = run(&program, log)?;
+            Ok(Outcome::Replayed(replayed))
         }
         Err(fault) => match fault.why {
             Why::NoMemory => Err(AllocError),

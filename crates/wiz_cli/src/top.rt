@@ -1,7 +1,9 @@
 //! The top call.
 ghost use Rattle.std.specs.Prelude.{◌≡◌, IfOk, OnErr, false, map, true};
+ghost use Rattle.srr_replay.specs.Rounds.{IsReplayable};
 ghost use Rattle.wiz_cli.specs.Commands.{IsCommandCut, IsCommandReport};
 ghost use Rattle.wiz_cli.specs.RecordReports.{outside};
+ghost use Rattle.wiz_cli.specs.RecordSteps.{IsReady};
 ghost use Rattle.wiz_cli.specs.RecordWords.{IsNotThreaded};
 ghost use Rattle.wiz_cli.specs.Reports.{IsCutShort, IsReport, ReplaysShowEveryRun};
 
@@ -15,7 +17,9 @@ use crate::tell::tell;
 use crate::words::{log_name, threaded_log_name};
 use c_program::CProgram;
 use rank_threads::Gate;
+use replay_model::replayed::Replayed;
 use srr_entry::log::Log;
+use srr_record::Recording;
 use std::alloc::{AllocError, Global};
 use std::sync::Wait;
 use std::thread::Threads;
@@ -77,9 +81,13 @@ fn answer<S: Store, K: Sink>(
     ensures headline { IfOk result (λ report. ReplaysShowEveryRun false (map (λ word. word.now) words.now) (S.files store.old) report.replayed report.status) }
 {
     match record_words(words) {
-        Some(names) => record(alloc, &names, store, out, &|ready: &Ready| {
-            record_in_turns(alloc, ready)
-        }),
+        Some(names) => record(
+            alloc,
+            &names,
+            store,
+            out,
+            &|ready: &Ready| record_in_turns(alloc, ready),
+        ),
         None => answer_other(alloc, words, store, out),
     }
 }
@@ -99,9 +107,13 @@ fn answer_other<S: Store, K: Sink>(
 {
     match log_name(words) {
         None => tell(alloc, Outcome::Refused(Refusal::Words), "", out),
-        Some(name) => replay(alloc, name, store, out, &|program: &CProgram, log: &Log| {
-            replay_in_rounds(alloc, program, log)
-        }),
+        Some(name) => replay(
+            alloc,
+            name,
+            store,
+            out,
+            &|program: &CProgram, log: &Log| replay_in_rounds(alloc, program, log),
+        ),
     }
 }
 
@@ -119,9 +131,12 @@ fn answer_on_threads<R: Threads + Wait + Sync, S: Store, K: Sink, G: Gate + Sync
     ensures headline { IfOk result (λ report. ReplaysShowEveryRun true (map (λ word. word.now) words.now) (S.files store.old) report.replayed report.status) }
 {
     match threaded_words(words) {
-        Some(names) => record(alloc, &names, store, out, &|ready: &Ready| {
-            record_on_threads(rt, alloc, ready, gate)
-        }),
+        Some(names) => {
+            let run = |ready: &Ready| -> Result<Recording, AllocError>
+                requires { IsReady ready.now }
+            { record_on_threads(rt, alloc, ready, gate) };
+            record(alloc, &names, store, out, &run)
+        }
         None => answer_other_on_threads(rt, alloc, words, store, out, gate),
     }
 }
@@ -141,9 +156,12 @@ fn answer_other_on_threads<R: Threads + Wait + Sync, S: Store, K: Sink, G: Gate 
     ensures headline { IfOk result (λ report. ReplaysShowEveryRun true (map (λ word. word.now) words.now) (S.files store.old) report.replayed report.status) }
 {
     match threaded_log_name(words) {
-        Some(name) => replay(alloc, name, store, out, &|program: &CProgram, log: &Log| {
-            replay_on_threads(rt, alloc, program, log, gate)
-        }),
+        Some(name) => {
+            let run = |program: &CProgram, log: &Log| -> Result<Replayed, AllocError>
+                requires { IsReplayable log.now }
+            { replay_on_threads(rt, alloc, program, log, gate) };
+            replay(alloc, name, store, out, &run)
+        }
         None => Ok(wiz_serial(alloc, words, store, out)),
     }
 }
