@@ -7,3 +7,5 @@ mod records;
 mod replays;
 #[cfg(test)]
 mod rows;
+#[cfg(test)]
+mod threads;

@@ -5,7 +5,7 @@ ghost use Rattle.srr_replay.specs.Rounds.{IsReplayable, RunAll};
 use c_eval::rank::EvalRank;
 use c_program::CProgram;
 use c_types::read_program;
-use rank_machine::rank::MachineRank;
+use rank_threads::OpenGate;
 use replay_model::replayed::Replayed;
 use srr_entry::log::Log;
 use srr_log::read_log::read_log;
@@ -14,7 +14,7 @@ use std::alloc::{AllocError, Global};
 use std::sync::Wait;
 use std::thread::Threads;
 use wiz_base::Bytes;
-use wiz_cli::gate::OpenGate;
+use wiz_cli::ranks::start_group;
 use wiz_cli::top::wiz;
 use wiz_io::{MemorySink, MemoryStore};
 use wiz_trace::trace::trace_text;
@@ -91,7 +91,12 @@ fn answers<R: Threads + Wait + Sync + AllocGlobal>(
 #[test]
 fn commands_have_their_status_and_output(rt: HostRuntime) {
     let replay: &[&str] = &["replay", "L", "--serial"];
-    let table: [(&[&str], &[u8], u8, &[u8]); 19] = [
+    let on_threads: &[&str] = &["replay", "L"];
+    let table: [(&[&str], &[u8], u8, &[u8]); 23] = [
+        (on_threads, FIRST, 0, FIRST_TRACE),
+        (on_threads, DIVERGED, 9, DIVERGED_TRACE),
+        (on_threads, STARVED, 10, STARVED_TRACE),
+        (&["replay", "L9"], FIRST, 2, b"no file L9\n"),
         (replay, FIRST, 0, FIRST_TRACE),
         (replay, DIVERGED, 9, DIVERGED_TRACE),
         (replay, STARVED, 10, STARVED_TRACE),
@@ -198,23 +203,7 @@ fn a_failing_read_or_put_is_told(rt: HostRuntime) {
     assert!(&rt; unwritten.status == 4 && full.bytes().is_empty());
 }
 
-/// A suspended rank for each rank of the log's group, before its first call.
-fn start_machines<'a>(
-    alloc: Global,
-    program: &'a CProgram,
-    log: &Log,
-) -> Result<Vec<MachineRank<'a>>, AllocError>
-    requires { IsReplayable log.now }
-    ensures { IfOk result (λ runs. RunAll (λ run. run) program.now log.now [] runs.items) }
-{
-    let mut runs = Vec::new(alloc);
-    for rank in log.group.as_slice() {
-        runs.push(MachineRank::start(alloc, program, log.ranks, *rank)?)?;
-    }
-    Ok(runs)
-}
-
-/// The same for the evaluator that begins again at each call.
+/// For each rank of the log's group a run by the evaluator that begins again at each call, before the first one.
 fn start_evaluators<'a>(
     alloc: Global,
     program: &'a CProgram,
@@ -230,7 +219,7 @@ fn start_evaluators<'a>(
     Ok(runs)
 }
 
-/// The replay of a log's group by suspended ranks; a rank stops before the call that `stop` names.
+/// The replay of a log's group by the ranks that the tool runs; a rank stops before the call that `stop` names.
 fn replay_suspended(
     alloc: Global,
     program: &CProgram,
@@ -239,7 +228,7 @@ fn replay_suspended(
 ) -> Result<Replayed, AllocError>
     requires { IsReplayable log.now }
 {
-    let runs = start_machines(alloc, program, log)?;
+    let runs = start_group(alloc, program, log)?;
     replay_serial(alloc, program, log, runs, stop)
 }
 

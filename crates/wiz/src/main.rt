@@ -4,6 +4,7 @@
 //! status of the report.
 #![tactic(auto)]
 
+use rank_threads::OpenGate;
 use std::alloc::AllocError;
 use std::env::Env;
 use std::process::ExitCode;
@@ -11,7 +12,6 @@ use std::rt::Files;
 use std::sync::Wait;
 use std::thread::Threads;
 use std::{env, io};
-use wiz_cli::gate::OpenGate;
 use wiz_cli::top::wiz;
 use wiz_io::{HostSink, HostStore};
 

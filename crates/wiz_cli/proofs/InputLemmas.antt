@@ -1,5 +1,5 @@
 -- Reading the input files of a recording, and what they hold.
-use Rattle.std.proofs.Common.{◌<◌, ◌≤◌, ℕ, List, [], ◌∷◌, Option, Some, None, All, arith, map}
+use Rattle.std.proofs.Common.{◌<◌, ◌≤◌, ℕ, List, [], ◌∷◌, Option, Some, None, All, arith, inl, inr, map}
 use Rattle.std.specs.List.{AllZip}
 use Rattle.std.proofs.lemmas.List.{length-map}
 use Rattle.std.proofs.lemmas.List.Elements.{All-cons, All-nil}
@@ -16,9 +16,9 @@ use Rattle.wiz_cli.specs.declared.record_outcome.InputFile.TheVariants.{Program,
 use Rattle.wiz_cli.specs.declared.record_outcome.Inputs.{Inputs}
 use Rattle.wiz_cli.specs.declared.record_outcome.Unrecorded.{Unrecorded}
 use Rattle.wiz_cli.specs.declared.record_outcome.Unrecorded.TheVariants.{Refused, NoMemory as Wanting}
-use Rattle.wiz_cli.specs.Recordings.{AreTurns, IsFirstUnread, IsOrderRefusal, IsPlanRefusal, IsRefusedBy, IsThere, IsUnread, IsUnreadOrder}
+use Rattle.wiz_cli.specs.Recordings.{AreInputs, AreTurns, IsFirstUnread, IsOrderRefusal, IsPlanRefusal, IsRefusal, IsRefusedBy, IsThere, IsUnread, IsUnreadOrder}
 use Rattle.wiz_cli.specs.RecordSteps.{HasLists, IsAt, IsStop}
-use Rattle.wiz_cli.specs.RecordWords.{RecordNames}
+use Rattle.wiz_cli.specs.RecordWords.{RecordNames, order_of}
 use Rattle.wiz_cli.specs.Reports.{IsProgramRefusal}
 use Rattle.wiz_io.specs.Files.{Files}
 
@@ -50,9 +50,9 @@ plan_unread files reads mid reads' names (Refused refused) program later stop =
 plan_unread files reads mid reads' names Wanting program later stop = tt
 
 pub order_unread : (files : Option Files) (reads mid reads' : ℕ) (names : RecordNames) (why : Unrecorded) → IsThere files names.program 65536 → IsThere files names.plan 65536 → reads ≤ mid
-    → IsStop (IsAt Order (IsUnreadOrder files mid reads' names.order)) why → IsStop (IsFirstUnread files reads reads' names) why
+    → IsStop (IsAt Order (IsUnreadOrder files mid reads' (order_of names.schedule))) why → IsStop (IsFirstUnread files reads reads' names) why
 order_unread files reads mid reads' names (Refused refused) program plan later stop =
-    rw stop.0 (program, plan, order_earlier files reads mid reads' names.order refused.refusal later stop.1)
+    rw stop.0 (program, plan, order_earlier files reads mid reads' (order_of names.schedule) refused.refusal later stop.1)
 order_unread files reads mid reads' names Wanting program plan later stop = tt
 
 -- why what the files hold is refused
@@ -68,6 +68,17 @@ pub order_refused : (inputs : Inputs) (program : CProgram) (groups : List (List 
     → IsStop (IsAt Order (IsOrderRefusal (number_of_ranks groups) inputs.order)) why → IsStop (IsRefusedBy inputs) why
 order_refused inputs program groups (Refused refused) text plan stop = rw stop.0 ((program, text), (groups, plan, stop.1))
 order_refused inputs program groups Wanting text plan stop = tt
+
+-- why nothing is recorded
+pub unread_why : (files : Option Files) (reads reads' : ℕ) (names : RecordNames) (why : Unrecorded) → IsStop (IsFirstUnread files reads reads' names) why
+    → IsStop (λ input refusal. IsRefusal files reads reads' names (record { input = input; refusal = refusal })) why
+unread_why files reads reads' names (Refused refused) stop = inl stop
+unread_why files reads reads' names Wanting stop = tt
+
+pub refused_why : (files : Option Files) (reads reads' : ℕ) (names : RecordNames) (inputs : Inputs) (why : Unrecorded) → AreInputs files names inputs → IsStop (IsRefusedBy inputs) why
+    → IsStop (λ input refusal. IsRefusal files reads reads' names (record { input = input; refusal = refusal })) why
+refused_why files reads reads' names inputs (Refused refused) are stop = inr (inputs, are, stop)
+refused_why files reads reads' names inputs Wanting are stop = tt
 
 -- turns are of ranks
 zip_below : (n : ℕ) (lines : List (List ℕ)) (ranks : List ℕ) → AllZip (IsRankLine n) lines ranks → All (λ rank. rank < n) ranks

@@ -1,3 +1,4 @@
+pub mod CommandLemmas
 pub mod FileLemmas
 pub mod FileNames
 pub mod InputLemmas
@@ -5,6 +6,7 @@ pub mod LogFiles
 pub mod LogLemmas
 pub mod ReadableLogs
 pub mod RecordLemmas
+pub mod RecordingLemmas
 pub mod ReportLemmas
 pub mod RunLemmas
 pub mod WordLemmas

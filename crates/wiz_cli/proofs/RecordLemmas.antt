@@ -1,5 +1,5 @@
 -- Reports of recordings, from what their steps answer.
-use Rattle.std.proofs.Common.{◌≡◌, ℕ, List, [], Option, Some, None, Result, Ok, Err, IfOk, OnErr, OnOk, inl, inr, refl}
+use Rattle.std.proofs.Common.{◌≡◌, Bool, ℕ, List, [], Option, Some, None, Result, Ok, Err, IfOk, OnErr, OnOk, inl, inr, refl}
 use Rattle.std.specs.Prelude.{IfErr}
 use Rattle.run_model.specs.Views.{Kept}
 use Rattle.srr_record.specs.declared.recording.Recording.{Recording}
@@ -10,7 +10,7 @@ use Rattle.wiz_cli.specs.Commands.{IsCommandCut, IsCommandReport}
 use Rattle.wiz_cli.specs.RecordFiles.{AreWritten, IsStoppedAt, files_of}
 use Rattle.wiz_cli.specs.Recordings.{AreInputs, IsRecordingOf, IsRefusal}
 use Rattle.wiz_cli.specs.RecordReports.{HasRecorded, IsCutAt, IsCutRecord, IsRecordPut, IsRecordReport, IsRefusalTold, IsUntouched, Outside, refused_text, unwritten_text}
-use Rattle.wiz_cli.specs.RecordWords.{RecordNames}
+use Rattle.wiz_cli.specs.RecordWords.{RecordNames, has_threads}
 use Rattle.wiz_cli.specs.Reports.{GrewByPart, HasSaid}
 use Rattle.wiz_io.specs.Files.{HasRisen}
 
@@ -34,7 +34,8 @@ IsCutRecord-refused names before after refused files writes why said =
 pub IsCutRecord-silent : (names : RecordNames) (before after : Outside) → after.files ≡ before.files → after.writes ≡ before.writes → after.written ≡ before.written → IsCutRecord names before after
 IsCutRecord-silent names before after files writes same = inl (record { untouched = untouched before after files writes; said = inl same })
 
-pub has_recorded : (names : RecordNames) (before : Outside) (inputs : Inputs) (recording : Recording) → AreInputs before.files names inputs → IsRecordingOf inputs recording → HasRecorded names before recording
+pub has_recorded : (names : RecordNames) (before : Outside) (inputs : Inputs) (recording : Recording) → AreInputs before.files names inputs
+    → IsRecordingOf (has_threads names.schedule) inputs recording → HasRecorded names before recording
 has_recorded names before inputs recording are recorded = record { inputs = inputs; are_inputs = are; recorded = recorded }
 
 -- a run is recorded, and all files are written
@@ -74,9 +75,9 @@ no_replays names before after status run replays (inr (inr (inl recorded))) = re
 no_replays names before after status run replays (inr (inr (inr unwritten))) = unwritten.told.no_replays
 
 -- where memory was wanting for a command
-pub IsCommandReport-cut : (words : List (List ℕ)) (before after : Outside) → IsCommandCut words before after → IsCommandReport words before after 11 None []
-IsCommandReport-cut words before after (inl (names, is, cut)) = inl (names, is, inl (refl, refl, refl, cut))
-IsCommandReport-cut words before after (inr (other, untouched, short)) =
+pub IsCommandReport-cut : (threads : Bool) (words : List (List ℕ)) (before after : Outside) → IsCommandCut threads words before after → IsCommandReport threads words before after 11 None []
+IsCommandReport-cut threads words before after (inl (names, is, cut)) = inl (names, is, inl (refl, refl, refl, cut))
+IsCommandReport-cut threads words before after (inr (other, untouched, short)) =
     inr (record { other = other; report = inl (refl, refl, refl, short); untouched = untouched })
 
 -- what follows from what a result is

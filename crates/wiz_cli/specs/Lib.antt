@@ -5,5 +5,6 @@ pub mod RecordSteps
 pub mod RecordWords
 pub mod Recordings
 pub mod Reports
+pub mod Runs
 pub mod WordNames
 pub mod Words

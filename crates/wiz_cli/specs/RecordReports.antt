@@ -12,7 +12,7 @@ use Rattle.wiz_cli.specs.declared.record_outcome.Inputs.{Inputs}
 use Rattle.wiz_cli.specs.declared.record_outcome.RecordRefusal.{RecordRefusal}
 use Rattle.wiz_cli.specs.RecordFiles.{AreWritten, ArePartlyWritten, IsStoppedAt, files_of}
 use Rattle.wiz_cli.specs.Recordings.{AreInputs, IsRecordingOf, IsRefusal}
-use Rattle.wiz_cli.specs.RecordWords.{RecordNames}
+use Rattle.wiz_cli.specs.RecordWords.{RecordNames, has_threads, order_of}
 use Rattle.wiz_cli.specs.Reports.{GrewBy, GrewByPart, HasSaid, message_text, refusal_status}
 use Rattle.wiz_io.specs.Files.{Files, HasRisen}
 use Rattle.wiz_trace.specs.RecordTexts.{record_text}
@@ -32,7 +32,7 @@ outside files reads writes written puts = record { files = files; reads = reads;
 abbrev pub name_of : RecordNames → InputFile → List ℕ
 name_of names Program = names.program
 name_of names Plan = names.plan
-name_of names Order = unwrap_or names.order []
+name_of names Order = unwrap_or (order_of names.schedule) []
 
 -- the message of a refusal
 abbrev pub refused_text : RecordNames → RecordRefusal → List ℕ
@@ -77,7 +77,7 @@ pub record IsUntouched (before after : Outside) : Type 0 where
 pub record HasRecorded (names : RecordNames) (before : Outside) (recording : Recording) : Type 0 where
   pub inputs : Inputs
   pub are_inputs : AreInputs before.files names inputs
-  pub recorded : IsRecordingOf inputs recording
+  pub recorded : IsRecordingOf (has_threads names.schedule) inputs recording
 
 -- nothing is recorded: the words or what the files hold are refused
 pub record IsRefusedReport (names : RecordNames) (before after : Outside) (status : ℕ) (run : Option Kept) (replays : List Replayed) : Type 0 where

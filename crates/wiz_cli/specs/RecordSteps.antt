@@ -1,5 +1,5 @@
 -- What each step of a recording answers.
-use Rattle.std.specs.Prelude.{◌≡◌, ℕ, List, Option, length}
+use Rattle.std.specs.Prelude.{◌≡◌, ◌≤◌, ℕ, List, Option, Bool, length}
 use Rattle.std.specs.List.{AllByRecursion}
 use Rattle.std.specs.String.{string_bytes}
 use Rattle.srr_entry.specs.declared.log.Log.{Log}
@@ -9,6 +9,10 @@ use Rattle.wiz_cli.specs.declared.record_files.Unwritten.TheVariants.{Failed, No
 use Rattle.wiz_cli.specs.declared.record_outcome.InputFile.{InputFile}
 use Rattle.wiz_cli.specs.declared.record_outcome.Unrecorded.{Unrecorded}
 use Rattle.wiz_cli.specs.declared.record_outcome.Unrecorded.TheVariants.{Refused, NoMemory}
+use Rattle.srr_record.specs.declared.recording.Recording.{Recording}
+use Rattle.wiz_cli.specs.declared.record_outcome.Inputs.{Inputs}
+use Rattle.wiz_cli.specs.declared.record_outcome.Ready.{Ready}
+use Rattle.wiz_cli.specs.Recordings.{ArePrepared, IsRecordingOf}
 use Rattle.wiz_cli.specs.RecordFiles.{ArePartlyWritten, IsStoppedAt, NamedFile}
 use Rattle.wiz_io.specs.Files.{Files, HasRisen}
 
@@ -29,3 +33,14 @@ HasLists logs = AllByRecursion (λ (log : Log). length log.lists ≡ length log.
 abbrev pub IsStopped : Option Files → Option Files → ℕ → ℕ → List NamedFile → Unwritten → Type 0
 IsStopped before after writes writes' files (Failed name) = HasRisen writes writes' × IsStoppedAt before after files (string_bytes name)
 IsStopped before after writes writes' files WriteMemory = ArePartlyWritten before after files
+
+-- the input files hold a program, a plan, and turns of its ranks; the program's text is not longer than such a file may be
+pub record IsReady (ready : Ready) : Type 0 where
+  pub prepared : ArePrepared ready.inputs ready.prepared.program ready.prepared.plan ready.prepared.turns
+  pub short : length ready.inputs.program ≤ 65536
+
+-- a recording of what the input files hold, with a log for each of at most 64 groups
+pub record IsMade (threads : Bool) (inputs : Inputs) (recording : Recording) : Type 0 where
+  pub recorded : IsRecordingOf threads inputs recording
+  pub lists : HasLists recording.logs
+  pub few : length recording.logs ≤ 64

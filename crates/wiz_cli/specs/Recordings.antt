@@ -1,5 +1,5 @@
 -- What comes of a recording's words: the first input file that is not read, why what the files hold is refused, or a run.
-use Rattle.std.specs.Prelude.{◌≡◌, ◌<◌, ◌≤◌, ◌⊎◌, ℕ, List, [], Option, Some, None, IfSome, length}
+use Rattle.std.specs.Prelude.{◌≡◌, ◌<◌, ◌≤◌, ◌⊎◌, ℕ, List, [], Option, Some, None, IfSome, IfOk, Result, Bool, false, length}
 use Rattle.std.specs.List.{AllByRecursion}
 use Rattle.group_plan.specs.OrderText.{IsOrderText, IsFault as IsOrderFault}
 use Rattle.group_plan.specs.Plans.{number_of_ranks}
@@ -10,14 +10,15 @@ use Rattle.c_program.specs.declared.program.CProgram.{CProgram}
 use Rattle.c_program.specs.Program.{next_of, output_of}
 use Rattle.c_types.specs.Checks.{IsProgramOf}
 use Rattle.srr_record.specs.declared.recording.Recording.{Recording}
-use Rattle.srr_record.specs.Recordings.{IsRecording}
+use Rattle.run_model.specs.Serial.{IsSerial}
+use Rattle.srr_record.specs.Recordings.{IsRecorded}
 use Rattle.wiz_cli.specs.declared.outcome.Refusal.{Refusal}
 use Rattle.wiz_cli.specs.declared.outcome.Refusal.TheVariants.{Missing, ReadFault, TooLong, Plan as BadPlan, Order as BadOrder}
 use Rattle.wiz_cli.specs.declared.record_outcome.InputFile.{InputFile}
 use Rattle.wiz_cli.specs.declared.record_outcome.InputFile.TheVariants.{Program, Plan, Order}
 use Rattle.wiz_cli.specs.declared.record_outcome.Inputs.{Inputs}
 use Rattle.wiz_cli.specs.declared.record_outcome.RecordRefusal.{RecordRefusal}
-use Rattle.wiz_cli.specs.RecordWords.{RecordNames}
+use Rattle.wiz_cli.specs.RecordWords.{RecordNames, order_of}
 use Rattle.wiz_cli.specs.Reports.{IsProgramRefusal}
 use Rattle.wiz_io.specs.Files.{Files, HasRisen}
 
@@ -52,7 +53,7 @@ HoldsOrder files (Some name) (Some bytes) = Holds files name (limit_of Order) by
 pub record AreInputs (files : Option Files) (names : RecordNames) (inputs : Inputs) : Type 0 where
   pub program : Holds files names.program (limit_of Program) inputs.program
   pub plan : Holds files names.plan (limit_of Plan) inputs.plan
-  pub order : HoldsOrder files names.order inputs.order
+  pub order : HoldsOrder files (order_of names.schedule) inputs.order
 
 -- the order file is not read, where there is one
 abbrev pub IsUnreadOrder : Option Files → ℕ → ℕ → Option (List ℕ) → Refusal → Type 0
@@ -66,7 +67,7 @@ IsFirstUnread files reads reads' names Plan refusal =
     IsThere files names.program (limit_of Program) × IsUnread files reads reads' names.plan (limit_of Plan) refusal
 IsFirstUnread files reads reads' names Order refusal =
     IsThere files names.program (limit_of Program) × IsThere files names.plan (limit_of Plan)
-    × IsUnreadOrder files reads reads' names.order refusal
+    × IsUnreadOrder files reads reads' (order_of names.schedule) refusal
 
 -- the turns that come before the rounds: those of the order file, or none
 abbrev pub AreTurns : ℕ → Option (List ℕ) → List ℕ → Type 0
@@ -106,12 +107,13 @@ IsRefusal files reads reads' names refused =
     IsFirstUnread files reads reads' names refused.input refused.refusal
     ⊎ ((inputs : Inputs) × AreInputs files names inputs × IsRefusedBy inputs refused.input refused.refusal)
 
--- the recording of the program that the input files hold: its serial run by the plan and the turns; each of its logs can be read
--- back from its text
-pub record IsRecordingOf (inputs : Inputs) (recording : Recording) : Type 0 where
+-- the recording of the program that the input files hold, a run of it on the ranks of the plan in which each has ended; without
+-- threads it is the serial run of the turns. Each of its logs can be read back from its text
+pub record IsRecordingOf (threads : Bool) (inputs : Inputs) (recording : Recording) : Type 0 where
   pub program : CProgram
   pub groups : List (List ℕ)
   pub turns : List ℕ
   pub prepared : ArePrepared inputs program groups turns
-  pub recording_is : IsRecording (next_of program) (output_of program) (number_of_ranks groups) inputs.program groups turns recording
+  pub recorded : IsRecorded (next_of program) (output_of program) (number_of_ranks groups) inputs.program groups recording
+  pub serial : threads ≡ false → IsSerial (next_of program) (number_of_ranks groups) turns recording.history.events
   pub readable : AllByRecursion (λ (log : Log). IsLogText (log_text log) log) recording.logs

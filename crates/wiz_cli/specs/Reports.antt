@@ -4,7 +4,7 @@ use Rattle.std.specs.List.{list_any}
 use Rattle.mpi_call.specs.declared.reply.Reply.{Reply}
 use Rattle.mpi_call.specs.Collectives.{is_member}
 use Rattle.run_model.specs.declared.event.Event.{Event}
-use Rattle.run_model.specs.Views.{Kept, view_of}
+use Rattle.run_model.specs.Views.{Kept, Next, view_of}
 use Rattle.srr_entry.specs.declared.log.Log.{Log}
 use Rattle.c_lex.specs.declared.fault.Why.{Why}
 use Rattle.c_lex.specs.declared.fault.Why.TheVariants as w
@@ -20,7 +20,8 @@ use Rattle.srr_text.specs.LogText.{IsLogText}
 use Rattle.replay_model.specs.declared.replayed.Replayed.{Replayed}
 use Rattle.replay_model.specs.declared.replayed.Stand.{Stand}
 use Rattle.replay_model.specs.declared.replayed.Stand.TheVariants.{AtBreak, Diverged, Starved}
-use Rattle.replay_model.specs.Laws.{IsReplayOfEveryRun, IsRunWith}
+use Rattle.replay_model.specs.Laws.{IsReplayOfEveryRun, IsRunWith, ShowsInEveryOrder}
+use Rattle.replay_model.specs.Replays.{IsWholeReplay}
 use Rattle.replay_model.specs.Stands.{IsReplayed, printed_of}
 use Rattle.wiz_cli.specs.declared.outcome.Refusal.{Refusal}
 use Rattle.wiz_cli.specs.declared.outcome.Refusal.TheVariants.{Words, Missing, ReadFault, Program, Plan, Order, Log as LogRefused, TooLong}
@@ -33,13 +34,26 @@ use Rattle.wiz_base.specs.Decimals.{decimal_text}
 use Rattle.c_program.specs.declared.program.CProgram.{CProgram}
 use Rattle.wiz_io.specs.Files.{Files, HasRisen}
 
--- a whole replay of a log's group with the program whose text stands in it, beside every run of a program of that text with
--- that log
+-- a whole replay of a log's group with a program, beside every run of the program with that log
+pub record IsReplayBy (program : CProgram) (log : Log) (replayed : Replayed) : Type 0 where
+  pub replay : IsReplayed (next_of program) (output_of program) (variables_of program) log None replayed
+  pub runs : IsReplayOfEveryRun (next_of program) (output_of program) log None replayed
+
+-- a replay that can go no further, beside every run of the program with that log; and what any replay of the log shows of each of
+-- these runs, whatever the order of the ranks
+pub record ShowsRunsOf (program : CProgram) (log : Log) (replayed : Replayed) : Type 0 where
+  pub whole : IsWholeReplay (next_of program) log None replayed.events.events
+  pub runs : IsReplayOfEveryRun (next_of program) (output_of program) log None replayed
+  pub orders : (run : List Event) → IsRunWith (next_of program) log run
+      → ShowsInEveryOrder (next_of program) (output_of program) log run
+
+-- a whole replay of a log's group with the program whose text stands in it, and what it shows of the runs of each program of that
+-- text
 pub record IsReplayOfLog (log : Log) (replayed : Replayed) : Type 0 where
   pub program : CProgram
   pub is_program : IsProgramOf log.program program
   pub replay : IsReplayed (next_of program) (output_of program) (variables_of program) log None replayed
-  pub runs : (other : CProgram) → IsProgramOf log.program other → IsReplayOfEveryRun (next_of other) (output_of other) log None replayed
+  pub shows : (other : CProgram) → IsProgramOf log.program other → ShowsRunsOf other log replayed
 
 -- why a program is not run: it has a first fault
 abbrev pub IsProgramRefusal : List ℕ → Refusal → Type 0
@@ -68,9 +82,10 @@ IsFileOutcome files name before after outcome =
     (bytes : List ℕ) × IfSome files (λ told. told name ≡ Some bytes) × (length bytes ≤ 134217728) × IsBytesOutcome bytes outcome
 
 -- what comes of the words: they are no command, or a replay of the file that they name
-abbrev pub IsOutcome : List (List ℕ) → Option Files → ℕ → ℕ → List ℕ → Outcome → Type 0
-IsOutcome words files before after name (Refused Words) = (other : List ℕ) → IsReplayOf words other → ⊥
-IsOutcome words files before after name outcome = IsReplayOf words name × IsFileOutcome files name before after outcome
+abbrev pub IsOutcome : Bool → List (List ℕ) → Option Files → ℕ → ℕ → List ℕ → Outcome → Type 0
+IsOutcome threads words files before after name (Refused Words) = (other : List ℕ) → IsReplayOf threads words other → ⊥
+IsOutcome threads words files before after name outcome =
+    IsReplayOf threads words name × IsFileOutcome files name before after outcome
 
 -- the exit status of a refusal
 abbrev pub refusal_status : Refusal → ℕ
@@ -191,38 +206,42 @@ told_text (Refused refusal) name = message_text refusal name
 told_text (WasReplayed replayed) name = trace_text replayed
 
 -- where memory was wanting nothing is put out, or a part of what tells an outcome of the words
-abbrev pub IsCutShort : List (List ℕ) → Option Files → ℕ → ℕ → Option (List ℕ) → Option (List ℕ) → Type 0
-IsCutShort words files reads reads' before after =
+abbrev pub IsCutShort : Bool → List (List ℕ) → Option Files → ℕ → ℕ → Option (List ℕ) → Option (List ℕ) → Type 0
+IsCutShort threads words files reads reads' before after =
     (after ≡ before)
-    ⊎ ((name : List ℕ) × (outcome : Outcome) × IsOutcome words files reads reads' name outcome
+    ⊎ ((name : List ℕ) × (outcome : Outcome) × IsOutcome threads words files reads reads' name outcome
     × GrewByPart before after (told_text outcome name))
 
 -- a report: memory was wanting, or some outcome of the words was told
-abbrev pub IsReport : List (List ℕ) → Option Files → ℕ → ℕ → Option (List ℕ) → Option (List ℕ) → ℕ → ℕ → ℕ → Option Kept → List Replayed → Type 0
-IsReport words files reads reads' before after faults faults' status run replays =
-    ((status ≡ 11) × (run ≡ None) × (replays ≡ []) × IsCutShort words files reads reads' before after)
-    ⊎ ((name : List ℕ) × (outcome : Outcome) × IsOutcome words files reads reads' name outcome
+abbrev pub IsReport : Bool → List (List ℕ) → Option Files → ℕ → ℕ → Option (List ℕ) → Option (List ℕ) → ℕ → ℕ → ℕ → Option Kept → List Replayed → Type 0
+IsReport threads words files reads reads' before after faults faults' status run replays =
+    ((status ≡ 11) × (run ≡ None) × (replays ≡ []) × IsCutShort threads words files reads reads' before after)
+    ⊎ ((name : List ℕ) × (outcome : Outcome) × IsOutcome threads words files reads reads' name outcome
     × IsTold outcome name before after faults faults' status run replays)
 
--- each rank of the group has its whole view and output of the run, and the status tells of no divergence and no starvation
-pub record IsShown (output : ℕ → ℕ → List Reply → List ℕ) (log : Log) (run : List Event) (replayed : Replayed) (status : ℕ) : Type 0 where
+-- of a run with the log: whatever the order of a replay's events, at every moment each rank of the group has a prefix of its
+-- recorded calls, replies and printed output, a replay that can go no further has given all of them, and no rank outside the
+-- group takes a step. The report's own replay is one that can go no further; its status tells of no divergence and no starvation
+pub record IsShown (next : Next) (output : ℕ → ℕ → List Reply → List ℕ) (log : Log) (run : List Event) (replayed : Replayed) (status : ℕ) : Type 0 where
+  pub orders : ShowsInEveryOrder next output log run
+  pub whole : IsWholeReplay next log None replayed.events.events
   pub views : (rank : ℕ) → is_member log.group rank ≡ true → view_of replayed.events.events rank ≡ view_of run rank
   pub outputs : replayed.outputs ≡ map (printed_of output log.ranks run) log.group
   pub not_diverged : status ≢ 9
   pub not_starved : status ≢ 10
 
 -- the named file holds the text of a log, and each run of a program of the log's text with this log is shown
-pub record ShowsEveryRun (words : List (List ℕ)) (files : Option Files) (replayed : Replayed) (status : ℕ) : Type 0 where
+pub record ShowsEveryRun (threads : Bool) (words : List (List ℕ)) (files : Option Files) (replayed : Replayed) (status : ℕ) : Type 0 where
   pub name : List ℕ
   pub bytes : List ℕ
   pub log : Log
-  pub is_named : IsReplayOf words name
+  pub is_named : IsReplayOf threads words name
   pub is_there : IfSome files (λ told. told name ≡ Some bytes)
   pub is_text : IsLogText bytes log
   pub shown : (program : CProgram) → IsProgramOf log.program program → (run : List Event) → IsRunWith (next_of program) log run
-      → IsShown (output_of program) log run replayed status
+      → IsShown (next_of program) (output_of program) log run replayed status
 
 -- the replays of a report, at most one, show every run
-abbrev pub ReplaysShowEveryRun : List (List ℕ) → Option Files → List Replayed → ℕ → Type 0
-ReplaysShowEveryRun words files [] status = Unit {0}
-ReplaysShowEveryRun words files (replayed ∷ more) status = (more ≡ []) × ShowsEveryRun words files replayed status
+abbrev pub ReplaysShowEveryRun : Bool → List (List ℕ) → Option Files → List Replayed → ℕ → Type 0
+ReplaysShowEveryRun threads words files [] status = Unit {0}
+ReplaysShowEveryRun threads words files (replayed ∷ more) status = (more ≡ []) × ShowsEveryRun threads words files replayed status

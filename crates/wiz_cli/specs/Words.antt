@@ -1,6 +1,14 @@
--- The words of the commands.
-use Rattle.std.specs.Prelude.{◌≡◌, ℕ, List, [], ◌∷◌, codes}
+-- The words of a replay.
+use Rattle.std.specs.Prelude.{◌≡◌, ◌⊎◌, ℕ, List, [], ◌∷◌, Bool, true, codes}
 
 -- replay LOG --serial
-abbrev pub IsReplayOf : List (List ℕ) → List ℕ → Type 0
-IsReplayOf words name = words ≡ codes "replay" ∷ name ∷ codes "--serial" ∷ []
+abbrev pub serial_replay : List ℕ → List (List ℕ)
+serial_replay name = codes "replay" ∷ name ∷ codes "--serial" ∷ []
+
+-- replay LOG, on threads
+abbrev pub threaded_replay : List ℕ → List (List ℕ)
+threaded_replay name = codes "replay" ∷ name ∷ []
+
+-- a replay of this log; where there are no threads, no words ask for them
+abbrev pub IsReplayOf : Bool → List (List ℕ) → List ℕ → Type 0
+IsReplayOf threads words name = (words ≡ serial_replay name) ⊎ ((threads ≡ true) × (words ≡ threaded_replay name))

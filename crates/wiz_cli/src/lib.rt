@@ -1,9 +1,8 @@
 //! The top call: words and files in, texts, files and an exit status out.
 #![tactic(auto)]
 
-pub mod gate;
 pub mod outcome;
-mod ranks;
+pub mod ranks;
 pub mod record_files;
 mod record_inputs;
 pub mod record_outcome;

@@ -4,14 +4,14 @@ ghost use Rattle.std.specs.Option.{option_copied};
 ghost use Rattle.c_types.specs.Checks.{IsProgramOf};
 ghost use Rattle.group_plan.specs.PlanText.{IsPlanText};
 ghost use Rattle.wiz_cli.specs.declared.record_outcome.InputFile.{InputFile};
-ghost use Rattle.wiz_cli.specs.Recordings.{AreInputs, ArePrepared, AreTurns, Holds, HoldsOrder, IsFirstUnread, IsOrderRefusal, IsPlanRefusal, IsRefusedBy, IsUnread, IsUnreadOrder};
-ghost use Rattle.wiz_cli.specs.RecordSteps.{IsAt, IsStop};
+ghost use Rattle.wiz_cli.specs.Recordings.{AreInputs, ArePrepared, AreTurns, Holds, HoldsOrder, IsFirstUnread, IsOrderRefusal, IsPlanRefusal, IsRefusal, IsRefusedBy, IsUnread, IsUnreadOrder};
+ghost use Rattle.wiz_cli.specs.RecordSteps.{IsAt, IsReady, IsStop};
 ghost use Rattle.wiz_cli.specs.Reports.{IsProgramRefusal};
 ghost use Rattle.wiz_cli.specs.WordNames.{names_of};
 
 use crate::outcome::Refusal;
-use crate::record_outcome::{InputFile, Inputs, Prepared, RecordRefusal, Unrecorded};
-use crate::record_words::RecordWords;
+use crate::record_outcome::{InputFile, Inputs, Prepared, Ready, RecordRefusal, Unrecorded};
+use crate::record_words::{RecordWords, order_file};
 use c_lex::Why;
 use c_program::CProgram;
 use c_types::read_program;
@@ -26,8 +26,27 @@ const TEXT_LIMIT: u64 = 65_536;
 /// The most bytes of an order file.
 const ORDER_LIMIT: u64 = 8_388_608;
 
+/// Reads the input files in order, and then what they hold, in the same order.
+pub fn read_ready<S: Store>(
+    alloc: Global,
+    names: &RecordWords<&str>,
+    store: &mut S,
+) -> Result<Ready, Unrecorded>
+    ensures inputs { IfOk result (λ ready. AreInputs (S.files store.old) (names_of names.now) ready.inputs) }
+    ensures ready { IfOk result IsReady }
+    ensures refused { IfErr result (λ why. IsStop (λ input refusal. IsRefusal (S.files store.old) (S.read_faults store.old) (S.read_faults store.new) (names_of names.now) (record { input = input; refusal = refusal })) why) }
+    ensures files { S.files store.new ≡ S.files store.old }
+    ensures writes { S.write_faults store.new ≡ S.write_faults store.old }
+{
+    let inputs = read_inputs(names, store)?;
+    match prepare(alloc, &inputs) {
+        Ok(prepared) => Ok(Ready { inputs, prepared }),
+        Err(why) => Err(why),
+    }
+}
+
 /// Reads the input files in order: the program, the plan and the order.
-pub fn read_inputs<S: Store>(names: &RecordWords<'_>, store: &mut S) -> Result<Inputs, Unrecorded>
+fn read_inputs<S: Store>(names: &RecordWords<&str>, store: &mut S) -> Result<Inputs, Unrecorded>
     ensures inputs { IfOk result (λ inputs. AreInputs (S.files store.old) (names_of names.now) inputs) }
     ensures unread { IfErr result (λ why. IsStop (IsFirstUnread (S.files store.old) (S.read_faults store.old) (S.read_faults store.new) (names_of names.now)) why) }
     ensures files { S.files store.new ≡ S.files store.old }
@@ -35,7 +54,7 @@ pub fn read_inputs<S: Store>(names: &RecordWords<'_>, store: &mut S) -> Result<I
 {
     let program = read_input(InputFile::Program, names.program, TEXT_LIMIT, store)?;
     let plan = read_input(InputFile::Plan, names.plan, TEXT_LIMIT, store)?;
-    let order = read_turns(names.order, store)?;
+    let order = read_turns(order_file(names), store)?;
     Ok(Inputs {
         program,
         plan,
@@ -90,7 +109,7 @@ fn refused(input: InputFile, refusal: Refusal) -> Unrecorded
 }
 
 /// What is recorded, by what the input files hold: the program is read first, then the plan, then the order.
-pub fn prepare(alloc: Global, inputs: &Inputs) -> Result<Prepared, Unrecorded>
+fn prepare(alloc: Global, inputs: &Inputs) -> Result<Prepared, Unrecorded>
     requires { length inputs.now.program ≤ 65536 }
     ensures prepared { IfOk result (λ prepared. ArePrepared inputs.now prepared.program prepared.plan prepared.turns) }
     ensures refused { IfErr result (λ why. IsStop (IsRefusedBy inputs.now) why) }

@@ -42,3 +42,10 @@ pub struct Prepared {
     pub plan: Plan,
     pub turns: Bytes,
 }
+
+/// The input files of a recording, and what they hold.
+#[derive(Drop)]
+pub struct Ready {
+    pub inputs: Inputs,
+    pub prepared: Prepared,
+}

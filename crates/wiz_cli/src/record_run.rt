@@ -1,77 +1,68 @@
 //! A recording, from the files that its words name to its report.
-ghost use Rattle.std.specs.Prelude.{◌≤◌, [], ℕ, IfOk, OnErr, Some, length};
-ghost use Rattle.srr_record.specs.Recordings.{AreRuns};
-ghost use Rattle.wiz_cli.specs.Recordings.{AreInputs, ArePrepared, IsRecordingOf};
+ghost use Rattle.std.specs.Prelude.{◌≤◌, [], ℕ, IfOk, OnErr, Some, false, length, true};
+ghost use Rattle.group_plan.specs.Plans.{number_of_ranks};
+ghost use Rattle.c_program.specs.Program.{next_of, output_of};
+ghost use Rattle.run_model.specs.Serial.{IsSerial};
+ghost use Rattle.srr_record.specs.Recordings.{IsRecorded};
 ghost use Rattle.wiz_cli.specs.RecordReports.{HasRecorded, IsCutAt, IsCutRecord, IsRecordReport, outside};
-ghost use Rattle.wiz_cli.specs.RecordSteps.{HasLists};
+ghost use Rattle.wiz_cli.specs.RecordSteps.{HasLists, IsMade, IsReady};
+ghost use Rattle.wiz_cli.specs.RecordWords.{has_threads};
+ghost use Rattle.wiz_cli.specs.Runs.{MakesRecordings, TakesReady};
 ghost use Rattle.wiz_cli.specs.WordNames.{names_of};
 
-use crate::ranks::add_rank;
+use crate::ranks::start_all;
 use crate::record_files::{Unwritten, write_files};
-use crate::record_inputs::{prepare, read_inputs};
-use crate::record_outcome::{Inputs, Prepared, Unrecorded};
+use crate::record_inputs::read_ready;
+use crate::record_outcome::{Ready, Unrecorded};
 use crate::record_tell::{tell_recording, tell_refusal, tell_unwritten};
 use crate::record_words::RecordWords;
 use crate::report::Report;
-use c_eval::rank::EvalRank;
-use c_program::CProgram;
 use log_bounds::laws::run_logs_are_in_bounds;
 use log_bounds::words::replies_fit;
+use rank_threads::{Gate, record_threads};
 use srr_record::{Recording, record_serial};
 use std::alloc::{AllocError, Global};
+use std::sync::Wait;
+use std::thread::Threads;
 use wiz_io::{Sink, Store};
 
-/// Records the program by the plan and the order that the words name. The error is want of memory.
-pub fn record<S: Store, K: Sink>(
+/// Records the program by the plan and the order that the words name: `run` makes the recording of what the input files hold. The
+/// error is want of memory.
+pub fn record<S: Store, K: Sink, F: Fn(&Ready) -> Result<Recording, AllocError>>(
     alloc: Global,
-    names: &RecordWords<'_>,
+    names: &RecordWords<&str>,
     store: &mut S,
     out: &mut K,
+    run: &F,
 ) -> Result<Report, AllocError>
+    requires runs { TakesReady (F.pre run.now) }
+    requires makes { MakesRecordings (has_threads (names_of names.now).schedule) (F.post run.now) }
     ensures report { IfOk result (λ report. IsRecordReport (names_of names.now) (outside (S.files store.old) (S.read_faults store.old) (S.write_faults store.old) (K.written out.old) (K.faults out.old)) (outside (S.files store.new) (S.read_faults store.new) (S.write_faults store.new) (K.written out.new) (K.faults out.new)) report.status report.run report.replayed) }
     ensures short { OnErr result (IsCutRecord (names_of names.now) (outside (S.files store.old) (S.read_faults store.old) (S.write_faults store.old) (K.written out.old) (K.faults out.old)) (outside (S.files store.new) (S.read_faults store.new) (S.write_faults store.new) (K.written out.new) (K.faults out.new))) }
 {
-    match read_inputs(names, store) {
-        Ok(inputs) => record_inputs(alloc, names, &inputs, store, out),
+    match read_ready(alloc, names, store) {
+        Ok(ready) => {
+            let recording = run(&ready)?;
+            report_recording(alloc, names, recording, store, out)
+        }
         Err(Unrecorded::Refused(refusal)) => tell_refusal(alloc, names, refusal, out),
         Err(Unrecorded::NoMemory) => Err(AllocError),
     }
 }
 
-/// Records what the input files hold.
-fn record_inputs<S: Store, K: Sink>(
+/// Writes the files of a recording and tells it.
+fn report_recording<S: Store, K: Sink>(
     alloc: Global,
-    names: &RecordWords<'_>,
-    inputs: &Inputs,
+    names: &RecordWords<&str>,
+    recording: Recording,
     store: &mut S,
     out: &mut K,
 ) -> Result<Report, AllocError>
-    requires inputs { AreInputs (S.files store.old) (names_of names.now) inputs.now }
-    ensures report { IfOk result (λ report. (reads : ℕ) → IsRecordReport (names_of names.now) (outside (S.files store.old) reads (S.write_faults store.old) (K.written out.old) (K.faults out.old)) (outside (S.files store.new) (S.read_faults store.new) (S.write_faults store.new) (K.written out.new) (K.faults out.new)) report.status report.run report.replayed) }
-    ensures short { OnErr result ((reads : ℕ) → IsCutRecord (names_of names.now) (outside (S.files store.old) reads (S.write_faults store.old) (K.written out.old) (K.faults out.old)) (outside (S.files store.new) (S.read_faults store.new) (S.write_faults store.new) (K.written out.new) (K.faults out.new))) }
+    requires lists { HasLists recording.logs }
+    requires few { length recording.logs ≤ 64 }
+    ensures report { IfOk result (λ report. (reads : ℕ) → HasRecorded (names_of names.now) (outside (S.files store.old) reads (S.write_faults store.old) (K.written out.old) (K.faults out.old)) recording → IsRecordReport (names_of names.now) (outside (S.files store.old) reads (S.write_faults store.old) (K.written out.old) (K.faults out.old)) (outside (S.files store.new) (S.read_faults store.new) (S.write_faults store.new) (K.written out.new) (K.faults out.new)) report.status report.run report.replayed) }
+    ensures short { OnErr result (IsCutAt (outside (S.files store.old) (S.read_faults store.old) (S.write_faults store.old) (K.written out.old) (K.faults out.old)) (outside (S.files store.new) (S.read_faults store.new) (S.write_faults store.new) (K.written out.new) (K.faults out.new)) names.now.prefix.now recording) }
 {
-    match prepare(alloc, inputs) {
-        Ok(prepared) => record_prepared(alloc, names, inputs, &prepared, store, out),
-        Err(Unrecorded::Refused(refusal)) => tell_refusal(alloc, names, refusal, out),
-        Err(Unrecorded::NoMemory) => Err(AllocError),
-    }
-}
-
-/// Records a program by a plan and turns.
-fn record_prepared<S: Store, K: Sink>(
-    alloc: Global,
-    names: &RecordWords<'_>,
-    inputs: &Inputs,
-    prepared: &Prepared,
-    store: &mut S,
-    out: &mut K,
-) -> Result<Report, AllocError>
-    requires inputs { AreInputs (S.files store.old) (names_of names.now) inputs.now }
-    requires prepared { ArePrepared inputs.now prepared.now.program prepared.now.plan prepared.now.turns }
-    ensures report { IfOk result (λ report. (reads : ℕ) → IsRecordReport (names_of names.now) (outside (S.files store.old) reads (S.write_faults store.old) (K.written out.old) (K.faults out.old)) (outside (S.files store.new) (S.read_faults store.new) (S.write_faults store.new) (K.written out.new) (K.faults out.new)) report.status report.run report.replayed) }
-    ensures short { OnErr result ((reads : ℕ) → IsCutRecord (names_of names.now) (outside (S.files store.old) reads (S.write_faults store.old) (K.written out.old) (K.faults out.old)) (outside (S.files store.new) (S.read_faults store.new) (S.write_faults store.new) (K.written out.new) (K.faults out.new))) }
-{
-    let recording = make_recording(alloc, inputs, prepared)?;
     let status = write_recording(alloc, names, &recording, store, out)?;
     Ok(Report::of_run(alloc, status, recording))
 }
@@ -79,7 +70,7 @@ fn record_prepared<S: Store, K: Sink>(
 /// Writes the files of a recording and tells it. The answer is the exit status.
 fn write_recording<S: Store, K: Sink>(
     alloc: Global,
-    names: &RecordWords<'_>,
+    names: &RecordWords<&str>,
     recording: &Recording,
     store: &mut S,
     out: &mut K,
@@ -96,45 +87,57 @@ fn write_recording<S: Store, K: Sink>(
     }
 }
 
-/// The recording of a program by a plan and turns.
-fn make_recording(
-    alloc: Global,
-    inputs: &Inputs,
-    prepared: &Prepared,
-) -> Result<Recording, AllocError>
-    requires short { length inputs.now.program ≤ 65536 }
-    requires prepared { ArePrepared inputs.now prepared.now.program prepared.now.plan prepared.now.turns }
-    ensures recording { IfOk result (λ recording. IsRecordingOf inputs.now recording) }
-    ensures lists { IfOk result (λ recording. HasLists recording.logs) }
-    ensures few { IfOk result (λ recording. length recording.logs ≤ 64) }
+/// The recording on one thread: the turns, and then rounds over the ranks.
+pub fn record_in_turns(alloc: Global, ready: &Ready) -> Result<Recording, AllocError>
+    requires { IsReady ready.now }
+    ensures { IfOk result (IsMade false ready.now.inputs) }
 {
+    let prepared = &ready.prepared;
     let runs = start_all(alloc, &prepared.program, prepared.plan.n())?;
     let recording = record_serial(
         alloc,
         &prepared.program,
-        inputs.program.as_slice(),
+        ready.inputs.program.as_slice(),
         &prepared.plan,
         runs,
         prepared.turns.as_slice(),
     )?;
-    // So each of its logs is within the bounds of the log text.
-    replies_fit(recording.history.as_slice());
-    run_logs_are_in_bounds(&prepared.program, prepared.plan.n());
+    logs_can_be_read(ready, &recording);
     Ok(recording)
 }
 
-/// One run for each of n ranks, before its first call.
-fn start_all<'a>(
+/// The recording with a thread for each rank.
+pub fn record_on_threads<R: Threads + Wait + Sync, G: Gate + Sync>(
+    rt: &R,
     alloc: Global,
-    program: &'a CProgram,
-    n: u8,
-) -> Result<Vec<EvalRank<'a>>, AllocError>
-    requires { n ≤ 64 }
-    ensures { IfOk result (λ runs. AreRuns (λ run. run) program.now n [] runs.items) }
+    ready: &Ready,
+    gate: &G,
+) -> Result<Recording, AllocError>
+    requires { IsReady ready.now }
+    ensures { IfOk result (IsMade true ready.now.inputs) }
 {
-    let mut runs = Vec::new(alloc);
-    for rank in 0..n {
-        add_rank(&mut runs, alloc, program, n, rank)?;
-    }
-    Ok(runs)
+    let prepared = &ready.prepared;
+    let runs = start_all(alloc, &prepared.program, prepared.plan.n())?;
+    let recording = record_threads(
+        rt,
+        alloc,
+        &prepared.program,
+        ready.inputs.program.as_slice(),
+        &prepared.plan,
+        runs,
+        gate,
+    )?;
+    logs_can_be_read(ready, &recording);
+    Ok(recording)
+}
+
+/// Each log of a recording is within the bounds of the log text, and so can be read back.
+fn logs_can_be_read(ready: &Ready, recording: &Recording)
+    requires ready { IsReady ready.now }
+    requires recorded { IsRecorded (next_of ready.now.prepared.program) (output_of ready.now.prepared.program) (number_of_ranks ready.now.prepared.plan) ready.now.inputs.program ready.now.prepared.plan recording.now }
+    ensures threads { IsMade true ready.now.inputs recording.now }
+    ensures serial { IsSerial (next_of ready.now.prepared.program) (number_of_ranks ready.now.prepared.plan) ready.now.prepared.turns recording.now.history.events → IsMade false ready.now.inputs recording.now }
+{
+    replies_fit(recording.history.as_slice());
+    run_logs_are_in_bounds(&ready.prepared.program, ready.prepared.plan.n());
 }

@@ -6,7 +6,7 @@ ghost use Rattle.wiz_trace.specs.RecordTexts.{record_text};
 ghost use Rattle.wiz_cli.specs.WordNames.{names_of};
 
 use crate::record_outcome::{InputFile, RecordRefusal};
-use crate::record_words::RecordWords;
+use crate::record_words::{RecordWords, order_file};
 use crate::report::Report;
 use crate::tell::{push_about_file, put_message, put_text, report_refusal};
 use run_model::ending::Ending;
@@ -19,7 +19,7 @@ use wiz_trace::recording::record_text;
 /// Tells why nothing is recorded.
 pub fn tell_refusal<K: Sink>(
     alloc: Global,
-    names: &RecordWords<'_>,
+    names: &RecordWords<&str>,
     refused: RecordRefusal,
     out: &mut K,
 ) -> Result<Report, AllocError>
@@ -30,13 +30,13 @@ pub fn tell_refusal<K: Sink>(
 }
 
 /// The name of an input file.
-fn name_of<'a>(names: &RecordWords<'a>, input: InputFile) -> &'a str
+fn name_of<'a>(names: &RecordWords<&'a str>, input: InputFile) -> &'a str
     ensures { result.now ≡ name_of (names_of names.now) input }
 {
     match input {
         InputFile::Program => names.program,
         InputFile::Plan => names.plan,
-        InputFile::Order => names.order.unwrap_or(""),
+        InputFile::Order => order_file(names).unwrap_or(""),
     }
 }
 

@@ -1,22 +1,44 @@
 //! The words of a recording.
-ghost use Rattle.std.specs.Prelude.{◌≡◌, MatchOption, map};
-ghost use Rattle.wiz_cli.specs.RecordWords.{IsNotOrdered, IsNotSerial, IsRecordOf, RecordNames};
+ghost use Rattle.std.specs.Prelude.{◌≡◌, MatchOption, IfSome, map, false, true};
+ghost use Rattle.std.specs.Option.{option_copied};
+ghost use Rattle.wiz_cli.specs.RecordWords.{IsNotOrdered, IsNotSerial, IsNotThreaded, IsRecordOf, RecordNames, has_threads, order_of};
 ghost use Rattle.wiz_cli.specs.WordNames.{names_of};
 
-/// The files that a recording's words name.
-#[derive(Drop)]
-pub struct RecordWords<'a> {
-    pub program: &'a str,
-    pub plan: &'a str,
+/// How the ranks of a run take their turns. A name is a text in definitions, and a borrowed one in code.
+#[derive(Clone, Copy)]
+pub enum Schedule<T> {
+    /// Each rank on a thread of its own.
+    Threads,
+    /// On one thread, in rounds over the ranks.
+    Rounds,
+    /// On one thread: the ranks in this file have the first turns, and then there are rounds.
+    Order(T),
+}
+
+/// The files that a recording's words name, and how the ranks take their turns.
+#[derive(Clone, Copy)]
+pub struct RecordWords<T> {
+    pub program: T,
+    pub plan: T,
     /// The front of the names of the files that are written.
-    pub prefix: &'a str,
-    /// The order of the turns. Without one there are rounds alone.
-    pub order: Option<&'a str>,
+    pub prefix: T,
+    pub schedule: Schedule<T>,
+}
+
+/// The name of the order file, where one is named.
+pub fn order_file<'a>(names: &RecordWords<&'a str>) -> Option<&'a str>
+    ensures { option_copied result ≡ order_of (names_of names.now).schedule }
+{
+    match names.schedule {
+        Schedule::Order(order) => Some(order),
+        Schedule::Threads | Schedule::Rounds => None,
+    }
 }
 
 /// The files that are named, where the words are `record PROGRAM PLAN PREFIX` and behind these `--serial`, or `--order FILE`.
-pub fn record_words<'a>(words: &'a [&'a str]) -> Option<RecordWords<'a>>
-    ensures { MatchOption result ((names : RecordNames) → IsRecordOf (map (λ word. word.now) words.now) names → ⊥) (λ names. IsRecordOf (map (λ word. word.now) words.now) (names_of names)) }
+pub fn record_words<'a>(words: &'a [&'a str]) -> Option<RecordWords<&'a str>>
+    ensures words { MatchOption result ((names : RecordNames) → IsRecordOf false (map (λ word. word.now) words.now) names → ⊥) (λ names. IsRecordOf false (map (λ word. word.now) words.now) (names_of names)) }
+    ensures serial { IfSome result (λ names. has_threads (names_of names).schedule ≡ false) }
 {
     match serial_words(words) {
         Some(names) => Some(names),
@@ -25,8 +47,9 @@ pub fn record_words<'a>(words: &'a [&'a str]) -> Option<RecordWords<'a>>
 }
 
 /// The files that `record PROGRAM PLAN PREFIX --serial` names.
-fn serial_words<'a>(words: &'a [&'a str]) -> Option<RecordWords<'a>>
-    ensures { MatchOption result (IsNotSerial (map (λ word. word.now) words.now)) (λ names. IsRecordOf (map (λ word. word.now) words.now) (names_of names)) }
+fn serial_words<'a>(words: &'a [&'a str]) -> Option<RecordWords<&'a str>>
+    ensures words { MatchOption result (IsNotSerial (map (λ word. word.now) words.now)) (λ names. IsRecordOf false (map (λ word. word.now) words.now) (names_of names)) }
+    ensures serial { IfSome result (λ names. has_threads (names_of names).schedule ≡ false) }
 {
     let [command, program, plan, prefix, serial] = words else {
         return None;
@@ -36,15 +59,16 @@ fn serial_words<'a>(words: &'a [&'a str]) -> Option<RecordWords<'a>>
             program: *program,
             plan: *plan,
             prefix: *prefix,
-            order: None,
+            schedule: Schedule::Rounds,
         });
     }
     None
 }
 
 /// The files that `record PROGRAM PLAN PREFIX --order FILE` names.
-fn ordered_words<'a>(words: &'a [&'a str]) -> Option<RecordWords<'a>>
-    ensures { MatchOption result (IsNotOrdered (map (λ word. word.now) words.now)) (λ names. IsRecordOf (map (λ word. word.now) words.now) (names_of names)) }
+fn ordered_words<'a>(words: &'a [&'a str]) -> Option<RecordWords<&'a str>>
+    ensures words { MatchOption result (IsNotOrdered (map (λ word. word.now) words.now)) (λ names. IsRecordOf false (map (λ word. word.now) words.now) (names_of names)) }
+    ensures serial { IfSome result (λ names. has_threads (names_of names).schedule ≡ false) }
 {
     let [command, program, plan, prefix, option, order] = words else {
         return None;
@@ -54,7 +78,26 @@ fn ordered_words<'a>(words: &'a [&'a str]) -> Option<RecordWords<'a>>
             program: *program,
             plan: *plan,
             prefix: *prefix,
-            order: Some(*order),
+            schedule: Schedule::Order(*order),
+        });
+    }
+    None
+}
+
+/// The files that `record PROGRAM PLAN PREFIX` names, on threads.
+pub fn threaded_words<'a>(words: &'a [&'a str]) -> Option<RecordWords<&'a str>>
+    ensures words { MatchOption result (IsNotThreaded (map (λ word. word.now) words.now)) (λ names. IsRecordOf true (map (λ word. word.now) words.now) (names_of names)) }
+    ensures threads { IfSome result (λ names. has_threads (names_of names).schedule ≡ true) }
+{
+    let [command, program, plan, prefix] = words else {
+        return None;
+    };
+    if *command == "record" {
+        return Some(RecordWords {
+            program: *program,
+            plan: *plan,
+            prefix: *prefix,
+            schedule: Schedule::Threads,
         });
     }
     None

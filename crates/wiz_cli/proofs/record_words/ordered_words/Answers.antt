@@ -4,10 +4,9 @@ use Rattle.std.proofs.lemmas.Slice.Eq.{bytes_eq-Decides}
 use Rattle.wiz_cli.proofs.WordLemmas.{six_words}
 use Rattle.wiz_cli.proofs.record_words.ordered_words.Goals as goal
 
-pub returns-then-eq-2 : goal.returns-then-eq-2
-returns-then-eq-2 c =
+pub returns-then-eq-2-clause-words : goal.returns-then-eq-2-clause-words
+returns-then-eq-2-clause-words c =
     let none : Bor (List ℕ) = record { ref_ptr = (0, 0); now = [] } in
     let command = (bytes_eq-Decides (slice_index_or c.args.words.now 0 none).now (codes "record")).0 (sym c.eq.ensures ∙ c.if-eq.true) in
     let option = (bytes_eq-Decides (slice_index_or c.args.words.now 4 none).now (codes "--order")).0 (sym c.eq-then-eq.ensures ∙ c.if-eq-2.true) in
-    six_words c.args.words.now none c.in-len6.len_at_least c.in-len6.len_below
-    ∙ rw (command, option) refl
+    (six_words c.args.words.now none c.in-len6.len_at_least c.in-len6.len_below ∙ rw (command, option) refl, tt)
