@@ -1,6 +1,6 @@
 //! Typed calls of MPI functions.
 
-ghost use Rattle.std.specs.Prelude.{◌≡◌, IfOk, List, [], true};
+ghost use Rattle.std.specs.Prelude.{◌≡◌, ◌≤◌, ◌+◌, IfOk, List, [], true};
 ghost use Rattle.c_grammar.specs.StmtView.{argument_view, call_view};
 ghost use Rattle.c_names.specs.declared.function.MpiFunction.TheVariants as f;
 ghost use Rattle.c_names.specs.declared.predefined.Predefined.TheVariants as p;
@@ -9,7 +9,7 @@ ghost use Rattle.c_scope.specs.Scopes.{meaning};
 ghost use Rattle.c_scope.specs.declared.thing.Meaning.TheVariants as m;
 ghost use Rattle.c_arguments.specs.Calls.{IsReference, IsValue};
 ghost use Rattle.c_arguments.specs.Given.{Fits, argument, given_of, is_operation, is_status};
-ghost use Rattle.c_calls.specs.MpiCalls.{IsBuffer, IsMpiCall, IsOperation, IsStatus};
+ghost use Rattle.c_calls.specs.MpiCalls.{IsBuffer, IsIncoming, IsMpiCall, IsOperation, IsOutgoing, IsReduction, IsSeveral, IsStatus};
 ghost use Rattle.c_arguments.specs.Shapes.{is_reference, is_value};
 
 use c_arguments::call_of::{reference_of, value_of};
@@ -19,7 +19,10 @@ use c_grammar::statement::{Argument, Call};
 use c_names::function::MpiFunction;
 use c_names::predefined::Predefined;
 use c_program::expr::{Expr, Reference};
-use c_program::mpi::{Buffer, MpiCall};
+use c_program::mpi::{
+    Buffer, CollectiveCall, CommunicatorCall, CompletionCall, Incoming, MessageCall, MpiCall,
+    Outgoing, ProbeCall, Reduction, SomeRequests,
+};
 use c_scope::scope::Scope;
 use mpi_call::call::Op;
 use std::alloc::{AllocError, Global};
@@ -111,145 +114,142 @@ impl<'a> Given<'a> {
         }
     }
 
-    fn comm_rank(&self) -> Result<MpiCall, AllocError>
-        requires { Fits self.now.scope.now f.CommRank (given_of self.now.call.now) }
-        ensures { IfOk result (λ typed. IsMpiCall self.now.scope.now f.CommRank (given_of self.now.call.now) typed) }
+    /// What a send takes, from its first argument on.
+    fn outgoing(&self) -> Result<Outgoing, AllocError>
+        requires cells { is_reference self.now.scope.now (argument (given_of self.now.call.now) 0) ≡ true }
+        requires count { is_value (argument (given_of self.now.call.now) 1) ≡ true }
+        requires dest { is_value (argument (given_of self.now.call.now) 3) ≡ true }
+        requires tag { is_value (argument (given_of self.now.call.now) 4) ≡ true }
+        ensures { IfOk result (λ typed. IsOutgoing self.now.scope.now (argument (given_of self.now.call.now) 0) (argument (given_of self.now.call.now) 1) (argument (given_of self.now.call.now) 3) (argument (given_of self.now.call.now) 4) typed) }
     {
-        let (comm, rank) = both(self.value(0), self.reference(1))?;
-        Ok(MpiCall::CommRank { comm, rank })
+        let (buffer, dest, tag) = three(self.buffer(0, 1), self.value(3), self.value(4))?;
+        Ok(Outgoing { buffer, dest, tag })
     }
 
-    fn comm_size(&self) -> Result<MpiCall, AllocError>
-        requires { Fits self.now.scope.now f.CommSize (given_of self.now.call.now) }
-        ensures { IfOk result (λ typed. IsMpiCall self.now.scope.now f.CommSize (given_of self.now.call.now) typed) }
+    /// What a receive takes, from an argument on.
+    fn incoming(&self, from: usize) -> Result<Incoming, AllocError>
+        requires few { from ≤ 5 }
+        requires cells { is_reference self.now.scope.now (argument (given_of self.now.call.now) from) ≡ true }
+        requires count { is_value (argument (given_of self.now.call.now) (from + 1)) ≡ true }
+        requires source { is_value (argument (given_of self.now.call.now) (from + 3)) ≡ true }
+        requires tag { is_value (argument (given_of self.now.call.now) (from + 4)) ≡ true }
+        ensures { IfOk result (λ typed. IsIncoming self.now.scope.now (argument (given_of self.now.call.now) from) (argument (given_of self.now.call.now) (from + 1)) (argument (given_of self.now.call.now) (from + 3)) (argument (given_of self.now.call.now) (from + 4)) typed) }
     {
-        let (comm, size) = both(self.value(0), self.reference(1))?;
-        Ok(MpiCall::CommSize { comm, size })
+        let (buffer, source, tag) = three(
+            self.buffer(from, from + 1),
+            self.value(from + 3),
+            self.value(from + 4),
+        )?;
+        Ok(Incoming {
+            buffer,
+            source,
+            tag,
+        })
     }
 
-    fn get_count(&self) -> Result<MpiCall, AllocError>
-        requires { Fits self.now.scope.now f.GetCount (given_of self.now.call.now) }
-        ensures { IfOk result (λ typed. IsMpiCall self.now.scope.now f.GetCount (given_of self.now.call.now) typed) }
+    /// What `MPI_Waitsome` and `MPI_Testsome` take.
+    fn several(&self) -> Result<SomeRequests, AllocError>
+        requires count { is_value (argument (given_of self.now.call.now) 0) ≡ true }
+        requires requests { is_reference self.now.scope.now (argument (given_of self.now.call.now) 1) ≡ true }
+        requires outcount { is_reference self.now.scope.now (argument (given_of self.now.call.now) 2) ≡ true }
+        requires indices { is_reference self.now.scope.now (argument (given_of self.now.call.now) 3) ≡ true }
+        requires statuses { is_status self.now.scope.now (argument (given_of self.now.call.now) 4) ≡ true }
+        ensures { IfOk result (λ typed. IsSeveral self.now.scope.now (argument (given_of self.now.call.now) 0) (argument (given_of self.now.call.now) 1) (argument (given_of self.now.call.now) 2) (argument (given_of self.now.call.now) 3) (argument (given_of self.now.call.now) 4) typed) }
     {
-        let (status, count) = both(self.status(0), self.reference(2))?;
-        Ok(MpiCall::GetCount { status, count })
+        let (count, requests, outcount, indices, statuses) = five(
+            self.value(0),
+            self.reference(1),
+            self.reference(2),
+            self.reference(3),
+            self.status(4),
+        )?;
+        Ok(SomeRequests {
+            count,
+            requests,
+            outcount,
+            indices,
+            statuses,
+        })
     }
 
-    fn comm_free(&self) -> Result<MpiCall, AllocError>
-        requires { Fits self.now.scope.now f.CommFree (given_of self.now.call.now) }
-        ensures { IfOk result (λ typed. IsMpiCall self.now.scope.now f.CommFree (given_of self.now.call.now) typed) }
+    /// What a reduction takes.
+    fn reduction(&self) -> Result<Reduction, AllocError>
+        requires send { is_reference self.now.scope.now (argument (given_of self.now.call.now) 0) ≡ true }
+        requires receive { is_reference self.now.scope.now (argument (given_of self.now.call.now) 1) ≡ true }
+        requires count { is_value (argument (given_of self.now.call.now) 2) ≡ true }
+        requires op { is_operation (word_of self.now.scope.now (argument (given_of self.now.call.now) 4)) ≡ true }
+        ensures { IfOk result (λ typed. IsReduction self.now.scope.now (argument (given_of self.now.call.now) 0) (argument (given_of self.now.call.now) 1) (argument (given_of self.now.call.now) 2) (argument (given_of self.now.call.now) 4) typed) }
     {
-        let comm = self.reference(0)?;
-        Ok(MpiCall::CommFree { comm })
+        let op = self.operation(4);
+        let (send, receive, count) = three(self.reference(0), self.reference(1), self.value(2))?;
+        Ok(Reduction {
+            send,
+            receive,
+            count,
+            op,
+        })
     }
 
     fn send(&self) -> Result<MpiCall, AllocError>
         requires { Fits self.now.scope.now f.Send (given_of self.now.call.now) }
         ensures { IfOk result (λ typed. IsMpiCall self.now.scope.now f.Send (given_of self.now.call.now) typed) }
     {
-        let (buffer, dest, tag, comm) = four(
-            self.buffer(0, 1),
-            self.value(3),
-            self.value(4),
-            self.value(5),
-        )?;
-        Ok(MpiCall::Send {
-            buffer,
-            dest,
-            tag,
-            comm,
-        })
+        let (message, comm) = both(self.outgoing(), self.value(5))?;
+        Ok(MpiCall::Message(MessageCall::Send { message, comm }))
     }
 
     fn recv(&self) -> Result<MpiCall, AllocError>
         requires { Fits self.now.scope.now f.Recv (given_of self.now.call.now) }
         ensures { IfOk result (λ typed. IsMpiCall self.now.scope.now f.Recv (given_of self.now.call.now) typed) }
     {
-        let (buffer, source, tag, comm, status) = five(
-            self.buffer(0, 1),
-            self.value(3),
-            self.value(4),
-            self.value(5),
-            self.status(6),
-        )?;
-        Ok(MpiCall::Recv {
-            buffer,
-            source,
-            tag,
+        let (message, comm, status) = three(self.incoming(0), self.value(5), self.status(6))?;
+        Ok(MpiCall::Message(MessageCall::Recv {
+            message,
             comm,
             status,
-        })
-    }
-
-    fn sendrecv(&self) -> Result<MpiCall, AllocError>
-        requires { Fits self.now.scope.now f.Sendrecv (given_of self.now.call.now) }
-        ensures { IfOk result (λ typed. IsMpiCall self.now.scope.now f.Sendrecv (given_of self.now.call.now) typed) }
-    {
-        let sent = four(
-            self.buffer(0, 1),
-            self.value(3),
-            self.value(4),
-            self.buffer(5, 6),
-        );
-        let received = four(
-            self.value(8),
-            self.value(9),
-            self.value(10),
-            self.status(11),
-        );
-        let ((send, dest, send_tag, receive), (source, receive_tag, comm, status)) = both(
-            sent, received,
-        )?;
-        Ok(MpiCall::Sendrecv {
-            send,
-            dest,
-            send_tag,
-            receive,
-            source,
-            receive_tag,
-            comm,
-            status,
-        })
+        }))
     }
 
     fn isend(&self) -> Result<MpiCall, AllocError>
         requires { Fits self.now.scope.now f.Isend (given_of self.now.call.now) }
         ensures { IfOk result (λ typed. IsMpiCall self.now.scope.now f.Isend (given_of self.now.call.now) typed) }
     {
-        let (buffer, dest, tag, comm, request) = five(
-            self.buffer(0, 1),
-            self.value(3),
-            self.value(4),
-            self.value(5),
-            self.reference(6),
-        )?;
-        Ok(MpiCall::Isend {
-            buffer,
-            dest,
-            tag,
+        let (message, comm, request) = three(self.outgoing(), self.value(5), self.reference(6))?;
+        Ok(MpiCall::Message(MessageCall::Isend {
+            message,
             comm,
             request,
-        })
+        }))
     }
 
     fn irecv(&self) -> Result<MpiCall, AllocError>
         requires { Fits self.now.scope.now f.Irecv (given_of self.now.call.now) }
         ensures { IfOk result (λ typed. IsMpiCall self.now.scope.now f.Irecv (given_of self.now.call.now) typed) }
     {
-        let (buffer, source, tag, comm, request) = five(
-            self.buffer(0, 1),
-            self.value(3),
-            self.value(4),
-            self.value(5),
-            self.reference(6),
-        )?;
-        Ok(MpiCall::Irecv {
-            buffer,
-            source,
-            tag,
+        let (message, comm, request) = three(self.incoming(0), self.value(5), self.reference(6))?;
+        Ok(MpiCall::Message(MessageCall::Irecv {
+            message,
             comm,
             request,
-        })
+        }))
+    }
+
+    fn sendrecv(&self) -> Result<MpiCall, AllocError>
+        requires { Fits self.now.scope.now f.Sendrecv (given_of self.now.call.now) }
+        ensures { IfOk result (λ typed. IsMpiCall self.now.scope.now f.Sendrecv (given_of self.now.call.now) typed) }
+    {
+        let (send, receive, comm, status) = four(
+            self.outgoing(),
+            self.incoming(5),
+            self.value(10),
+            self.status(11),
+        )?;
+        Ok(MpiCall::Message(MessageCall::Sendrecv {
+            send,
+            receive,
+            comm,
+            status,
+        }))
     }
 
     fn wait(&self) -> Result<MpiCall, AllocError>
@@ -257,19 +257,19 @@ impl<'a> Given<'a> {
         ensures { IfOk result (λ typed. IsMpiCall self.now.scope.now f.Wait (given_of self.now.call.now) typed) }
     {
         let (request, status) = both(self.reference(0), self.status(1))?;
-        Ok(MpiCall::Wait { request, status })
+        Ok(MpiCall::Completion(CompletionCall::Wait { request, status }))
     }
 
-    fn waitall(&self) -> Result<MpiCall, AllocError>
-        requires { Fits self.now.scope.now f.Waitall (given_of self.now.call.now) }
-        ensures { IfOk result (λ typed. IsMpiCall self.now.scope.now f.Waitall (given_of self.now.call.now) typed) }
+    fn test(&self) -> Result<MpiCall, AllocError>
+        requires { Fits self.now.scope.now f.Test (given_of self.now.call.now) }
+        ensures { IfOk result (λ typed. IsMpiCall self.now.scope.now f.Test (given_of self.now.call.now) typed) }
     {
-        let (count, requests, statuses) = three(self.value(0), self.reference(1), self.status(2))?;
-        Ok(MpiCall::Waitall {
-            count,
-            requests,
-            statuses,
-        })
+        let (request, flag, status) = three(self.reference(0), self.reference(1), self.status(2))?;
+        Ok(MpiCall::Completion(CompletionCall::Test {
+            request,
+            flag,
+            status,
+        }))
     }
 
     fn waitany(&self) -> Result<MpiCall, AllocError>
@@ -282,62 +282,12 @@ impl<'a> Given<'a> {
             self.reference(2),
             self.status(3),
         )?;
-        Ok(MpiCall::Waitany {
+        Ok(MpiCall::Completion(CompletionCall::Waitany {
             count,
             requests,
             index,
             status,
-        })
-    }
-
-    fn waitsome(&self) -> Result<MpiCall, AllocError>
-        requires { Fits self.now.scope.now f.Waitsome (given_of self.now.call.now) }
-        ensures { IfOk result (λ typed. IsMpiCall self.now.scope.now f.Waitsome (given_of self.now.call.now) typed) }
-    {
-        let (count, requests, outcount, indices, statuses) = five(
-            self.value(0),
-            self.reference(1),
-            self.reference(2),
-            self.reference(3),
-            self.status(4),
-        )?;
-        Ok(MpiCall::Waitsome {
-            count,
-            requests,
-            outcount,
-            indices,
-            statuses,
-        })
-    }
-
-    fn test(&self) -> Result<MpiCall, AllocError>
-        requires { Fits self.now.scope.now f.Test (given_of self.now.call.now) }
-        ensures { IfOk result (λ typed. IsMpiCall self.now.scope.now f.Test (given_of self.now.call.now) typed) }
-    {
-        let (request, flag, status) = three(self.reference(0), self.reference(1), self.status(2))?;
-        Ok(MpiCall::Test {
-            request,
-            flag,
-            status,
-        })
-    }
-
-    fn testall(&self) -> Result<MpiCall, AllocError>
-        requires { Fits self.now.scope.now f.Testall (given_of self.now.call.now) }
-        ensures { IfOk result (λ typed. IsMpiCall self.now.scope.now f.Testall (given_of self.now.call.now) typed) }
-    {
-        let (count, requests, flag, statuses) = four(
-            self.value(0),
-            self.reference(1),
-            self.reference(2),
-            self.status(3),
-        )?;
-        Ok(MpiCall::Testall {
-            count,
-            requests,
-            flag,
-            statuses,
-        })
+        }))
     }
 
     fn testany(&self) -> Result<MpiCall, AllocError>
@@ -351,33 +301,59 @@ impl<'a> Given<'a> {
             self.reference(3),
             self.status(4),
         )?;
-        Ok(MpiCall::Testany {
+        Ok(MpiCall::Completion(CompletionCall::Testany {
             count,
             requests,
             index,
             flag,
             status,
-        })
+        }))
+    }
+
+    fn waitall(&self) -> Result<MpiCall, AllocError>
+        requires { Fits self.now.scope.now f.Waitall (given_of self.now.call.now) }
+        ensures { IfOk result (λ typed. IsMpiCall self.now.scope.now f.Waitall (given_of self.now.call.now) typed) }
+    {
+        let (count, requests, statuses) = three(self.value(0), self.reference(1), self.status(2))?;
+        Ok(MpiCall::Completion(CompletionCall::Waitall {
+            count,
+            requests,
+            statuses,
+        }))
+    }
+
+    fn testall(&self) -> Result<MpiCall, AllocError>
+        requires { Fits self.now.scope.now f.Testall (given_of self.now.call.now) }
+        ensures { IfOk result (λ typed. IsMpiCall self.now.scope.now f.Testall (given_of self.now.call.now) typed) }
+    {
+        let (count, requests, flag, statuses) = four(
+            self.value(0),
+            self.reference(1),
+            self.reference(2),
+            self.status(3),
+        )?;
+        Ok(MpiCall::Completion(CompletionCall::Testall {
+            count,
+            requests,
+            flag,
+            statuses,
+        }))
+    }
+
+    fn waitsome(&self) -> Result<MpiCall, AllocError>
+        requires { Fits self.now.scope.now f.Waitsome (given_of self.now.call.now) }
+        ensures { IfOk result (λ typed. IsMpiCall self.now.scope.now f.Waitsome (given_of self.now.call.now) typed) }
+    {
+        let several = self.several()?;
+        Ok(MpiCall::Completion(CompletionCall::Waitsome(several)))
     }
 
     fn testsome(&self) -> Result<MpiCall, AllocError>
         requires { Fits self.now.scope.now f.Testsome (given_of self.now.call.now) }
         ensures { IfOk result (λ typed. IsMpiCall self.now.scope.now f.Testsome (given_of self.now.call.now) typed) }
     {
-        let (count, requests, outcount, indices, statuses) = five(
-            self.value(0),
-            self.reference(1),
-            self.reference(2),
-            self.reference(3),
-            self.status(4),
-        )?;
-        Ok(MpiCall::Testsome {
-            count,
-            requests,
-            outcount,
-            indices,
-            statuses,
-        })
+        let several = self.several()?;
+        Ok(MpiCall::Completion(CompletionCall::Testsome(several)))
     }
 
     fn probe(&self) -> Result<MpiCall, AllocError>
@@ -390,12 +366,12 @@ impl<'a> Given<'a> {
             self.value(2),
             self.status(3),
         )?;
-        Ok(MpiCall::Probe {
+        Ok(MpiCall::Probe(ProbeCall::Probe {
             source,
             tag,
             comm,
             status,
-        })
+        }))
     }
 
     fn iprobe(&self) -> Result<MpiCall, AllocError>
@@ -409,13 +385,21 @@ impl<'a> Given<'a> {
             self.reference(3),
             self.status(4),
         )?;
-        Ok(MpiCall::Iprobe {
+        Ok(MpiCall::Probe(ProbeCall::Iprobe {
             source,
             tag,
             comm,
             flag,
             status,
-        })
+        }))
+    }
+
+    fn get_count(&self) -> Result<MpiCall, AllocError>
+        requires { Fits self.now.scope.now f.GetCount (given_of self.now.call.now) }
+        ensures { IfOk result (λ typed. IsMpiCall self.now.scope.now f.GetCount (given_of self.now.call.now) typed) }
+    {
+        let (status, count) = both(self.status(0), self.reference(2))?;
+        Ok(MpiCall::Probe(ProbeCall::GetCount { status, count }))
     }
 
     fn barrier(&self) -> Result<MpiCall, AllocError>
@@ -423,7 +407,7 @@ impl<'a> Given<'a> {
         ensures { IfOk result (λ typed. IsMpiCall self.now.scope.now f.Barrier (given_of self.now.call.now) typed) }
     {
         let comm = self.value(0)?;
-        Ok(MpiCall::Barrier { comm })
+        Ok(MpiCall::Collective(CollectiveCall::Barrier { comm }))
     }
 
     fn bcast(&self) -> Result<MpiCall, AllocError>
@@ -431,69 +415,7 @@ impl<'a> Given<'a> {
         ensures { IfOk result (λ typed. IsMpiCall self.now.scope.now f.Bcast (given_of self.now.call.now) typed) }
     {
         let (buffer, root, comm) = three(self.buffer(0, 1), self.value(3), self.value(4))?;
-        Ok(MpiCall::Bcast { buffer, root, comm })
-    }
-
-    fn reduce(&self) -> Result<MpiCall, AllocError>
-        requires { Fits self.now.scope.now f.Reduce (given_of self.now.call.now) }
-        ensures { IfOk result (λ typed. IsMpiCall self.now.scope.now f.Reduce (given_of self.now.call.now) typed) }
-    {
-        let op = self.operation(4);
-        let (send, receive, count, root, comm) = five(
-            self.reference(0),
-            self.reference(1),
-            self.value(2),
-            self.value(5),
-            self.value(6),
-        )?;
-        Ok(MpiCall::Reduce {
-            send,
-            receive,
-            count,
-            op,
-            root,
-            comm,
-        })
-    }
-
-    fn allreduce(&self) -> Result<MpiCall, AllocError>
-        requires { Fits self.now.scope.now f.Allreduce (given_of self.now.call.now) }
-        ensures { IfOk result (λ typed. IsMpiCall self.now.scope.now f.Allreduce (given_of self.now.call.now) typed) }
-    {
-        let op = self.operation(4);
-        let (send, receive, count, comm) = four(
-            self.reference(0),
-            self.reference(1),
-            self.value(2),
-            self.value(5),
-        )?;
-        Ok(MpiCall::Allreduce {
-            send,
-            receive,
-            count,
-            op,
-            comm,
-        })
-    }
-
-    fn scan(&self) -> Result<MpiCall, AllocError>
-        requires { Fits self.now.scope.now f.Scan (given_of self.now.call.now) }
-        ensures { IfOk result (λ typed. IsMpiCall self.now.scope.now f.Scan (given_of self.now.call.now) typed) }
-    {
-        let op = self.operation(4);
-        let (send, receive, count, comm) = four(
-            self.reference(0),
-            self.reference(1),
-            self.value(2),
-            self.value(5),
-        )?;
-        Ok(MpiCall::Scan {
-            send,
-            receive,
-            count,
-            op,
-            comm,
-        })
+        Ok(MpiCall::Collective(CollectiveCall::Bcast { buffer, root, comm }))
     }
 
     fn gather(&self) -> Result<MpiCall, AllocError>
@@ -506,12 +428,12 @@ impl<'a> Given<'a> {
             self.value(6),
             self.value(7),
         )?;
-        Ok(MpiCall::Gather {
+        Ok(MpiCall::Collective(CollectiveCall::Gather {
             send,
             receive,
             root,
             comm,
-        })
+        }))
     }
 
     fn scatter(&self) -> Result<MpiCall, AllocError>
@@ -524,12 +446,12 @@ impl<'a> Given<'a> {
             self.value(6),
             self.value(7),
         )?;
-        Ok(MpiCall::Scatter {
+        Ok(MpiCall::Collective(CollectiveCall::Scatter {
             send,
             receive,
             root,
             comm,
-        })
+        }))
     }
 
     fn allgather(&self) -> Result<MpiCall, AllocError>
@@ -537,11 +459,11 @@ impl<'a> Given<'a> {
         ensures { IfOk result (λ typed. IsMpiCall self.now.scope.now f.Allgather (given_of self.now.call.now) typed) }
     {
         let (send, receive, comm) = three(self.buffer(0, 1), self.buffer(3, 4), self.value(6))?;
-        Ok(MpiCall::Allgather {
+        Ok(MpiCall::Collective(CollectiveCall::Allgather {
             send,
             receive,
             comm,
-        })
+        }))
     }
 
     fn alltoall(&self) -> Result<MpiCall, AllocError>
@@ -549,11 +471,63 @@ impl<'a> Given<'a> {
         ensures { IfOk result (λ typed. IsMpiCall self.now.scope.now f.Alltoall (given_of self.now.call.now) typed) }
     {
         let (send, receive, comm) = three(self.buffer(0, 1), self.buffer(3, 4), self.value(6))?;
-        Ok(MpiCall::Alltoall {
+        Ok(MpiCall::Collective(CollectiveCall::Alltoall {
             send,
             receive,
             comm,
-        })
+        }))
+    }
+
+    fn reduce(&self) -> Result<MpiCall, AllocError>
+        requires { Fits self.now.scope.now f.Reduce (given_of self.now.call.now) }
+        ensures { IfOk result (λ typed. IsMpiCall self.now.scope.now f.Reduce (given_of self.now.call.now) typed) }
+    {
+        let (reduction, root, comm) = three(self.reduction(), self.value(5), self.value(6))?;
+        Ok(MpiCall::Collective(CollectiveCall::Reduce {
+            reduction,
+            root,
+            comm,
+        }))
+    }
+
+    fn allreduce(&self) -> Result<MpiCall, AllocError>
+        requires { Fits self.now.scope.now f.Allreduce (given_of self.now.call.now) }
+        ensures { IfOk result (λ typed. IsMpiCall self.now.scope.now f.Allreduce (given_of self.now.call.now) typed) }
+    {
+        let (reduction, comm) = both(self.reduction(), self.value(5))?;
+        Ok(MpiCall::Collective(CollectiveCall::Allreduce { reduction, comm }))
+    }
+
+    fn scan(&self) -> Result<MpiCall, AllocError>
+        requires { Fits self.now.scope.now f.Scan (given_of self.now.call.now) }
+        ensures { IfOk result (λ typed. IsMpiCall self.now.scope.now f.Scan (given_of self.now.call.now) typed) }
+    {
+        let (reduction, comm) = both(self.reduction(), self.value(5))?;
+        Ok(MpiCall::Collective(CollectiveCall::Scan { reduction, comm }))
+    }
+
+    fn comm_size(&self) -> Result<MpiCall, AllocError>
+        requires { Fits self.now.scope.now f.CommSize (given_of self.now.call.now) }
+        ensures { IfOk result (λ typed. IsMpiCall self.now.scope.now f.CommSize (given_of self.now.call.now) typed) }
+    {
+        let (comm, size) = both(self.value(0), self.reference(1))?;
+        Ok(MpiCall::Communicator(CommunicatorCall::Size { comm, size }))
+    }
+
+    fn comm_rank(&self) -> Result<MpiCall, AllocError>
+        requires { Fits self.now.scope.now f.CommRank (given_of self.now.call.now) }
+        ensures { IfOk result (λ typed. IsMpiCall self.now.scope.now f.CommRank (given_of self.now.call.now) typed) }
+    {
+        let (comm, rank) = both(self.value(0), self.reference(1))?;
+        Ok(MpiCall::Communicator(CommunicatorCall::Rank { comm, rank }))
+    }
+
+    fn comm_dup(&self) -> Result<MpiCall, AllocError>
+        requires { Fits self.now.scope.now f.CommDup (given_of self.now.call.now) }
+        ensures { IfOk result (λ typed. IsMpiCall self.now.scope.now f.CommDup (given_of self.now.call.now) typed) }
+    {
+        let (comm, made) = both(self.value(0), self.reference(1))?;
+        Ok(MpiCall::Communicator(CommunicatorCall::Dup { comm, made }))
     }
 
     fn comm_split(&self) -> Result<MpiCall, AllocError>
@@ -566,20 +540,20 @@ impl<'a> Given<'a> {
             self.value(2),
             self.reference(3),
         )?;
-        Ok(MpiCall::CommSplit {
+        Ok(MpiCall::Communicator(CommunicatorCall::Split {
             comm,
             color,
             key,
             made,
-        })
+        }))
     }
 
-    fn comm_dup(&self) -> Result<MpiCall, AllocError>
-        requires { Fits self.now.scope.now f.CommDup (given_of self.now.call.now) }
-        ensures { IfOk result (λ typed. IsMpiCall self.now.scope.now f.CommDup (given_of self.now.call.now) typed) }
+    fn comm_free(&self) -> Result<MpiCall, AllocError>
+        requires { Fits self.now.scope.now f.CommFree (given_of self.now.call.now) }
+        ensures { IfOk result (λ typed. IsMpiCall self.now.scope.now f.CommFree (given_of self.now.call.now) typed) }
     {
-        let (comm, made) = both(self.value(0), self.reference(1))?;
-        Ok(MpiCall::CommDup { comm, made })
+        let comm = self.reference(0)?;
+        Ok(MpiCall::Communicator(CommunicatorCall::Free { comm }))
     }
 
     fn abort(&self) -> Result<MpiCall, AllocError>
@@ -598,37 +572,37 @@ impl<'a> Given<'a> {
         match function {
             MpiFunction::Init => Ok(MpiCall::Init),
             MpiFunction::Finalize => Ok(MpiCall::Finalize),
-            MpiFunction::CommRank => self.comm_rank(),
-            MpiFunction::CommSize => self.comm_size(),
-            MpiFunction::GetCount => self.get_count(),
-            MpiFunction::CommFree => self.comm_free(),
+            MpiFunction::Abort => self.abort(),
             MpiFunction::Send => self.send(),
             MpiFunction::Recv => self.recv(),
-            MpiFunction::Sendrecv => self.sendrecv(),
             MpiFunction::Isend => self.isend(),
             MpiFunction::Irecv => self.irecv(),
+            MpiFunction::Sendrecv => self.sendrecv(),
             MpiFunction::Wait => self.wait(),
-            MpiFunction::Waitall => self.waitall(),
-            MpiFunction::Waitany => self.waitany(),
-            MpiFunction::Waitsome => self.waitsome(),
             MpiFunction::Test => self.test(),
-            MpiFunction::Testall => self.testall(),
+            MpiFunction::Waitany => self.waitany(),
             MpiFunction::Testany => self.testany(),
+            MpiFunction::Waitall => self.waitall(),
+            MpiFunction::Testall => self.testall(),
+            MpiFunction::Waitsome => self.waitsome(),
             MpiFunction::Testsome => self.testsome(),
             MpiFunction::Probe => self.probe(),
             MpiFunction::Iprobe => self.iprobe(),
+            MpiFunction::GetCount => self.get_count(),
             MpiFunction::Barrier => self.barrier(),
             MpiFunction::Bcast => self.bcast(),
-            MpiFunction::Reduce => self.reduce(),
-            MpiFunction::Allreduce => self.allreduce(),
-            MpiFunction::Scan => self.scan(),
             MpiFunction::Gather => self.gather(),
             MpiFunction::Scatter => self.scatter(),
             MpiFunction::Allgather => self.allgather(),
             MpiFunction::Alltoall => self.alltoall(),
-            MpiFunction::CommSplit => self.comm_split(),
+            MpiFunction::Reduce => self.reduce(),
+            MpiFunction::Allreduce => self.allreduce(),
+            MpiFunction::Scan => self.scan(),
+            MpiFunction::CommSize => self.comm_size(),
+            MpiFunction::CommRank => self.comm_rank(),
             MpiFunction::CommDup => self.comm_dup(),
-            MpiFunction::Abort => self.abort(),
+            MpiFunction::CommSplit => self.comm_split(),
+            MpiFunction::CommFree => self.comm_free(),
         }
     }
 }

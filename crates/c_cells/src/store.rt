@@ -145,6 +145,13 @@ impl<'p> Store<'p> {
         true
     }
 
+    /// How many steps may still be taken.
+    pub fn left(&self) -> u32
+        ensures { result ≡ self.now.left }
+    {
+        self.left
+    }
+
     pub fn mark(&self) -> Mark
         ensures { result ≡ mark_of self.now }
     {

@@ -4,8 +4,8 @@ ghost use Rattle.c_program.specs.Values.{range, value};
 ghost use Rattle.c_effects.specs.Faults.{HasFault};
 
 use c_cells::store::Store;
-use c_program::expr::{Expr, Reference};
-use c_program::mpi::Buffer;
+use c_program::expr::Expr;
+use c_program::mpi::{Buffer, Reduction};
 use c_program::range::Range;
 use mpi_call::call::Fault;
 
@@ -25,11 +25,11 @@ pub struct Buffers {
     pub count: i32,
 }
 
-/// The same with one count.
+/// What a member gives to a reduction, where what it gets goes, and how many ints.
 #[derive(Clone, Copy)]
 pub struct Operands {
-    pub out: Range,
-    pub buffer: Range,
+    pub send: Range,
+    pub receive: Range,
     pub count: i32,
 }
 
@@ -72,24 +72,23 @@ pub fn buffers_of(out: &Buffer, buffer: &Buffer, store: &Store) -> Result<Buffer
     })
 }
 
-pub fn operands_of(
-    out: &Reference,
-    buffer: &Reference,
-    count: &Expr,
-    store: &Store,
-) -> Result<Operands, Fault>
-    ensures out { IfOk result (λ all. range out.now store.now ≡ Ok all.out) }
-    ensures buffer { IfOk result (λ all. range buffer.now store.now ≡ Ok all.buffer) }
-    ensures count { IfOk result (λ all. value count.now store.now ≡ Ok all.count) }
+pub fn operands_of(reduction: &Reduction, store: &Store) -> Result<Operands, Fault>
+    ensures send { IfOk result (λ all. range reduction.now.send store.now ≡ Ok all.send) }
+    ensures receive { IfOk result (λ all. range reduction.now.receive store.now ≡ Ok all.receive) }
+    ensures count { IfOk result (λ all. value reduction.now.count store.now ≡ Ok all.count) }
     ensures fault { IfErr result (λ fault.
-        HasFault fault (range out.now store.now) (λ _.
-        HasFault fault (range buffer.now store.now) (λ _.
-        value count.now store.now ≡ Err fault))) }
+        HasFault fault (range reduction.now.send store.now) (λ _.
+        HasFault fault (range reduction.now.receive store.now) (λ _.
+        value reduction.now.count store.now ≡ Err fault))) }
 {
-    let out = store.range(out)?;
-    let buffer = store.range(buffer)?;
-    let count = store.value(count)?;
-    Ok(Operands { out, buffer, count })
+    let send = store.range(&reduction.send)?;
+    let receive = store.range(&reduction.receive)?;
+    let count = store.value(&reduction.count)?;
+    Ok(Operands {
+        send,
+        receive,
+        count,
+    })
 }
 
 pub fn envelope_of(rank: &Expr, tag: &Expr, comm: &Expr, store: &Store) -> Result<Envelope, Fault>

@@ -1,42 +1,35 @@
-//! Collectives, and what makes communicators.
-ghost use Rattle.std.specs.Prelude.{◌≡◌, ◌≤◌, ℕ, ℤ, IfErr, IfOk, Err, Ok};
-ghost use Rattle.c_program.specs.declared.mpi.MpiCall.TheVariants as c;
+//! Collectives.
+ghost use Rattle.std.specs.Prelude.{◌≡◌, ◌≤◌, ℤ, IfErr, IfOk, Err, None, Ok};
 ghost use Rattle.c_program.specs.declared.effect.Entered.TheVariants.{Nothing as EntersNothing};
 ghost use Rattle.c_program.specs.declared.effect.Into.TheVariants.{Nowhere};
-ghost use Rattle.c_program.specs.Effects.{at_root, communicator, count_of, effect_of, enters, gets, joins, same_count};
+ghost use Rattle.c_program.specs.declared.mpi.CollectiveCall.TheVariants as calls;
+ghost use Rattle.c_program.specs.Effects.{at_root, collective_effect, communicator, count_of, enters, gets, reduces_for_all, same_count};
 ghost use Rattle.c_program.specs.Values.{value};
 ghost use Rattle.c_effects.specs.Faults.{HasFault};
-ghost use Rattle.c_effects.specs.Shared.{reduces_for_all};
 
 use crate::arguments::{buffers_of, ints_of, operands_of};
-use crate::checks::{Comm, cell, colour, communicator, count_of, enters, gets, is_me, same_count};
+use crate::checks::{count_of, enters, gets, same_count};
+use crate::comm::{Comm, communicator, is_me};
 use c_cells::store::Store;
 use c_program::effect::{Collective, Effect, Entered, Into, Rank};
-use c_program::expr::{Expr, Reference};
-use c_program::mpi::Buffer;
+use c_program::expr::Expr;
+use c_program::mpi::{Buffer, CollectiveCall, Reduction};
 use c_program::range::Range;
-use mpi_call::call::{Fault, Kind, Op};
+use mpi_call::call::{Fault, Kind};
 
-fn joins(
-    comm: &Comm,
-    kind: Kind,
-    root: Option<u8>,
-    op: Option<Op>,
-    count: u32,
-    entered: Entered,
-    into: Into,
-) -> Result<Effect, Fault>
-    ensures { result ≡ joins comm.now kind root op count entered into }
+/// A collective with no root and no operation.
+pub fn joined(comm: &Comm, kind: Kind, count: u32, entered: Entered, into: Into) -> Collective
+    ensures { result ≡ record { comm = comm.now.number; kind = kind; root = None; op = None; count = count; entered = entered; into = into } }
 {
-    Ok(Effect::Joins(Collective {
+    Collective {
         comm: comm.number(),
         kind,
-        root,
-        op,
+        root: None,
+        op: None,
         count,
         entered,
         into,
-    }))
+    }
 }
 
 /// The communicator of an expression.
@@ -88,24 +81,16 @@ fn gets_at_root(is_root: bool, n: usize, cells: Range) -> Result<Into, Fault>
 // ---- collectives
 
 /// `MPI_Barrier`.
-pub fn barrier(rank: Rank, comm: &Expr, store: &Store) -> Result<Effect, Fault>
+fn barrier(rank: Rank, comm: &Expr, store: &Store) -> Result<Effect, Fault>
     requires { rank.ranks ≤ 64 }
-    ensures { result ≡ effect_of rank (c.Barrier comm.now) store.now }
+    ensures { result ≡ collective_effect rank (calls.Barrier comm.now) store.now }
 {
     let comm = comm_of(rank, comm, store)?;
-    joins(
-        &comm,
-        Kind::Barrier,
-        None,
-        None,
-        0,
-        Entered::Nothing,
-        Into::Nowhere,
-    )
+    Ok(Effect::Joins(joined(&comm, Kind::Barrier, 0, Entered::Nothing, Into::Nowhere)))
 }
 
 /// `MPI_Bcast`.
-pub fn bcast(
+fn bcast(
     rank: Rank,
     buffer: &Buffer,
     root: &Expr,
@@ -113,7 +98,7 @@ pub fn bcast(
     store: &Store,
 ) -> Result<Effect, Fault>
     requires { rank.ranks ≤ 64 }
-    ensures { result ≡ effect_of rank (c.Bcast buffer.now root.now comm.now) store.now }
+    ensures { result ≡ collective_effect rank (calls.Bcast buffer.now root.now comm.now) store.now }
 {
     let ints = ints_of(buffer, store)?;
     let root = store.value(root)?;
@@ -126,105 +111,14 @@ pub fn bcast(
     } else {
         Entered::Nothing
     };
-    joins(
-        &comm,
-        Kind::Bcast,
-        Some(root),
-        None,
-        count,
-        entered,
-        Into::Cells(cells),
-    )
-}
-
-/// `MPI_Reduce`.
-pub fn reduce(
-    rank: Rank,
-    out: &Reference,
-    buffer: &Reference,
-    count: &Expr,
-    op: Op,
-    root: &Expr,
-    comm: &Expr,
-    store: &Store,
-) -> Result<Effect, Fault>
-    requires { rank.ranks ≤ 64 }
-    ensures { result ≡ effect_of rank (c.Reduce out.now buffer.now count.now op root.now comm.now) store.now }
-{
-    let operands = operands_of(out, buffer, count, store)?;
-    let root = store.value(root)?;
-    let comm = comm_of(rank, comm, store)?;
-    let count = count_of(operands.count)?;
-    let root = comm.member(root)?;
-    let entered = enters(count as usize, operands.out)?;
-    let into = gets_at_root(is_me(rank, root), count as usize, operands.buffer)?;
-    joins(
-        &comm,
-        Kind::Reduce,
-        Some(root),
-        Some(op),
-        count,
-        entered,
-        into,
-    )
-}
-
-/// `MPI_Allreduce` and `MPI_Scan`.
-fn reduces_for_all(
-    rank: Rank,
-    kind: Kind,
-    out: &Reference,
-    buffer: &Reference,
-    count: &Expr,
-    op: Op,
-    comm: &Expr,
-    store: &Store,
-) -> Result<Effect, Fault>
-    requires { rank.ranks ≤ 64 }
-    ensures { result ≡ reduces_for_all rank kind out.now buffer.now count.now op comm.now store.now }
-{
-    let operands = operands_of(out, buffer, count, store)?;
-    let comm = comm_of(rank, comm, store)?;
-    let count = count_of(operands.count)?;
-    let entered = enters(count as usize, operands.out)?;
-    let into = gets(count as usize, operands.buffer)?;
-    joins(&comm, kind, None, Some(op), count, entered, into)
-}
-
-/// `MPI_Allreduce`.
-pub fn allreduce(
-    rank: Rank,
-    out: &Reference,
-    buffer: &Reference,
-    count: &Expr,
-    op: Op,
-    comm: &Expr,
-    store: &Store,
-) -> Result<Effect, Fault>
-    requires { rank.ranks ≤ 64 }
-    ensures { result ≡ effect_of rank (c.Allreduce out.now buffer.now count.now op comm.now) store.now }
-{
-    reduces_for_all(rank, Kind::Allreduce, out, buffer, count, op, comm, store)
-}
-
-/// `MPI_Scan`.
-pub fn scan(
-    rank: Rank,
-    out: &Reference,
-    buffer: &Reference,
-    count: &Expr,
-    op: Op,
-    comm: &Expr,
-    store: &Store,
-) -> Result<Effect, Fault>
-    requires { rank.ranks ≤ 64 }
-    ensures { result ≡ effect_of rank (c.Scan out.now buffer.now count.now op comm.now) store.now }
-{
-    reduces_for_all(rank, Kind::Scan, out, buffer, count, op, comm, store)
+    Ok(Effect::Joins(Collective {
+        root: Some(root),
+        ..joined(&comm, Kind::Bcast, count, entered, Into::Cells(cells))
+    }))
 }
 
 /// `MPI_Gather`.
-pub fn gather(
+fn gather(
     rank: Rank,
     out: &Buffer,
     buffer: &Buffer,
@@ -233,7 +127,7 @@ pub fn gather(
     store: &Store,
 ) -> Result<Effect, Fault>
     requires { rank.ranks ≤ 64 }
-    ensures { result ≡ effect_of rank (c.Gather out.now buffer.now root.now comm.now) store.now }
+    ensures { result ≡ collective_effect rank (calls.Gather out.now buffer.now root.now comm.now) store.now }
 {
     let buffers = buffers_of(out, buffer, store)?;
     let root = store.value(root)?;
@@ -242,11 +136,14 @@ pub fn gather(
     let root = comm.member(root)?;
     let entered = enters(count as usize, buffers.out_cells)?;
     let into = gets_at_root(is_me(rank, root), comm.pieces(count), buffers.cells)?;
-    joins(&comm, Kind::Gather, Some(root), None, count, entered, into)
+    Ok(Effect::Joins(Collective {
+        root: Some(root),
+        ..joined(&comm, Kind::Gather, count, entered, into)
+    }))
 }
 
 /// `MPI_Scatter`.
-pub fn scatter(
+fn scatter(
     rank: Rank,
     out: &Buffer,
     buffer: &Buffer,
@@ -255,7 +152,7 @@ pub fn scatter(
     store: &Store,
 ) -> Result<Effect, Fault>
     requires { rank.ranks ≤ 64 }
-    ensures { result ≡ effect_of rank (c.Scatter out.now buffer.now root.now comm.now) store.now }
+    ensures { result ≡ collective_effect rank (calls.Scatter out.now buffer.now root.now comm.now) store.now }
 {
     let buffers = buffers_of(out, buffer, store)?;
     let root = store.value(root)?;
@@ -264,11 +161,14 @@ pub fn scatter(
     let root = comm.member(root)?;
     let entered = enters_at_root(is_me(rank, root), comm.pieces(count), buffers.out_cells)?;
     let into = gets(count as usize, buffers.cells)?;
-    joins(&comm, Kind::Scatter, Some(root), None, count, entered, into)
+    Ok(Effect::Joins(Collective {
+        root: Some(root),
+        ..joined(&comm, Kind::Scatter, count, entered, into)
+    }))
 }
 
 /// `MPI_Allgather`.
-pub fn allgather(
+fn allgather(
     rank: Rank,
     out: &Buffer,
     buffer: &Buffer,
@@ -276,18 +176,18 @@ pub fn allgather(
     store: &Store,
 ) -> Result<Effect, Fault>
     requires { rank.ranks ≤ 64 }
-    ensures { result ≡ effect_of rank (c.Allgather out.now buffer.now comm.now) store.now }
+    ensures { result ≡ collective_effect rank (calls.Allgather out.now buffer.now comm.now) store.now }
 {
     let buffers = buffers_of(out, buffer, store)?;
     let comm = comm_of(rank, comm, store)?;
     let count = count_for_both(true, buffers.out_count, buffers.count)?;
     let entered = enters(count as usize, buffers.out_cells)?;
     let into = gets(comm.pieces(count), buffers.cells)?;
-    joins(&comm, Kind::Allgather, None, None, count, entered, into)
+    Ok(Effect::Joins(joined(&comm, Kind::Allgather, count, entered, into)))
 }
 
 /// `MPI_Alltoall`.
-pub fn alltoall(
+fn alltoall(
     rank: Rank,
     out: &Buffer,
     buffer: &Buffer,
@@ -295,64 +195,103 @@ pub fn alltoall(
     store: &Store,
 ) -> Result<Effect, Fault>
     requires { rank.ranks ≤ 64 }
-    ensures { result ≡ effect_of rank (c.Alltoall out.now buffer.now comm.now) store.now }
+    ensures { result ≡ collective_effect rank (calls.Alltoall out.now buffer.now comm.now) store.now }
 {
     let buffers = buffers_of(out, buffer, store)?;
     let comm = comm_of(rank, comm, store)?;
     let count = count_for_both(true, buffers.out_count, buffers.count)?;
     let entered = enters(comm.pieces(count), buffers.out_cells)?;
     let into = gets(comm.pieces(count), buffers.cells)?;
-    joins(&comm, Kind::Alltoall, None, None, count, entered, into)
+    Ok(Effect::Joins(joined(&comm, Kind::Alltoall, count, entered, into)))
 }
 
-// ---- what makes communicators
-
-/// `MPI_Comm_split`.
-pub fn comm_split(
+/// `MPI_Reduce`.
+fn reduce(
     rank: Rank,
+    reduction: &Reduction,
+    root: &Expr,
     comm: &Expr,
-    color: &Expr,
-    key: &Expr,
-    into: &Reference,
     store: &Store,
 ) -> Result<Effect, Fault>
     requires { rank.ranks ≤ 64 }
-    ensures { result ≡ effect_of rank (c.CommSplit comm.now color.now key.now into.now) store.now }
+    ensures { result ≡ collective_effect rank (calls.Reduce reduction.now root.now comm.now) store.now }
 {
-    let comm = store.value(comm)?;
-    let color = store.value(color)?;
-    let key = store.value(key)?;
-    let into = store.range(into)?;
-    let comm = communicator(rank, store, comm)?;
-    let color = colour(color)?;
-    let into = cell(into)?;
-    joins(
-        &comm,
-        Kind::Split,
-        None,
-        None,
-        0,
-        Entered::Pair(color, key),
-        Into::Handle(into),
-    )
+    let operands = operands_of(reduction, store)?;
+    let root = store.value(root)?;
+    let comm = comm_of(rank, comm, store)?;
+    let count = count_of(operands.count)?;
+    let root = comm.member(root)?;
+    let entered = enters(count as usize, operands.send)?;
+    let into = gets_at_root(is_me(rank, root), count as usize, operands.receive)?;
+    Ok(Effect::Joins(Collective {
+        root: Some(root),
+        op: Some(reduction.op),
+        ..joined(&comm, Kind::Reduce, count, entered, into)
+    }))
 }
 
-/// `MPI_Comm_dup`.
-pub fn comm_dup(rank: Rank, comm: &Expr, into: &Reference, store: &Store) -> Result<Effect, Fault>
+/// `MPI_Allreduce` and `MPI_Scan`.
+fn reduces_for_all(
+    rank: Rank,
+    kind: Kind,
+    reduction: &Reduction,
+    comm: &Expr,
+    store: &Store,
+) -> Result<Effect, Fault>
     requires { rank.ranks ≤ 64 }
-    ensures { result ≡ effect_of rank (c.CommDup comm.now into.now) store.now }
+    ensures { result ≡ reduces_for_all rank kind reduction.now comm.now store.now }
 {
-    let comm = store.value(comm)?;
-    let into = store.range(into)?;
-    let comm = communicator(rank, store, comm)?;
-    let into = cell(into)?;
-    joins(
-        &comm,
-        Kind::Dup,
-        None,
-        None,
-        0,
-        Entered::Nothing,
-        Into::Handle(into),
-    )
+    let operands = operands_of(reduction, store)?;
+    let comm = comm_of(rank, comm, store)?;
+    let count = count_of(operands.count)?;
+    let entered = enters(count as usize, operands.send)?;
+    let into = gets(count as usize, operands.receive)?;
+    Ok(Effect::Joins(Collective {
+        op: Some(reduction.op),
+        ..joined(&comm, kind, count, entered, into)
+    }))
+}
+
+/// The effect of a collective, or its fault.
+pub fn collective_effect(rank: Rank, call: &CollectiveCall, store: &Store) -> Result<Effect, Fault>
+    requires { rank.ranks ≤ 64 }
+    ensures { result ≡ collective_effect rank call.now store.now }
+{
+    match call {
+        CollectiveCall::Barrier { comm } => barrier(rank, comm, store),
+        CollectiveCall::Bcast { buffer, root, comm } => bcast(rank, buffer, root, comm, store),
+        CollectiveCall::Gather {
+            send,
+            receive,
+            root,
+            comm,
+        } => gather(rank, send, receive, root, comm, store),
+        CollectiveCall::Scatter {
+            send,
+            receive,
+            root,
+            comm,
+        } => scatter(rank, send, receive, root, comm, store),
+        CollectiveCall::Allgather {
+            send,
+            receive,
+            comm,
+        } => allgather(rank, send, receive, comm, store),
+        CollectiveCall::Alltoall {
+            send,
+            receive,
+            comm,
+        } => alltoall(rank, send, receive, comm, store),
+        CollectiveCall::Reduce {
+            reduction,
+            root,
+            comm,
+        } => reduce(rank, reduction, root, comm, store),
+        CollectiveCall::Allreduce { reduction, comm } => {
+            reduces_for_all(rank, Kind::Allreduce, reduction, comm, store)
+        }
+        CollectiveCall::Scan { reduction, comm } => {
+            reduces_for_all(rank, Kind::Scan, reduction, comm, store)
+        }
+    }
 }

@@ -1,14 +1,13 @@
-//! The Wait and Test families.
+//! The completion of requests.
 ghost use Rattle.std.specs.Prelude.{◌≡◌};
-ghost use Rattle.c_program.specs.declared.effect.Rank.{Rank};
-ghost use Rattle.c_program.specs.declared.mpi.MpiCall.TheVariants as c;
-ghost use Rattle.c_program.specs.Effects.{answers, effect_of};
-ghost use Rattle.c_effects.specs.Shared.{completes_some};
+ghost use Rattle.c_program.specs.declared.mpi.CompletionCall.TheVariants as calls;
+ghost use Rattle.c_program.specs.Effects.{answers, completes_some, completion_effect};
 
 use crate::checks::{cell, handles_of, optional_first, status};
 use c_cells::store::Store;
 use c_program::effect::{Answer, Effect};
 use c_program::expr::{Expr, Reference};
+use c_program::mpi::{CompletionCall, SomeRequests};
 use c_program::range::Range;
 use mpi_call::call::{Fault, TakeMode};
 
@@ -26,8 +25,8 @@ fn answers(statuses: Option<Range>) -> Answer
 }
 
 /// `MPI_Wait`.
-pub fn wait(requests: &Reference, kept: &Option<Reference>, store: &Store) -> Result<Effect, Fault>
-    ensures { (rank : Rank) → result ≡ effect_of rank (c.Wait requests.now kept.now) store.now }
+fn wait(requests: &Reference, kept: &Option<Reference>, store: &Store) -> Result<Effect, Fault>
+    ensures { result ≡ completion_effect (calls.Wait requests.now kept.now) store.now }
 {
     let requests = store.range(requests)?;
     let kept = status(kept, store)?;
@@ -40,37 +39,40 @@ pub fn wait(requests: &Reference, kept: &Option<Reference>, store: &Store) -> Re
     })
 }
 
-/// `MPI_Waitall`.
-pub fn waitall(
-    count: &Expr,
+/// `MPI_Test`.
+fn test(
     requests: &Reference,
+    flag: &Reference,
     kept: &Option<Reference>,
     store: &Store,
 ) -> Result<Effect, Fault>
-    ensures { (rank : Rank) → result ≡ effect_of rank (c.Waitall count.now requests.now kept.now) store.now }
+    ensures { result ≡ completion_effect (calls.Test requests.now flag.now kept.now) store.now }
 {
-    let count = store.value(count)?;
     let requests = store.range(requests)?;
+    let flag = store.range(flag)?;
     let kept = status(kept, store)?;
-    let count = handles_of(count)?;
-    let requests = requests.first(count)?;
-    let statuses = optional_first(count, kept)?;
+    let requests = requests.first(1)?;
+    let flag = cell(flag)?;
+    let statuses = optional_first(1, kept)?;
     Ok(Effect::Completes {
         requests,
-        mode: TakeMode::All,
-        answer: answers(statuses),
+        mode: TakeMode::TestAll,
+        answer: Answer {
+            flag: Some(flag),
+            ..answers(statuses)
+        },
     })
 }
 
 /// `MPI_Waitany`.
-pub fn waitany(
+fn waitany(
     count: &Expr,
     requests: &Reference,
     index: &Reference,
     kept: &Option<Reference>,
     store: &Store,
 ) -> Result<Effect, Fault>
-    ensures { (rank : Rank) → result ≡ effect_of rank (c.Waitany count.now requests.now index.now kept.now) store.now }
+    ensures { result ≡ completion_effect (calls.Waitany count.now requests.now index.now kept.now) store.now }
 {
     let count = store.value(count)?;
     let requests = store.range(requests)?;
@@ -90,116 +92,8 @@ pub fn waitany(
     })
 }
 
-/// `MPI_Waitsome` and `MPI_Testsome`.
-fn completes_some(
-    mode: TakeMode,
-    count: &Expr,
-    requests: &Reference,
-    outcount: &Reference,
-    indices: &Reference,
-    kept: &Option<Reference>,
-    store: &Store,
-) -> Result<Effect, Fault>
-    ensures { result ≡ completes_some mode count.now requests.now outcount.now indices.now kept.now store.now }
-{
-    let count = store.value(count)?;
-    let requests = store.range(requests)?;
-    let outcount = store.range(outcount)?;
-    let indices = store.range(indices)?;
-    let kept = status(kept, store)?;
-    let count = handles_of(count)?;
-    let requests = requests.first(count)?;
-    let outcount = cell(outcount)?;
-    let indices = indices.first(count)?;
-    let statuses = optional_first(count, kept)?;
-    Ok(Effect::Completes {
-        requests,
-        mode,
-        answer: Answer {
-            outcount: Some(outcount),
-            indices: Some(indices),
-            ..answers(statuses)
-        },
-    })
-}
-
-/// `MPI_Waitsome`.
-pub fn waitsome(
-    count: &Expr,
-    requests: &Reference,
-    outcount: &Reference,
-    indices: &Reference,
-    kept: &Option<Reference>,
-    store: &Store,
-) -> Result<Effect, Fault>
-    ensures { (rank : Rank) → result ≡ effect_of rank (c.Waitsome count.now requests.now outcount.now indices.now kept.now) store.now }
-{
-    completes_some(
-        TakeMode::Several,
-        count,
-        requests,
-        outcount,
-        indices,
-        kept,
-        store,
-    )
-}
-
-/// `MPI_Test`.
-pub fn test(
-    requests: &Reference,
-    flag: &Reference,
-    kept: &Option<Reference>,
-    store: &Store,
-) -> Result<Effect, Fault>
-    ensures { (rank : Rank) → result ≡ effect_of rank (c.Test requests.now flag.now kept.now) store.now }
-{
-    let requests = store.range(requests)?;
-    let flag = store.range(flag)?;
-    let kept = status(kept, store)?;
-    let requests = requests.first(1)?;
-    let flag = cell(flag)?;
-    let statuses = optional_first(1, kept)?;
-    Ok(Effect::Completes {
-        requests,
-        mode: TakeMode::TestAll,
-        answer: Answer {
-            flag: Some(flag),
-            ..answers(statuses)
-        },
-    })
-}
-
-/// `MPI_Testall`.
-pub fn testall(
-    count: &Expr,
-    requests: &Reference,
-    flag: &Reference,
-    kept: &Option<Reference>,
-    store: &Store,
-) -> Result<Effect, Fault>
-    ensures { (rank : Rank) → result ≡ effect_of rank (c.Testall count.now requests.now flag.now kept.now) store.now }
-{
-    let count = store.value(count)?;
-    let requests = store.range(requests)?;
-    let flag = store.range(flag)?;
-    let kept = status(kept, store)?;
-    let count = handles_of(count)?;
-    let requests = requests.first(count)?;
-    let flag = cell(flag)?;
-    let statuses = optional_first(count, kept)?;
-    Ok(Effect::Completes {
-        requests,
-        mode: TakeMode::TestAll,
-        answer: Answer {
-            flag: Some(flag),
-            ..answers(statuses)
-        },
-    })
-}
-
 /// `MPI_Testany`.
-pub fn testany(
+fn testany(
     count: &Expr,
     requests: &Reference,
     index: &Reference,
@@ -207,7 +101,7 @@ pub fn testany(
     kept: &Option<Reference>,
     store: &Store,
 ) -> Result<Effect, Fault>
-    ensures { (rank : Rank) → result ≡ effect_of rank (c.Testany count.now requests.now index.now flag.now kept.now) store.now }
+    ensures { result ≡ completion_effect (calls.Testany count.now requests.now index.now flag.now kept.now) store.now }
 {
     let count = store.value(count)?;
     let requests = store.range(requests)?;
@@ -230,24 +124,117 @@ pub fn testany(
     })
 }
 
-/// `MPI_Testsome`.
-pub fn testsome(
+/// `MPI_Waitall`.
+fn waitall(
     count: &Expr,
     requests: &Reference,
-    outcount: &Reference,
-    indices: &Reference,
     kept: &Option<Reference>,
     store: &Store,
 ) -> Result<Effect, Fault>
-    ensures { (rank : Rank) → result ≡ effect_of rank (c.Testsome count.now requests.now outcount.now indices.now kept.now) store.now }
+    ensures { result ≡ completion_effect (calls.Waitall count.now requests.now kept.now) store.now }
 {
-    completes_some(
-        TakeMode::TestSeveral,
-        count,
+    let count = store.value(count)?;
+    let requests = store.range(requests)?;
+    let kept = status(kept, store)?;
+    let count = handles_of(count)?;
+    let requests = requests.first(count)?;
+    let statuses = optional_first(count, kept)?;
+    Ok(Effect::Completes {
         requests,
-        outcount,
-        indices,
-        kept,
-        store,
-    )
+        mode: TakeMode::All,
+        answer: answers(statuses),
+    })
+}
+
+/// `MPI_Testall`.
+fn testall(
+    count: &Expr,
+    requests: &Reference,
+    flag: &Reference,
+    kept: &Option<Reference>,
+    store: &Store,
+) -> Result<Effect, Fault>
+    ensures { result ≡ completion_effect (calls.Testall count.now requests.now flag.now kept.now) store.now }
+{
+    let count = store.value(count)?;
+    let requests = store.range(requests)?;
+    let flag = store.range(flag)?;
+    let kept = status(kept, store)?;
+    let count = handles_of(count)?;
+    let requests = requests.first(count)?;
+    let flag = cell(flag)?;
+    let statuses = optional_first(count, kept)?;
+    Ok(Effect::Completes {
+        requests,
+        mode: TakeMode::TestAll,
+        answer: Answer {
+            flag: Some(flag),
+            ..answers(statuses)
+        },
+    })
+}
+
+/// `MPI_Waitsome` and `MPI_Testsome`.
+fn completes_some(mode: TakeMode, several: &SomeRequests, store: &Store) -> Result<Effect, Fault>
+    ensures { result ≡ completes_some mode several.now store.now }
+{
+    let count = store.value(&several.count)?;
+    let requests = store.range(&several.requests)?;
+    let outcount = store.range(&several.outcount)?;
+    let indices = store.range(&several.indices)?;
+    let kept = status(&several.statuses, store)?;
+    let count = handles_of(count)?;
+    let requests = requests.first(count)?;
+    let outcount = cell(outcount)?;
+    let indices = indices.first(count)?;
+    let statuses = optional_first(count, kept)?;
+    Ok(Effect::Completes {
+        requests,
+        mode,
+        answer: Answer {
+            outcount: Some(outcount),
+            indices: Some(indices),
+            ..answers(statuses)
+        },
+    })
+}
+
+/// The effect of a completion of requests, or its fault.
+pub fn completion_effect(call: &CompletionCall, store: &Store) -> Result<Effect, Fault>
+    ensures { result ≡ completion_effect call.now store.now }
+{
+    match call {
+        CompletionCall::Wait { request, status } => wait(request, status, store),
+        CompletionCall::Test {
+            request,
+            flag,
+            status,
+        } => test(request, flag, status, store),
+        CompletionCall::Waitany {
+            count,
+            requests,
+            index,
+            status,
+        } => waitany(count, requests, index, status, store),
+        CompletionCall::Testany {
+            count,
+            requests,
+            index,
+            flag,
+            status,
+        } => testany(count, requests, index, flag, status, store),
+        CompletionCall::Waitall {
+            count,
+            requests,
+            statuses,
+        } => waitall(count, requests, statuses, store),
+        CompletionCall::Testall {
+            count,
+            requests,
+            flag,
+            statuses,
+        } => testall(count, requests, flag, statuses, store),
+        CompletionCall::Waitsome(several) => completes_some(TakeMode::Several, several, store),
+        CompletionCall::Testsome(several) => completes_some(TakeMode::TestSeveral, several, store),
+    }
 }

@@ -2,8 +2,11 @@
 #![tactic(auto)]
 
 mod arguments;
-pub mod checks;
-pub mod collectives;
-pub mod completions;
+mod checks;
+mod collectives;
+mod comm;
+mod communicators;
+mod completions;
 pub mod effects;
-pub mod messages;
+mod messages;
+mod probes;

@@ -1,16 +1,15 @@
-//! Sends, receives and probes.
+//! Sends and receives.
 ghost use Rattle.std.specs.Prelude.{◌≡◌, ◌≤◌};
-ghost use Rattle.c_program.specs.declared.mpi.MpiCall.TheVariants as c;
-ghost use Rattle.c_program.specs.Effects.{effect_of, message, receive, send_after, sends, sends_from};
+ghost use Rattle.c_program.specs.declared.mpi.MessageCall.TheVariants as calls;
+ghost use Rattle.c_program.specs.Effects.{message, message_effect, receive, send_after, sends, sends_from};
 
 use crate::arguments::{envelope_of, ints_of};
-use crate::checks::{
-    Comm, cell, communicator, count_of, first, optional_cell, status, tag_of, wanted_tag,
-};
+use crate::checks::{cell, count_of, optional_cell, status, tag_of, wanted_tag};
+use crate::comm::{Comm, communicator};
 use c_cells::store::Store;
 use c_program::effect::{Effect, Message, Rank, Receive, Start};
 use c_program::expr::{Expr, Reference};
-use c_program::mpi::Buffer;
+use c_program::mpi::{Incoming, MessageCall, Outgoing};
 use c_program::range::Range;
 use mpi_call::call::{Fault, Source, Tag};
 
@@ -73,19 +72,12 @@ fn send_after(comm: &Comm, dest: Option<u8>, tag: u32, ints: Range) -> Option<Me
 }
 
 /// `MPI_Send`.
-pub fn send(
-    rank: Rank,
-    buffer: &Buffer,
-    dest: &Expr,
-    tag: &Expr,
-    comm: &Expr,
-    store: &Store,
-) -> Result<Effect, Fault>
+fn send(rank: Rank, outgoing: &Outgoing, comm: &Expr, store: &Store) -> Result<Effect, Fault>
     requires { rank.ranks ≤ 64 }
-    ensures { result ≡ effect_of rank (c.Send buffer.now dest.now tag.now comm.now) store.now }
+    ensures { result ≡ message_effect rank (calls.Send outgoing.now comm.now) store.now }
 {
-    let ints = ints_of(buffer, store)?;
-    let envelope = envelope_of(dest, tag, comm, store)?;
+    let ints = ints_of(&outgoing.buffer, store)?;
+    let envelope = envelope_of(&outgoing.dest, &outgoing.tag, comm, store)?;
     let comm = communicator(rank, store, envelope.comm)?;
     let count = count_of(ints.count)?;
     let dest = comm.destination(envelope.rank)?;
@@ -95,20 +87,18 @@ pub fn send(
 }
 
 /// `MPI_Recv`.
-pub fn recv(
+fn recv(
     rank: Rank,
-    buffer: &Buffer,
-    source: &Expr,
-    tag: &Expr,
+    incoming: &Incoming,
     comm: &Expr,
     kept: &Option<Reference>,
     store: &Store,
 ) -> Result<Effect, Fault>
     requires { rank.ranks ≤ 64 }
-    ensures { result ≡ effect_of rank (c.Recv buffer.now source.now tag.now comm.now kept.now) store.now }
+    ensures { result ≡ message_effect rank (calls.Recv incoming.now comm.now kept.now) store.now }
 {
-    let ints = ints_of(buffer, store)?;
-    let envelope = envelope_of(source, tag, comm, store)?;
+    let ints = ints_of(&incoming.buffer, store)?;
+    let envelope = envelope_of(&incoming.source, &incoming.tag, comm, store)?;
     let kept = status(kept, store)?;
     let comm = communicator(rank, store, envelope.comm)?;
     let count = count_of(ints.count)?;
@@ -123,64 +113,19 @@ pub fn recv(
     })
 }
 
-/// `MPI_Sendrecv`.
-pub fn sendrecv(
-    rank: Rank,
-    out: &Buffer,
-    dest: &Expr,
-    send_tag: &Expr,
-    buffer: &Buffer,
-    source: &Expr,
-    tag: &Expr,
-    comm: &Expr,
-    kept: &Option<Reference>,
-    store: &Store,
-) -> Result<Effect, Fault>
-    requires { rank.ranks ≤ 64 }
-    ensures { result ≡ effect_of rank (c.Sendrecv out.now dest.now send_tag.now buffer.now source.now tag.now comm.now kept.now) store.now }
-{
-    let out_cells = store.range(&out.cells)?;
-    let out_count = store.value(&out.count)?;
-    let dest = store.value(dest)?;
-    let send_tag = store.value(send_tag)?;
-    let cells = store.range(&buffer.cells)?;
-    let count = store.value(&buffer.count)?;
-    let source = store.value(source)?;
-    let tag = store.value(tag)?;
-    let comm = store.value(comm)?;
-    let kept = status(kept, store)?;
-    let comm = communicator(rank, store, comm)?;
-    let out_count = count_of(out_count)?;
-    let count = count_of(count)?;
-    let dest = comm.destination(dest)?;
-    let source = comm.source(source)?;
-    let send_tag = tag_of(send_tag)?;
-    let tag = wanted_tag(tag)?;
-    let out_cells = out_cells.first(out_count)?;
-    let cells = cells.first(count)?;
-    let kept = optional_cell(kept)?;
-    Ok(Effect::Receives {
-        receive: receive(&comm, source, tag, cells),
-        send: send_after(&comm, dest, send_tag, out_cells),
-        status: kept,
-    })
-}
-
 /// `MPI_Isend`.
-pub fn isend(
+fn isend(
     rank: Rank,
-    buffer: &Buffer,
-    dest: &Expr,
-    tag: &Expr,
+    outgoing: &Outgoing,
     comm: &Expr,
     request: &Reference,
     store: &Store,
 ) -> Result<Effect, Fault>
     requires { rank.ranks ≤ 64 }
-    ensures { result ≡ effect_of rank (c.Isend buffer.now dest.now tag.now comm.now request.now) store.now }
+    ensures { result ≡ message_effect rank (calls.Isend outgoing.now comm.now request.now) store.now }
 {
-    let ints = ints_of(buffer, store)?;
-    let envelope = envelope_of(dest, tag, comm, store)?;
+    let ints = ints_of(&outgoing.buffer, store)?;
+    let envelope = envelope_of(&outgoing.dest, &outgoing.tag, comm, store)?;
     let request = store.range(request)?;
     let comm = communicator(rank, store, envelope.comm)?;
     let count = count_of(ints.count)?;
@@ -192,20 +137,18 @@ pub fn isend(
 }
 
 /// `MPI_Irecv`.
-pub fn irecv(
+fn irecv(
     rank: Rank,
-    buffer: &Buffer,
-    source: &Expr,
-    tag: &Expr,
+    incoming: &Incoming,
     comm: &Expr,
     request: &Reference,
     store: &Store,
 ) -> Result<Effect, Fault>
     requires { rank.ranks ≤ 64 }
-    ensures { result ≡ effect_of rank (c.Irecv buffer.now source.now tag.now comm.now request.now) store.now }
+    ensures { result ≡ message_effect rank (calls.Irecv incoming.now comm.now request.now) store.now }
 {
-    let ints = ints_of(buffer, store)?;
-    let envelope = envelope_of(source, tag, comm, store)?;
+    let ints = ints_of(&incoming.buffer, store)?;
+    let envelope = envelope_of(&incoming.source, &incoming.tag, comm, store)?;
     let request = store.range(request)?;
     let comm = communicator(rank, store, envelope.comm)?;
     let count = count_of(ints.count)?;
@@ -219,61 +162,71 @@ pub fn irecv(
     })
 }
 
-/// `MPI_Probe`.
-pub fn probe(
+/// `MPI_Sendrecv`.
+fn sendrecv(
     rank: Rank,
-    source: &Expr,
-    tag: &Expr,
+    outgoing: &Outgoing,
+    incoming: &Incoming,
     comm: &Expr,
     kept: &Option<Reference>,
     store: &Store,
 ) -> Result<Effect, Fault>
     requires { rank.ranks ≤ 64 }
-    ensures { result ≡ effect_of rank (c.Probe source.now tag.now comm.now kept.now) store.now }
+    ensures { result ≡ message_effect rank (calls.Sendrecv outgoing.now incoming.now comm.now kept.now) store.now }
 {
-    let envelope = envelope_of(source, tag, comm, store)?;
+    let out = ints_of(&outgoing.buffer, store)?;
+    let dest = store.value(&outgoing.dest)?;
+    let send_tag = store.value(&outgoing.tag)?;
+    let ints = ints_of(&incoming.buffer, store)?;
+    let envelope = envelope_of(&incoming.source, &incoming.tag, comm, store)?;
     let kept = status(kept, store)?;
     let comm = communicator(rank, store, envelope.comm)?;
+    let out_count = count_of(out.count)?;
+    let count = count_of(ints.count)?;
+    let dest = comm.destination(dest)?;
     let source = comm.source(envelope.rank)?;
+    let send_tag = tag_of(send_tag)?;
     let tag = wanted_tag(envelope.tag)?;
+    let out_cells = out.cells.first(out_count)?;
+    let cells = ints.cells.first(count)?;
     let kept = optional_cell(kept)?;
-    Ok(Effect::Probes {
-        comm: comm.number(),
-        source,
-        tag,
-        waits: true,
-        flag: None,
+    Ok(Effect::Receives {
+        receive: receive(&comm, source, tag, cells),
+        send: send_after(&comm, dest, send_tag, out_cells),
         status: kept,
     })
 }
 
-/// `MPI_Iprobe`.
-pub fn iprobe(
-    rank: Rank,
-    source: &Expr,
-    tag: &Expr,
-    comm: &Expr,
-    flag: &Reference,
-    kept: &Option<Reference>,
-    store: &Store,
-) -> Result<Effect, Fault>
+/// The effect of a send or a receive, or its fault.
+pub fn message_effect(rank: Rank, call: &MessageCall, store: &Store) -> Result<Effect, Fault>
     requires { rank.ranks ≤ 64 }
-    ensures { result ≡ effect_of rank (c.Iprobe source.now tag.now comm.now flag.now kept.now) store.now }
+    ensures { result ≡ message_effect rank call.now store.now }
 {
-    let envelope = envelope_of(source, tag, comm, store)?;
-    let flag = store.range(flag)?;
-    let kept = status(kept, store)?;
-    let comm = communicator(rank, store, envelope.comm)?;
-    let source = comm.source(envelope.rank)?;
-    let tag = wanted_tag(envelope.tag)?;
-    let flag = cell(flag)?;
-    let kept = optional_cell(kept)?;
-    Ok(Effect::Probes {
-        comm: comm.number(),
-        source,
-        tag,
-        waits: false,
-        flag: Some(flag),
-        status: kept,
-    })
+    match call {
+        MessageCall::Send {
+            message: outgoing,
+            comm,
+        } => send(rank, outgoing, comm, store),
+        MessageCall::Recv {
+            message: incoming,
+            comm,
+            status,
+        } => recv(rank, incoming, comm, status, store),
+        MessageCall::Isend {
+            message: outgoing,
+            comm,
+            request,
+        } => isend(rank, outgoing, comm, request, store),
+        MessageCall::Irecv {
+            message: incoming,
+            comm,
+            request,
+        } => irecv(rank, incoming, comm, request, store),
+        MessageCall::Sendrecv {
+            send,
+            receive,
+            comm,
+            status,
+        } => sendrecv(rank, send, receive, comm, status, store),
+    }
 }

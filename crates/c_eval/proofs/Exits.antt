@@ -1,18 +1,15 @@
-use Rattle.std.proofs.Common.{◌≡◌, ◌≢◌, ℕ, ℤ, zero, suc, ◌-◌, ◌<◌, ◌≤◌, List, Some, refl, sym, ◌∙◌, ap, arith, slice_get}
+use Rattle.std.proofs.Common.{◌≡◌, ◌≢◌, ℤ, ◌≤◌, List, refl, sym, ◌∙◌, ap, arith}
 use Rattle.mpi_call.specs.declared.reply.Reply.{Reply}
-use Rattle.c_program.specs.declared.effect.Rank.{Rank}
-use Rattle.c_program.specs.declared.program.Function.{Function}
 use Rattle.c_program.specs.declared.state.Mark.{Mark}
-use Rattle.c_program.specs.declared.state.Passed.{Passed}
 use Rattle.c_program.specs.Courses.{Course, after}
-use Rattle.c_program.specs.Meaning.{Exits, Meaning, Passing, act_list, call_at, exits_to, leaving, turn_exits}
+use Rattle.c_program.specs.Meaning.{Exits, Meaning, Passing, exits_to, leaving, turn_exits}
 use Rattle.c_program.specs.Performing.{Onward}
-use Rattle.c_program.specs.State.{State, leave, mark_of}
-use Rattle.c_replies.specs.Evaluated.{GoesOn}
+use Rattle.c_program.specs.State.{State, leave}
+use Rattle.c_eval.specs.Evaluated.{GoesOn}
 use Rattle.c_eval.specs.declared.flow.Flow.{Flow}
 use Rattle.c_eval.specs.declared.flow.Flow.TheVariants.{Next, Broke, Again, Back}
 use Rattle.c_eval.specs.Leaving.{exit}
-use Rattle.c_eval.specs.Parts.{entered, value_in}
+use Rattle.c_eval.specs.Parts.{value_in}
 
 -- out of a block
 pub exit-leaving : (mark : Mark) (k : Exits) (flow : Flow) (s : State) → exit (leaving mark k) flow s ≡ exit k flow (leave mark s)
@@ -68,9 +65,3 @@ call-closes m body mark flow s u v t r r' r'' comes le g is =
       at = λ go. comes go ∙ g.at (exits_to mark go) ∙ left-call mark go flow v t r'' is;
       left = omega arith;
     }
-
--- a call, where one more may be open
-pub entering : (rank : Rank) (fs : List Function) (d number : ℕ) (f : Function) (arguments : List Passed) (s : State) (go : ℤ → Onward) → 0 < d → slice_get fs number ≡ Some f
-    → call_at rank fs d number arguments s go ≡ entered f arguments s (λ t. act_list rank (call_at rank fs (d - 1)) f.body.items t (exits_to (mark_of s) go))
-entering rank fs zero number f arguments s go lt is = absurd (omega arith)
-entering rank fs (suc d) number f arguments s go lt is = let e : suc d - 1 ≡ d = omega arith in rw (e, is) refl

@@ -1,6 +1,5 @@
 mod Depths
+mod Evaluations
 mod Exits
-mod Lists
 mod Loops
-mod PartLaws
 mod RankLaws

@@ -8,11 +8,11 @@ use Rattle.c_program.specs.Performing.{Onward}
 use Rattle.c_program.specs.State.{State}
 use Rattle.c_eval.specs.declared.flow.Flow.{Flow}
 use Rattle.c_eval.specs.declared.flow.Flow.TheVariants.{Next, Broke, Back}
-use Rattle.c_replies.specs.declared.outcome.Stop.{Stop}
-use Rattle.c_replies.specs.Evaluated.{GoesOn, StopsAt}
+use Rattle.c_eval.specs.declared.outcome.Stop.{Stop}
+use Rattle.c_eval.specs.Evaluated.{GoesOn, StopsAt}
 use Rattle.c_eval.specs.Leaving.{exit}
 use Rattle.c_eval.specs.Parts.{Ways, turn, way}
-use Rattle.c_replies.proofs.Evaluations.{stops-from}
+use Rattle.c_eval.proofs.Evaluations.{stops-from}
 use Rattle.c_eval.proofs.Exits.{exit-turn}
 
 -- a turn whose step is taken

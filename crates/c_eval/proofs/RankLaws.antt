@@ -1,22 +1,19 @@
 use Rattle.std.proofs.Common.{◌≡◌, ◌∙◌, ◌++◌, ◌<◌, ◌≤◌, ℕ, ℤ, Bool, true, false, List, [], ◌∷◌, Some, refl, sym, ap, subst}
-use Rattle.std.proofs.lemmas.List.{map-append}
 use Rattle.mpi_call.specs.declared.call.Call.{Call}
 use Rattle.mpi_call.specs.declared.reply.Reply.{Reply}
 use Rattle.run_model.specs.declared.program.Want.{Want}
 use Rattle.run_model.specs.declared.program.Want.TheVariants.{Ask, Ended}
-use Rattle.run_model.specs.Program.{IsSeen, IsViewOf, MayGive, Says}
-use Rattle.run_model.specs.Views.{replies_in}
-use Rattle.run_model.proofs.Along.{Along-snoc}
+use Rattle.run_model.specs.Program.{MayGive, Says}
 use Rattle.c_program.specs.declared.effect.Rank.{Rank}
 use Rattle.c_program.specs.declared.program.CProgram.{CProgram}
 use Rattle.c_program.specs.declared.program.Function.{Function}
 use Rattle.c_program.specs.declared.state.Passed.{Passed}
-use Rattle.c_program.specs.Courses.{Course, Asks, Over, after, call_in, listed_of, state_in, variables_in}
+use Rattle.c_program.specs.Courses.{Course, after, call_in, listed_of, state_in, variables_in}
 use Rattle.c_program.specs.Meaning.{call_at, course_of}
 use Rattle.c_program.specs.Performing.{Onward}
-use Rattle.c_program.specs.Program.{course_after, next_of, output_of, rank_of, variables_of}
-use Rattle.c_program.specs.ProgramLaws.{after_in_shape}
+use Rattle.c_program.specs.Program.{next_of, output_of, variables_of}
 use Rattle.c_program.specs.State.{State}
+use Rattle.c_questions.proofs.MoreReplies.{live-variables, shaped-more}
 use Rattle.c_eval.specs.Standing.{IsRankAt, Wants}
 
 -- ---- ranks
@@ -43,26 +40,16 @@ rank-says program rank replies asked s t want is w = rw is.shaped (wants-says _ 
 pub rank-gives : (program : CProgram) (rank : Rank) (replies : List Reply) (reply : Reply) (asked : Bool) (s t : State) → IsRankAt program rank replies asked s
     → MayGive (next_of program) rank.ranks rank.number replies reply → IsRankAt program rank (replies ++ reply ∷ []) false t
 rank-gives program rank replies reply asked s t is may =
-    let n : ℕ = rank.ranks in
-    let me : ℕ = rank.number in
-    let seen : IsSeen (next_of program) n me may.view (may.call, reply) = record { asked = ap (next_of program n me) may.replies_are ∙ may.asked; shaped = may.shaped } in
-    let along : IsViewOf (next_of program) n me (may.view ++ (may.call, reply) ∷ []) = Along-snoc (IsSeen (next_of program) n me) [] may.view (may.call, reply) may.came seen in
-    let same : replies_in (may.view ++ (may.call, reply) ∷ []) ≡ replies ++ reply ∷ [] = map-append _ may.view ((may.call, reply) ∷ []) ∙ ap (λ rs. rs ++ reply ∷ []) may.replies_are in
-    let P : List Reply → Type 0 = λ rs. course_after program n me rs ≡ after (course_of program (rank_of n me)) rs in
     record {
       member = is.member;
       few = is.few;
-      shaped = subst P same (after_in_shape program n me (may.view ++ (may.call, reply) ∷ []) along);
+      shaped = shaped-more program rank replies reply may;
       stands = λ asked. absurd (cc);
     }
 
 pub rank-printed : (program : CProgram) (rank : Rank) (replies : List Reply) (asked : Bool) (s : State) → IsRankAt program rank replies asked s → asked ≡ true
     → s.printed ≡ output_of program rank.ranks rank.number replies
 rank-printed program rank replies asked s is a = sym (ap (λ c. (state_in c).printed) is.shaped ∙ ap (λ (u : State). u.printed) (is.stands a))
-
-live-variables : (course : Course) (call : Call) → call_in course ≡ Some call → variables_in course ≡ listed_of (state_in course) (state_in course).slots
-live-variables (Asks s asked go) call is = refl
-live-variables (Over s) call is = absurd (cc)
 
 pub rank-variables : (program : CProgram) (rank : Rank) (replies : List Reply) (asked : Bool) (s : State) (call : Call) → IsRankAt program rank replies asked s → asked ≡ true
     → next_of program rank.ranks rank.number replies ≡ Some call → listed_of s s.slots ≡ variables_of program rank.ranks rank.number replies

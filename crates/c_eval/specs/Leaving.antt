@@ -4,8 +4,8 @@ use Rattle.mpi_call.specs.declared.reply.Reply.{Reply}
 use Rattle.c_program.specs.Meaning.{Exits, Meaning}
 use Rattle.c_program.specs.Performing.{Onward}
 use Rattle.c_program.specs.State.{State}
-use Rattle.c_replies.specs.declared.outcome.Stop.{Stop}
-use Rattle.c_replies.specs.Evaluated.{Evaluated}
+use Rattle.c_eval.specs.declared.outcome.Stop.{Stop}
+use Rattle.c_eval.specs.Evaluated.{Evaluated}
 use Rattle.c_eval.specs.declared.flow.Flow.{Flow}
 use Rattle.c_eval.specs.declared.flow.Flow.TheVariants.{Next, Broke, Again, Back}
 

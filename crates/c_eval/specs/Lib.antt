@@ -1,4 +1,6 @@
+pub mod Evaluated
 pub mod Leaving
 pub mod Parts
+pub mod Replies
 pub mod Standing
 pub mod Statements

@@ -1,20 +1,14 @@
 -- Parts of what programs mean that have functions of their own.
-use Rattle.std.specs.Prelude.{ℕ, ℤ, pos, List, Option, Some, None, length}
-use Rattle.mpi_call.specs.declared.call.Fault.TheVariants.{Cells as CellsFault}
+use Rattle.std.specs.Prelude.{ℤ, pos, Option, Some, None}
 use Rattle.c_program.specs.declared.effect.Rank.{Rank}
 use Rattle.c_program.specs.declared.expr.Expr.{Expr}
-use Rattle.c_program.specs.declared.mpi.MpiCall.{MpiCall}
-use Rattle.c_program.specs.declared.program.Function.{Function}
 use Rattle.c_program.specs.declared.statement.ForStart.{ForStart}
-use Rattle.c_program.specs.declared.statement.Item.{Item}
 use Rattle.c_program.specs.declared.statement.Simple.{Simple}
-use Rattle.c_program.specs.declared.state.Passed.{Passed}
-use Rattle.c_program.specs.Courses.{Course, trapped}
-use Rattle.c_program.specs.Effects.{effect_of}
+use Rattle.c_program.specs.Courses.{Course}
 use Rattle.c_program.specs.Meaning as m
 use Rattle.c_program.specs.Meaning.{Exits, Meaning, Passing, call_at, choose, for_start, for_update, has_room, item_cells, leaving, length_or_one, loop, opened, parameter_cells, step, trying, turn_exits, with_parameters, with_slot}
-use Rattle.c_program.specs.Performing.{Onward, perform}
-use Rattle.c_program.specs.State.{State, mark_of, width_of}
+use Rattle.c_program.specs.Performing.{Onward}
+use Rattle.c_program.specs.State.{State, mark_of}
 use Rattle.c_eval.specs.declared.calls.Calls.{Calls}
 use Rattle.c_eval.specs.declared.flow.Flow.{Flow}
 use Rattle.c_eval.specs.declared.flow.Flow.TheVariants.{Back}
@@ -23,23 +17,6 @@ use Rattle.c_eval.specs.Leaving.{exit}
 -- what calls of functions of the text do
 abbrev pub calls_of : Calls → m.Calls
 calls_of calls = call_at calls.rank calls.functions.now calls.depth
-
-abbrev pub mpi : Rank → MpiCall → Passing
-mpi rank call s go = trying (effect_of rank call s) s (λ effect. perform rank effect s go)
-
--- the variable of an item, not yet begun, and its first cell
-abbrev pub added : Item → State → (ℕ → Onward) → Course
-added item s go =
-    choose (has_room (length (item_cells item)) s)
-    (go (length s.cells) (with_slot item.name (length_or_one item.length) (width_of item.kind) (item_cells item) s))
-    (trapped CellsFault s)
-
--- one call more is open, with its parameters
-abbrev pub entered : Function → List Passed → Passing
-entered f arguments s go =
-    choose (has_room (parameter_cells f.parameters.items) s)
-    (go (with_parameters f.parameters.items arguments (opened s)))
-    (trapped CellsFault s)
 
 -- what a function gives back
 abbrev pub value_in : Flow → ℤ

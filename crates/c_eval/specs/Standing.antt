@@ -9,7 +9,7 @@ use Rattle.c_program.specs.Courses.{Course, Over, after, state_in}
 use Rattle.c_program.specs.Meaning.{course_of}
 use Rattle.c_program.specs.Program.{course_after}
 use Rattle.c_program.specs.State.{State}
-use Rattle.c_replies.specs.Evaluated.{StandsAt}
+use Rattle.c_eval.specs.Evaluated.{StandsAt}
 
 -- the course makes this call next, from this state, or is over there
 abbrev pub Wants : Course → Want → State → Type 0

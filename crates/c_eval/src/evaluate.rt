@@ -1,22 +1,23 @@
 //! The evaluation of statements.
 ghost use Rattle.std.specs.Prelude.{◌≡◌, ◌≤◌, ◌<◌, OnOk, option_copied};
 ghost use Rattle.c_program.specs.Meaning.{act, act_list, act_part, call_at, declare, declare_all, for_start, for_update, invoke, loop, loop_after, return, right, simple, started};
-ghost use Rattle.c_replies.specs.Evaluated.{Evaluated, Gives, Passes};
+ghost use Rattle.c_eval.specs.Evaluated.{Evaluated, Gives, Passes};
 ghost use Rattle.c_eval.specs.Leaving.{Leaves};
 ghost use Rattle.c_eval.specs.Parts.{blocked, calls_of, for_of, turn, value_in, way};
 ghost use Rattle.c_eval.specs.Statements.{assigns, chosen, otherwise};
 
 use crate::calls::Calls;
 use crate::flow::Flow;
-use crate::parts::{
-    add, arguments_of, call_mpi, enter, function_at, print, put_assigned, put_values_of, take_step,
-};
+use crate::outcome::{Replies, Stop};
+use crate::perform::call_mpi;
 use c_cells::store::Store;
 use c_names::operator::Operator;
+use c_parts::parts::{
+    add, arguments_of, enter, function_at, print, put_assigned, put_values_of, take_step,
+};
 use c_program::expr::{Call, Expr, Place, Right};
 use c_program::state::Passed;
 use c_program::statement::{ForStart, Initial, Item, Part, Simple, Stmt};
-use c_replies::outcome::{Replies, Stop};
 use mpi_call::call::Fault;
 
 // ---- what has one way out
@@ -110,7 +111,7 @@ fn assign<'p>(
 {
     let cell = store.cell_of(place)?;
     let value = value_of(calls, right, store, replies)?;
-    put_assigned(operator, cell, value, store)
+    Ok(put_assigned(operator, cell, value, store)?)
 }
 
 /// A statement that stands before a `;`.
@@ -135,8 +136,8 @@ fn run_simple<'p>(
             invoke(calls, call, store, replies)?;
             Ok(())
         }
-        Simple::Mpi(call) => call_mpi(calls, call, store, replies),
-        Simple::Print { format, arguments } => print(calls.alloc, format, arguments, store),
+        Simple::Mpi(call) => call_mpi(calls.alloc, calls.rank, call, store, replies),
+        Simple::Print { format, arguments } => Ok(print(calls.alloc, format, arguments, store)?),
         Simple::Flush => Ok(()),
     }
 }
@@ -160,7 +161,7 @@ fn declare<'p>(
             store.put(cell, value);
             Ok(())
         }
-        Initial::Values(expressions) => put_values_of(expressions, cell, store),
+        Initial::Values(expressions) => Ok(put_values_of(expressions, cell, store)?),
     }
 }
 

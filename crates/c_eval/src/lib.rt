@@ -4,5 +4,6 @@
 mod calls;
 mod evaluate;
 mod flow;
-mod parts;
+pub mod outcome;
+pub mod perform;
 pub mod rank;

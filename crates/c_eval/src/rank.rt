@@ -8,11 +8,11 @@ ghost use Rattle.c_eval.specs.Standing.{Wants};
 
 use crate::calls::Calls;
 use crate::evaluate::call_function;
+use crate::outcome::{Replies, Stop};
 use c_cells::store::Store;
 use c_program::CProgram;
 use c_program::effect::Rank;
 use c_program::state::Passed;
-use c_replies::outcome::{Replies, Stop};
 use mpi_call::call::Call;
 use mpi_call::reply;
 use mpi_call::reply::Reply;

@@ -27,9 +27,22 @@ use Rattle.c_program.specs.declared.effect.Message.{Message}
 use Rattle.c_program.specs.declared.effect.Rank.{Rank}
 use Rattle.c_program.specs.declared.effect.Receive.{Receive}
 use Rattle.c_program.specs.declared.effect.Start.TheVariants.{Send as StartSend, Receive as StartReceive}
+use Rattle.c_program.specs.declared.expr.Expr.{Expr}
 use Rattle.c_program.specs.declared.expr.Reference.{Reference}
+use Rattle.c_program.specs.declared.mpi.CollectiveCall.{CollectiveCall}
+use Rattle.c_program.specs.declared.mpi.CollectiveCall.TheVariants as collectives
+use Rattle.c_program.specs.declared.mpi.CommunicatorCall.{CommunicatorCall}
+use Rattle.c_program.specs.declared.mpi.CommunicatorCall.TheVariants as communicators
+use Rattle.c_program.specs.declared.mpi.CompletionCall.{CompletionCall}
+use Rattle.c_program.specs.declared.mpi.CompletionCall.TheVariants as completions
+use Rattle.c_program.specs.declared.mpi.MessageCall.{MessageCall}
+use Rattle.c_program.specs.declared.mpi.MessageCall.TheVariants as messages
 use Rattle.c_program.specs.declared.mpi.MpiCall.{MpiCall}
 use Rattle.c_program.specs.declared.mpi.MpiCall.TheVariants as c
+use Rattle.c_program.specs.declared.mpi.ProbeCall.{ProbeCall}
+use Rattle.c_program.specs.declared.mpi.ProbeCall.TheVariants as probes
+use Rattle.c_program.specs.declared.mpi.Reduction.{Reduction}
+use Rattle.c_program.specs.declared.mpi.SomeRequests.{SomeRequests}
 use Rattle.c_program.specs.Cells.{Cells}
 use Rattle.c_program.specs.State.{State, any_source, cell_at, members_of, no_cells, null, undefined}
 use Rattle.c_program.specs.Values.{given, or_fault, range, value}
@@ -179,38 +192,18 @@ pieces comm count = length comm.members * count
 
 -- ---- the functions
 
-abbrev pub effect_of : Rank → MpiCall → State → Result Effect Fault
-effect_of rank c.Init s = Ok Nothing
-effect_of rank c.Finalize s = Ok Nothing
-effect_of rank (c.CommRank comm into) s =
-    given (value comm s) (λ comm. given (range into s) (λ into.
-    given (communicator rank s comm) (λ comm.
-    given (cell into) (λ into.
-    Ok (Sets into (rank_in comm.members rank.number))))))
-effect_of rank (c.CommSize comm into) s =
-    given (value comm s) (λ comm. given (range into s) (λ into.
-    given (communicator rank s comm) (λ comm.
-    given (cell into) (λ into.
-    Ok (Sets into (pos (length comm.members)))))))
-effect_of rank (c.GetCount kept into) s =
-    given (status kept s) (λ kept. given (range into s) (λ into.
-    given (optional cell kept) (λ kept.
-    given (cell into) (λ into.
-    Ok (Sets into (count_in kept s))))))
-effect_of rank (c.CommFree into) s =
-    given (range into s) (λ into.
-    given (cell into) (λ into.
-    Ok (Sets into null)))
-effect_of rank (c.Send buffer dest tag comm) s =
-    given (range buffer.cells s) (λ buffer_cells. given (value buffer.count s) (λ buffer_count. given (value dest s) (λ dest. given (value tag s) (λ tag. given (value comm s) (λ comm.
+-- sends and receives (MPI 3.1, 3.2, 3.7.2 and 3.10)
+abbrev pub message_effect : Rank → MessageCall → State → Result Effect Fault
+message_effect rank (messages.Send outgoing comm) s =
+    given (range outgoing.buffer.cells s) (λ buffer_cells. given (value outgoing.buffer.count s) (λ buffer_count. given (value outgoing.dest s) (λ dest. given (value outgoing.tag s) (λ tag. given (value comm s) (λ comm.
     given (communicator rank s comm) (λ comm.
     given (count_of buffer_count) (λ buffer_count.
     given (destination comm dest) (λ dest.
     given (tag_of tag) (λ tag.
     given (first buffer_count buffer_cells) (λ buffer_cells.
     Ok (sends comm dest tag buffer_cells)))))))))))
-effect_of rank (c.Recv buffer source tag comm kept) s =
-    given (range buffer.cells s) (λ buffer_cells. given (value buffer.count s) (λ buffer_count. given (value source s) (λ source. given (value tag s) (λ tag. given (value comm s) (λ comm. given (status kept s) (λ kept.
+message_effect rank (messages.Recv incoming comm kept) s =
+    given (range incoming.buffer.cells s) (λ buffer_cells. given (value incoming.buffer.count s) (λ buffer_count. given (value incoming.source s) (λ source. given (value incoming.tag s) (λ tag. given (value comm s) (λ comm. given (status kept s) (λ kept.
     given (communicator rank s comm) (λ comm.
     given (count_of buffer_count) (λ buffer_count.
     given (source_of comm source) (λ source.
@@ -218,8 +211,26 @@ effect_of rank (c.Recv buffer source tag comm kept) s =
     given (first buffer_count buffer_cells) (λ buffer_cells.
     given (optional cell kept) (λ kept.
     Ok (Receives (receive comm source tag buffer_cells) None kept)))))))))))))
-effect_of rank (c.Sendrecv out dest send_tag buffer source tag comm kept) s =
-    given (range out.cells s) (λ out_cells. given (value out.count s) (λ out_count. given (value dest s) (λ dest. given (value send_tag s) (λ send_tag. given (range buffer.cells s) (λ buffer_cells. given (value buffer.count s) (λ buffer_count. given (value source s) (λ source. given (value tag s) (λ tag. given (value comm s) (λ comm. given (status kept s) (λ kept.
+message_effect rank (messages.Isend outgoing comm request) s =
+    given (range outgoing.buffer.cells s) (λ buffer_cells. given (value outgoing.buffer.count s) (λ buffer_count. given (value outgoing.dest s) (λ dest. given (value outgoing.tag s) (λ tag. given (value comm s) (λ comm. given (range request s) (λ request.
+    given (communicator rank s comm) (λ comm.
+    given (count_of buffer_count) (λ buffer_count.
+    given (destination comm dest) (λ dest.
+    given (tag_of tag) (λ tag.
+    given (first buffer_count buffer_cells) (λ buffer_cells.
+    given (cell request) (λ request.
+    Ok (sends_from comm dest tag buffer_cells request)))))))))))))
+message_effect rank (messages.Irecv incoming comm request) s =
+    given (range incoming.buffer.cells s) (λ buffer_cells. given (value incoming.buffer.count s) (λ buffer_count. given (value incoming.source s) (λ source. given (value incoming.tag s) (λ tag. given (value comm s) (λ comm. given (range request s) (λ request.
+    given (communicator rank s comm) (λ comm.
+    given (count_of buffer_count) (λ buffer_count.
+    given (source_of comm source) (λ source.
+    given (wanted_tag tag) (λ tag.
+    given (first buffer_count buffer_cells) (λ buffer_cells.
+    given (cell request) (λ request.
+    Ok (Starts (StartReceive (receive comm source tag buffer_cells)) (Some request))))))))))))))
+message_effect rank (messages.Sendrecv outgoing incoming comm kept) s =
+    given (range outgoing.buffer.cells s) (λ out_cells. given (value outgoing.buffer.count s) (λ out_count. given (value outgoing.dest s) (λ dest. given (value outgoing.tag s) (λ send_tag. given (range incoming.buffer.cells s) (λ buffer_cells. given (value incoming.buffer.count s) (λ buffer_count. given (value incoming.source s) (λ source. given (value incoming.tag s) (λ tag. given (value comm s) (λ comm. given (status kept s) (λ kept.
     given (communicator rank s comm) (λ comm.
     given (count_of out_count) (λ out_count.
     given (count_of buffer_count) (λ buffer_count.
@@ -231,64 +242,39 @@ effect_of rank (c.Sendrecv out dest send_tag buffer source tag comm kept) s =
     given (first buffer_count buffer_cells) (λ buffer_cells.
     given (optional cell kept) (λ kept.
     Ok (Receives (receive comm source tag buffer_cells) (send_after comm dest send_tag out_cells) kept)))))))))))))))))))))
-effect_of rank (c.Isend buffer dest tag comm request) s =
-    given (range buffer.cells s) (λ buffer_cells. given (value buffer.count s) (λ buffer_count. given (value dest s) (λ dest. given (value tag s) (λ tag. given (value comm s) (λ comm. given (range request s) (λ request.
-    given (communicator rank s comm) (λ comm.
-    given (count_of buffer_count) (λ buffer_count.
-    given (destination comm dest) (λ dest.
-    given (tag_of tag) (λ tag.
-    given (first buffer_count buffer_cells) (λ buffer_cells.
-    given (cell request) (λ request.
-    Ok (sends_from comm dest tag buffer_cells request)))))))))))))
-effect_of rank (c.Irecv buffer source tag comm request) s =
-    given (range buffer.cells s) (λ buffer_cells. given (value buffer.count s) (λ buffer_count. given (value source s) (λ source. given (value tag s) (λ tag. given (value comm s) (λ comm. given (range request s) (λ request.
-    given (communicator rank s comm) (λ comm.
-    given (count_of buffer_count) (λ buffer_count.
-    given (source_of comm source) (λ source.
-    given (wanted_tag tag) (λ tag.
-    given (first buffer_count buffer_cells) (λ buffer_cells.
-    given (cell request) (λ request.
-    Ok (Starts (StartReceive (receive comm source tag buffer_cells)) (Some request))))))))))))))
-effect_of rank (c.Wait requests kept) s =
+
+-- `MPI_Waitsome` and `MPI_Testsome`
+abbrev pub completes_some : TakeMode → SomeRequests → State → Result Effect Fault
+completes_some mode several s =
+    given (value several.count s) (λ count. given (range several.requests s) (λ requests. given (range several.outcount s) (λ outcount. given (range several.indices s) (λ indices. given (status several.statuses s) (λ kept.
+    given (handles_of count) (λ count.
+    given (first count requests) (λ requests.
+    given (cell outcount) (λ outcount.
+    given (first count indices) (λ indices.
+    given (optional (first count) kept) (λ kept.
+    completes requests mode (record answers { outcount = Some outcount; indices = Some indices; statuses = kept })))))))))))
+
+-- the completion of requests (MPI 3.1, 3.7.3 and 3.7.5)
+abbrev pub completion_effect : CompletionCall → State → Result Effect Fault
+completion_effect (completions.Wait requests kept) s =
     given (range requests s) (λ requests. given (status kept s) (λ kept.
     given (first 1 requests) (λ requests.
     given (optional (first 1) kept) (λ kept.
     completes requests All (record answers { statuses = kept })))))
-effect_of rank (c.Waitall count requests kept) s =
-    given (value count s) (λ count. given (range requests s) (λ requests. given (status kept s) (λ kept.
-    given (handles_of count) (λ count.
-    given (first count requests) (λ requests.
-    given (optional (first count) kept) (λ kept.
-    completes requests All (record answers { statuses = kept })))))))
-effect_of rank (c.Waitany count requests index kept) s =
+completion_effect (completions.Test requests flag kept) s =
+    given (range requests s) (λ requests. given (range flag s) (λ flag. given (status kept s) (λ kept.
+    given (first 1 requests) (λ requests.
+    given (cell flag) (λ flag.
+    given (optional (first 1) kept) (λ kept.
+    completes requests TestAll (record answers { flag = Some flag; statuses = kept })))))))
+completion_effect (completions.Waitany count requests index kept) s =
     given (value count s) (λ count. given (range requests s) (λ requests. given (range index s) (λ index. given (status kept s) (λ kept.
     given (handles_of count) (λ count.
     given (first count requests) (λ requests.
     given (cell index) (λ index.
     given (optional (first 1) kept) (λ kept.
     completes requests AnyOne (record answers { index = Some index; statuses = kept })))))))))
-effect_of rank (c.Waitsome count requests outcount indices kept) s =
-    given (value count s) (λ count. given (range requests s) (λ requests. given (range outcount s) (λ outcount. given (range indices s) (λ indices. given (status kept s) (λ kept.
-    given (handles_of count) (λ count.
-    given (first count requests) (λ requests.
-    given (cell outcount) (λ outcount.
-    given (first count indices) (λ indices.
-    given (optional (first count) kept) (λ kept.
-    completes requests Several (record answers { outcount = Some outcount; indices = Some indices; statuses = kept })))))))))))
-effect_of rank (c.Test requests flag kept) s =
-    given (range requests s) (λ requests. given (range flag s) (λ flag. given (status kept s) (λ kept.
-    given (first 1 requests) (λ requests.
-    given (cell flag) (λ flag.
-    given (optional (first 1) kept) (λ kept.
-    completes requests TestAll (record answers { flag = Some flag; statuses = kept })))))))
-effect_of rank (c.Testall count requests flag kept) s =
-    given (value count s) (λ count. given (range requests s) (λ requests. given (range flag s) (λ flag. given (status kept s) (λ kept.
-    given (handles_of count) (λ count.
-    given (first count requests) (λ requests.
-    given (cell flag) (λ flag.
-    given (optional (first count) kept) (λ kept.
-    completes requests TestAll (record answers { flag = Some flag; statuses = kept })))))))))
-effect_of rank (c.Testany count requests index flag kept) s =
+completion_effect (completions.Testany count requests index flag kept) s =
     given (value count s) (λ count. given (range requests s) (λ requests. given (range index s) (λ index. given (range flag s) (λ flag. given (status kept s) (λ kept.
     given (handles_of count) (λ count.
     given (first count requests) (λ requests.
@@ -296,22 +282,32 @@ effect_of rank (c.Testany count requests index flag kept) s =
     given (cell flag) (λ flag.
     given (optional (first 1) kept) (λ kept.
     completes requests TestAny (record answers { flag = Some flag; index = Some index; statuses = kept })))))))))))
-effect_of rank (c.Testsome count requests outcount indices kept) s =
-    given (value count s) (λ count. given (range requests s) (λ requests. given (range outcount s) (λ outcount. given (range indices s) (λ indices. given (status kept s) (λ kept.
+completion_effect (completions.Waitall count requests kept) s =
+    given (value count s) (λ count. given (range requests s) (λ requests. given (status kept s) (λ kept.
     given (handles_of count) (λ count.
     given (first count requests) (λ requests.
-    given (cell outcount) (λ outcount.
-    given (first count indices) (λ indices.
     given (optional (first count) kept) (λ kept.
-    completes requests TestSeveral (record answers { outcount = Some outcount; indices = Some indices; statuses = kept })))))))))))
-effect_of rank (c.Probe source tag comm kept) s =
+    completes requests All (record answers { statuses = kept })))))))
+completion_effect (completions.Testall count requests flag kept) s =
+    given (value count s) (λ count. given (range requests s) (λ requests. given (range flag s) (λ flag. given (status kept s) (λ kept.
+    given (handles_of count) (λ count.
+    given (first count requests) (λ requests.
+    given (cell flag) (λ flag.
+    given (optional (first count) kept) (λ kept.
+    completes requests TestAll (record answers { flag = Some flag; statuses = kept })))))))))
+completion_effect (completions.Waitsome several) s = completes_some Several several s
+completion_effect (completions.Testsome several) s = completes_some TestSeveral several s
+
+-- probes, and what a status tells (MPI 3.1, 3.8.1 and 3.2.5)
+abbrev pub probe_effect : Rank → ProbeCall → State → Result Effect Fault
+probe_effect rank (probes.Probe source tag comm kept) s =
     given (value source s) (λ source. given (value tag s) (λ tag. given (value comm s) (λ comm. given (status kept s) (λ kept.
     given (communicator rank s comm) (λ comm.
     given (source_of comm source) (λ source.
     given (wanted_tag tag) (λ tag.
     given (optional cell kept) (λ kept.
     Ok (Probes comm.number source tag true None kept)))))))))
-effect_of rank (c.Iprobe source tag comm flag kept) s =
+probe_effect rank (probes.Iprobe source tag comm flag kept) s =
     given (value source s) (λ source. given (value tag s) (λ tag. given (value comm s) (λ comm. given (range flag s) (λ flag. given (status kept s) (λ kept.
     given (communicator rank s comm) (λ comm.
     given (source_of comm source) (λ source.
@@ -319,40 +315,36 @@ effect_of rank (c.Iprobe source tag comm flag kept) s =
     given (cell flag) (λ flag.
     given (optional cell kept) (λ kept.
     Ok (Probes comm.number source tag false (Some flag) kept)))))))))))
-effect_of rank (c.Barrier comm) s =
+probe_effect rank (probes.GetCount kept into) s =
+    given (status kept s) (λ kept. given (range into s) (λ into.
+    given (optional cell kept) (λ kept.
+    given (cell into) (λ into.
+    Ok (Sets into (count_in kept s))))))
+
+-- `MPI_Allreduce` and `MPI_Scan`
+abbrev pub reduces_for_all : Rank → Kind → Reduction → Expr → State → Result Effect Fault
+reduces_for_all rank kind reduction comm s =
+    given (range reduction.send s) (λ out. given (range reduction.receive s) (λ buffer. given (value reduction.count s) (λ count. given (value comm s) (λ comm.
+    given (communicator rank s comm) (λ comm.
+    given (count_of count) (λ count.
+    given (enters count out) (λ entered.
+    given (gets count buffer) (λ into.
+    joins comm kind None (Some reduction.op) count entered into))))))))
+
+-- collectives (MPI 3.1, 5.3 to 5.9 and 5.11)
+abbrev pub collective_effect : Rank → CollectiveCall → State → Result Effect Fault
+collective_effect rank (collectives.Barrier comm) s =
     given (value comm s) (λ comm.
     given (communicator rank s comm) (λ comm.
     joins comm Barrier None None 0 EntersNothing Nowhere))
-effect_of rank (c.Bcast buffer root comm) s =
+collective_effect rank (collectives.Bcast buffer root comm) s =
     given (range buffer.cells s) (λ buffer_cells. given (value buffer.count s) (λ buffer_count. given (value root s) (λ root. given (value comm s) (λ comm.
     given (communicator rank s comm) (λ comm.
     given (count_of buffer_count) (λ buffer_count.
     given (member comm root) (λ root.
     given (first buffer_count buffer_cells) (λ buffer_cells.
     joins comm Bcast (Some root) None buffer_count (if is_me rank root then EntersCells buffer_cells else EntersNothing) (IntoCells buffer_cells)))))))))
-effect_of rank (c.Reduce out buffer count op root comm) s =
-    given (range out s) (λ out. given (range buffer s) (λ buffer. given (value count s) (λ count. given (value root s) (λ root. given (value comm s) (λ comm.
-    given (communicator rank s comm) (λ comm.
-    given (count_of count) (λ count.
-    given (member comm root) (λ root.
-    given (enters count out) (λ entered.
-    given (at_root (is_me rank root) Nowhere (gets count buffer)) (λ into.
-    joins comm Reduce (Some root) (Some op) count entered into))))))))))
-effect_of rank (c.Allreduce out buffer count op comm) s =
-    given (range out s) (λ out. given (range buffer s) (λ buffer. given (value count s) (λ count. given (value comm s) (λ comm.
-    given (communicator rank s comm) (λ comm.
-    given (count_of count) (λ count.
-    given (enters count out) (λ entered.
-    given (gets count buffer) (λ into.
-    joins comm Allreduce None (Some op) count entered into))))))))
-effect_of rank (c.Scan out buffer count op comm) s =
-    given (range out s) (λ out. given (range buffer s) (λ buffer. given (value count s) (λ count. given (value comm s) (λ comm.
-    given (communicator rank s comm) (λ comm.
-    given (count_of count) (λ count.
-    given (enters count out) (λ entered.
-    given (gets count buffer) (λ into.
-    joins comm Scan None (Some op) count entered into))))))))
-effect_of rank (c.Gather out buffer root comm) s =
+collective_effect rank (collectives.Gather out buffer root comm) s =
     given (range out.cells s) (λ out_cells. given (value out.count s) (λ out_count. given (range buffer.cells s) (λ buffer_cells. given (value buffer.count s) (λ buffer_count. given (value root s) (λ root. given (value comm s) (λ comm.
     given (communicator rank s comm) (λ comm.
     given (count_of out_count) (λ out_count.
@@ -361,7 +353,7 @@ effect_of rank (c.Gather out buffer root comm) s =
     given (enters count out_cells) (λ entered.
     given (at_root (is_me rank root) Nowhere (gets (pieces comm count) buffer_cells)) (λ into.
     joins comm Gather (Some root) None count entered into))))))))))))
-effect_of rank (c.Scatter out buffer root comm) s =
+collective_effect rank (collectives.Scatter out buffer root comm) s =
     given (range out.cells s) (λ out_cells. given (value out.count s) (λ out_count. given (range buffer.cells s) (λ buffer_cells. given (value buffer.count s) (λ buffer_count. given (value root s) (λ root. given (value comm s) (λ comm.
     given (communicator rank s comm) (λ comm.
     given (count_of buffer_count) (λ buffer_count.
@@ -370,7 +362,7 @@ effect_of rank (c.Scatter out buffer root comm) s =
     given (at_root (is_me rank root) EntersNothing (enters (pieces comm count) out_cells)) (λ entered.
     given (gets count buffer_cells) (λ into.
     joins comm Scatter (Some root) None count entered into))))))))))))
-effect_of rank (c.Allgather out buffer comm) s =
+collective_effect rank (collectives.Allgather out buffer comm) s =
     given (range out.cells s) (λ out_cells. given (value out.count s) (λ out_count. given (range buffer.cells s) (λ buffer_cells. given (value buffer.count s) (λ buffer_count. given (value comm s) (λ comm.
     given (communicator rank s comm) (λ comm.
     given (count_of out_count) (λ out_count.
@@ -378,7 +370,7 @@ effect_of rank (c.Allgather out buffer comm) s =
     given (enters count out_cells) (λ entered.
     given (gets (pieces comm count) buffer_cells) (λ into.
     joins comm Allgather None None count entered into))))))))))
-effect_of rank (c.Alltoall out buffer comm) s =
+collective_effect rank (collectives.Alltoall out buffer comm) s =
     given (range out.cells s) (λ out_cells. given (value out.count s) (λ out_count. given (range buffer.cells s) (λ buffer_cells. given (value buffer.count s) (λ buffer_count. given (value comm s) (λ comm.
     given (communicator rank s comm) (λ comm.
     given (count_of out_count) (λ out_count.
@@ -386,18 +378,55 @@ effect_of rank (c.Alltoall out buffer comm) s =
     given (enters (pieces comm count) out_cells) (λ entered.
     given (gets (pieces comm count) buffer_cells) (λ into.
     joins comm Alltoall None None count entered into))))))))))
-effect_of rank (c.CommSplit comm color key into) s =
+collective_effect rank (collectives.Reduce reduction root comm) s =
+    given (range reduction.send s) (λ out. given (range reduction.receive s) (λ buffer. given (value reduction.count s) (λ count. given (value root s) (λ root. given (value comm s) (λ comm.
+    given (communicator rank s comm) (λ comm.
+    given (count_of count) (λ count.
+    given (member comm root) (λ root.
+    given (enters count out) (λ entered.
+    given (at_root (is_me rank root) Nowhere (gets count buffer)) (λ into.
+    joins comm Reduce (Some root) (Some reduction.op) count entered into))))))))))
+collective_effect rank (collectives.Allreduce reduction comm) s = reduces_for_all rank Allreduce reduction comm s
+collective_effect rank (collectives.Scan reduction comm) s = reduces_for_all rank Scan reduction comm s
+
+-- communicators (MPI 3.1, 6.4)
+abbrev pub communicator_effect : Rank → CommunicatorCall → State → Result Effect Fault
+communicator_effect rank (communicators.Size comm into) s =
+    given (value comm s) (λ comm. given (range into s) (λ into.
+    given (communicator rank s comm) (λ comm.
+    given (cell into) (λ into.
+    Ok (Sets into (pos (length comm.members)))))))
+communicator_effect rank (communicators.Rank comm into) s =
+    given (value comm s) (λ comm. given (range into s) (λ into.
+    given (communicator rank s comm) (λ comm.
+    given (cell into) (λ into.
+    Ok (Sets into (rank_in comm.members rank.number))))))
+communicator_effect rank (communicators.Dup comm into) s =
+    given (value comm s) (λ comm. given (range into s) (λ into.
+    given (communicator rank s comm) (λ comm.
+    given (cell into) (λ into.
+    joins comm Dup None None 0 EntersNothing (Handle into)))))
+communicator_effect rank (communicators.Split comm color key into) s =
     given (value comm s) (λ comm. given (value color s) (λ color. given (value key s) (λ key. given (range into s) (λ into.
     given (communicator rank s comm) (λ comm.
     given (colour color) (λ color.
     given (cell into) (λ into.
     joins comm Split None None 0 (Pair color key) (Handle into))))))))
-effect_of rank (c.CommDup comm into) s =
-    given (value comm s) (λ comm. given (range into s) (λ into.
-    given (communicator rank s comm) (λ comm.
+communicator_effect rank (communicators.Free into) s =
+    given (range into s) (λ into.
     given (cell into) (λ into.
-    joins comm Dup None None 0 EntersNothing (Handle into)))))
+    Ok (Sets into null)))
+
+-- all, with `MPI_Init`, `MPI_Finalize` and `MPI_Abort` (MPI 3.1, 8.7)
+abbrev pub effect_of : Rank → MpiCall → State → Result Effect Fault
+effect_of rank c.Init s = Ok Nothing
+effect_of rank c.Finalize s = Ok Nothing
 effect_of rank (c.Abort comm code) s =
     given (value comm s) (λ comm. given (value code s) (λ code.
     given (communicator rank s comm) (λ comm.
     Ok (Aborts code))))
+effect_of rank (c.Message call) s = message_effect rank call s
+effect_of rank (c.Completion call) s = completion_effect call s
+effect_of rank (c.Probe call) s = probe_effect rank call s
+effect_of rank (c.Collective call) s = collective_effect rank call s
+effect_of rank (c.Communicator call) s = communicator_effect rank call s

@@ -26,10 +26,24 @@ use Rattle.c_program.specs.declared.effect.Start.TheVariants.{Receive as StartRe
 use Rattle.c_program.specs.declared.expr.Expr.{Expr}
 use Rattle.c_program.specs.declared.expr.Reference.{Reference}
 use Rattle.c_program.specs.declared.mpi.Buffer.{Buffer}
+use Rattle.c_program.specs.declared.mpi.CollectiveCall.{CollectiveCall}
+use Rattle.c_program.specs.declared.mpi.CollectiveCall.TheVariants as collectives
+use Rattle.c_program.specs.declared.mpi.CommunicatorCall.{CommunicatorCall}
+use Rattle.c_program.specs.declared.mpi.CommunicatorCall.TheVariants as communicators
+use Rattle.c_program.specs.declared.mpi.CompletionCall.{CompletionCall}
+use Rattle.c_program.specs.declared.mpi.CompletionCall.TheVariants as completions
+use Rattle.c_program.specs.declared.mpi.Incoming.{Incoming}
+use Rattle.c_program.specs.declared.mpi.MessageCall.{MessageCall}
+use Rattle.c_program.specs.declared.mpi.MessageCall.TheVariants as messages
 use Rattle.c_program.specs.declared.mpi.MpiCall.{MpiCall}
 use Rattle.c_program.specs.declared.mpi.MpiCall.TheVariants as c
+use Rattle.c_program.specs.declared.mpi.Outgoing.{Outgoing}
+use Rattle.c_program.specs.declared.mpi.ProbeCall.{ProbeCall}
+use Rattle.c_program.specs.declared.mpi.ProbeCall.TheVariants as probes
+use Rattle.c_program.specs.declared.mpi.Reduction.{Reduction}
+use Rattle.c_program.specs.declared.mpi.SomeRequests.{SomeRequests}
 use Rattle.c_program.specs.Cells.{Cells}
-use Rattle.c_program.specs.Effects.{Comm, answers, at_root, cell, colour, effect_of, enters, first, gets, handles_of, is_me, is_root, joins, optional, pieces, receive, same_count, send_after, sends, sends_from, status}
+use Rattle.c_program.specs.Effects.{Comm, answers, at_root, cell, colour, completes_some, effect_of, enters, first, gets, handles_of, is_me, is_root, joins, optional, pieces, receive, same_count, send_after, sends, sends_from, status}
 use Rattle.c_program.specs.Keeping.{Good}
 use Rattle.c_program.specs.Performing.{entered_ints}
 use Rattle.c_program.specs.Program.{rank_of}
@@ -64,11 +78,11 @@ starts_proper n me own comm source tag cells request low small = record { source
 probes_proper : (n me : ℕ) (own : View) (comm : Comm) (source : Source) (tag : Tag) (waits : Bool) (flag status : Option ℕ) → IsSourceBelow n source → IsTagInBounds tag → IsProper n me own (Probes comm.number source tag waits flag status)
 probes_proper n me own comm source tag waits flag status low small = record { source = low; tag = small }
 
-send_proper : (buffer : Buffer) (dest tag comm : Expr) → IsKept (c.Send buffer dest tag comm)
-send_proper buffer dest tag comm n me own s good =
+send_proper : (outgoing : Outgoing) (comm : Expr) → IsKept (c.Message (messages.Send outgoing comm))
+send_proper outgoing comm n me own s good =
     let P : Effect → Type 0 = IsProper n me own in
-    given_free P (range buffer.cells s) _ (λ buffer_cells. given_free P (value buffer.count s) _ (λ buffer_count. given_free P (value dest s) _ (λ dest.
-    given_free P (value tag s) _ (λ tag. given_free P (value comm s) _ (λ comm.
+    given_free P (range outgoing.buffer.cells s) _ (λ buffer_cells. given_free P (value outgoing.buffer.count s) _ (λ buffer_count. given_free P (value outgoing.dest s) _ (λ dest.
+    given_free P (value outgoing.tag s) _ (λ tag. given_free P (value comm s) _ (λ comm.
     on_comm P n me own s good comm _ (λ comm known.
     on_count P buffer_count _ (λ buffer_count buffer_count_few.
     on_destination P n me own comm known dest _ (λ dest dest_low.
@@ -76,11 +90,11 @@ send_proper buffer dest tag comm n me own s good =
     on_first P buffer_count buffer_cells _ (λ buffer_cells buffer_cells_first.
     sends_proper n me own comm dest tag buffer_cells dest_low tag_small (omega (arith, buffer_count_few, buffer_cells_first.length))))))))))))
 
-recv_proper : (buffer : Buffer) (source tag comm : Expr) (kept : Option Reference) → IsKept (c.Recv buffer source tag comm kept)
-recv_proper buffer source tag comm kept n me own s good =
+recv_proper : (incoming : Incoming) (comm : Expr) (kept : Option Reference) → IsKept (c.Message (messages.Recv incoming comm kept))
+recv_proper incoming comm kept n me own s good =
     let P : Effect → Type 0 = IsProper n me own in
-    given_free P (range buffer.cells s) _ (λ buffer_cells. given_free P (value buffer.count s) _ (λ buffer_count. given_free P (value source s) _ (λ source.
-    given_free P (value tag s) _ (λ tag. given_free P (value comm s) _ (λ comm. given_free P (status kept s) _ (λ kept.
+    given_free P (range incoming.buffer.cells s) _ (λ buffer_cells. given_free P (value incoming.buffer.count s) _ (λ buffer_count. given_free P (value incoming.source s) _ (λ source.
+    given_free P (value incoming.tag s) _ (λ tag. given_free P (value comm s) _ (λ comm. given_free P (status kept s) _ (λ kept.
     on_comm P n me own s good comm _ (λ comm known.
     on_count P buffer_count _ (λ buffer_count buffer_count_few.
     on_source P n me own comm known source _ (λ source source_low.
@@ -89,12 +103,38 @@ recv_proper buffer source tag comm kept n me own s good =
     given_free P (optional cell kept) _ (λ kept.
     receives_proper n me own comm source tag buffer_cells None kept source_low tag_small tt))))))))))))
 
-sendrecv_proper : (out : Buffer) (dest send_tag : Expr) (buffer : Buffer) (source tag comm : Expr) (kept : Option Reference) → IsKept (c.Sendrecv out dest send_tag buffer source tag comm kept)
-sendrecv_proper out dest send_tag buffer source tag comm kept n me own s good =
+isend_proper : (outgoing : Outgoing) (comm : Expr) (request : Reference) → IsKept (c.Message (messages.Isend outgoing comm request))
+isend_proper outgoing comm request n me own s good =
     let P : Effect → Type 0 = IsProper n me own in
-    given_free P (range out.cells s) _ (λ out_cells. given_free P (value out.count s) _ (λ out_count. given_free P (value dest s) _ (λ dest.
-    given_free P (value send_tag s) _ (λ send_tag. given_free P (range buffer.cells s) _ (λ buffer_cells. given_free P (value buffer.count s) _ (λ buffer_count.
-    given_free P (value source s) _ (λ source. given_free P (value tag s) _ (λ tag. given_free P (value comm s) _ (λ comm. given_free P (status kept s) _ (λ kept.
+    given_free P (range outgoing.buffer.cells s) _ (λ buffer_cells. given_free P (value outgoing.buffer.count s) _ (λ buffer_count. given_free P (value outgoing.dest s) _ (λ dest.
+    given_free P (value outgoing.tag s) _ (λ tag. given_free P (value comm s) _ (λ comm. given_free P (range request s) _ (λ request.
+    on_comm P n me own s good comm _ (λ comm known.
+    on_count P buffer_count _ (λ buffer_count buffer_count_few.
+    on_destination P n me own comm known dest _ (λ dest dest_low.
+    on_tag P tag _ (λ tag tag_small.
+    on_first P buffer_count buffer_cells _ (λ buffer_cells buffer_cells_first.
+    given_free P (cell request) _ (λ request.
+    sends_from_proper n me own comm dest tag buffer_cells request dest_low tag_small (omega (arith, buffer_count_few, buffer_cells_first.length))))))))))))))
+
+irecv_proper : (incoming : Incoming) (comm : Expr) (request : Reference) → IsKept (c.Message (messages.Irecv incoming comm request))
+irecv_proper incoming comm request n me own s good =
+    let P : Effect → Type 0 = IsProper n me own in
+    given_free P (range incoming.buffer.cells s) _ (λ buffer_cells. given_free P (value incoming.buffer.count s) _ (λ buffer_count. given_free P (value incoming.source s) _ (λ source.
+    given_free P (value incoming.tag s) _ (λ tag. given_free P (value comm s) _ (λ comm. given_free P (range request s) _ (λ request.
+    on_comm P n me own s good comm _ (λ comm known.
+    on_count P buffer_count _ (λ buffer_count buffer_count_few.
+    on_source P n me own comm known source _ (λ source source_low.
+    on_wanted P tag _ (λ tag tag_small.
+    on_first P buffer_count buffer_cells _ (λ buffer_cells buffer_cells_first.
+    given_free P (cell request) _ (λ request.
+    starts_proper n me own comm source tag buffer_cells request source_low tag_small))))))))))))
+
+sendrecv_proper : (outgoing : Outgoing) (incoming : Incoming) (comm : Expr) (kept : Option Reference) → IsKept (c.Message (messages.Sendrecv outgoing incoming comm kept))
+sendrecv_proper outgoing incoming comm kept n me own s good =
+    let P : Effect → Type 0 = IsProper n me own in
+    given_free P (range outgoing.buffer.cells s) _ (λ out_cells. given_free P (value outgoing.buffer.count s) _ (λ out_count. given_free P (value outgoing.dest s) _ (λ dest.
+    given_free P (value outgoing.tag s) _ (λ send_tag. given_free P (range incoming.buffer.cells s) _ (λ buffer_cells. given_free P (value incoming.buffer.count s) _ (λ buffer_count.
+    given_free P (value incoming.source s) _ (λ source. given_free P (value incoming.tag s) _ (λ tag. given_free P (value comm s) _ (λ comm. given_free P (status kept s) _ (λ kept.
     on_comm P n me own s good comm _ (λ comm known.
     on_count P out_count _ (λ out_count out_count_few.
     on_count P buffer_count _ (λ buffer_count buffer_count_few.
@@ -108,33 +148,14 @@ sendrecv_proper out dest send_tag buffer source tag comm kept n me own s good =
     receives_proper n me own comm source tag buffer_cells (send_after comm dest send_tag out_cells) kept source_low tag_small
     (send_after_proper n comm dest send_tag out_cells dest_low send_tag_small (omega (arith, out_count_few, out_cells_first.length)))))))))))))))))))))))
 
-isend_proper : (buffer : Buffer) (dest tag comm : Expr) (request : Reference) → IsKept (c.Isend buffer dest tag comm request)
-isend_proper buffer dest tag comm request n me own s good =
-    let P : Effect → Type 0 = IsProper n me own in
-    given_free P (range buffer.cells s) _ (λ buffer_cells. given_free P (value buffer.count s) _ (λ buffer_count. given_free P (value dest s) _ (λ dest.
-    given_free P (value tag s) _ (λ tag. given_free P (value comm s) _ (λ comm. given_free P (range request s) _ (λ request.
-    on_comm P n me own s good comm _ (λ comm known.
-    on_count P buffer_count _ (λ buffer_count buffer_count_few.
-    on_destination P n me own comm known dest _ (λ dest dest_low.
-    on_tag P tag _ (λ tag tag_small.
-    on_first P buffer_count buffer_cells _ (λ buffer_cells buffer_cells_first.
-    given_free P (cell request) _ (λ request.
-    sends_from_proper n me own comm dest tag buffer_cells request dest_low tag_small (omega (arith, buffer_count_few, buffer_cells_first.length))))))))))))))
+message_kept : (call : MessageCall) → IsKept (c.Message call)
+message_kept (messages.Send outgoing comm) n me own s good = send_proper outgoing comm n me own s good
+message_kept (messages.Recv incoming comm kept) n me own s good = recv_proper incoming comm kept n me own s good
+message_kept (messages.Isend outgoing comm request) n me own s good = isend_proper outgoing comm request n me own s good
+message_kept (messages.Irecv incoming comm request) n me own s good = irecv_proper incoming comm request n me own s good
+message_kept (messages.Sendrecv outgoing incoming comm kept) n me own s good = sendrecv_proper outgoing incoming comm kept n me own s good
 
-irecv_proper : (buffer : Buffer) (source tag comm : Expr) (request : Reference) → IsKept (c.Irecv buffer source tag comm request)
-irecv_proper buffer source tag comm request n me own s good =
-    let P : Effect → Type 0 = IsProper n me own in
-    given_free P (range buffer.cells s) _ (λ buffer_cells. given_free P (value buffer.count s) _ (λ buffer_count. given_free P (value source s) _ (λ source.
-    given_free P (value tag s) _ (λ tag. given_free P (value comm s) _ (λ comm. given_free P (range request s) _ (λ request.
-    on_comm P n me own s good comm _ (λ comm known.
-    on_count P buffer_count _ (λ buffer_count buffer_count_few.
-    on_source P n me own comm known source _ (λ source source_low.
-    on_wanted P tag _ (λ tag tag_small.
-    on_first P buffer_count buffer_cells _ (λ buffer_cells buffer_cells_first.
-    given_free P (cell request) _ (λ request.
-    starts_proper n me own comm source tag buffer_cells request source_low tag_small))))))))))))
-
-probe_proper : (source tag comm : Expr) (kept : Option Reference) → IsKept (c.Probe source tag comm kept)
+probe_proper : (source tag comm : Expr) (kept : Option Reference) → IsKept (c.Probe (probes.Probe source tag comm kept))
 probe_proper source tag comm kept n me own s good =
     let P : Effect → Type 0 = IsProper n me own in
     given_free P (value source s) _ (λ source. given_free P (value tag s) _ (λ tag. given_free P (value comm s) _ (λ comm. given_free P (status kept s) _ (λ kept.
@@ -144,7 +165,7 @@ probe_proper source tag comm kept n me own s good =
     given_free P (optional cell kept) _ (λ kept.
     probes_proper n me own comm source tag true None kept source_low tag_small))))))))
 
-iprobe_proper : (source tag comm : Expr) (flag : Reference) (kept : Option Reference) → IsKept (c.Iprobe source tag comm flag kept)
+iprobe_proper : (source tag comm : Expr) (flag : Reference) (kept : Option Reference) → IsKept (c.Probe (probes.Iprobe source tag comm flag kept))
 iprobe_proper source tag comm flag kept n me own s good =
     let P : Effect → Type 0 = IsProper n me own in
     given_free P (value source s) _ (λ source. given_free P (value tag s) _ (λ tag. given_free P (value comm s) _ (λ comm. given_free P (range flag s) _ (λ flag.
@@ -155,12 +176,23 @@ iprobe_proper source tag comm flag kept n me own s good =
     given_free P (cell flag) _ (λ flag. given_free P (optional cell kept) _ (λ kept.
     probes_proper n me own comm source tag false (Some flag) kept source_low tag_small))))))))))
 
+get_count_proper : (kept : Option Reference) (into : Reference) → IsKept (c.Probe (probes.GetCount kept into))
+get_count_proper kept into n me own s good =
+    let P : Effect → Type 0 = IsProper n me own in
+    given_free P (status kept s) _ (λ kept. given_free P (range into s) _ (λ into. given_free P (optional cell kept) _ (λ kept. given_free P (cell into) _ (λ into.
+    tt))))
+
+probe_kept : (call : ProbeCall) → IsKept (c.Probe call)
+probe_kept (probes.Probe source tag comm kept) n me own s good = probe_proper source tag comm kept n me own s good
+probe_kept (probes.Iprobe source tag comm flag kept) n me own s good = iprobe_proper source tag comm flag kept n me own s good
+probe_kept (probes.GetCount kept into) n me own s good = get_count_proper kept into n me own s good
+
 -- ---- completions
 
 completes_proper : (n me : ℕ) (own : View) (requests : Cells) (mode : TakeMode) (answer : Answer) → requests.length ≤ 262144 → IsProper n me own (Completes requests mode answer)
 completes_proper n me own requests mode answer few = few
 
-wait_proper : (requests : Reference) (kept : Option Reference) → IsKept (c.Wait requests kept)
+wait_proper : (requests : Reference) (kept : Option Reference) → IsKept (c.Completion (completions.Wait requests kept))
 wait_proper requests kept n me own s good =
     let P : Effect → Type 0 = IsProper n me own in
     given_free P (range requests s) _ (λ requests. given_free P (status kept s) _ (λ kept.
@@ -168,17 +200,15 @@ wait_proper requests kept n me own s good =
     given_free P (optional (first 1) kept) _ (λ kept.
     completes_proper n me own requests All (record answers { statuses = kept }) (omega (arith, requests_first.length))))))
 
-waitall_proper : (count : Expr) (requests : Reference) (kept : Option Reference) → IsKept (c.Waitall count requests kept)
-waitall_proper count requests kept n me own s good =
+test_proper : (requests flag : Reference) (kept : Option Reference) → IsKept (c.Completion (completions.Test requests flag kept))
+test_proper requests flag kept n me own s good =
     let P : Effect → Type 0 = IsProper n me own in
-    given_free P (value count s) _ (λ count.
-    on_range P s good.slots requests _ (λ requests requests_few.
-    given_free P (status kept s) _ (λ kept. given_free P (handles_of count) _ (λ count.
-    on_first P count requests _ (λ requests requests_first.
-    given_free P (optional (first count) kept) _ (λ kept.
-    completes_proper n me own requests All (record answers { statuses = kept }) (omega (arith, requests_first.length, requests_first.within, requests_few))))))))
+    given_free P (range requests s) _ (λ requests. given_free P (range flag s) _ (λ flag. given_free P (status kept s) _ (λ kept.
+    on_first P 1 requests _ (λ requests requests_first.
+    given_free P (cell flag) _ (λ flag. given_free P (optional (first 1) kept) _ (λ kept.
+    completes_proper n me own requests TestAll (record answers { flag = Some flag; statuses = kept }) (omega (arith, requests_first.length))))))))
 
-waitany_proper : (count : Expr) (requests index : Reference) (kept : Option Reference) → IsKept (c.Waitany count requests index kept)
+waitany_proper : (count : Expr) (requests index : Reference) (kept : Option Reference) → IsKept (c.Completion (completions.Waitany count requests index kept))
 waitany_proper count requests index kept n me own s good =
     let P : Effect → Type 0 = IsProper n me own in
     given_free P (value count s) _ (λ count.
@@ -188,38 +218,7 @@ waitany_proper count requests index kept n me own s good =
     given_free P (cell index) _ (λ index. given_free P (optional (first 1) kept) _ (λ kept.
     completes_proper n me own requests AnyOne (record answers { index = Some index; statuses = kept }) (omega (arith, requests_first.length, requests_first.within, requests_few))))))))))
 
-waitsome_proper : (count : Expr) (requests outcount indices : Reference) (kept : Option Reference) → IsKept (c.Waitsome count requests outcount indices kept)
-waitsome_proper count requests outcount indices kept n me own s good =
-    let P : Effect → Type 0 = IsProper n me own in
-    given_free P (value count s) _ (λ count.
-    on_range P s good.slots requests _ (λ requests requests_few.
-    given_free P (range outcount s) _ (λ outcount. given_free P (range indices s) _ (λ indices. given_free P (status kept s) _ (λ kept.
-    given_free P (handles_of count) _ (λ count.
-    on_first P count requests _ (λ requests requests_first.
-    given_free P (cell outcount) _ (λ outcount.
-    on_first P count indices _ (λ indices indices_first.
-    given_free P (optional (first count) kept) _ (λ kept.
-    completes_proper n me own requests Several (record answers { outcount = Some outcount; indices = Some indices; statuses = kept }) (omega (arith, requests_first.length, requests_first.within, requests_few))))))))))))
-
-test_proper : (requests flag : Reference) (kept : Option Reference) → IsKept (c.Test requests flag kept)
-test_proper requests flag kept n me own s good =
-    let P : Effect → Type 0 = IsProper n me own in
-    given_free P (range requests s) _ (λ requests. given_free P (range flag s) _ (λ flag. given_free P (status kept s) _ (λ kept.
-    on_first P 1 requests _ (λ requests requests_first.
-    given_free P (cell flag) _ (λ flag. given_free P (optional (first 1) kept) _ (λ kept.
-    completes_proper n me own requests TestAll (record answers { flag = Some flag; statuses = kept }) (omega (arith, requests_first.length))))))))
-
-testall_proper : (count : Expr) (requests flag : Reference) (kept : Option Reference) → IsKept (c.Testall count requests flag kept)
-testall_proper count requests flag kept n me own s good =
-    let P : Effect → Type 0 = IsProper n me own in
-    given_free P (value count s) _ (λ count.
-    on_range P s good.slots requests _ (λ requests requests_few.
-    given_free P (range flag s) _ (λ flag. given_free P (status kept s) _ (λ kept. given_free P (handles_of count) _ (λ count.
-    on_first P count requests _ (λ requests requests_first.
-    given_free P (cell flag) _ (λ flag. given_free P (optional (first count) kept) _ (λ kept.
-    completes_proper n me own requests TestAll (record answers { flag = Some flag; statuses = kept }) (omega (arith, requests_first.length, requests_first.within, requests_few))))))))))
-
-testany_proper : (count : Expr) (requests index flag : Reference) (kept : Option Reference) → IsKept (c.Testany count requests index flag kept)
+testany_proper : (count : Expr) (requests index flag : Reference) (kept : Option Reference) → IsKept (c.Completion (completions.Testany count requests index flag kept))
 testany_proper count requests index flag kept n me own s good =
     let P : Effect → Type 0 = IsProper n me own in
     given_free P (value count s) _ (λ count.
@@ -229,20 +228,50 @@ testany_proper count requests index flag kept n me own s good =
     given_free P (cell index) _ (λ index. given_free P (cell flag) _ (λ flag. given_free P (optional (first 1) kept) _ (λ kept.
     completes_proper n me own requests TestAny (record answers { flag = Some flag; index = Some index; statuses = kept }) (omega (arith, requests_first.length, requests_first.within, requests_few))))))))))))
 
-testsome_proper : (count : Expr) (requests outcount indices : Reference) (kept : Option Reference) → IsKept (c.Testsome count requests outcount indices kept)
-testsome_proper count requests outcount indices kept n me own s good =
+waitall_proper : (count : Expr) (requests : Reference) (kept : Option Reference) → IsKept (c.Completion (completions.Waitall count requests kept))
+waitall_proper count requests kept n me own s good =
     let P : Effect → Type 0 = IsProper n me own in
     given_free P (value count s) _ (λ count.
     on_range P s good.slots requests _ (λ requests requests_few.
-    given_free P (range outcount s) _ (λ outcount. given_free P (range indices s) _ (λ indices. given_free P (status kept s) _ (λ kept.
+    given_free P (status kept s) _ (λ kept. given_free P (handles_of count) _ (λ count.
+    on_first P count requests _ (λ requests requests_first.
+    given_free P (optional (first count) kept) _ (λ kept.
+    completes_proper n me own requests All (record answers { statuses = kept }) (omega (arith, requests_first.length, requests_first.within, requests_few))))))))
+
+testall_proper : (count : Expr) (requests flag : Reference) (kept : Option Reference) → IsKept (c.Completion (completions.Testall count requests flag kept))
+testall_proper count requests flag kept n me own s good =
+    let P : Effect → Type 0 = IsProper n me own in
+    given_free P (value count s) _ (λ count.
+    on_range P s good.slots requests _ (λ requests requests_few.
+    given_free P (range flag s) _ (λ flag. given_free P (status kept s) _ (λ kept. given_free P (handles_of count) _ (λ count.
+    on_first P count requests _ (λ requests requests_first.
+    given_free P (cell flag) _ (λ flag. given_free P (optional (first count) kept) _ (λ kept.
+    completes_proper n me own requests TestAll (record answers { flag = Some flag; statuses = kept }) (omega (arith, requests_first.length, requests_first.within, requests_few))))))))))
+
+completes_some_proper : (mode : TakeMode) (several : SomeRequests) (n me : ℕ) (own : View) (s : State) → Good n me own s → Holds (IsProper n me own) (completes_some mode several s)
+completes_some_proper mode several n me own s good =
+    let P : Effect → Type 0 = IsProper n me own in
+    given_free P (value several.count s) _ (λ count.
+    on_range P s good.slots several.requests _ (λ requests requests_few.
+    given_free P (range several.outcount s) _ (λ outcount. given_free P (range several.indices s) _ (λ indices. given_free P (status several.statuses s) _ (λ kept.
     given_free P (handles_of count) _ (λ count.
     on_first P count requests _ (λ requests requests_first.
     given_free P (cell outcount) _ (λ outcount.
     on_first P count indices _ (λ indices indices_first.
     given_free P (optional (first count) kept) _ (λ kept.
-    completes_proper n me own requests TestSeveral (record answers { outcount = Some outcount; indices = Some indices; statuses = kept }) (omega (arith, requests_first.length, requests_first.within, requests_few))))))))))))
+    completes_proper n me own requests mode (record answers { outcount = Some outcount; indices = Some indices; statuses = kept }) (omega (arith, requests_first.length, requests_first.within, requests_few))))))))))))
 
--- ---- collectives
+completion_kept : (call : CompletionCall) → IsKept (c.Completion call)
+completion_kept (completions.Wait requests kept) n me own s good = wait_proper requests kept n me own s good
+completion_kept (completions.Test requests flag kept) n me own s good = test_proper requests flag kept n me own s good
+completion_kept (completions.Waitany count requests index kept) n me own s good = waitany_proper count requests index kept n me own s good
+completion_kept (completions.Testany count requests index flag kept) n me own s good = testany_proper count requests index flag kept n me own s good
+completion_kept (completions.Waitall count requests kept) n me own s good = waitall_proper count requests kept n me own s good
+completion_kept (completions.Testall count requests flag kept) n me own s good = testall_proper count requests flag kept n me own s good
+completion_kept (completions.Waitsome several) n me own s good = completes_some_proper Several several n me own s good
+completion_kept (completions.Testsome several) n me own s good = completes_some_proper TestSeveral several n me own s good
+
+-- ---- collectives and communicators
 
 root_below : (n me : ℕ) (own : View) (comm : Comm) (root : Option ℕ) → IsKnown n me own comm → IfSome root (λ rank. is_member comm.members rank ≡ true) → IfSome root (λ rank. rank < n)
 root_below n me own comm None known is = tt
@@ -307,7 +336,7 @@ on_root_enters P b count cells go on =
     (at_root_holds (λ entered. entered_length entered ≡ (if b then count else 0)) b EntersNothing (enters count cells) (λ f. rw f refl)
     (λ t. on_first (λ entered. entered_length entered ≡ (if b then count else 0)) count cells _ (λ part first. rw t first.length))) on
 
-barrier_proper : (comm : Expr) → IsKept (c.Barrier comm)
+barrier_proper : (comm : Expr) → IsKept (c.Collective (collectives.Barrier comm))
 barrier_proper comm n me own s good =
     let P : Effect → Type 0 = IsProper n me own in
     given_free P (value comm s) _ (λ comm.
@@ -316,7 +345,7 @@ barrier_proper comm n me own s good =
     (λ ints. refl) (λ ints. refl)
     (λ ints. omega arith)))
 
-bcast_proper : (buffer : Buffer) (root comm : Expr) → IsKept (c.Bcast buffer root comm)
+bcast_proper : (buffer : Buffer) (root comm : Expr) → IsKept (c.Collective (collectives.Bcast buffer root comm))
 bcast_proper buffer root comm n me own s good =
     let P : Effect → Type 0 = IsProper n me own in
     given_free P (range buffer.cells s) _ (λ buffer_cells. given_free P (value buffer.count s) _ (λ buffer_count. given_free P (value root s) _ (λ root.
@@ -329,45 +358,7 @@ bcast_proper buffer root comm n me own s good =
     (λ ints. rw root_is refl) (λ ints. entered_if (root == me) buffer_cells buffer_count buffer_cells_first.length)
     (λ ints. omega (arith, buffer_count_few))))))))))
 
-reduce_proper : (out buffer : Reference) (count : Expr) (op : Op) (root comm : Expr) → IsKept (c.Reduce out buffer count op root comm)
-reduce_proper out buffer count op root comm n me own s good =
-    let P : Effect → Type 0 = IsProper n me own in
-    given_free P (range out s) _ (λ out. given_free P (range buffer s) _ (λ buffer. given_free P (value count s) _ (λ count. given_free P (value root s) _ (λ root.
-    given_free P (value comm s) _ (λ comm.
-    on_comm P n me own s good comm _ (λ comm known.
-    on_count P count _ (λ count count_few.
-    on_member P comm root _ (λ root root_is.
-    on_enters P count out _ (λ entered entered_is.
-    on_root_gets P (is_me (rank_of n me) root) count buffer _ (λ into into_within.
-    join_holds n me own comm Reduce (Some root) (Some op) count entered into known root_is
-    (λ ints. rw root_is refl) (λ ints. sym entered_is)
-    (λ ints. few_if (root == me) count (λ t. omega (arith, count_few)))))))))))))
-
-allreduce_proper : (out buffer : Reference) (count : Expr) (op : Op) (comm : Expr) → IsKept (c.Allreduce out buffer count op comm)
-allreduce_proper out buffer count op comm n me own s good =
-    let P : Effect → Type 0 = IsProper n me own in
-    given_free P (range out s) _ (λ out. given_free P (range buffer s) _ (λ buffer. given_free P (value count s) _ (λ count. given_free P (value comm s) _ (λ comm.
-    on_comm P n me own s good comm _ (λ comm known.
-    on_count P count _ (λ count count_few.
-    on_enters P count out _ (λ entered entered_is.
-    on_gets P count buffer _ (λ into into_within.
-    join_holds n me own comm Allreduce None (Some op) count entered into known tt
-    (λ ints. refl) (λ ints. sym entered_is)
-    (λ ints. omega (arith, count_few))))))))))
-
-scan_proper : (out buffer : Reference) (count : Expr) (op : Op) (comm : Expr) → IsKept (c.Scan out buffer count op comm)
-scan_proper out buffer count op comm n me own s good =
-    let P : Effect → Type 0 = IsProper n me own in
-    given_free P (range out s) _ (λ out. given_free P (range buffer s) _ (λ buffer. given_free P (value count s) _ (λ count. given_free P (value comm s) _ (λ comm.
-    on_comm P n me own s good comm _ (λ comm known.
-    on_count P count _ (λ count count_few.
-    on_enters P count out _ (λ entered entered_is.
-    on_gets P count buffer _ (λ into into_within.
-    join_holds n me own comm Scan None (Some op) count entered into known tt
-    (λ ints. refl) (λ ints. sym entered_is)
-    (λ ints. omega (arith, count_few))))))))))
-
-gather_proper : (out buffer : Buffer) (root comm : Expr) → IsKept (c.Gather out buffer root comm)
+gather_proper : (out buffer : Buffer) (root comm : Expr) → IsKept (c.Collective (collectives.Gather out buffer root comm))
 gather_proper out buffer root comm n me own s good =
     let P : Effect → Type 0 = IsProper n me own in
     given_free P (range out.cells s) _ (λ out_cells. given_free P (value out.count s) _ (λ out_count.
@@ -383,7 +374,7 @@ gather_proper out buffer root comm n me own s good =
     (λ ints. rw root_is refl) (λ ints. sym entered_is)
     (λ ints. few_if (root == me) (pieces comm count) (λ t. let within = into_within t in omega (arith, within, buffer_cells_few)))))))))))))))
 
-scatter_proper : (out buffer : Buffer) (root comm : Expr) → IsKept (c.Scatter out buffer root comm)
+scatter_proper : (out buffer : Buffer) (root comm : Expr) → IsKept (c.Collective (collectives.Scatter out buffer root comm))
 scatter_proper out buffer root comm n me own s good =
     let P : Effect → Type 0 = IsProper n me own in
     given_free P (range out.cells s) _ (λ out_cells. given_free P (value out.count s) _ (λ out_count. given_free P (range buffer.cells s) _ (λ buffer_cells.
@@ -398,7 +389,7 @@ scatter_proper out buffer root comm n me own s good =
     (λ ints. rw root_is refl) (λ ints. sym entered_is)
     (λ ints. omega (arith, count_same, buffer_count_few))))))))))))))
 
-allgather_proper : (out buffer : Buffer) (comm : Expr) → IsKept (c.Allgather out buffer comm)
+allgather_proper : (out buffer : Buffer) (comm : Expr) → IsKept (c.Collective (collectives.Allgather out buffer comm))
 allgather_proper out buffer comm n me own s good =
     let P : Effect → Type 0 = IsProper n me own in
     given_free P (range out.cells s) _ (λ out_cells. given_free P (value out.count s) _ (λ out_count.
@@ -413,7 +404,7 @@ allgather_proper out buffer comm n me own s good =
     (λ ints. refl) (λ ints. sym entered_is)
     (λ ints. omega (arith, into_within, buffer_cells_few))))))))))))
 
-alltoall_proper : (out buffer : Buffer) (comm : Expr) → IsKept (c.Alltoall out buffer comm)
+alltoall_proper : (out buffer : Buffer) (comm : Expr) → IsKept (c.Collective (collectives.Alltoall out buffer comm))
 alltoall_proper out buffer comm n me own s good =
     let P : Effect → Type 0 = IsProper n me own in
     given_free P (range out.cells s) _ (λ out_cells. given_free P (value out.count s) _ (λ out_count.
@@ -428,17 +419,72 @@ alltoall_proper out buffer comm n me own s good =
     (λ ints. refl) (λ ints. sym entered_is)
     (λ ints. omega (arith, into_within, buffer_cells_few))))))))))))
 
-comm_split_proper : (comm color key : Expr) (into : Reference) → IsKept (c.CommSplit comm color key into)
-comm_split_proper comm color key into n me own s good =
+reduce_proper : (reduction : Reduction) (root comm : Expr) → IsKept (c.Collective (collectives.Reduce reduction root comm))
+reduce_proper reduction root comm n me own s good =
     let P : Effect → Type 0 = IsProper n me own in
-    given_free P (value comm s) _ (λ comm. given_free P (value color s) _ (λ color. given_free P (value key s) _ (λ key. given_free P (range into s) _ (λ into.
+    given_free P (range reduction.send s) _ (λ out. given_free P (range reduction.receive s) _ (λ buffer. given_free P (value reduction.count s) _ (λ count. given_free P (value root s) _ (λ root.
+    given_free P (value comm s) _ (λ comm.
     on_comm P n me own s good comm _ (λ comm known.
-    given_free P (colour color) _ (λ color. given_free P (cell into) _ (λ into.
-    join_holds n me own comm Split None None 0 (Pair color key) (Handle into) known tt
-    (λ ints. refl) (λ ints. refl)
-    (λ ints. omega arith))))))))
+    on_count P count _ (λ count count_few.
+    on_member P comm root _ (λ root root_is.
+    on_enters P count out _ (λ entered entered_is.
+    on_root_gets P (is_me (rank_of n me) root) count buffer _ (λ into into_within.
+    join_holds n me own comm Reduce (Some root) (Some reduction.op) count entered into known root_is
+    (λ ints. rw root_is refl) (λ ints. sym entered_is)
+    (λ ints. few_if (root == me) count (λ t. omega (arith, count_few)))))))))))))
 
-comm_dup_proper : (comm : Expr) (into : Reference) → IsKept (c.CommDup comm into)
+allreduce_proper : (reduction : Reduction) (comm : Expr) → IsKept (c.Collective (collectives.Allreduce reduction comm))
+allreduce_proper reduction comm n me own s good =
+    let P : Effect → Type 0 = IsProper n me own in
+    given_free P (range reduction.send s) _ (λ out. given_free P (range reduction.receive s) _ (λ buffer. given_free P (value reduction.count s) _ (λ count. given_free P (value comm s) _ (λ comm.
+    on_comm P n me own s good comm _ (λ comm known.
+    on_count P count _ (λ count count_few.
+    on_enters P count out _ (λ entered entered_is.
+    on_gets P count buffer _ (λ into into_within.
+    join_holds n me own comm Allreduce None (Some reduction.op) count entered into known tt
+    (λ ints. refl) (λ ints. sym entered_is)
+    (λ ints. omega (arith, count_few))))))))))
+
+scan_proper : (reduction : Reduction) (comm : Expr) → IsKept (c.Collective (collectives.Scan reduction comm))
+scan_proper reduction comm n me own s good =
+    let P : Effect → Type 0 = IsProper n me own in
+    given_free P (range reduction.send s) _ (λ out. given_free P (range reduction.receive s) _ (λ buffer. given_free P (value reduction.count s) _ (λ count. given_free P (value comm s) _ (λ comm.
+    on_comm P n me own s good comm _ (λ comm known.
+    on_count P count _ (λ count count_few.
+    on_enters P count out _ (λ entered entered_is.
+    on_gets P count buffer _ (λ into into_within.
+    join_holds n me own comm Scan None (Some reduction.op) count entered into known tt
+    (λ ints. refl) (λ ints. sym entered_is)
+    (λ ints. omega (arith, count_few))))))))))
+
+collective_kept : (call : CollectiveCall) → IsKept (c.Collective call)
+collective_kept (collectives.Barrier comm) n me own s good = barrier_proper comm n me own s good
+collective_kept (collectives.Bcast buffer root comm) n me own s good = bcast_proper buffer root comm n me own s good
+collective_kept (collectives.Gather out buffer root comm) n me own s good = gather_proper out buffer root comm n me own s good
+collective_kept (collectives.Scatter out buffer root comm) n me own s good = scatter_proper out buffer root comm n me own s good
+collective_kept (collectives.Allgather out buffer comm) n me own s good = allgather_proper out buffer comm n me own s good
+collective_kept (collectives.Alltoall out buffer comm) n me own s good = alltoall_proper out buffer comm n me own s good
+collective_kept (collectives.Reduce reduction root comm) n me own s good = reduce_proper reduction root comm n me own s good
+collective_kept (collectives.Allreduce reduction comm) n me own s good = allreduce_proper reduction comm n me own s good
+collective_kept (collectives.Scan reduction comm) n me own s good = scan_proper reduction comm n me own s good
+
+comm_size_proper : (comm : Expr) (into : Reference) → IsKept (c.Communicator (communicators.Size comm into))
+comm_size_proper comm into n me own s good =
+    let P : Effect → Type 0 = IsProper n me own in
+    given_free P (value comm s) _ (λ comm. given_free P (range into s) _ (λ into.
+    on_comm P n me own s good comm _ (λ comm known.
+    given_free P (cell into) _ (λ into.
+    tt))))
+
+comm_rank_proper : (comm : Expr) (into : Reference) → IsKept (c.Communicator (communicators.Rank comm into))
+comm_rank_proper comm into n me own s good =
+    let P : Effect → Type 0 = IsProper n me own in
+    given_free P (value comm s) _ (λ comm. given_free P (range into s) _ (λ into.
+    on_comm P n me own s good comm _ (λ comm known.
+    given_free P (cell into) _ (λ into.
+    tt))))
+
+comm_dup_proper : (comm : Expr) (into : Reference) → IsKept (c.Communicator (communicators.Dup comm into))
 comm_dup_proper comm into n me own s good =
     let P : Effect → Type 0 = IsProper n me own in
     given_free P (value comm s) _ (λ comm. given_free P (range into s) _ (λ into.
@@ -448,35 +494,30 @@ comm_dup_proper comm into n me own s good =
     (λ ints. refl) (λ ints. refl)
     (λ ints. omega arith)))))
 
--- ---- the others
-
-comm_rank_proper : (comm : Expr) (into : Reference) → IsKept (c.CommRank comm into)
-comm_rank_proper comm into n me own s good =
+comm_split_proper : (comm color key : Expr) (into : Reference) → IsKept (c.Communicator (communicators.Split comm color key into))
+comm_split_proper comm color key into n me own s good =
     let P : Effect → Type 0 = IsProper n me own in
-    given_free P (value comm s) _ (λ comm. given_free P (range into s) _ (λ into.
+    given_free P (value comm s) _ (λ comm. given_free P (value color s) _ (λ color. given_free P (value key s) _ (λ key. given_free P (range into s) _ (λ into.
     on_comm P n me own s good comm _ (λ comm known.
-    given_free P (cell into) _ (λ into.
-    tt))))
+    given_free P (colour color) _ (λ color. given_free P (cell into) _ (λ into.
+    join_holds n me own comm Split None None 0 (Pair color key) (Handle into) known tt
+    (λ ints. refl) (λ ints. refl)
+    (λ ints. omega arith))))))))
 
-comm_size_proper : (comm : Expr) (into : Reference) → IsKept (c.CommSize comm into)
-comm_size_proper comm into n me own s good =
-    let P : Effect → Type 0 = IsProper n me own in
-    given_free P (value comm s) _ (λ comm. given_free P (range into s) _ (λ into.
-    on_comm P n me own s good comm _ (λ comm known.
-    given_free P (cell into) _ (λ into.
-    tt))))
-
-get_count_proper : (kept : Option Reference) (into : Reference) → IsKept (c.GetCount kept into)
-get_count_proper kept into n me own s good =
-    let P : Effect → Type 0 = IsProper n me own in
-    given_free P (status kept s) _ (λ kept. given_free P (range into s) _ (λ into. given_free P (optional cell kept) _ (λ kept. given_free P (cell into) _ (λ into.
-    tt))))
-
-comm_free_proper : (into : Reference) → IsKept (c.CommFree into)
+comm_free_proper : (into : Reference) → IsKept (c.Communicator (communicators.Free into))
 comm_free_proper into n me own s good =
     let P : Effect → Type 0 = IsProper n me own in
     given_free P (range into s) _ (λ into. given_free P (cell into) _ (λ into.
     tt))
+
+communicator_kept : (call : CommunicatorCall) → IsKept (c.Communicator call)
+communicator_kept (communicators.Size comm into) n me own s good = comm_size_proper comm into n me own s good
+communicator_kept (communicators.Rank comm into) n me own s good = comm_rank_proper comm into n me own s good
+communicator_kept (communicators.Dup comm into) n me own s good = comm_dup_proper comm into n me own s good
+communicator_kept (communicators.Split comm color key into) n me own s good = comm_split_proper comm color key into n me own s good
+communicator_kept (communicators.Free into) n me own s good = comm_free_proper into n me own s good
+
+-- ---- all
 
 abort_proper : (comm code : Expr) → IsKept (c.Abort comm code)
 abort_proper comm code n me own s good =
@@ -485,42 +526,15 @@ abort_proper comm code n me own s good =
     on_comm P n me own s good comm _ (λ comm known.
     tt)))
 
--- ---- all
-
 effect_kept : (call : MpiCall) → IsKept call
 effect_kept c.Init n me own s good = tt
 effect_kept c.Finalize n me own s good = tt
-effect_kept (c.CommRank comm into) n me own s good = comm_rank_proper comm into n me own s good
-effect_kept (c.CommSize comm into) n me own s good = comm_size_proper comm into n me own s good
-effect_kept (c.GetCount kept into) n me own s good = get_count_proper kept into n me own s good
-effect_kept (c.CommFree into) n me own s good = comm_free_proper into n me own s good
-effect_kept (c.Send buffer dest tag comm) n me own s good = send_proper buffer dest tag comm n me own s good
-effect_kept (c.Recv buffer source tag comm kept) n me own s good = recv_proper buffer source tag comm kept n me own s good
-effect_kept (c.Sendrecv out dest send_tag buffer source tag comm kept) n me own s good = sendrecv_proper out dest send_tag buffer source tag comm kept n me own s good
-effect_kept (c.Isend buffer dest tag comm request) n me own s good = isend_proper buffer dest tag comm request n me own s good
-effect_kept (c.Irecv buffer source tag comm request) n me own s good = irecv_proper buffer source tag comm request n me own s good
-effect_kept (c.Wait requests kept) n me own s good = wait_proper requests kept n me own s good
-effect_kept (c.Waitall count requests kept) n me own s good = waitall_proper count requests kept n me own s good
-effect_kept (c.Waitany count requests index kept) n me own s good = waitany_proper count requests index kept n me own s good
-effect_kept (c.Waitsome count requests outcount indices kept) n me own s good = waitsome_proper count requests outcount indices kept n me own s good
-effect_kept (c.Test requests flag kept) n me own s good = test_proper requests flag kept n me own s good
-effect_kept (c.Testall count requests flag kept) n me own s good = testall_proper count requests flag kept n me own s good
-effect_kept (c.Testany count requests index flag kept) n me own s good = testany_proper count requests index flag kept n me own s good
-effect_kept (c.Testsome count requests outcount indices kept) n me own s good = testsome_proper count requests outcount indices kept n me own s good
-effect_kept (c.Probe source tag comm kept) n me own s good = probe_proper source tag comm kept n me own s good
-effect_kept (c.Iprobe source tag comm flag kept) n me own s good = iprobe_proper source tag comm flag kept n me own s good
-effect_kept (c.Barrier comm) n me own s good = barrier_proper comm n me own s good
-effect_kept (c.Bcast buffer root comm) n me own s good = bcast_proper buffer root comm n me own s good
-effect_kept (c.Reduce out buffer count op root comm) n me own s good = reduce_proper out buffer count op root comm n me own s good
-effect_kept (c.Allreduce out buffer count op comm) n me own s good = allreduce_proper out buffer count op comm n me own s good
-effect_kept (c.Scan out buffer count op comm) n me own s good = scan_proper out buffer count op comm n me own s good
-effect_kept (c.Gather out buffer root comm) n me own s good = gather_proper out buffer root comm n me own s good
-effect_kept (c.Scatter out buffer root comm) n me own s good = scatter_proper out buffer root comm n me own s good
-effect_kept (c.Allgather out buffer comm) n me own s good = allgather_proper out buffer comm n me own s good
-effect_kept (c.Alltoall out buffer comm) n me own s good = alltoall_proper out buffer comm n me own s good
-effect_kept (c.CommSplit comm color key into) n me own s good = comm_split_proper comm color key into n me own s good
-effect_kept (c.CommDup comm into) n me own s good = comm_dup_proper comm into n me own s good
 effect_kept (c.Abort comm code) n me own s good = abort_proper comm code n me own s good
+effect_kept (c.Message call) n me own s good = message_kept call n me own s good
+effect_kept (c.Completion call) n me own s good = completion_kept call n me own s good
+effect_kept (c.Probe call) n me own s good = probe_kept call n me own s good
+effect_kept (c.Collective call) n me own s good = collective_kept call n me own s good
+effect_kept (c.Communicator call) n me own s good = communicator_kept call n me own s good
 
 pub effect_proper : (n me : ℕ) (call : MpiCall) (effect : Effect) (own : View) (s : State) → Good n me own s → effect_of (rank_of n me) call s ≡ Ok effect → IsProper n me own effect
 effect_proper n me call effect own s good is = of_holds (IsProper n me own) (effect_of (rank_of n me) call s) effect (effect_kept call n me own s good) is

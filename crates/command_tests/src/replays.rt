@@ -1,8 +1,11 @@
 //! Commands over files in memory: words, status and what is printed.
-ghost use Rattle.srr_replay.specs.Rounds.{IsReplayable};
+ghost use Rattle.std.specs.Prelude.{[], IfOk};
+ghost use Rattle.srr_replay.specs.Rounds.{IsReplayable, RunAll};
 
+use c_eval::rank::EvalRank;
 use c_program::CProgram;
 use c_types::read_program;
+use rank_machine::rank::MachineRank;
 use rank_threads::OpenGate;
 use replay_model::replayed::Replayed;
 use srr_entry::log::Log;
@@ -11,7 +14,7 @@ use srr_replay::serial::replay_serial;
 use std::alloc::{AllocError, Global};
 use std::sync::Wait;
 use std::thread::Threads;
-use wiz_cli::ranks::start_group;
+use wiz_base::Bytes;
 use wiz_cli::top::wiz;
 use wiz_io::{MemorySink, MemoryStore};
 use wiz_trace::trace::trace_text;
@@ -200,8 +203,40 @@ fn a_failing_read_or_put_is_told(rt: HostRuntime) {
     assert!(&rt; unwritten.status == 4 && full.bytes().is_empty());
 }
 
-/// The replay of a log's group with a program; a rank stops before the call that `stop` names.
-fn replay_group(
+/// A suspended rank for each rank of the log's group, before its first call.
+fn start_machines<'a>(
+    alloc: Global,
+    program: &'a CProgram,
+    log: &Log,
+) -> Result<Vec<MachineRank<'a>>, AllocError>
+    requires { IsReplayable log.now }
+    ensures { IfOk result (λ runs. RunAll (λ run. run) program.now log.now [] runs.items) }
+{
+    let mut runs = Vec::new(alloc);
+    for rank in log.group.as_slice() {
+        runs.push(MachineRank::start(alloc, program, log.ranks, *rank)?)?;
+    }
+    Ok(runs)
+}
+
+/// The same for the evaluator that begins again at each call.
+fn start_evaluators<'a>(
+    alloc: Global,
+    program: &'a CProgram,
+    log: &Log,
+) -> Result<Vec<EvalRank<'a>>, AllocError>
+    requires { IsReplayable log.now }
+    ensures { IfOk result (λ runs. RunAll (λ run. run) program.now log.now [] runs.items) }
+{
+    let mut runs = Vec::new(alloc);
+    for rank in log.group.as_slice() {
+        runs.push(EvalRank::start(alloc, program, log.ranks, *rank)?)?;
+    }
+    Ok(runs)
+}
+
+/// The replay of a log's group by suspended ranks; a rank stops before the call that `stop` names.
+fn replay_suspended(
     alloc: Global,
     program: &CProgram,
     log: &Log,
@@ -209,24 +244,45 @@ fn replay_group(
 ) -> Result<Replayed, AllocError>
     requires { IsReplayable log.now }
 {
-    let runs = start_group(alloc, program, log)?;
+    let runs = start_machines(alloc, program, log)?;
     replay_serial(alloc, program, log, runs, stop)
 }
 
-/// Whether a replay of the first log with this breakpoint has this trace.
+/// The same by the evaluator that begins again at each call.
+fn replay_again(
+    alloc: Global,
+    program: &CProgram,
+    log: &Log,
+    stop: Option<(u8, u32)>,
+) -> Result<Replayed, AllocError>
+    requires { IsReplayable log.now }
+{
+    let runs = start_evaluators(alloc, program, log)?;
+    replay_serial(alloc, program, log, runs, stop)
+}
+
+/// The trace of a log's replay by both evaluators, where it is the same.
+pub fn trace_of_both(alloc: Global, log: &[u8], stop: Option<(u8, u32)>) -> Option<Bytes> {
+    let Ok(log) = read_log(alloc, log) else {
+        return None;
+    };
+    let program = read_program(alloc, log.program.as_slice()).ok()?;
+    let suspended = replay_suspended(alloc, &program, &log, stop).ok()?;
+    let again = replay_again(alloc, &program, &log, stop).ok()?;
+    let trace = trace_text(alloc, &suspended).ok()?;
+    let other = trace_text(alloc, &again).ok()?;
+    if trace.as_slice() == other.as_slice() {
+        Some(trace)
+    } else {
+        None
+    }
+}
+
+/// Whether a replay of the first log with this breakpoint has this trace, by both evaluators.
 fn stops_with(alloc: Global, stop: (u8, u32), trace: &[u8]) -> bool {
-    let Ok(log) = read_log(alloc, FIRST) else {
-        return false;
-    };
-    let Ok(program) = read_program(alloc, log.program.as_slice()) else {
-        return false;
-    };
-    let Ok(replayed) = replay_group(alloc, &program, &log, Some(stop)) else {
-        return false;
-    };
-    match trace_text(alloc, &replayed) {
-        Ok(text) => text.as_slice() == trace,
-        Err(_) => false,
+    match trace_of_both(alloc, FIRST, Some(stop)) {
+        Some(found) => found.as_slice() == trace,
+        None => false,
     }
 }
 

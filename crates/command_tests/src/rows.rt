@@ -1,4 +1,5 @@
 //! Programs recorded, each run and its files byte for byte, and each log replayed.
+use crate::replays::trace_of_both;
 use std::alloc::Global;
 use wiz_base::{Bytes, push_decimal, push_text};
 use wiz_cli::top::wiz_serial;
@@ -47,10 +48,12 @@ fn holds(alloc: Global, store: &MemoryStore, program: &[u8], file: &LogFile<'_>)
     Some(store.file(name)?.as_slice() == text.as_slice())
 }
 
-/// Whether the log is replayed with status 0.
-fn replays(alloc: Global, store: &mut MemoryStore, name: &str) -> bool {
+/// Whether the log is replayed with status 0, and with the trace that both evaluators have.
+fn replays(alloc: Global, store: &mut MemoryStore, name: &str) -> Option<bool> {
     let mut out = MemorySink::new(alloc);
-    wiz_serial(alloc, &["replay", name, "--serial"], store, &mut out).status == 0
+    let report = wiz_serial(alloc, &["replay", name, "--serial"], store, &mut out);
+    let trace = trace_of_both(alloc, store.file(name)?.as_slice(), None)?;
+    Some(report.status == 0 && out.bytes() == trace.as_slice())
 }
 
 /// Whether a row is as it says.
@@ -68,7 +71,7 @@ fn is_so(alloc: Global, row: &Row<'_>) -> Option<bool> {
     for log in *logs {
         so = so
             && holds(alloc, &store, program.as_slice(), log)?
-            && replays(alloc, &mut store, log.0);
+            && replays(alloc, &mut store, log.0)?;
     }
     Some(so)
 }

@@ -4,7 +4,7 @@ use c_cells::store::Store;
 use c_effects::effects::effect_of;
 use c_program::effect::{Effect, Message, Rank, Start};
 use c_program::expr::{Expr, Reference};
-use c_program::mpi::{Buffer, MpiCall};
+use c_program::mpi::{Buffer, MessageCall, MpiCall, Outgoing};
 use mpi_call::call::Fault;
 use std::process::Abort;
 use std::rt::HostRuntime;
@@ -24,12 +24,14 @@ fn array(count: i32) -> Buffer {
 }
 
 fn send(count: i32, dest: i32, tag: i32, comm: i32) -> MpiCall {
-    MpiCall::Send {
-        buffer: array(count),
-        dest: Expr::Number(dest),
-        tag: Expr::Number(tag),
+    MpiCall::Message(MessageCall::Send {
+        message: Outgoing {
+            buffer: array(count),
+            dest: Expr::Number(dest),
+            tag: Expr::Number(tag),
+        },
         comm: Expr::Number(comm),
-    }
+    })
 }
 
 /// Sends: the count, the destination, the tag and the communicator, and the first fault.

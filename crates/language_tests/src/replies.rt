@@ -1,10 +1,10 @@
 //! Effects over replies, worked out by hand from the standard.
 use crate::stores::with_array;
 use c_cells::store::Store;
+use c_eval::outcome::{Replies, Stop};
+use c_eval::perform::perform;
 use c_program::effect::{Answer, Effect, Message, Rank, Receive, Start};
 use c_program::range::Range;
-use c_replies::outcome::{Replies, Stop};
-use c_replies::perform::perform;
 use mpi_call::call::{Call, Fault, Source, Tag, TakeMode};
 use mpi_call::lists::Ints;
 use mpi_call::reply::{Got, Item, Items, Reply};
@@ -58,13 +58,6 @@ fn performed(
 fn waits_for(outcome: &Result<(), Stop>, call: &Call) -> bool {
     match outcome {
         Err(Stop::Waits(found)) => found == call,
-        _ => false,
-    }
-}
-
-fn traps(outcome: &Result<(), Stop>, fault: Fault) -> bool {
-    match outcome {
-        Err(Stop::Trapped(found)) => *found == fault,
         _ => false,
     }
 }
@@ -168,7 +161,10 @@ fn a_message_whose_cells_are_gone_traps(rt: HostRuntime) -> Result<(), Fail> {
         status: None,
     };
     let given = [Reply::Done, took(rt.alloc(), 0, 42)?];
+    let trap = Call::Trap {
+        fault: Fault::OutOfBounds,
+    };
     let outcome = performed(rt.alloc(), &mut store, effect, &given);
-    assert!(rt; traps(&outcome, Fault::OutOfBounds));
+    assert!(rt; waits_for(&outcome, &trap));
     Ok(())
 }

@@ -1,8 +1,7 @@
 -- Events as entries, and the seats of ranks.
-use Rattle.std.proofs.Common.{◌≡◌, ◌<◌, ◌==◌, ◌⊎◌, ◌++◌, ◌∷◌, ◌∙◌, [], List, Bool, true, false, ℕ, zero, suc, inl, inr, refl, ap, sym, arith, length, map, ne_eqb, slice_index}
+use Rattle.std.proofs.Common.{◌≡◌, ◌<◌, ◌==◌, ◌++◌, ◌∷◌, ◌∙◌, [], List, true, ℕ, inl, inr, refl, ap, sym, arith, length, ne_eqb, slice_index}
 use Rattle.std.proofs.lemmas.Bool.{eq-eqb, eqb-true}
 use Rattle.mpi_call.specs.Collectives.{is_distinct, is_member}
-use Rattle.mpi_call.specs.declared.reply.Reply.{Reply}
 use Rattle.run_model.specs.declared.event.Event.{Event}
 use Rattle.run_model.specs.Views.{replies_in, view_of}
 use Rattle.run_model.proofs.Views.{test_cases}

@@ -1,8 +1,8 @@
 -- The runs of the closed value, beside its events.
-use Rattle.std.proofs.Common.{◌≡◌, ◌<◌, ◌∙◌, List, ℕ, true, refl, ap, sym, subst, arith, length, slice_index, slice_index_or}
-use Rattle.mpi_call.specs.Collectives.{is_distinct, is_member}
+use Rattle.std.proofs.Common.{◌≡◌, ◌<◌, ◌∙◌, List, ℕ, true, refl, arith, length, slice_index}
+use Rattle.mpi_call.specs.Collectives.{is_distinct}
 use Rattle.run_model.specs.declared.event.Event.{Event}
-use Rattle.run_model.specs.Program.{IsAfter, Standing}
+use Rattle.run_model.specs.Program.{Standing}
 use Rattle.srr_entry.specs.declared.log.Log.{Log}
 use Rattle.replay_model.specs.Replays.{Stop}
 use Rattle.srr_record.specs.Recordings.{AreRuns}

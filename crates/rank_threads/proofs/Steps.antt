@@ -1,5 +1,5 @@
 -- How a rank fares: its worker after each kind of step.
-use Rattle.std.proofs.Common.{◌≡◌, ◌∙◌, ◌++◌, ◌∷◌, [], List, true, false, ℕ, refl, ap, sym, subst, map, Option, Some}
+use Rattle.std.proofs.Common.{◌≡◌, ◌∙◌, ◌++◌, ◌∷◌, [], List, true, false, ℕ, refl, ap, sym, subst, Some}
 use Rattle.std.proofs.lemmas.List.{map-append}
 use Rattle.mpi_call.specs.declared.call.Call.{Call}
 use Rattle.mpi_call.specs.declared.reply.Reply.{Reply}

@@ -1,5 +1,5 @@
 -- The workers of ranks: made of fresh seats and runs, worked, and taken apart.
-use Rattle.std.proofs.Common.{◌≡◌, ◌<◌, ◌+◌, ◌-◌, ◌++◌, ◌∷◌, ◌∙◌, [], List, Some, ℕ, suc, All, arith, ap, false, length, slice_get, slice_index, slice_index_or, subst, sym, refl}
+use Rattle.std.proofs.Common.{◌≡◌, ◌<◌, ◌+◌, ◌-◌, ◌++◌, ◌∷◌, ◌∙◌, [], List, ℕ, suc, All, arith, ap, length, slice_index, slice_index_or, subst, sym}
 use Rattle.std.proofs.Math.Seq.{get_or-append_seam}
 use Rattle.std.proofs.lemmas.List.{get_or_append_left}
 use Rattle.std.proofs.lemmas.Option.{get_or_from_slice_get}
@@ -8,7 +8,7 @@ use native.Mathlib.Decide.{ℕ_discrete}
 use Rattle.run_model.specs.Program.{Standing}
 use Rattle.turn_lock.specs.Entries.{entries_of}
 use Rattle.turn_lock.specs.Seat.{AreFresh, HasFrame, LockView, SeatView, fresh}
-use Rattle.turn_lock.specs.Seats.{AllIdle, IsIdle}
+use Rattle.turn_lock.specs.Seats.{AllIdle}
 use Rattle.rank_threads.specs.Reading.{Reading, replies_of}
 use Rattle.rank_threads.specs.Workers.{AreBeside, AreSeated, AreWorkers, AreRunsAfter, CanWork, Each, HasWorked, IsBeside, IsWorker, IsRunAfter}
 use Rattle.rank_threads.specs.declared.worker.Worker.{Worker}

@@ -2,7 +2,7 @@
 use Rattle.std.specs.Prelude.{◌≡◌, ℕ, List, [], ◌∷◌, ◌++◌, Bool, map}
 use Rattle.mpi_call.specs.declared.reply.Reply.{Reply}
 use Rattle.rank_threads.specs.declared.attempts.Attempt.{Attempt}
-use Rattle.rank_threads.specs.declared.attempts.Attempt.TheVariants.{Replied, Waits, Rests, Short}
+use Rattle.rank_threads.specs.declared.attempts.Attempt.TheVariants.{Replied}
 
 -- of a frame, the program, the number of ranks, which ranks run, and the seat of each; of an entry, its reply
 pub record Reading (P E F : Type 0) : Type 0 where

@@ -1,5 +1,5 @@
 -- Ranks beside their seats.
-use Rattle.std.specs.Prelude.{◌≡◌, ◌+◌, ◌<◌, ℕ, suc, List, [], Bool, true, false, length, slice_index, Option, Some}
+use Rattle.std.specs.Prelude.{◌≡◌, ◌+◌, ◌<◌, ℕ, suc, List, true, false, length, slice_index, Option, Some}
 use Rattle.std.specs.List.{slice_index_or}
 use Rattle.mpi_call.specs.declared.call.Call.{Call}
 use Rattle.mpi_call.specs.declared.reply.Reply.{Reply}

@@ -33,6 +33,50 @@ struct Place {
     parker: Parker,
 }
 
+impl Place {
+    /// The place of a rank that works.
+    fn new() -> Place {
+        Place {
+            state: AtomicU64::new(WORKS),
+            parker: Parker::new(),
+        }
+    }
+
+    fn sleeps(&self) -> bool {
+        self.state.load(Ordering::SeqCst) == SLEEPS
+    }
+
+    /// Gives a rank that sleeps another state, and wakes its thread. Tells whether it slept.
+    fn wake(&self, state: u64) -> bool {
+        let slept = self
+            .state
+            .compare_exchange(SLEEPS, state, Ordering::SeqCst, Ordering::SeqCst)
+            .is_ok();
+        if slept {
+            self.parker.unpark();
+        }
+        slept
+    }
+
+    /// Waits until the rank is woken, or told to leave. Tells whether it was woken.
+    fn is_woken<R: Wait>(&self, rt: &R) -> bool {
+        let mut spins = 0;
+        for _ in rt.forever() {
+            let state = self.state.load(Ordering::SeqCst);
+            if state != SLEEPS {
+                return state == WORKS;
+            }
+            if spins < SPINS {
+                spins += 1;
+                hint::spin_loop();
+            } else {
+                self.parker.park(rt);
+            }
+        }
+        unreachable!()
+    }
+}
+
 /// The bell of one round: a place for each rank, by its number.
 #[derive(Drop)]
 pub struct Bell {
@@ -52,10 +96,7 @@ impl Bell {
             events: AtomicU64::new(0),
             started: AtomicU64::new(0),
             awake: AtomicU64::new(0),
-            places: array::from_fn(|_| Place {
-                state: AtomicU64::new(WORKS),
-                parker: Parker::new(),
-            }),
+            places: array::from_fn(|_| Place::new()),
         }
     }
 
@@ -95,7 +136,7 @@ impl Bell {
         match reply {
             Reply::Stopped(_) => self.wake_all(),
             _ => match call {
-                Call::Send { dest, .. } => wake(&self.awake, self.place(*dest)),
+                Call::Send { dest, .. } => self.wake(self.place(*dest)),
                 Call::Enter { .. } => self.wake_all(),
                 _ => {}
             },
@@ -115,59 +156,35 @@ impl Bell {
             return true;
         }
         self.leave();
-        woken(rt, place)
+        place.is_woken(rt)
     }
 
     fn place(&self, rank: u8) -> &Place {
         &self.places[rank as usize % RANKS]
     }
 
+    /// Wakes the rank of this place, if it sleeps. It is counted among those that work before it wakes, so that it never takes
+    /// itself for the last of them.
+    fn wake(&self, place: &Place) {
+        if !place.sleeps() {
+            return;
+        }
+        let _ = self.awake.fetch_add(1, Ordering::SeqCst);
+        if !place.wake(WORKS) {
+            let _ = self.awake.fetch_sub(1, Ordering::SeqCst);
+        }
+    }
+
     fn wake_all(&self) {
         for place in &self.places {
-            wake(&self.awake, place);
+            self.wake(place);
         }
     }
 
     /// Tells all that sleep to leave the round.
     fn send_home(&self) {
         for place in &self.places {
-            if change(place, SLEEPS, LEAVES) {
-                place.parker.unpark();
-            }
+            let _ = place.wake(LEAVES);
         }
     }
-}
-
-/// Waits until the rank of this place is woken, or told to leave. Tells whether it was woken.
-fn woken<R: Wait>(rt: &R, place: &Place) -> bool {
-    let mut spins = 0;
-    for _ in rt.forever() {
-        let state = place.state.load(Ordering::SeqCst);
-        if state != SLEEPS {
-            return state == WORKS;
-        }
-        if spins < SPINS {
-            spins += 1;
-            hint::spin_loop();
-        } else {
-            place.parker.park(rt);
-        }
-    }
-    unreachable!()
-}
-
-/// Wakes the rank of this place, if it sleeps, and counts it among those that work: who wakes it counts it, so that whoever falls
-/// asleep before its thread runs does not take all for asleep.
-fn wake(awake: &AtomicU64, place: &Place) {
-    if change(place, SLEEPS, WORKS) {
-        let _ = awake.fetch_add(1, Ordering::SeqCst);
-        place.parker.unpark();
-    }
-}
-
-fn change(place: &Place, from: u64, to: u64) -> bool {
-    place
-        .state
-        .compare_exchange(from, to, Ordering::SeqCst, Ordering::SeqCst)
-        .is_ok()
 }

@@ -5,19 +5,20 @@ use Rattle.c_program.specs.declared.statement.Part.{size-Part}
 use Rattle.std.proofs.lemmas.Result.{err_from_is_err_and}
 use Rattle.c_program.specs.Courses.{after}
 use Rattle.c_program.specs.Equations.{act-block}
-use Rattle.c_program.specs.Meaning.{act, act_list, act_part, begin, call_at, declare, declare_all, exits_to, for_start, for_update, invoke, leaving, loop, loop_after, no_update, passed_all, print, put_values, return, right, simple, started, test, trying}
+use Rattle.c_program.specs.Meaning.{act, act_list, act_part, begin, call_at, declare_all, exits_to, for_start, for_update, invoke, leaving, loop, loop_after, no_update, passed_all, return, right, simple, started, test, trying, turn_exits}
 use Rattle.c_program.specs.Performing.{Onward}
-use Rattle.c_program.specs.Prints.{text_of}
 use Rattle.c_program.specs.State.{State, leave, mark_of, put}
-use Rattle.c_program.specs.Values.{cell_of, values}
+use Rattle.c_program.specs.Values.{cell_of}
 use Rattle.c_eval.specs.Leaving.{exit}
 use Rattle.c_eval.specs.Parts.{blocked, calls_of, for_of}
-use Rattle.c_eval.specs.Statements.{assigned, assigns, chosen, otherwise}
+use Rattle.c_parts.specs.Parts.{assigned}
+use Rattle.c_eval.specs.Statements.{assigns, chosen, otherwise}
 use Rattle.c_eval.proofs.Depths.{deepest, deepest-at, fewer-calls, weight}
-use Rattle.c_replies.proofs.Evaluations.{from, stops-from}
+use Rattle.c_eval.proofs.Evaluations.{fails-stops, from, lifted, stops-from}
 use Rattle.c_eval.specs.declared.flow.Flow.TheVariants.{Next, Broke, Back}
-use Rattle.c_eval.proofs.Exits.{block-closes, call-closes, entering, exit-other}
-use Rattle.c_eval.proofs.Lists.{at, behind_all}
+use Rattle.c_parts.proofs.PartLaws.{entering}
+use Rattle.c_eval.proofs.Exits.{block-closes, call-closes, exit-other}
+use Rattle.c_parts.proofs.Lists.{at, behind_all}
 use Rattle.c_eval.proofs.Loops.{turn-goes_on, turn-leaves, turn-stops, turning-ends, turning-fails, turning-leaves, turning-on, turning-stops, update-stops}
 use Rattle.c_eval.proofs.evaluate.+statements.Goals as goal
 
@@ -81,7 +82,7 @@ act-returns-in-For t c =
 pub call_function-returns-in_err-enter : goal.call_function-returns-in_err-enter
 call_function-returns-in_err-enter t c =
     let p = err_from_is_err_and c.from_residual.result c.from_residual.ensures.1 in
-    rw (p.1, p.2) (λ k. stops-from _ _ _ _ _ (ap (λ x. after x c.args.replies.now) (entering c.args.calls.now.rank c.args.calls.now.functions.now c.args.calls.now.depth c.args.number c.in-Some.function.now c.args.arguments.now c.args.store.now k (omega arith) c.in-Some.ensures.some)) (c.in_err-enter.ensures c.args.replies.now (λ s. act_list c.args.calls.now.rank (call_at c.args.calls.now.rank c.args.calls.now.functions.now (c.args.calls.now.depth - 1)) c.in-Some.function.now.body.items s (exits_to (mark_of c.args.store.now) k))))
+    rw (p.1, p.2) (λ k. stops-from _ _ _ _ _ (ap (λ x. after x c.args.replies.now) (entering c.args.calls.now.rank c.args.calls.now.functions.now c.args.calls.now.depth c.args.number c.in-Some.function.now c.args.arguments.now c.args.store.now k (omega arith) c.in-Some.ensures.some)) (fails-stops _ _ _ c.args.replies.now (c.in_err-enter.ensures (λ s. act_list c.args.calls.now.rank (call_at c.args.calls.now.rank c.args.calls.now.functions.now (c.args.calls.now.depth - 1)) c.in-Some.function.now.body.items s (exits_to (mark_of c.args.store.now) k)))))
 
 pub call_function-run_list-requires : goal.call_function-run_list-requires
 call_function-run_list-requires t c =
@@ -93,44 +94,53 @@ call_function-run_list-requires t c =
 pub call_function-returns-in_err-flow : goal.call_function-returns-in_err-flow
 call_function-returns-in_err-flow t c =
     let p = err_from_is_err_and c.from_residual-in_err-flow.result c.from_residual-in_err-flow.ensures.1 in
-    rw (p.1, p.2) (λ k. stops-from _ _ _ _ _ (ap (λ x. after x c.args.replies.now) (entering c.args.calls.now.rank c.args.calls.now.functions.now c.args.calls.now.depth c.args.number c.in-Some.function.now c.args.arguments.now c.args.store.now k (omega arith) c.in-Some.ensures.some) ∙ (c.in_ok-enter.ensures c.args.replies.now).at (λ s. act_list c.args.calls.now.rank (call_at c.args.calls.now.rank c.args.calls.now.functions.now (c.args.calls.now.depth - 1)) c.in-Some.function.now.body.items s (exits_to (mark_of c.args.store.now) k)) ∙ rw c.deref.ensures.value refl) (c.in_err-flow.ensures (exits_to (mark_of c.args.store.now) k)))
+    rw (p.1, p.2) (λ k. stops-from _ _ _ _ _ (ap (λ x. after x c.args.replies.now) (entering c.args.calls.now.rank c.args.calls.now.functions.now c.args.calls.now.depth c.args.number c.in-Some.function.now c.args.arguments.now c.args.store.now k (omega arith) c.in-Some.ensures.some) ∙ (lifted c.in_ok-enter.ensures c.args.replies.now).at (λ s. act_list c.args.calls.now.rank (call_at c.args.calls.now.rank c.args.calls.now.functions.now (c.args.calls.now.depth - 1)) c.in-Some.function.now.body.items s (exits_to (mark_of c.args.store.now) k)) ∙ rw c.deref.ensures.value refl) (c.in_err-flow.ensures (exits_to (mark_of c.args.store.now) k)))
 
 pub call_function-returns : goal.call_function-returns
 call_function-returns t c =
     let is : c.leave.new.self ≡ leave (mark_of c.args.store.now) c.run_list.new.store = cc in
     let fits : FitsSigned w32 c.value_in.result = search rules in
     rw (to_z-of_z w32 c.value_in.result fits, c.value_in.ensures) (call-closes ((calls_of c.args.calls.now) c.args.number c.args.arguments.now) (act_list c.args.calls.now.rank (call_at c.args.calls.now.rank c.args.calls.now.functions.now (c.args.calls.now.depth - 1)) c.deref.result.now) (mark_of c.args.store.now) c.in_ok-flow.flow c.args.store.now c.enter.new.store c.run_list.new.store c.leave.new.self c.args.replies.now c.args.replies.now c.run_list.new.replies
-    (λ k. ap (λ x. after x c.args.replies.now) (entering c.args.calls.now.rank c.args.calls.now.functions.now c.args.calls.now.depth c.args.number c.in-Some.function.now c.args.arguments.now c.args.store.now k (omega arith) c.in-Some.ensures.some) ∙ (c.in_ok-enter.ensures c.args.replies.now).at (λ s. act_list c.args.calls.now.rank (call_at c.args.calls.now.rank c.args.calls.now.functions.now (c.args.calls.now.depth - 1)) c.in-Some.function.now.body.items s (exits_to (mark_of c.args.store.now) k)) ∙ rw c.deref.ensures.value refl) ((c.in_ok-enter.ensures c.args.replies.now).left) (c.in_ok-flow.ensures) is)
+    (λ k. ap (λ x. after x c.args.replies.now) (entering c.args.calls.now.rank c.args.calls.now.functions.now c.args.calls.now.depth c.args.number c.in-Some.function.now c.args.arguments.now c.args.store.now k (omega arith) c.in-Some.ensures.some) ∙ (lifted c.in_ok-enter.ensures c.args.replies.now).at (λ s. act_list c.args.calls.now.rank (call_at c.args.calls.now.rank c.args.calls.now.functions.now (c.args.calls.now.depth - 1)) c.in-Some.function.now.body.items s (exits_to (mark_of c.args.store.now) k)) ∙ rw c.deref.ensures.value refl) ((lifted c.in_ok-enter.ensures c.args.replies.now).left) (c.in_ok-flow.ensures) is)
 
 pub declare-returns-in_err-cell : goal.declare-returns-in_err-cell
 declare-returns-in_err-cell t c =
     let p = err_from_is_err_and c.from_residual.result c.from_residual.ensures.1 in
-    rw (p.1, p.2) (λ k. c.in_err-cell.ensures c.args.replies.now (λ cell s. begin (calls_of c.args.calls.now) c.args.item.now.initial cell s k))
+    rw (p.1, p.2) (λ k. fails-stops _ _ _ c.args.replies.now (c.in_err-cell.ensures (λ cell s. begin (calls_of c.args.calls.now) c.args.item.now.initial cell s k)))
 
 pub declare-returns-in-Nothing : goal.declare-returns-in-Nothing
-declare-returns-in-Nothing t c = record { at = λ k. (c.in_ok-cell.ensures c.args.replies.now).at (λ cell s. begin (calls_of c.args.calls.now) c.args.item.now.initial cell s k) ∙ rw c.in-Nothing.is refl; left = (c.in_ok-cell.ensures c.args.replies.now).left }
+declare-returns-in-Nothing t c = record { at = λ k. (lifted c.in_ok-cell.ensures c.args.replies.now).at (λ cell s. begin (calls_of c.args.calls.now) c.args.item.now.initial cell s k) ∙ rw c.in-Nothing.is refl; left = (lifted c.in_ok-cell.ensures c.args.replies.now).left }
 
 pub declare-returns-in_err-value-in-Right : goal.declare-returns-in_err-value-in-Right
 declare-returns-in_err-value-in-Right t c =
     let p = err_from_is_err_and c.from_residual-in_err-value-in-Right.result c.from_residual-in_err-value-in-Right.ensures.1 in
-    rw (p.1, p.2) (λ k. stops-from _ _ _ _ _ ((c.in_ok-cell.ensures c.args.replies.now).at (λ cell s. begin (calls_of c.args.calls.now) c.args.item.now.initial cell s k) ∙ rw c.in-Right.is refl) (c.in_err-value-in-Right.ensures (λ v s. k (put c.in_ok-cell.cell v s))))
+    rw (p.1, p.2) (λ k. stops-from _ _ _ _ _ ((lifted c.in_ok-cell.ensures c.args.replies.now).at (λ cell s. begin (calls_of c.args.calls.now) c.args.item.now.initial cell s k) ∙ rw c.in-Right.is refl) (c.in_err-value-in-Right.ensures (λ v s. k (put c.in_ok-cell.cell v s))))
 
 pub declare-returns-in_ok-value-in-Right : goal.declare-returns-in_ok-value-in-Right
 declare-returns-in_ok-value-in-Right t c =
-    let added : c.add.new.store.left ≤ c.args.store.now.left = (c.in_ok-cell.ensures c.args.replies.now).left in
+    let added : c.add.new.store.left ≤ c.args.store.now.left = (lifted c.in_ok-cell.ensures c.args.replies.now).left in
     let valued : c.value_of.new.store.left ≤ c.add.new.store.left = c.in_ok-value-in-Right.ensures.left in
     let fits : FitsSigned w32 c.in_ok-value-in-Right.value = search rules in
     let is : c.put.new.self ≡ put c.in_ok-cell.cell c.in_ok-value-in-Right.value c.value_of.new.store = c.put.ensures ∙ ap (λ v. put c.in_ok-cell.cell v c.value_of.new.store) (to_z-of_z w32 c.in_ok-value-in-Right.value fits) in
     let same : c.put.new.self.left ≡ c.value_of.new.store.left = ap (λ (u : State). u.left) is in
     record {
-      at = λ k. (c.in_ok-cell.ensures c.args.replies.now).at (λ cell s. begin (calls_of c.args.calls.now) c.args.item.now.initial cell s k) ∙ rw c.in-Right.is (c.in_ok-value-in-Right.ensures.at (λ v s. k (put c.in_ok-cell.cell v s))) ∙ ap (λ u. after (k u) c.value_of.new.replies) (sym is);
+      at = λ k. (lifted c.in_ok-cell.ensures c.args.replies.now).at (λ cell s. begin (calls_of c.args.calls.now) c.args.item.now.initial cell s k) ∙ rw c.in-Right.is (c.in_ok-value-in-Right.ensures.at (λ v s. k (put c.in_ok-cell.cell v s))) ∙ ap (λ u. after (k u) c.value_of.new.replies) (sym is);
       left = omega arith;
     }
 
-pub declare-returns-in-Values : goal.declare-returns-in-Values
-declare-returns-in-Values t c =
-    from {K = Onward} {A = Unit {0}} (λ go done. go) (declare (calls_of c.args.calls.now) c.args.item.now) (put_values c.deref.result.now c.in_ok-cell.cell) c.args.store.now c.add.new.store c.put_values_of.new.store c.args.replies.now c.args.replies.now c.args.replies.now c.put_values_of.result
-    (λ k. (c.in_ok-cell.ensures c.args.replies.now).at (λ cell s. begin (calls_of c.args.calls.now) c.args.item.now.initial cell s k) ∙ rw (c.in-Values.is, c.deref.ensures.value) refl) ((c.in_ok-cell.ensures c.args.replies.now).left) (c.put_values_of.ensures c.args.replies.now)
+pub declare-returns-in_err-put_values_of-in-Values : goal.declare-returns-in_err-put_values_of-in-Values
+declare-returns-in_err-put_values_of-in-Values t c =
+    let p = err_from_is_err_and c.from_residual-in_err-put_values_of-in-Values.result c.from_residual-in_err-put_values_of-in-Values.ensures.1 in
+    rw (p.1, p.2) (λ k. stops-from _ _ _ _ _ ((lifted c.in_ok-cell.ensures c.args.replies.now).at (λ cell s. begin (calls_of c.args.calls.now) c.args.item.now.initial cell s k) ∙ rw (c.in-Values.is, ← c.deref.ensures.value) refl) (fails-stops _ _ _ c.args.replies.now (c.in_err-put_values_of-in-Values.ensures k)))
+
+pub declare-returns-in_ok-put_values_of-in-Values : goal.declare-returns-in_ok-put_values_of-in-Values
+declare-returns-in_ok-put_values_of-in-Values t c =
+    let added : c.add.new.store.left ≤ c.args.store.now.left = c.in_ok-cell.ensures.left in
+    let put : c.put_values_of.new.store.left ≤ c.add.new.store.left = c.in_ok-put_values_of-in-Values.ensures.left in
+    record {
+      at = λ k. (lifted c.in_ok-cell.ensures c.args.replies.now).at (λ cell s. begin (calls_of c.args.calls.now) c.args.item.now.initial cell s k) ∙ rw (c.in-Values.is, ← c.deref.ensures.value) ((lifted c.in_ok-put_values_of-in-Values.ensures c.args.replies.now).at k);
+      left = omega arith;
+    }
 
 pub declare_all-returns-in_err-declare : goal.declare_all-returns-in_err-declare
 declare_all-returns-in_err-declare t c =
@@ -152,12 +162,12 @@ declare_all-returns t c = record { at = λ k. c.loop-item.invariant.comes k ∙ 
 pub invoke-returns-in_err-arguments : goal.invoke-returns-in_err-arguments
 invoke-returns-in_err-arguments t c =
     let p = err_from_is_err_and c.from_residual-in_err-arguments.result c.from_residual-in_err-arguments.ensures.1 in
-    rw (p.1, p.2) (λ k. stops-from _ _ _ _ _ (rw c.deref.ensures.value ((c.in_ok-take_step.ensures.evaluated c.args.replies.now).at (λ s. trying (passed_all c.args.call.now.arguments.items s) s (λ arguments. (calls_of c.args.calls.now) c.args.call.now.function arguments s k)))) (c.in_err-arguments.ensures c.args.replies.now (λ arguments s. (calls_of c.args.calls.now) c.args.call.now.function arguments s k)))
+    rw (p.1, p.2) (λ k. stops-from _ _ _ _ _ (rw c.deref.ensures.value ((lifted c.in_ok-take_step.ensures.evaluated c.args.replies.now).at (λ s. trying (passed_all c.args.call.now.arguments.items s) s (λ arguments. (calls_of c.args.calls.now) c.args.call.now.function arguments s k)))) (fails-stops _ _ _ c.args.replies.now (c.in_err-arguments.ensures (λ arguments s. (calls_of c.args.calls.now) c.args.call.now.function arguments s k))))
 
 pub invoke-returns : goal.invoke-returns
 invoke-returns t c =
     from {K = ℤ → Onward} {A = ℤ} (λ go v. go v) (invoke (calls_of c.args.calls.now) c.args.call.now) ((calls_of c.args.calls.now) c.args.call.now.function c.deref-2.result.now) c.args.store.now c.take_step.new.store c.call_function.new.store c.args.replies.now c.args.replies.now c.call_function.new.replies c.call_function.result
-    (λ k. (c.in_ok-take_step.ensures.evaluated c.args.replies.now).at (λ s. trying (passed_all c.args.call.now.arguments.items s) s (λ arguments. (calls_of c.args.calls.now) c.args.call.now.function arguments s k)) ∙ rw (← c.deref.ensures.value, c.deref-2.ensures.value) ((c.in_ok-arguments.ensures c.args.replies.now).at (λ arguments s. (calls_of c.args.calls.now) c.args.call.now.function arguments s k))) ((c.in_ok-take_step.ensures.evaluated c.args.replies.now).left) (c.call_function.ensures)
+    (λ k. (lifted c.in_ok-take_step.ensures.evaluated c.args.replies.now).at (λ s. trying (passed_all c.args.call.now.arguments.items s) s (λ arguments. (calls_of c.args.calls.now) c.args.call.now.function arguments s k)) ∙ rw (← c.deref.ensures.value, c.deref-2.ensures.value) ((lifted c.in_ok-arguments.ensures c.args.replies.now).at (λ arguments s. (calls_of c.args.calls.now) c.args.call.now.function arguments s k))) ((lifted c.in_ok-take_step.ensures.evaluated c.args.replies.now).left) (c.call_function.ensures)
 
 pub repeat-returns-in_err-test : goal.repeat-returns-in_err-test
 repeat-returns-in_err-test t c =
@@ -205,7 +215,7 @@ repeat_after-returns-in-None t c =
 pub run-returns : goal.run-returns
 run-returns t c =
     from exit (started (act c.args.calls.now.rank (calls_of c.args.calls.now) c.args.stmt.now)) (act c.args.calls.now.rank (calls_of c.args.calls.now) c.args.stmt.now) c.args.store.now c.take_step.new.store c.act.new.store c.args.replies.now c.args.replies.now c.act.new.replies c.act.result
-    (λ k. (c.in_ok-take_step.ensures.evaluated c.args.replies.now).at (λ s. act c.args.calls.now.rank (calls_of c.args.calls.now) c.args.stmt.now s k)) ((c.in_ok-take_step.ensures.evaluated c.args.replies.now).left) (c.act.ensures)
+    (λ k. (lifted c.in_ok-take_step.ensures.evaluated c.args.replies.now).at (λ s. act c.args.calls.now.rank (calls_of c.args.calls.now) c.args.stmt.now s k)) ((lifted c.in_ok-take_step.ensures.evaluated c.args.replies.now).left) (c.act.ensures)
 
 pub run_block-returns-in_err-flow : goal.run_block-returns-in_err-flow
 run_block-returns-in_err-flow t c =
@@ -264,21 +274,21 @@ run_list-returns t c = record { at = λ k. c.loop-part.invariant.comes k ∙ rw 
 pub run_part-returns-in_err-declare_all-in-Declaration : goal.run_part-returns-in_err-declare_all-in-Declaration
 run_part-returns-in_err-declare_all-in-Declaration t c =
     let p = err_from_is_err_and c.from_residual-in_err-declare_all-in-Declaration.result c.from_residual-in_err-declare_all-in-Declaration.ensures.1 in
-    rw (p.1, p.2) (λ k. stops-from _ _ _ _ _ ((c.in_ok-take_step.ensures.evaluated c.args.replies.now).at (λ s. act_part c.args.calls.now.rank (calls_of c.args.calls.now) c.args.part.now s k) ∙ rw (c.in-Declaration.is, c.deref.ensures.value) refl) (c.in_err-declare_all-in-Declaration.ensures k.next))
+    rw (p.1, p.2) (λ k. stops-from _ _ _ _ _ ((lifted c.in_ok-take_step.ensures.evaluated c.args.replies.now).at (λ s. act_part c.args.calls.now.rank (calls_of c.args.calls.now) c.args.part.now s k) ∙ rw (c.in-Declaration.is, c.deref.ensures.value) refl) (c.in_err-declare_all-in-Declaration.ensures k.next))
 
 pub run_part-returns-in_ok-declare_all-in-Declaration : goal.run_part-returns-in_ok-declare_all-in-Declaration
 run_part-returns-in_ok-declare_all-in-Declaration t c =
-    let stepped : c.take_step.new.store.left ≤ c.args.store.now.left = (c.in_ok-take_step.ensures.evaluated c.args.replies.now).left in
+    let stepped : c.take_step.new.store.left ≤ c.args.store.now.left = (lifted c.in_ok-take_step.ensures.evaluated c.args.replies.now).left in
     let declared : c.declare_all.new.store.left ≤ c.take_step.new.store.left = c.in_ok-declare_all-in-Declaration.ensures.left in
     record {
-      at = λ k. (c.in_ok-take_step.ensures.evaluated c.args.replies.now).at (λ s. act_part c.args.calls.now.rank (calls_of c.args.calls.now) c.args.part.now s k) ∙ rw (c.in-Declaration.is, ← c.deref.ensures.value) (c.in_ok-declare_all-in-Declaration.ensures.at k.next);
+      at = λ k. (lifted c.in_ok-take_step.ensures.evaluated c.args.replies.now).at (λ s. act_part c.args.calls.now.rank (calls_of c.args.calls.now) c.args.part.now s k) ∙ rw (c.in-Declaration.is, ← c.deref.ensures.value) (c.in_ok-declare_all-in-Declaration.ensures.at k.next);
       left = omega arith;
     }
 
 pub run_part-returns-in-Stmt : goal.run_part-returns-in-Stmt
 run_part-returns-in-Stmt t c =
     from exit (started (act_part c.args.calls.now.rank (calls_of c.args.calls.now) c.args.part.now)) (act c.args.calls.now.rank (calls_of c.args.calls.now) c.in-Stmt.stmt) c.args.store.now c.take_step.new.store c.act.new.store c.args.replies.now c.args.replies.now c.act.new.replies c.act.result
-    (λ k. (c.in_ok-take_step.ensures.evaluated c.args.replies.now).at (λ s. act_part c.args.calls.now.rank (calls_of c.args.calls.now) c.args.part.now s k) ∙ rw c.in-Stmt.is refl) ((c.in_ok-take_step.ensures.evaluated c.args.replies.now).left) (c.act.ensures)
+    (λ k. (lifted c.in_ok-take_step.ensures.evaluated c.args.replies.now).at (λ s. act_part c.args.calls.now.rank (calls_of c.args.calls.now) c.args.part.now s k) ∙ rw c.in-Stmt.is refl) ((lifted c.in_ok-take_step.ensures.evaluated c.args.replies.now).left) (c.act.ensures)
 
 pub assign-returns-in_err-value : goal.assign-returns-in_err-value
 assign-returns-in_err-value t c =
@@ -286,12 +296,25 @@ assign-returns-in_err-value t c =
     let cell : cell_of c.args.place.now c.args.store.now ≡ Ok c.in_ok-cell.cell = sym c.cell_of.ensures.value ∙ c.in_ok-cell.was in
     rw (p.1, p.2) (λ k. stops-from _ _ _ _ _ (rw cell refl) (c.in_err-value.ensures (λ v s. assigned c.args.operator c.in_ok-cell.cell v s k)))
 
+pub assign-returns-in_err-put_assigned : goal.assign-returns-in_err-put_assigned
+assign-returns-in_err-put_assigned t c =
+    let p = err_from_is_err_and c.from_residual-in_err-put_assigned.result c.from_residual-in_err-put_assigned.ensures.1 in
+    let cell : cell_of c.args.place.now c.args.store.now ≡ Ok c.in_ok-cell.cell = sym c.cell_of.ensures.value ∙ c.in_ok-cell.was in
+    let fits : FitsSigned w32 c.in_ok-value.value = search rules in
+    let h = rw (to_z-of_z w32 c.in_ok-value.value fits) at c.in_err-put_assigned.ensures in
+    rw (p.1, p.2) (λ k. stops-from _ _ _ _ _ (rw cell (c.in_ok-value.ensures.at (λ v s. assigned c.args.operator c.in_ok-cell.cell v s k))) (fails-stops _ _ _ c.value_of.new.replies (h k)))
+
 pub assign-returns : goal.assign-returns
 assign-returns t c =
     let cell : cell_of c.args.place.now c.args.store.now ≡ Ok c.in_ok-cell.cell = sym c.cell_of.ensures.value ∙ c.in_ok-cell.was in
     let fits : FitsSigned w32 c.in_ok-value.value = search rules in
-    from {K = Onward} {A = Unit {0}} (λ go done. go) (assigns (calls_of c.args.calls.now) c.args.place.now c.args.operator c.args.right.now) (assigned c.args.operator c.in_ok-cell.cell c.in_ok-value.value) c.args.store.now c.value_of.new.store c.put_assigned.new.store c.args.replies.now c.value_of.new.replies c.value_of.new.replies c.put_assigned.result
-    (λ k. rw cell (c.in_ok-value.ensures.at (λ v s. assigned c.args.operator c.in_ok-cell.cell v s k))) (c.in_ok-value.ensures.left) (rw (to_z-of_z w32 c.in_ok-value.value fits) at c.put_assigned.ensures c.value_of.new.replies)
+    let h = rw (to_z-of_z w32 c.in_ok-value.value fits) at c.in_ok-put_assigned.ensures in
+    let valued : c.value_of.new.store.left ≤ c.args.store.now.left = c.in_ok-value.ensures.left in
+    let put : c.put_assigned.new.store.left ≤ c.value_of.new.store.left = h.left in
+    record {
+      at = λ k. rw cell (c.in_ok-value.ensures.at (λ v s. assigned c.args.operator c.in_ok-cell.cell v s k)) ∙ (lifted h c.value_of.new.replies).at k;
+      left = omega arith;
+    }
 
 pub run_simple-returns-in-Set : goal.run_simple-returns-in-Set
 run_simple-returns-in-Set t c =
@@ -311,15 +334,21 @@ run_simple-returns-in_err-invoke-in-Call t c =
 pub run_simple-returns-in_ok-invoke-in-Call : goal.run_simple-returns-in_ok-invoke-in-Call
 run_simple-returns-in_ok-invoke-in-Call t c = record { at = λ k. rw c.in-Call.is (c.in_ok-invoke-in-Call.ensures.at (λ v s. k s)); left = c.in_ok-invoke-in-Call.ensures.left }
 
-pub run_simple-returns-in-Print : goal.run_simple-returns-in-Print
-run_simple-returns-in-Print t c =
-    from {K = Onward} {A = Unit {0}} (λ go done. go) (simple c.args.calls.now.rank (calls_of c.args.calls.now) c.args.one.now) (λ s go. trying (values c.deref-in-Print-2.result.now s) s (λ vs. print (text_of c.deref-in-Print.result.now vs) s go)) c.args.store.now c.args.store.now c.print.new.store c.args.replies.now c.args.replies.now c.args.replies.now c.print.result
-    (λ k. rw (c.in-Print.is, c.deref-in-Print.ensures.value, c.deref-in-Print-2.ensures.value) refl) (omega arith) (c.print.ensures c.args.replies.now)
+pub run_simple-returns-in_err-print-in-Print : goal.run_simple-returns-in_err-print-in-Print
+run_simple-returns-in_err-print-in-Print t c =
+    let p = err_from_is_err_and c.from_residual-in_err-print-in-Print.result c.from_residual-in_err-print-in-Print.ensures.1 in
+    rw (p.1, p.2) (λ k. stops-from _ _ _ _ _ (rw (c.in-Print.is, ← c.deref-in-Print.ensures.value, ← c.deref-in-Print-2.ensures.value) refl) (fails-stops _ _ _ c.args.replies.now (c.in_err-print-in-Print.ensures k)))
+
+pub run_simple-returns-in_ok-print-in-Print : goal.run_simple-returns-in_ok-print-in-Print
+run_simple-returns-in_ok-print-in-Print t c = record {
+  at = λ k. rw (c.in-Print.is, ← c.deref-in-Print.ensures.value, ← c.deref-in-Print-2.ensures.value) ((lifted c.in_ok-print-in-Print.ensures c.args.replies.now).at k);
+  left = c.in_ok-print-in-Print.ensures.left;
+}
 
 pub start_for-returns-in_ok-take_step-in-Declaration : goal.start_for-returns-in_ok-take_step-in-Declaration
 start_for-returns-in_ok-take_step-in-Declaration t c =
     from {K = Onward} {A = Unit {0}} (λ go done. go) (for_start c.args.calls.now.rank (calls_of c.args.calls.now) c.args.start.now) (declare_all (calls_of c.args.calls.now) c.deref.result.now) c.args.store.now c.take_step.new.store c.declare_all.new.store c.args.replies.now c.args.replies.now c.declare_all.new.replies c.declare_all.result
-    (λ k. rw (c.in-Declaration.is, c.deref.ensures.value) ((c.in_ok-take_step-in-Declaration.ensures.evaluated c.args.replies.now).at (λ s. declare_all (calls_of c.args.calls.now) c.in-Declaration.declaration.items.items s k))) ((c.in_ok-take_step-in-Declaration.ensures.evaluated c.args.replies.now).left) (c.declare_all.ensures)
+    (λ k. rw (c.in-Declaration.is, c.deref.ensures.value) ((lifted c.in_ok-take_step-in-Declaration.ensures.evaluated c.args.replies.now).at (λ s. declare_all (calls_of c.args.calls.now) c.in-Declaration.declaration.items.items s k))) ((lifted c.in_ok-take_step-in-Declaration.ensures.evaluated c.args.replies.now).left) (c.declare_all.ensures)
 
 pub start_for-returns-in-Simple : goal.start_for-returns-in-Simple
 start_for-returns-in-Simple t c =
@@ -334,27 +363,52 @@ run_update-returns-in-Some t c =
 pub take_turn-returns-in_err-run-clause-evaluated : goal.take_turn-returns-in_err-run-clause-evaluated
 take_turn-returns-in_err-run-clause-evaluated t c =
     let p = err_from_is_err_and c.from_residual-in_err-run.result c.from_residual-in_err-run.ensures.1 in
-    rw (p.1, p.2) (turn-stops (for_update c.args.calls.now.rank (calls_of c.args.calls.now) (option_copied c.args.update)) (started (act c.args.calls.now.rank (calls_of c.args.calls.now) c.args.body.now)) c.args.store.now c.take_step.new.store c.args.replies.now (c.in_ok-take_step.ensures.evaluated c.args.replies.now) _ c.run.new.store c.run.new.replies c.in_err-run.ensures)
+    rw (p.1, p.2) (turn-stops (for_update c.args.calls.now.rank (calls_of c.args.calls.now) (option_copied c.args.update)) (started (act c.args.calls.now.rank (calls_of c.args.calls.now) c.args.body.now)) c.args.store.now c.take_step.new.store c.args.replies.now (lifted c.in_ok-take_step.ensures.evaluated c.args.replies.now) _ c.run.new.store c.run.new.replies c.in_err-run.ensures)
 
 pub take_turn-returns-in-Broke-clause-evaluated : goal.take_turn-returns-in-Broke-clause-evaluated
 take_turn-returns-in-Broke-clause-evaluated t c =
-    turn-leaves (for_update c.args.calls.now.rank (calls_of c.args.calls.now) (option_copied c.args.update)) (started (act c.args.calls.now.rank (calls_of c.args.calls.now) c.args.body.now)) c.args.store.now c.take_step.new.store c.args.replies.now (c.in_ok-take_step.ensures.evaluated c.args.replies.now) Broke c.run.new.store c.run.new.replies (rw c.in-Broke.is at c.in_ok-run.ensures) Next (λ ways. refl)
+    turn-leaves (for_update c.args.calls.now.rank (calls_of c.args.calls.now) (option_copied c.args.update)) (started (act c.args.calls.now.rank (calls_of c.args.calls.now) c.args.body.now)) c.args.store.now c.take_step.new.store c.args.replies.now (lifted c.in_ok-take_step.ensures.evaluated c.args.replies.now) Broke c.run.new.store c.run.new.replies (rw c.in-Broke.is at c.in_ok-run.ensures) Next (λ ways. refl)
 
 pub take_turn-returns-in-Back-clause-evaluated : goal.take_turn-returns-in-Back-clause-evaluated
 take_turn-returns-in-Back-clause-evaluated t c =
     let fits : FitsSigned w32 c.in-Back.value = search rules in
-    rw (to_z-of_z w32 c.in-Back.value fits) (turn-leaves (for_update c.args.calls.now.rank (calls_of c.args.calls.now) (option_copied c.args.update)) (started (act c.args.calls.now.rank (calls_of c.args.calls.now) c.args.body.now)) c.args.store.now c.take_step.new.store c.args.replies.now (c.in_ok-take_step.ensures.evaluated c.args.replies.now) (Back c.in-Back.value) c.run.new.store c.run.new.replies (rw c.in-Back.is at c.in_ok-run.ensures) (Back c.in-Back.value) (λ ways. refl))
+    rw (to_z-of_z w32 c.in-Back.value fits) (turn-leaves (for_update c.args.calls.now.rank (calls_of c.args.calls.now) (option_copied c.args.update)) (started (act c.args.calls.now.rank (calls_of c.args.calls.now) c.args.body.now)) c.args.store.now c.take_step.new.store c.args.replies.now (lifted c.in_ok-take_step.ensures.evaluated c.args.replies.now) (Back c.in-Back.value) c.run.new.store c.run.new.replies (rw c.in-Back.is at c.in_ok-run.ensures) (Back c.in-Back.value) (λ ways. refl))
 
 pub take_turn-returns-in_err-run_update-clause-evaluated : goal.take_turn-returns-in_err-run_update-clause-evaluated
 take_turn-returns-in_err-run_update-clause-evaluated t c =
     let p = err_from_is_err_and c.from_residual-in_err-run_update.result c.from_residual-in_err-run_update.ensures.1 in
-    rw (p.1, p.2) (update-stops (for_update c.args.calls.now.rank (calls_of c.args.calls.now) (option_copied c.args.update)) (started (act c.args.calls.now.rank (calls_of c.args.calls.now) c.args.body.now)) c.args.store.now c.take_step.new.store c.args.replies.now (c.in_ok-take_step.ensures.evaluated c.args.replies.now) _ c.run.new.store c.run.new.replies c.in_ok-run.ensures c.in_default.not-Broke c.in_default.not-Back _ c.run_update.new.store c.run_update.new.replies c.in_err-run_update.ensures)
+    rw (p.1, p.2) (update-stops (for_update c.args.calls.now.rank (calls_of c.args.calls.now) (option_copied c.args.update)) (started (act c.args.calls.now.rank (calls_of c.args.calls.now) c.args.body.now)) c.args.store.now c.take_step.new.store c.args.replies.now (lifted c.in_ok-take_step.ensures.evaluated c.args.replies.now) _ c.run.new.store c.run.new.replies c.in_ok-run.ensures c.in_default.not-Broke c.in_default.not-Back _ c.run_update.new.store c.run_update.new.replies c.in_err-run_update.ensures)
 
 pub take_turn-returns-clause-evaluated : goal.take_turn-returns-clause-evaluated
 take_turn-returns-clause-evaluated t c =
-    turn-goes_on (for_update c.args.calls.now.rank (calls_of c.args.calls.now) (option_copied c.args.update)) (started (act c.args.calls.now.rank (calls_of c.args.calls.now) c.args.body.now)) c.args.store.now c.take_step.new.store c.args.replies.now (c.in_ok-take_step.ensures.evaluated c.args.replies.now) _ c.run.new.store c.run.new.replies c.in_ok-run.ensures c.in_default.not-Broke c.in_default.not-Back c.run_update.new.store c.run_update.new.replies c.in_ok-run_update.ensures
+    turn-goes_on (for_update c.args.calls.now.rank (calls_of c.args.calls.now) (option_copied c.args.update)) (started (act c.args.calls.now.rank (calls_of c.args.calls.now) c.args.body.now)) c.args.store.now c.take_step.new.store c.args.replies.now (lifted c.in_ok-take_step.ensures.evaluated c.args.replies.now) _ c.run.new.store c.run.new.replies c.in_ok-run.ensures c.in_default.not-Broke c.in_default.not-Back c.run_update.new.store c.run_update.new.replies c.in_ok-run_update.ensures
 
 pub value_of-returns-in-Call : goal.value_of-returns-in-Call
 value_of-returns-in-Call t c =
     from {K = ℤ → Onward} {A = ℤ} (λ go v. go v) (right (calls_of c.args.calls.now) c.args.one.now) (invoke (calls_of c.args.calls.now) c.in-Call.call) c.args.store.now c.args.store.now c.invoke.new.store c.args.replies.now c.args.replies.now c.invoke.new.replies c.invoke.result
     (λ k. rw c.in-Call.is refl) (omega arith) (c.invoke.ensures)
+
+pub invoke-returns-in_err-take_step : goal.invoke-returns-in_err-take_step
+invoke-returns-in_err-take_step t c =
+    let p = err_from_is_err_and c.from_residual.result c.from_residual.ensures.1 in
+    rw (p.1, p.2) (λ k. fails-stops _ _ _ c.args.replies.now (c.in_err-take_step.ensures.evaluated (λ s. trying (passed_all c.args.call.now.arguments.items s) s (λ arguments. (calls_of c.args.calls.now) c.args.call.now.function arguments s k))))
+
+pub run-returns-in_err-take_step : goal.run-returns-in_err-take_step
+run-returns-in_err-take_step t c =
+    let p = err_from_is_err_and c.from_residual.result c.from_residual.ensures.1 in
+    rw (p.1, p.2) (λ k. fails-stops _ _ _ c.args.replies.now (c.in_err-take_step.ensures.evaluated (λ s. act c.args.calls.now.rank (calls_of c.args.calls.now) c.args.stmt.now s k)))
+
+pub run_part-returns-in_err-take_step : goal.run_part-returns-in_err-take_step
+run_part-returns-in_err-take_step t c =
+    let p = err_from_is_err_and c.from_residual.result c.from_residual.ensures.1 in
+    rw (p.1, p.2) (λ k. fails-stops _ _ _ c.args.replies.now (c.in_err-take_step.ensures.evaluated (λ s. act_part c.args.calls.now.rank (calls_of c.args.calls.now) c.args.part.now s k)))
+
+pub start_for-returns-in_err-take_step-in-Declaration : goal.start_for-returns-in_err-take_step-in-Declaration
+start_for-returns-in_err-take_step-in-Declaration t c =
+    let p = err_from_is_err_and c.from_residual.result c.from_residual.ensures.1 in
+    rw (p.1, p.2) (λ k. stops-from _ _ _ _ _ (rw c.in-Declaration.is refl) (fails-stops _ _ _ c.args.replies.now (c.in_err-take_step-in-Declaration.ensures.evaluated (λ s. declare_all (calls_of c.args.calls.now) c.in-Declaration.declaration.items.items s k))))
+
+pub take_turn-returns-in_err-take_step-clause-evaluated : goal.take_turn-returns-in_err-take_step-clause-evaluated
+take_turn-returns-in_err-take_step-clause-evaluated t c =
+    let p = err_from_is_err_and c.from_residual.result c.from_residual.ensures.1 in
+    rw (p.1, p.2) (λ ways. fails-stops _ _ _ c.args.replies.now (c.in_err-take_step.ensures.evaluated (λ s. started (act c.args.calls.now.rank (calls_of c.args.calls.now) c.args.body.now) s (turn_exits (for_update c.args.calls.now.rank (calls_of c.args.calls.now) (option_copied c.args.update)) ways.on ways.out))))

@@ -1,4 +1,4 @@
-use Rattle.c_replies.proofs.Evaluations.{after-last}
+use Rattle.c_eval.proofs.Evaluations.{after-last}
 use Rattle.c_eval.proofs.rank.last.Goals as goal
 
 pub returns-in-Some : goal.returns-in-Some

@@ -1,5 +1,4 @@
-use Rattle.std.proofs.Common.{rules, arith, ◌≡◌, ◌<◌, ◌∙◌, ap, All, List, drop, length, subst, sym}
-use Rattle.rank_threads.specs.Workers.{AreWorkers, CanWork}
+use Rattle.std.proofs.Common.{rules, arith, ◌≡◌, ◌∙◌, ap, drop, length}
 use Rattle.rank_threads.proofs.Workers.{all_can, all_worked}
 use Rattle.rank_threads.proofs.Places.{written}
 use Rattle.rank_threads.proofs.rounds.make_rounds.Goals as goal

@@ -1,4 +1,4 @@
-use Rattle.std.proofs.Common.{rules, ◌∙◌, sym, subst}
+use Rattle.std.proofs.Common.{rules}
 use Rattle.turn_lock.proofs.Callers.{idle_each}
 use Rattle.rank_threads.proofs.Workers.{runs_after}
 use Rattle.rank_threads.proofs.rounds.run.Goals as goal

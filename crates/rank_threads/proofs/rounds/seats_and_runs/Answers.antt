@@ -1,4 +1,4 @@
-use Rattle.std.proofs.Common.{rules, arith, ◌≡◌, ◌<◌, ◌+◌, ◌++◌, ◌∷◌, ◌∙◌, [], ℕ, suc, ap, length, slice_index, subst, sym}
+use Rattle.std.proofs.Common.{rules, arith, ◌≡◌, ◌++◌, ◌∷◌, [], ℕ, length, sym}
 use Rattle.turn_lock.specs.Seats.{IsIdle}
 use Rattle.rank_threads.specs.Workers.{IsWorker}
 use Rattle.rank_threads.proofs.Workers.{AtPlace, beside_snoc}

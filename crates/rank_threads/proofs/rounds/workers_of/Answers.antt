@@ -1,4 +1,4 @@
-use Rattle.std.proofs.Common.{rules, arith, ◌≡◌, ◌<◌, ◌+◌, ◌++◌, ◌∷◌, ◌∙◌, [], ℕ, suc, ap, length, slice_index, subst, sym}
+use Rattle.std.proofs.Common.{rules, arith, ◌≡◌, ◌++◌, ◌∷◌, ◌∙◌, [], length, sym}
 use Rattle.rank_threads.proofs.Workers.{AtPlace, FreshAt, StartsAt, fresh_seats, worker_new, start_runs}
 use Rattle.rank_threads.proofs.Places.{each_init, each_last, each_snoc, length-last}
 use Rattle.rank_threads.proofs.rounds.workers_of.Goals as goal

@@ -1,4 +1,4 @@
-use Rattle.std.proofs.Common.{rules, ◌≡◌, ◌<◌, ◌∙◌, ℕ, ap, arith, length, slice_index, sym, subst}
+use Rattle.std.proofs.Common.{rules, ◌≡◌, ◌∙◌, ℕ, ap, arith, length, slice_index, sym, subst}
 use Rattle.rank_threads.specs.Readings.{machine_reading}
 use Rattle.rank_threads.specs.Numbered.{numbered}
 use Rattle.rank_threads.specs.Workers.{AreRunsAfter}

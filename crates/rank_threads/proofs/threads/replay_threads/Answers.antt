@@ -1,4 +1,4 @@
-use Rattle.std.proofs.Common.{rules, ◌≡◌, ◌∙◌, ◌≤◌, ap, arith, length, sym, subst}
+use Rattle.std.proofs.Common.{◌≡◌, ◌∙◌, ap, arith, sym, subst}
 use Rattle.log_bounds.proofs.FewRanks.{few_ranks}
 use Rattle.srr_replay.proofs.RoundsLemmas.{member_of}
 use Rattle.rank_threads.specs.Readings.{replay_reading}

@@ -1,4 +1,3 @@
-use Rattle.std.proofs.Common.{rules}
 use Rattle.rank_threads.proofs.Steps.{asks}
 use Rattle.rank_threads.proofs.worker.make_next_call.Goals as goal
 

@@ -1,7 +1,4 @@
-use Rattle.std.proofs.Common.{rules, ◌≡◌, ◌∙◌, false, true, refl, sym, ap}
-use Rattle.mpi_call.specs.declared.reply.Reply.{Reply}
-use Rattle.rank_threads.specs.Reading.{AddsReply}
-use Rattle.rank_threads.specs.declared.attempts.Attempt.TheVariants.{Replied, Waits, Rests, Short}
+use Rattle.std.proofs.Common.{◌∙◌}
 use Rattle.rank_threads.proofs.Steps.{gains, may_give_run, stays}
 use Rattle.rank_threads.proofs.worker.try_once.Goals as goal
 

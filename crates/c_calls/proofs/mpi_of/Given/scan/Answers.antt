@@ -3,4 +3,4 @@ use Rattle.c_calls.proofs.MpiRules.{by_places, of_ok}
 use Rattle.c_calls.proofs.mpi_of.Given.scan.Goals as goal
 
 pub returns : goal.returns
-returns c = by_places _ _ _ _ c.requires (y.scan (of_ok _ c.in_ok-send.ensures.first c.reference.ensures) (of_ok _ c.in_ok-send.ensures.second c.reference-2.ensures) (of_ok _ c.in_ok-send.ensures.third c.value.ensures) c.operation-op.ensures (of_ok _ c.in_ok-send.ensures.fourth c.value-2.ensures))
+returns c = by_places _ _ _ _ c.requires (y.scan (of_ok _ c.in_ok-reduction.ensures.first c.reduction.ensures) (of_ok _ c.in_ok-reduction.ensures.second c.value.ensures))

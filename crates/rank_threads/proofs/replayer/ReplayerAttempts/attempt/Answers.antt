@@ -1,4 +1,4 @@
-use Rattle.std.proofs.Common.{◌≡◌, ℕ, refl, sym, ◌∙◌, ap}
+use Rattle.std.proofs.Common.{refl}
 use Rattle.rank_threads.specs.Readings.{replay_reading}
 use Rattle.rank_threads.specs.Numbered.{place_in}
 use Rattle.rank_threads.proofs.Numbers.{adds, replies_of_own, place_alone}

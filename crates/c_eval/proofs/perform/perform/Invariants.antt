@@ -1,0 +1,14 @@
+use Rattle.std.proofs.Common.{◌≡◌, ◌≤◌, length}
+use Rattle.c_program.specs.Courses.{after}
+use Rattle.c_program.specs.Performing.{Onward}
+use Rattle.c_questions.specs.Questions.{reached}
+use Rattle.c_eval.proofs.perform.perform.Given as goal
+
+abbrev pub invariant-loop-found : goal.invariant-loop-found
+invariant-loop-found l = record {
+  comes : (go : Onward) → after (reached l.rank l.initial.found l.initial.store go) l.initial.replies ≡ after (reached l.rank l.found l.store go) l.replies;
+  left : l.store.left ≤ l.initial.store.left;
+}
+
+abbrev pub decreases-loop-found : goal.decreases-loop-found
+decreases-loop-found l = length l.replies

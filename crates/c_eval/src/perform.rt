@@ -1,0 +1,74 @@
+//! MPI calls over the replies that are left.
+ghost use Rattle.std.specs.Prelude.{◌≡◌, ◌<◌, ◌≤◌, OnOk, length};
+ghost use Rattle.c_program.specs.Performing.{Onward, perform};
+ghost use Rattle.c_parts.specs.Parts.{mpi};
+ghost use Rattle.c_questions.specs.Questions.{asks, reached};
+ghost use Rattle.c_eval.specs.Evaluated.{Evaluated, Passes};
+
+use crate::outcome::{Replies, Stop};
+use c_cells::store::Store;
+use c_effects::effects::effect_of;
+use c_program::effect::{Effect, Rank};
+use c_program::mpi::MpiCall;
+use c_questions::ask::ask;
+use c_questions::call::call_of;
+use c_questions::question::{Question, Reached};
+use c_questions::reply::reply_to;
+use std::alloc::Global;
+
+/// Calls an MPI function.
+pub fn call_mpi(
+    alloc: Global,
+    rank: Rank,
+    call: &MpiCall,
+    store: &mut Store,
+    replies: &mut Replies,
+) -> Result<(), Stop>
+    requires { rank.ranks ≤ 64 }
+    ensures { Passes (mpi rank call.now) store.old replies.old result store.new replies.new }
+{
+    match effect_of(rank, call, store) {
+        Ok(effect) => perform(alloc, rank, effect, store, replies),
+        Err(fault) => Err(Stop::Trapped(fault)),
+    }
+}
+
+/// Performs an effect with the replies that are left.
+pub fn perform(
+    alloc: Global,
+    rank: Rank,
+    effect: Effect,
+    store: &mut Store,
+    replies: &mut Replies,
+) -> Result<(), Stop>
+    requires { rank.ranks ≤ 64 }
+    ensures { Passes (perform rank effect) store.old replies.old result store.new replies.new }
+{
+    let mut found = ask(alloc, rank, effect, store)?;
+    loop {
+        match found {
+            Reached::Done => return Ok(()),
+            Reached::Over => return Err(Stop::Over),
+            Reached::Asks(question) => found = answered(alloc, rank, &question, store, replies)?,
+        }
+    }
+}
+
+/// What follows on the next reply to a question; where there is none, its call is what the rank waits for.
+fn answered(
+    alloc: Global,
+    rank: Rank,
+    question: &Question,
+    store: &mut Store,
+    replies: &mut Replies,
+) -> Result<Reached, Stop>
+    requires { rank.ranks ≤ 64 }
+    ensures evaluated { Evaluated (λ (go : Onward) found s. reached rank found s go) (asks rank question.now) store.old replies.old result store.new replies.new }
+    ensures fewer { OnOk result (length replies.new < length replies.old) }
+{
+    let Some(reply) = replies.next() else {
+        let call = call_of(alloc, question, store)?;
+        return Err(Stop::Waits(call));
+    };
+    Ok(reply_to(alloc, rank, question, reply, store)?)
+}

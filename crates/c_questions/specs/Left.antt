@@ -1,0 +1,37 @@
+-- What changes that may fail leave.
+use Rattle.std.specs.Prelude.{◌≡◌, ◌+◌, ℕ, Bool, true, false, List, [], ◌∷◌, Option, Some, None, option_map}
+use Rattle.mpi_call.specs.declared.call.Fault.TheVariants.{OutOfBounds}
+use Rattle.c_program.specs.Courses.{trapped}
+use Rattle.c_program.specs.Meaning.{Passing}
+use Rattle.mpi_call.specs.declared.call.Source.{Source}
+use Rattle.mpi_call.specs.declared.call.Source.TheVariants.{Null}
+use Rattle.mpi_call.specs.declared.call.TakeMode.{TakeMode}
+use Rattle.mpi_call.specs.declared.reply.Got.{Got}
+use Rattle.c_program.specs.declared.effect.Answer.{Answer}
+use Rattle.c_program.specs.Cells.{Cells}
+use Rattle.c_program.specs.Performing.{Active, item_completed}
+use Rattle.c_program.specs.State.{State, null, put}
+
+-- whether there is a state that a change leads to; else the state stays as it was
+abbrev pub IsLeft : Option State → State → State → Bool → Type 0
+IsLeft None s t done = (done ≡ false) × (t ≡ s)
+IsLeft (Some u) s t done = (done ≡ true) × (t ≡ u)
+
+-- an item's message and status, and null in its handle
+abbrev pub item_put : ℕ → Cells → TakeMode → Answer → Active → ℕ → Got → State → Option State
+item_put n requests mode answer one number got s = option_map (put (requests.from + one.place) null) (item_completed n mode answer one number got s)
+
+-- `MPI_PROC_NULL`
+abbrev pub is_null : Source → Bool
+is_null Null = true
+is_null source = false
+
+-- goes on where cells stand, or traps
+abbrev pub if_stood : Bool → Passing
+if_stood true s go = go s
+if_stood false s go = trapped OutOfBounds s
+
+-- whether there is any
+abbrev pub is_more : {A : Type 0} → List A → Bool
+is_more [] = false
+is_more (x ∷ xs) = true

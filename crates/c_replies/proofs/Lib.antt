@@ -1,4 +1,0 @@
-pub mod Evaluations
-mod CellLaws
-mod CompletionLaws
-mod PerformLaws

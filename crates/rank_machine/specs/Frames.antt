@@ -1,0 +1,147 @@
+-- What a stack of open places stands for: how many calls are open, and where each way out of the innermost place leads.
+use Rattle.std.specs.Prelude.{◌≡◌, ◌≤◌, ◌+◌, ◌-◌, ◌*◌, ℕ, ℤ, suc, List, [], ◌∷◌, Option, Some, None, Result, Ok, Err, length, ◌<◌, option_copied}
+use Rattle.c_program.specs.declared.effect.Rank.{Rank}
+use Rattle.c_program.specs.declared.expr.Expr.{Expr}
+use Rattle.c_program.specs.declared.expr.Call.{Call as FunctionCall}
+use Rattle.c_program.specs.declared.expr.Right.TheVariants.{Value as ValueRight, Call as CallRight}
+use Rattle.c_program.specs.declared.statement.Initial.{Initial}
+use Rattle.c_program.specs.declared.statement.Initial.TheVariants.{Nothing as NoInitial, Right as RightInitial, Values}
+use Rattle.c_program.specs.Values.{value}
+use Rattle.c_program.specs.declared.statement.ForStart.{ForStart}
+use Rattle.c_program.specs.declared.statement.Simple.{Simple}
+use Rattle.c_program.specs.declared.statement.Stmt.{Stmt}
+use Rattle.c_program.specs.Courses.{Course, ended}
+use Rattle.c_program.specs.Meaning.{Calls, Exits, Meaning, Passing, act, act_list, call_at, choose, declare_all, exits_to, for_start, for_update, leaving, put_values, started, test, trying, turns}
+use Rattle.c_program.specs.Performing.{Onward}
+use Rattle.c_program.specs.State.{State, leave, mark_of, put}
+use Rattle.c_parts.specs.Comes.{Fails}
+use Rattle.c_parts.specs.Parts.{assigned}
+use Rattle.c_parts.specs.declared.fail.Fail.{Fail}
+use Rattle.c_questions.specs.Questions.{reached}
+use Rattle.c_questions.specs.declared.question.Reached.{Reached}
+use Rattle.rank_machine.specs.declared.frame.Called.{Called as CalledHere}
+use Rattle.rank_machine.specs.declared.frame.Code.{Code}
+use Rattle.rank_machine.specs.declared.frame.Frame.{Frame}
+use Rattle.rank_machine.specs.declared.frame.Frame.TheVariants.{One, Rest, Items, Block, Repeat, Turn, Called}
+use Rattle.rank_machine.specs.declared.frame.Loop.{Loop}
+use Rattle.rank_machine.specs.declared.frame.Target.{Target}
+use Rattle.rank_machine.specs.declared.frame.Target.TheVariants.{Nowhere, Cell, Back}
+use Rattle.rank_machine.specs.declared.stack.Stack.{Stack}
+
+-- how many calls are open, and where the ways out lead
+pub record Open : Type 0 where
+  pub opens : ℕ
+  pub exits : Exits
+
+-- what calls of functions of the text do, where so many are open; at most 100 may be
+abbrev pub calls_in : Code → ℕ → Calls
+calls_in code opens = call_at code.rank code.functions.now (100 - opens)
+
+-- a call's value goes where it is wanted
+abbrev pub given_to : Target → Exits → ℤ → Onward
+given_to Nowhere k v s = k.next s
+given_to (Cell operator cell) k v s = assigned operator cell v s k.next
+given_to Back k v s = k.back v s
+
+-- what stands behind the second `;` of a `for`
+abbrev pub updating : Code → ℕ → Option Simple → Passing
+updating code opens update s go = for_update code.rank (calls_in code opens) update s go
+
+-- how many turns a loop may take: as many as steps are left when it begins, and one test more
+abbrev pub turns_at : Option ℕ → State → ℕ
+turns_at None s = suc s.left
+turns_at (Some n) s = n
+
+-- a loop, by the turns that it may take
+abbrev pub looping : Code → ℕ → Loop → Meaning
+looping code opens l s k =
+    turns (turns_at l.turns s) (option_copied l.test) (for_update code.rank (calls_in code opens) (option_copied l.update)) (started (act code.rank (calls_in code opens) l.body.now)) s k
+
+-- what is open inside one more place
+abbrev pub inside : Code → Frame → Open → Open
+inside code (One stmt) o = record o { exits = record o.exits { next = λ s. started (act code.rank (calls_in code o.opens) stmt.now) s o.exits } }
+inside code (Rest parts) o = record o { exits = record o.exits { next = λ s. act_list code.rank (calls_in code o.opens) parts.now s o.exits } }
+inside code (Items items) o = record o { exits = record o.exits { next = λ s. declare_all (calls_in code o.opens) items.now s o.exits.next } }
+inside code (Block mark) o = record o { exits = leaving mark o.exits }
+inside code (Repeat l) o = record o { exits = record o.exits { next = λ s. looping code o.opens l s o.exits; broke = o.exits.next } }
+inside code (Turn update) o = record o {
+  exits = record o.exits {
+    next = λ s. updating code o.opens (option_copied update) s o.exits.next;
+    again = λ s. updating code o.opens (option_copied update) s o.exits.next;
+  };
+}
+inside code (Called called) o = record { opens = suc o.opens; exits = exits_to called.mark (given_to called.target o.exits) }
+
+-- inside all of a stack, whose last place is the innermost
+abbrev pub inside_all : Code → List Frame → Open → Open
+inside_all code [] o = o
+inside_all code (frame ∷ frames) o = inside_all code frames (inside code frame o)
+
+-- behind main the rank ends
+abbrev pub outermost : Open
+outermost = record { opens = 0; exits = record { next = ended; broke = ended; again = ended; back = λ v. ended } }
+
+-- inside a whole stack
+abbrev pub within : Code → List Frame → Open
+within code frames = inside_all code frames outermost
+
+-- the count of open calls is that of the stack
+abbrev pub IsOpen : Code → Stack → Type 0
+IsOpen code stack = stack.opens ≡ (within code stack.frames.items).opens
+
+-- a stack from which a rank goes on, or asks, or is over, like this course
+pub record IsAt (course : Course) (code : Code) (found : Reached) (stack : Stack) : Type 0 where
+  pub is : course ≡ reached code.rank found stack.store (within code stack.frames.items).exits.next
+  pub counted : IsOpen code stack
+
+-- where a course has come to, or failed
+abbrev pub Stands : Course → Code → Result Reached Fail → Stack → Type 0
+Stands course code (Ok found) stack = IsAt course code found stack
+Stands course code (Err fail) stack = Fails course fail stack.store
+
+-- the innermost call was taken away: what it gives back goes on so
+pub record Ended (code : Code) (old new : Stack) (called : CalledHere) : Type 0 where
+  pub back : (v : ℤ) → (within code old.frames.items).exits.back v old.store ≡ given_to called.target (within code new.frames.items).exits v (leave called.mark new.store)
+  pub opens : new.opens ≡ suc (within code new.frames.items).opens
+  pub frames : length new.frames.items < length old.frames.items
+  pub left : new.store.left ≡ old.store.left
+
+-- no call was open: what is given back ends the rank
+pub record EndedAll (code : Code) (old new : Stack) : Type 0 where
+  pub back : (v : ℤ) → (within code old.frames.items).exits.back v old.store ≡ ended new.store
+  pub counted : IsOpen code new
+  pub frames : length new.frames.items ≤ length old.frames.items
+  pub left : new.store.left ≡ old.store.left
+
+-- the innermost call ends, or there is none
+abbrev pub Ends : Code → Stack → Stack → Option CalledHere → Type 0
+Ends code old new None = EndedAll code old new
+Ends code old new (Some called) = Ended code old new called
+
+-- the call whose value a variable begins with
+abbrev pub call_in : Initial → Option FunctionCall
+call_in (RightInitial (CallRight call)) = Some call
+call_in initial = None
+
+-- how a variable begins; what a call gives comes later
+abbrev pub begun_value : Initial → ℕ → Passing
+begun_value NoInitial cell s go = go s
+begun_value (RightInitial (ValueRight e)) cell s go = trying (value e s) s (λ v. go (put cell v s))
+begun_value (RightInitial (CallRight call)) cell s go = go s
+begun_value (Values es) cell s go = put_values es.items cell s go
+
+-- an `if`, with an `else` or without
+abbrev pub chosen : Rank → Calls → Expr → Stmt → Option Stmt → Meaning
+chosen rank calls e taken other s k = trying (test (Some e) s) s (λ holds. choose holds (started (act rank calls taken) s k) (otherwise other))
+  where
+    otherwise : Option Stmt → Course
+    otherwise None = k.next s
+    otherwise (Some spared) = started (act rank calls spared) s k
+
+-- a `for`, which is a block of its own
+abbrev pub for_of : Code → ℕ → ForStart → Loop → Meaning
+for_of code opens start l s k = for_start code.rank (calls_in code opens) start s (λ t. looping code opens l t (leaving (mark_of s) k))
+
+-- each step takes more from this than the places that it opens
+abbrev pub weight : Stack → ℕ
+weight stack = 8 * stack.store.left + length stack.frames.items

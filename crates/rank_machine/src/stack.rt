@@ -1,0 +1,216 @@
+//! Values, calls and ways out: what takes places from the stack, and opens calls.
+ghost use Rattle.std.specs.Prelude.{◌≡◌, ◌≤◌, ◌+◌, suc, OnOk};
+ghost use Rattle.c_program.specs.Meaning.{invoke, right};
+ghost use Rattle.c_program.specs.State.{leave};
+ghost use Rattle.c_parts.specs.Parts.{mpi};
+ghost use Rattle.rank_machine.specs.Frames.{Ends, IsOpen, Stands, calls_in, given_to, weight, within};
+
+use crate::frame::{Called, Code, Frame, Target};
+use c_cells::store::Store;
+use c_effects::effects::effect_of;
+use c_parts::fail::Fail;
+use c_parts::parts::{arguments_of, enter, function_at, put_assigned, take_step};
+use c_program::expr::{Call, Right};
+use c_program::mpi::MpiCall;
+use c_program::state::Passed;
+use c_questions::ask::ask;
+use c_questions::question::{Question, Reached};
+use mpi_call::call::Fault;
+
+/// What stands: the places that are open, the innermost last, how many calls are open, and the store.
+#[derive(Drop)]
+pub struct Stack<'p> {
+    pub frames: Vec<Frame<'p>>,
+    pub opens: u32,
+    pub store: Store<'p>,
+}
+
+impl<'p> Stack<'p> {
+    // ---- values
+
+    /// Gives a value to where it goes.
+    pub fn give(&mut self, code: &Code<'p>, target: Target, value: i32) -> Result<Reached, Fail>
+        requires { IsOpen code.now self.old }
+        ensures stands { Stands (given_to target (within code.now self.old.frames.items).exits value self.old.store) code.now result self.new }
+        ensures fewer { OnOk result (weight self.new ≤ weight self.old) }
+    {
+        match target {
+            Target::Nowhere => Ok(Reached::Done),
+            Target::Cell { operator, cell } => {
+                put_assigned(operator, cell, value, &mut self.store)?;
+                Ok(Reached::Done)
+            }
+            Target::Back => self.give_back(code, value),
+        }
+    }
+
+    /// Comes back from the innermost call that is open.
+    pub fn give_back(&mut self, code: &Code<'p>, value: i32) -> Result<Reached, Fail>
+        requires { IsOpen code.now self.old }
+        ensures stands { Stands ((within code.now self.old.frames.items).exits.back value self.old.store) code.now result self.new }
+        ensures fewer { OnOk result (weight self.new ≤ weight self.old) }
+    {
+        match self.pop_call(code) {
+            None => Ok(Reached::Asks(Question::End)),
+            Some(called) => self.come_back(code, called, value),
+        }
+    }
+
+    /// Ends a call that was taken from the stack.
+    pub fn come_back(
+        &mut self,
+        code: &Code<'p>,
+        called: Called,
+        value: i32,
+    ) -> Result<Reached, Fail>
+        requires { self.old.opens ≡ suc (within code.now self.old.frames.items).opens }
+        ensures stands { Stands (given_to called.target (within code.now self.old.frames.items).exits value (leave called.mark self.old.store)) code.now result self.new }
+        ensures fewer { OnOk result (weight self.new ≤ weight self.old) }
+    {
+        let mut last = called;
+        loop {
+            self.store.leave(last.mark);
+            self.opens -= 1;
+            match last.target {
+                Target::Nowhere => return Ok(Reached::Done),
+                Target::Cell { operator, cell } => {
+                    put_assigned(operator, cell, value, &mut self.store)?;
+                    return Ok(Reached::Done);
+                }
+                Target::Back => match self.pop_call(code) {
+                    None => return Ok(Reached::Asks(Question::End)),
+                    Some(next) => last = next,
+                },
+            }
+        }
+    }
+
+    /// Takes places from the stack, up to the innermost call; blocks end.
+    fn pop_call(&mut self, code: &Code<'p>) -> Option<Called>
+        requires { IsOpen code.now self.old }
+        ensures { Ends code.now self.old self.new result }
+    {
+        while let Some(frame) = self.frames.pop() {
+            match frame {
+                Frame::Called(called) => return Some(called),
+                Frame::Block(mark) => self.store.leave(mark),
+                _ => {}
+            }
+        }
+        None
+    }
+
+    // ---- ways out
+
+    /// Goes on behind the innermost loop.
+    pub fn break_out(&mut self, code: &Code<'p>) -> Result<Reached, Fail>
+        requires { IsOpen code.now self.old }
+        ensures stands { Stands ((within code.now self.old.frames.items).exits.broke self.old.store) code.now result self.new }
+        ensures fewer { OnOk result (weight self.new ≤ weight self.old) }
+    {
+        while let Some(frame) = self.frames.pop() {
+            match frame {
+                Frame::Repeat(_) => return Ok(Reached::Done),
+                Frame::Block(mark) => self.store.leave(mark),
+                Frame::Called(called) => return self.come_back(code, called, 0),
+                _ => {}
+            }
+        }
+        Ok(Reached::Asks(Question::End))
+    }
+
+    /// Goes on with what follows on a turn of the innermost loop, which is then the innermost place.
+    pub fn go_again(&mut self, code: &Code<'p>) -> Result<Reached, Fail>
+        requires { IsOpen code.now self.old }
+        ensures stands { Stands ((within code.now self.old.frames.items).exits.again self.old.store) code.now result self.new }
+        ensures fewer { OnOk result (weight self.new ≤ weight self.old) }
+    {
+        while let Some(frame) = self.frames.pop() {
+            match frame {
+                Frame::Turn(update) => {
+                    self.frames.push(Frame::Turn(update))?;
+                    return Ok(Reached::Done);
+                }
+                Frame::Block(mark) => self.store.leave(mark),
+                Frame::Called(called) => return self.come_back(code, called, 0),
+                _ => {}
+            }
+        }
+        Ok(Reached::Asks(Question::End))
+    }
+
+    // ---- calls
+
+    /// A call of a function of the text, which takes a step.
+    pub fn invoke(
+        &mut self,
+        code: &Code<'p>,
+        call: &'p Call,
+        target: Target,
+    ) -> Result<Reached, Fail>
+        requires { IsOpen code.now self.old }
+        ensures stands { Stands (invoke (calls_in code.now self.old.opens) call.now self.old.store (given_to target (within code.now self.old.frames.items).exits)) code.now result self.new }
+        ensures fewer { OnOk result (weight self.new + 6 ≤ weight self.old) }
+    {
+        take_step(&mut self.store)?;
+        let arguments = arguments_of(code.alloc, &call.arguments, &self.store)?;
+        self.call_function(code, call.function, &arguments, target)
+    }
+
+    /// The call of a function by its number, once its arguments are evaluated.
+    pub fn call_function(
+        &mut self,
+        code: &Code<'p>,
+        number: usize,
+        arguments: &[Passed],
+        target: Target,
+    ) -> Result<Reached, Fail>
+        requires { IsOpen code.now self.old }
+        ensures stands { Stands (calls_in code.now self.old.opens number arguments.now self.old.store (given_to target (within code.now self.old.frames.items).exits)) code.now result self.new }
+        ensures fewer { OnOk result (weight self.new ≤ weight self.old + 2) }
+    {
+        if self.opens >= 100 {
+            return Err(Fail::Trapped(Fault::Depth));
+        }
+        let Some(function) = function_at(code.functions, number) else {
+            return Err(Fail::Trapped(Fault::Depth));
+        };
+        let mark = self.store.mark();
+        enter(function, arguments, &mut self.store)?;
+        self.frames.push(Frame::Called(Called { mark, target }))?;
+        self.frames.push(Frame::Rest(&function.body))?;
+        self.opens += 1;
+        Ok(Reached::Done)
+    }
+
+    /// A right side, whose value goes somewhere.
+    pub fn right(
+        &mut self,
+        code: &Code<'p>,
+        one: &'p Right,
+        target: Target,
+    ) -> Result<Reached, Fail>
+        requires { IsOpen code.now self.old }
+        ensures stands { Stands (right (calls_in code.now self.old.opens) one.now self.old.store (given_to target (within code.now self.old.frames.items).exits)) code.now result self.new }
+        ensures fewer { OnOk result (weight self.new ≤ weight self.old) }
+    {
+        match one {
+            Right::Value(expression) => {
+                let value = self.store.value(expression)?;
+                self.give(code, target, value)
+            }
+            Right::Call(call) => self.invoke(code, call, target),
+        }
+    }
+
+    /// A call of an MPI function.
+    pub fn call_mpi(&mut self, code: &Code<'p>, call: &MpiCall) -> Result<Reached, Fail>
+        requires counted { IsOpen code.now self.old }
+        requires few { code.now.rank.ranks ≤ 64 }
+        ensures stands { Stands (mpi code.now.rank call.now self.old.store (within code.now self.old.frames.items).exits.next) code.now result self.new }
+        ensures fewer { OnOk result (weight self.new ≤ weight self.old) }
+    {
+        let effect = effect_of(code.rank, call, &self.store)?;
+        Ok(ask(code.alloc, code.rank, effect, &mut self.store)?)
+    }
+}

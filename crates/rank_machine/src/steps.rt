@@ -1,0 +1,352 @@
+//! Statements: what each does at once, and what it opens.
+ghost use Rattle.std.specs.Prelude.{◌≡◌, ◌≢◌, ◌≤◌, ◌<◌, ◌+◌, ◌*◌, OnOk, IfOk, option_copied};
+ghost use Rattle.c_program.specs.Meaning.{act, act_part, declare, declare_all, for_update, loop_after, return, simple, started, test, trying};
+ghost use Rattle.c_questions.specs.declared.question.Reached.TheVariants.{Done};
+ghost use Rattle.c_parts.specs.Comes.{Does};
+ghost use Rattle.rank_machine.specs.Frames.{IsOpen, Stands, begun_value, call_in, calls_in, chosen, for_of, looping, turns_at, weight, within};
+
+use crate::frame::{Code, Frame, Loop, Target};
+use crate::stack::Stack;
+use c_cells::store::Store;
+use c_parts::fail::Fail;
+use c_parts::parts::{add, print, put_values_of, take_step};
+use c_program::expr::{Call, Expr, Right};
+use c_program::statement::{ForStart, Initial, Item, Part, Simple, Stmt};
+use c_questions::question::{Question, Reached};
+use mpi_call::call::Fault;
+
+impl<'p> Stack<'p> {
+    /// A statement that stands before a `;`.
+    fn simple(&mut self, code: &Code<'p>, one: &'p Simple) -> Result<Reached, Fail>
+        requires counted { IsOpen code.now self.old }
+        requires few { code.now.rank.ranks ≤ 64 }
+        ensures stands { Stands (simple code.now.rank (calls_in code.now self.old.opens) one.now self.old.store (within code.now self.old.frames.items).exits.next) code.now result self.new }
+        ensures fewer { OnOk result (weight self.new ≤ weight self.old) }
+    {
+        match one {
+            Simple::Set { place, right } => {
+                let cell = self.store.cell_of(place)?;
+                self.right(
+                    code,
+                    right,
+                    Target::Cell {
+                        operator: None,
+                        cell,
+                    },
+                )
+            }
+            Simple::Update {
+                place,
+                operator,
+                right,
+            } => {
+                let cell = self.store.cell_of(place)?;
+                self.right(
+                    code,
+                    right,
+                    Target::Cell {
+                        operator: Some(*operator),
+                        cell,
+                    },
+                )
+            }
+            Simple::Call(call) => self.invoke(code, call, Target::Nowhere),
+            Simple::Mpi(call) => self.call_mpi(code, call),
+            Simple::Print { format, arguments } => {
+                print(code.alloc, format, arguments, &mut self.store)?;
+                Ok(Reached::Done)
+            }
+            Simple::Flush => Ok(Reached::Done),
+        }
+    }
+
+    /// What stands behind the second `;` of a `for`.
+    fn update(&mut self, code: &Code<'p>, update: Option<&'p Simple>) -> Result<Reached, Fail>
+        requires counted { IsOpen code.now self.old }
+        requires few { code.now.rank.ranks ≤ 64 }
+        ensures stands { Stands (for_update code.now.rank (calls_in code.now self.old.opens) (option_copied update.entry) self.old.store (within code.now self.old.frames.items).exits.next) code.now result self.new }
+        ensures fewer { OnOk result (weight self.new ≤ weight self.old) }
+    {
+        match update {
+            None => Ok(Reached::Done),
+            Some(one) => self.simple(code, one),
+        }
+    }
+
+    /// Variables, in order; those behind a call stay open.
+    fn declare_all(&mut self, code: &Code<'p>, items: &'p [Item]) -> Result<Reached, Fail>
+        requires { IsOpen code.now self.old }
+        ensures stands { Stands (declare_all (calls_in code.now self.old.opens) items.now self.old.store (within code.now self.old.frames.items).exits.next) code.now result self.new }
+        ensures fewer { OnOk result (weight self.new ≤ weight self.old) }
+    {
+        for (i, item) in items.iter().enumerate() {
+            let cell = add(item, &mut self.store)?;
+            if let Some(call) = call_in(&item.initial) {
+                self.frames.push(Frame::Items(&items[i + 1..]))?;
+                return self.invoke(
+                    code,
+                    call,
+                    Target::Cell {
+                        operator: None,
+                        cell,
+                    },
+                );
+            }
+            begin_value(&item.initial, cell, &mut self.store)?;
+        }
+        Ok(Reached::Done)
+    }
+
+    /// A `return`.
+    fn run_return(&mut self, code: &Code<'p>, value: &'p Option<Right>) -> Result<Reached, Fail>
+        requires { IsOpen code.now self.old }
+        ensures stands { Stands (return (calls_in code.now self.old.opens) value.now self.old.store (within code.now self.old.frames.items).exits) code.now result self.new }
+        ensures fewer { OnOk result (weight self.new ≤ weight self.old) }
+    {
+        match value {
+            None => self.give_back(code, 0),
+            Some(right) => self.right(code, right, Target::Back),
+        }
+    }
+
+    /// An `if`, with an `else` or without.
+    fn run_if(
+        &mut self,
+        code: &Code<'p>,
+        test: &'p Expr,
+        then: &'p Stmt,
+        other: Option<&'p Stmt>,
+    ) -> Result<Reached, Fail>
+        requires { IsOpen code.now self.old }
+        ensures stands { Stands (chosen code.now.rank (calls_in code.now self.old.opens) test.now then.now (option_copied other.entry) self.old.store (within code.now self.old.frames.items).exits) code.now result self.new }
+        ensures fewer { OnOk result (weight self.new ≤ weight self.old + 1) }
+    {
+        if self.store.test(Some(test))? {
+            self.frames.push(Frame::One(then))?;
+            return Ok(Reached::Done);
+        }
+        let Some(stmt) = other else {
+            return Ok(Reached::Done);
+        };
+        self.frames.push(Frame::One(stmt))?;
+        Ok(Reached::Done)
+    }
+
+    /// A `for`, which is a block of its own.
+    fn run_for(
+        &mut self,
+        code: &Code<'p>,
+        start: &'p ForStart,
+        around: Loop<'p>,
+    ) -> Result<Reached, Fail>
+        requires counted { IsOpen code.now self.old }
+        requires few { code.now.rank.ranks ≤ 64 }
+        ensures stands { Stands (for_of code.now self.old.opens start.now around.entry self.old.store (within code.now self.old.frames.items).exits) code.now result self.new }
+        ensures fewer { OnOk result (weight self.new ≤ weight self.old + 2) }
+    {
+        self.frames.push(Frame::Block(self.store.mark()))?;
+        self.frames.push(Frame::Repeat(around))?;
+        match start {
+            ForStart::Nothing => Ok(Reached::Done),
+            ForStart::Declaration(declaration) => {
+                take_step(&mut self.store)?;
+                self.declare_all(code, &declaration.items)
+            }
+            ForStart::Simple(one) => self.simple(code, one),
+        }
+    }
+
+    /// A loop with a turn before its first test.
+    fn run_do(&mut self, code: &Code<'p>, test: &'p Expr, body: &'p Stmt) -> Result<Reached, Fail>
+        requires { IsOpen code.now self.old }
+        ensures stands { Stands (loop_after test.now (started (act code.now.rank (calls_in code.now self.old.opens) body.now)) self.old.store (within code.now self.old.frames.items).exits) code.now result self.new }
+        ensures fewer { OnOk result (weight self.new ≤ weight self.old) }
+    {
+        take_step(&mut self.store)?;
+        self.frames.push(Frame::Repeat(Loop {
+            test: Some(test),
+            update: None,
+            body,
+            turns: None,
+        }))?;
+        self.frames.push(Frame::Turn(None))?;
+        self.frames.push(Frame::One(body))?;
+        Ok(Reached::Done)
+    }
+
+    /// A statement whose step is taken.
+    fn act(&mut self, code: &Code<'p>, stmt: &'p Stmt) -> Result<Reached, Fail>
+        requires counted { IsOpen code.now self.old }
+        requires few { code.now.rank.ranks ≤ 64 }
+        ensures stands { Stands (act code.now.rank (calls_in code.now self.old.opens) stmt.now self.old.store (within code.now self.old.frames.items).exits) code.now result self.new }
+        ensures fewer { OnOk result (weight self.new ≤ weight self.old + 2) }
+    {
+        match stmt {
+            Stmt::Block(parts) => {
+                self.frames.push(Frame::Block(self.store.mark()))?;
+                self.frames.push(Frame::Rest(parts))?;
+                Ok(Reached::Done)
+            }
+            Stmt::Empty => Ok(Reached::Done),
+            Stmt::Simple(one) => self.simple(code, one),
+            Stmt::Break => self.break_out(code),
+            Stmt::Continue => self.go_again(code),
+            Stmt::Return(value) => self.run_return(code, value),
+            Stmt::If { test, then } => self.run_if(code, test, then, None),
+            Stmt::IfElse { test, then, other } => self.run_if(code, test, then, Some(other)),
+            Stmt::While { test, body } => {
+                self.frames.push(Frame::Repeat(Loop {
+                    test: Some(test),
+                    update: None,
+                    body,
+                    turns: None,
+                }))?;
+                Ok(Reached::Done)
+            }
+            Stmt::Do { body, test } => self.run_do(code, test, body),
+            Stmt::For {
+                start,
+                test,
+                step,
+                body,
+            } => self.run_for(
+                code,
+                start,
+                Loop {
+                    test: test.as_ref(),
+                    update: step.as_ref(),
+                    body,
+                    turns: None,
+                },
+            ),
+        }
+    }
+
+    /// What stands in a block, which takes a step.
+    fn part(&mut self, code: &Code<'p>, part: &'p Part) -> Result<Reached, Fail>
+        requires counted { IsOpen code.now self.old }
+        requires few { code.now.rank.ranks ≤ 64 }
+        ensures stands { Stands (started (act_part code.now.rank (calls_in code.now self.old.opens) part.now) self.old.store (within code.now self.old.frames.items).exits) code.now result self.new }
+        ensures fewer { OnOk result (weight self.new + 6 ≤ weight self.old) }
+    {
+        take_step(&mut self.store)?;
+        match part {
+            Part::Declaration(declaration) => self.declare_all(code, &declaration.items),
+            Part::Stmt(stmt) => self.act(code, stmt),
+        }
+    }
+
+    /// A statement, which takes a step.
+    fn statement(&mut self, code: &Code<'p>, stmt: &'p Stmt) -> Result<Reached, Fail>
+        requires counted { IsOpen code.now self.old }
+        requires few { code.now.rank.ranks ≤ 64 }
+        ensures stands { Stands (started (act code.now.rank (calls_in code.now self.old.opens) stmt.now) self.old.store (within code.now self.old.frames.items).exits) code.now result self.new }
+        ensures fewer { OnOk result (weight self.new + 6 ≤ weight self.old) }
+    {
+        take_step(&mut self.store)?;
+        self.act(code, stmt)
+    }
+
+    /// The test of a loop, and its next turn.
+    fn repeat(&mut self, code: &Code<'p>, around: Loop<'p>) -> Result<Reached, Fail>
+        requires { IsOpen code.now self.old }
+        ensures stands { Stands (looping code.now self.old.opens around.entry self.old.store (within code.now self.old.frames.items).exits) code.now result self.new }
+        ensures fewer { OnOk result (weight self.new ≤ weight self.old) }
+    {
+        let turns = turns_at(around.turns, &self.store);
+        if turns == 0 {
+            return Err(Fail::Trapped(Fault::Budget));
+        }
+        if !self.store.test(around.test)? {
+            return Ok(Reached::Done);
+        }
+        take_step(&mut self.store)?;
+        self.frames.push(Frame::Repeat(Loop {
+            test: around.test,
+            update: around.update,
+            body: around.body,
+            turns: Some(turns - 1),
+        }))?;
+        self.frames.push(Frame::Turn(around.update))?;
+        self.frames.push(Frame::One(around.body))?;
+        Ok(Reached::Done)
+    }
+
+    /// What follows when the innermost place is done.
+    fn resume(&mut self, code: &Code<'p>) -> Result<Reached, Fail>
+        requires counted { IsOpen code.now self.old }
+        requires few { code.now.rank.ranks ≤ 64 }
+        ensures stands { Stands ((within code.now self.old.frames.items).exits.next self.old.store) code.now result self.new }
+        ensures fewer { IfOk result (λ found. found ≡ Done → weight self.new < weight self.old) }
+    {
+        let Some(frame) = self.frames.pop() else {
+            return Ok(Reached::Asks(Question::End));
+        };
+        match frame {
+            Frame::One(stmt) => self.statement(code, stmt),
+            Frame::Rest([]) => Ok(Reached::Done),
+            Frame::Rest([first, rest @ ..]) => {
+                self.frames.push(Frame::Rest(rest))?;
+                self.part(code, first)
+            }
+            Frame::Items(items) => self.declare_all(code, items),
+            Frame::Block(mark) => {
+                self.store.leave(mark);
+                Ok(Reached::Done)
+            }
+            Frame::Repeat(around) => self.repeat(code, around),
+            Frame::Turn(update) => self.update(code, update),
+            Frame::Called(called) => self.come_back(code, called, 0),
+        }
+    }
+
+    /// Goes on until the rank asks or has ended.
+    pub fn run(&mut self, code: &Code<'p>) -> Result<Reached, Fail>
+        requires counted { IsOpen code.now self.old }
+        requires few { code.now.rank.ranks ≤ 64 }
+        ensures stands { Stands ((within code.now self.old.frames.items).exits.next self.old.store) code.now result self.new }
+        ensures stops { IfOk result (λ found. found ≢ Done) }
+    {
+        loop {
+            match self.resume(code)? {
+                Reached::Done => {}
+                found => return Ok(found),
+            }
+        }
+    }
+}
+
+/// Begins a variable; what a call gives comes later.
+fn begin_value(initial: &Initial, cell: u32, store: &mut Store) -> Result<(), Fail>
+    ensures { Does (begun_value initial.now cell) store.old result store.new }
+{
+    match initial {
+        Initial::Nothing | Initial::Right(Right::Call(_)) => Ok(()),
+        Initial::Right(Right::Value(expression)) => {
+            let value = store.value(expression)?;
+            store.put(cell, value);
+            Ok(())
+        }
+        Initial::Values(expressions) => put_values_of(expressions, cell, store),
+    }
+}
+
+/// How many turns a loop may take, and one test more.
+fn turns_at(turns: Option<u64>, store: &Store) -> u64
+    ensures { result ≡ turns_at turns store.now }
+{
+    match turns {
+        None => store.left() as u64 + 1,
+        Some(turns) => turns,
+    }
+}
+
+/// The call whose value a variable begins with.
+fn call_in(initial: &Initial) -> Option<&Call>
+    ensures { option_copied result ≡ call_in initial.now }
+{
+    match initial {
+        Initial::Right(Right::Call(call)) => Some(call),
+        _ => None,
+    }
+}

@@ -1,0 +1,11 @@
+//! Tests of recording and replay on threads, with C programs: gates that ranks pass, what they print, and traces.
+#![tactic(auto)]
+
+#[cfg(test)]
+mod gates;
+#[cfg(test)]
+mod recordings;
+#[cfg(test)]
+mod replays;
+#[cfg(test)]
+mod starting;
