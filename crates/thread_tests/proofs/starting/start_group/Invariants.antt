@@ -2,11 +2,7 @@ use Rattle.std.proofs.Common.{◌≡◌, ◌<◌, ℕ, [], length, slice_index}
 use Rattle.std.specs.List.{slice_index_or}
 use Rattle.run_model.specs.Program.{IsAfter, Standing}
 use Rattle.c_program.specs.declared.program.CProgram.{CProgram}
-<<<<<<<< HEAD:crates/wiz_cli/proofs/ranks/start_group/Invariants.antt
-use Rattle.wiz_cli.proofs.ranks.start_group.Given as goal
-========
 use Rattle.thread_tests.proofs.starting.start_group.Given as goal
->>>>>>>> 598d9370c011be5fea1b0a63c1a352a88888fb70:crates/thread_tests/proofs/starting/start_group/Invariants.antt
 
 abbrev pub invariant-loop-rank : goal.invariant-loop-rank
 invariant-loop-rank l =
