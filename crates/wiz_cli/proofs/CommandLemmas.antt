@@ -1,5 +1,5 @@
 -- Reports without threads are reports where there are threads, for words that ask for none.
-use Rattle.std.proofs.Common.{◌≡◌, ℕ, List, [], ◌∷◌, Option, false, true, inl, inr}
+use Rattle.std.proofs.Common.{ℕ, List, [], ◌∷◌, Option, false, true, inl, inr}
 use Rattle.run_model.specs.Views.{Kept}
 use Rattle.replay_model.specs.declared.replayed.Replayed.{Replayed}
 use Rattle.wiz_cli.specs.declared.outcome.Refusal.TheVariants.{Words, Missing, ReadFault, Program, Plan, Order, Log as LogRefused, TooLong}

@@ -1,5 +1,5 @@
 -- A recording of what the input files hold.
-use Rattle.std.proofs.Common.{◌≡◌, List, Bool, false}
+use Rattle.std.proofs.Common.{◌≡◌, Bool, false}
 use Rattle.std.proofs.lemmas.List.{length-map}
 use Rattle.group_plan.specs.Plans.{IsPlan, number_of_ranks}
 use Rattle.log_bounds.specs.RunBounds.{AreOfWords, LogsAreInBounds}

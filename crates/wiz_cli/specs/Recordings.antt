@@ -1,5 +1,5 @@
 -- What comes of a recording's words: the first input file that is not read, why what the files hold is refused, or a run.
-use Rattle.std.specs.Prelude.{◌≡◌, ◌<◌, ◌≤◌, ◌⊎◌, ℕ, List, [], Option, Some, None, IfSome, IfOk, Result, Bool, false, length}
+use Rattle.std.specs.Prelude.{◌≡◌, ◌<◌, ◌≤◌, ◌⊎◌, ℕ, List, [], Option, Some, None, IfSome, Bool, false, length}
 use Rattle.std.specs.List.{AllByRecursion}
 use Rattle.group_plan.specs.OrderText.{IsOrderText, IsFault as IsOrderFault}
 use Rattle.group_plan.specs.Plans.{number_of_ranks}
