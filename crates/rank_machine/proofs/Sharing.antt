@@ -18,6 +18,7 @@ use Rattle.rank_machine.specs.contracts.frame.Frame as Frame
 use Rattle.rank_machine.specs.contracts.frame.Loop as Loop
 use Rattle.rank_machine.specs.contracts.going.Going as Going
 use Rattle.rank_machine.specs.contracts.rank.MachineRank as MachineRank
+use Rattle.rank_machine.specs.contracts.rank.MachineRank.TheInside as Inside
 use Rattle.rank_machine.specs.contracts.stack.Stack as Stack
 use Rattle.c_cells.specs.contracts.store.Store as Store
 
@@ -29,14 +30,25 @@ loop_field a = search (stmt_field, simple_field, expr_field, sendable) depth 60
 
 pub frame_field : (a : NamedLft) → IsSend (Frame.the_field a).row
 frame_field a =
-    enum_send (shape (Frame.the_type a))
-    ((search (stmt_field, sendable) depth 60, tt),
-    ((search (part_field, sendable) depth 60, tt),
-    ((search (item_field, sendable) depth 60, tt),
-    ((mark.the_field_send, tt),
-    ((loop_field a, tt),
-    ((search (simple_field, sendable) depth 60, tt),
-    ((called.the_field_send, tt), tt)))))))
+    enum_send (shape (Frame.the_type a)) (
+      (search (stmt_field, sendable) depth 60, tt),
+      (
+        (search (part_field, sendable) depth 60, tt),
+        (
+          (search (item_field, sendable) depth 60, tt),
+          (
+            (mark.the_field_send, tt),
+            (
+              (loop_field a, tt),
+              (
+                (search (simple_field, sendable) depth 60, tt),
+                ((called.the_field_send, tt), tt),
+              ),
+            ),
+          ),
+        ),
+      ),
+    )
 
 pub frame_row : (a : NamedLft) → IsSend (Frame.the_row a)
 frame_row a = search (frame_field, sendable) depth 60
@@ -56,12 +68,28 @@ going_row a = search (going_field, sendable) depth 60
 pub code_field : (a : NamedLft) → IsSend (Code.the_field a).row
 code_field a = search (function_field, crosses, sendable) depth 60
 
+-- what a rank holds
+pub inside_field : (a : NamedLft) → IsSend (Inside.the_field a).row
+inside_field a =
+    struct_send (struct.shape (Inside.the_type a)) (
+      search (crosses, sendable) depth 60,
+      (
+        search (program_field, sendable) depth 60,
+        (
+          code_field a,
+          (
+            search (reply.the_send, crosses, sendable) depth 60,
+            (
+              search sendable depth 60,
+              (option.the_field_send (Going.the_row a) (going_row a), tt),
+            ),
+          ),
+        ),
+      ),
+    )
+
+inside_row : (a : NamedLft) → IsSend (Inside.the_row a)
+inside_row a = search (inside_field, sendable) depth 60
+
 pub rank_field : (a : NamedLft) → IsSend (MachineRank.the_field a).row
-rank_field a =
-    struct_send (struct.shape (MachineRank.the_type a))
-    (search (crosses, sendable) depth 60,
-    (search (program_field, sendable) depth 60,
-    (code_field a,
-    (search (reply.the_send, crosses, sendable) depth 60,
-    (search sendable depth 60,
-    (option.the_field_send (Going.the_row a) (going_row a), tt))))))
+rank_field a = search (inside_row, sendable) depth 60
