@@ -5,7 +5,6 @@ ghost use Rattle.srr_replay.specs.Rounds.{IsReplayable, RunAll};
 use c_eval::rank::EvalRank;
 use c_program::CProgram;
 use c_types::read_program;
-use rank_machine::rank::MachineRank;
 use rank_threads::OpenGate;
 use replay_model::replayed::Replayed;
 use srr_entry::log::Log;
@@ -15,6 +14,7 @@ use std::alloc::{AllocError, Global};
 use std::sync::Wait;
 use std::thread::Threads;
 use wiz_base::Bytes;
+use wiz_cli::ranks::start_group;
 use wiz_cli::top::wiz;
 use wiz_io::{MemorySink, MemoryStore};
 use wiz_trace::trace::trace_text;
@@ -203,23 +203,7 @@ fn a_failing_read_or_put_is_told(rt: HostRuntime) {
     assert!(&rt; unwritten.status == 4 && full.bytes().is_empty());
 }
 
-/// A suspended rank for each rank of the log's group, before its first call.
-fn start_machines<'a>(
-    alloc: Global,
-    program: &'a CProgram,
-    log: &Log,
-) -> Result<Vec<MachineRank<'a>>, AllocError>
-    requires { IsReplayable log.now }
-    ensures { IfOk result (λ runs. RunAll (λ run. run) program.now log.now [] runs.items) }
-{
-    let mut runs = Vec::new(alloc);
-    for rank in log.group.as_slice() {
-        runs.push(MachineRank::start(alloc, program, log.ranks, *rank)?)?;
-    }
-    Ok(runs)
-}
-
-/// The same for the evaluator that begins again at each call.
+/// For each rank of the log's group a run by the evaluator that begins again at each call, before the first one.
 fn start_evaluators<'a>(
     alloc: Global,
     program: &'a CProgram,
@@ -235,7 +219,7 @@ fn start_evaluators<'a>(
     Ok(runs)
 }
 
-/// The replay of a log's group by suspended ranks; a rank stops before the call that `stop` names.
+/// The replay of a log's group by the ranks that the tool runs; a rank stops before the call that `stop` names.
 fn replay_suspended(
     alloc: Global,
     program: &CProgram,
@@ -244,7 +228,7 @@ fn replay_suspended(
 ) -> Result<Replayed, AllocError>
     requires { IsReplayable log.now }
 {
-    let runs = start_machines(alloc, program, log)?;
+    let runs = start_group(alloc, program, log)?;
     replay_serial(alloc, program, log, runs, stop)
 }
 

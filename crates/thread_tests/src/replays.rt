@@ -1,5 +1,5 @@
 //! Logs replayed on threads, as on one.
-use crate::starting::{program_of, read, replay, start_group};
+use crate::starting::{program_of, read, replay};
 use rank_threads::OpenGate;
 use srr_replay::serial::replay_serial;
 use std::alloc::Global;

@@ -1,9 +1,7 @@
 //! Recordings and replays on threads, from programs and logs.
-ghost use Rattle.std.specs.Prelude.{◌≤◌, [], IfOk, IfSome};
-ghost use Rattle.srr_record.specs.Recordings.{AreRuns};
-ghost use Rattle.srr_replay.specs.Rounds.{IsReplayable, RunAll};
+ghost use Rattle.std.specs.Prelude.{IfSome};
+ghost use Rattle.srr_replay.specs.Rounds.{IsReplayable};
 
-use c_eval::rank::EvalRank;
 use c_program::CProgram;
 use c_types::read_program;
 use group_plan::Plan;
@@ -17,6 +15,7 @@ use std::alloc::{AllocError, Global};
 use std::sync::Wait;
 use std::thread::Threads;
 use wiz_base::bytes::Bytes;
+use wiz_cli::ranks::{start_all, start_group};
 
 /// The program of this text.
 pub fn program_of(alloc: Global, text: &[u8]) -> Option<CProgram> {
@@ -27,38 +26,6 @@ pub fn program_of(alloc: Global, text: &[u8]) -> Option<CProgram> {
         Ok(program) => Some(program),
         Err(_) => None,
     }
-}
-
-/// The ranks below n, before their first calls.
-fn start_ranks<'a>(
-    alloc: Global,
-    program: &'a CProgram,
-    n: u8,
-) -> Result<Vec<EvalRank<'a>>, AllocError>
-    requires { n ≤ 64 }
-    ensures { IfOk result (λ runs. AreRuns (λ run. run) program.now n [] runs.items) }
-{
-    let mut runs = Vec::new(alloc);
-    for rank in 0..n {
-        runs.push(EvalRank::start(alloc, program, n, rank)?)?;
-    }
-    Ok(runs)
-}
-
-/// The ranks of a log's group, before their first calls.
-pub fn start_group<'a>(
-    alloc: Global,
-    program: &'a CProgram,
-    log: &Log,
-) -> Result<Vec<EvalRank<'a>>, AllocError>
-    requires { IsReplayable log.now }
-    ensures { IfOk result (λ runs. RunAll (λ run. run) program.now log.now [] runs.items) }
-{
-    let mut runs = Vec::new(alloc);
-    for rank in log.group.as_slice() {
-        runs.push(EvalRank::start(alloc, program, log.ranks, *rank)?)?;
-    }
-    Ok(runs)
 }
 
 /// A program and its text.
@@ -76,7 +43,7 @@ pub fn record<W: Threads + Wait + Sync + AllocGlobal, G: Gate + Sync>(
     gate: &G,
 ) -> Result<Recording, AllocError> {
     let alloc = rt.alloc();
-    let runs = start_ranks(alloc, source.program, plan.n())?;
+    let runs = start_all(alloc, source.program, plan.n())?;
     record_threads(rt, alloc, source.program, source.text, plan, runs, gate)
 }
 
