@@ -131,6 +131,7 @@ fn replay_log<F: Fn(&CProgram, &Log) -> Result<Replayed, AllocError>>(
 {
     match read_program(alloc, log.program.as_slice()) {
         Ok(program) => {
+            // Two laws: all programs of a text mean the same, and any replay of a log shows each run with it.
             text_fixes_meaning(&program, log.program.as_slice());
             every_order_shows_every_run(&program, log);
             let replayed = run(&program, log)?;
