@@ -9,7 +9,7 @@ use wiz_io::{MemorySink, MemoryStore};
 const FIRST: &[u8] =
     b"int main(void){int r,x=7;MPI_Comm_rank(MPI_COMM_WORLD,&r);if(r==0)MPI_Send(&x,1,MPI_INT,1,5,MPI_COMM_WORLD);if(r==1){x=0;MPI_Recv(&x,1,MPI_INT,0,5,MPI_COMM_WORLD,MPI_STATUS_IGNORE);printf(\"%d\\n\",x);}return 0;}";
 
-/// Rank 0 receives an array from each other rank, in any order, and prints the sum of the ranks' squares.
+/// Rank 0 receives an array from each other rank, in any order, and prints the sum of the ranks' squares, 140.
 const SUM: &[u8] =
     b"#include <stdio.h>\n#include <mpi.h>\n#define N 256\nint main(int argc, char **argv) {\n  int rank, size, i, sum = 0, big[N]; /* one block */\n  MPI_Status st;\n  MPI_Init(&argc, &argv);\n  MPI_Comm_rank(MPI_COMM_WORLD, &rank);\n  MPI_Comm_size(MPI_COMM_WORLD, &size);\n  for (i = 0; i < N; i++) big[i] = rank;\n  if (rank == 0) {\n    for (i = 1; i < size; i++) {\n      MPI_Recv(big, N, MPI_INT, MPI_ANY_SOURCE, 1, MPI_COMM_WORLD, &st);\n      sum += big[N - 1] * st.MPI_SOURCE;\n    }\n    printf(\"sum %d\\n\", sum);\n  } else {\n    MPI_Send(big, N, MPI_INT, 0, 1, MPI_COMM_WORLD);\n  }\n  MPI_Finalize();\n  return 0;\n}\n";
 
@@ -35,24 +35,32 @@ fn files<R: AllocGlobal>(rt: &R, program: &[u8], plan: &[u8]) -> Option<MemorySt
 }
 
 #[test]
-fn what_was_recorded_on_threads_is_replayed_on_threads(rt: HostRuntime) {
-    // The program, the plan, and of each command its words and the begin and end of what it prints.
-    let record: &[&str] = &["record", "P", "Q", "A"];
-    let first: &[(&[&str], &[u8], &[u8])] = &[
+fn a_message_recorded_on_threads_is_replayed_on_threads(rt: HostRuntime) {
+    let mut store = files(&rt, FIRST, b"0 1").expect(&rt, "files");
+    // The words, and the begin and end of what is printed.
+    let table: [(&[&str], &[u8], &[u8]); 2] = [
         (
-            record,
+            &["record", "P", "Q", "A"],
             b"rank 0 output 0\n\nrank 1 output 2\n7\n\nfinished\n",
             b"",
         ),
         (
             &["replay", "A.0.srr"],
-            b"rank 0\n0 send comm=0 to=1 tag=5 data=7 -> done\n1 end -> done\noutput 0\n\nended\nrank 1\n0 post comm=0 from=0 tag=5 room=1 -> done\n1 take all 0 -> took 0=0.0 tag=5 data=7\n2 end -> done\noutput 2\n7\n\nended\n",
-            b"",
+            b"rank 0\n0 send comm=0 to=1 tag=5 data=7 -> done\n1 end -> done\noutput 0\n\nended\n",
+            b"rank 1\n0 post comm=0 from=0 tag=5 room=1 -> done\n1 take all 0 -> took 0=0.0 tag=5 data=7\n2 end -> done\noutput 2\n7\n\nended\n",
         ),
     ];
-    let sum: &[(&[&str], &[u8], &[u8])] = &[
+    for (words, front, back) in table {
+        assert!(&rt; answers(&rt, &mut store, words, front, back));
+    }
+}
+
+#[test]
+fn eight_ranks_recorded_on_threads_are_replayed_on_threads(rt: HostRuntime) {
+    let mut store = files(&rt, SUM, b"0-2\n3-5\n6 7 # rest\n").expect(&rt, "files");
+    let table: [(&[&str], &[u8], &[u8]); 4] = [
         (
-            record,
+            &["record", "P", "Q", "A"],
             b"rank 0 output 8\nsum 140\n\nrank 1 output 0\n\nrank 2 output 0\n",
             b"rank 7 output 0\n\nfinished\n",
         ),
@@ -72,15 +80,8 @@ fn what_was_recorded_on_threads_is_replayed_on_threads(rt: HostRuntime) {
             b"\n1 end -> done\noutput 0\n\nended\n",
         ),
     ];
-    let table: [(&[u8], &[u8], &[(&[&str], &[u8], &[u8])]); 2] = [
-        (FIRST, b"0 1", first),
-        (SUM, b"0-2\n3-5\n6 7 # rest\n", sum),
-    ];
-    for (program, plan, commands) in table {
-        let mut store = files(&rt, program, plan).expect(&rt, "files");
-        for (words, front, back) in commands {
-            assert!(&rt; answers(&rt, &mut store, words, front, back));
-        }
+    for (words, front, back) in table {
+        assert!(&rt; answers(&rt, &mut store, words, front, back));
     }
 }
 
