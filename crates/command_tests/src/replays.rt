@@ -247,6 +247,9 @@ fn replay_again(
 
 /// The trace of a log's replay by both evaluators, where it is the same.
 pub fn trace_of_both(alloc: Global, log: &[u8], stop: Option<(u8, u32)>) -> Option<Bytes> {
+    if log.len() > 134_217_728 {
+        return None;
+    }
     let Ok(log) = read_log(alloc, log) else {
         return None;
     };
