@@ -28,6 +28,8 @@ const LEAVES: u64 = 2;
 /// A rank's place to sleep.
 #[derive(Drop)]
 struct Place {
+    /// How many events were rung for that may concern the rank.
+    rung: AtomicU64,
     /// `WORKS`, `SLEEPS` or `LEAVES`.
     state: AtomicU64,
     parker: Parker,
@@ -37,6 +39,7 @@ impl Place {
     /// The place of a rank that works.
     fn new() -> Place {
         Place {
+            rung: AtomicU64::new(0),
             state: AtomicU64::new(WORKS),
             parker: Parker::new(),
         }
@@ -80,8 +83,6 @@ impl Place {
 /// The bell of one round: a place for each rank, by its number.
 #[derive(Drop)]
 pub struct Bell {
-    /// How many events it was rung for.
-    events: AtomicU64,
     /// How many ranks have started, or have nothing to do.
     started: AtomicU64,
     /// How many ranks work.
@@ -93,7 +94,6 @@ impl Bell {
     /// A bell for a round in which no rank has started.
     pub fn new() -> Bell {
         Bell {
-            events: AtomicU64::new(0),
             started: AtomicU64::new(0),
             awake: AtomicU64::new(0),
             places: array::from_fn(|_| Place::new()),
@@ -124,15 +124,15 @@ impl Bell {
         }
     }
 
-    /// How many events it was rung for.
-    pub fn heard(&self) -> u64 {
-        self.events.load(Ordering::SeqCst)
+    /// How many events it was rung for that may concern a rank. Events that concern others alone do not count: else a rank that waits
+    /// for its turn at the lock would attempt again for each of them.
+    pub fn heard(&self, rank: u8) -> u64 {
+        self.place(rank).rung.load(Ordering::SeqCst)
     }
 
     /// Rings for an event: whoever may wait for it wakes. Of a send that is its receiver; of an entry into a collective and of a
     /// halt it may be anyone.
     pub fn ring(&self, call: &Call, reply: &Reply) {
-        let _ = self.events.fetch_add(1, Ordering::SeqCst);
         match reply {
             Reply::Stopped(_) => self.wake_all(),
             _ => match call {
@@ -143,12 +143,12 @@ impl Bell {
         }
     }
 
-    /// A rank waits for an event after those that it has heard of. Tells whether there may be one; else all sleep, and the rank
-    /// has left the round.
+    /// A rank waits for an event that concerns it, after those that it has heard of. Tells whether there may be one; else all sleep,
+    /// and the rank has left the round.
     pub fn sleep<R: Wait>(&self, rt: &R, rank: u8, heard: u64) -> bool {
         let place = self.place(rank);
         place.state.store(SLEEPS, Ordering::SeqCst);
-        if self.heard() != heard {
+        if self.heard(rank) != heard {
             // Who woke it meanwhile has counted it once more.
             if place.state.swap(WORKS, Ordering::SeqCst) == WORKS {
                 let _ = self.awake.fetch_sub(1, Ordering::SeqCst);
@@ -163,9 +163,10 @@ impl Bell {
         &self.places[rank as usize % RANKS]
     }
 
-    /// Wakes the rank of this place, if it sleeps. It is counted among those that work before it wakes, so that it never takes
-    /// itself for the last of them.
+    /// Tells the rank of this place of an event, and wakes it if it sleeps. It is counted among those that work before it wakes, so
+    /// that it never takes itself for the last of them.
     fn wake(&self, place: &Place) {
+        let _ = place.rung.fetch_add(1, Ordering::SeqCst);
         if !place.sleeps() {
             return;
         }

@@ -168,7 +168,7 @@ fn try_once<P: Program, M: Attempts<P>, R: RankRun<Of = P>, W: Wait>(
     ensures answered { result ≡ Answered → worker.new.is_short ≡ false }
     ensures waited { result ≡ Waited → (worker.new.is_short ≡ false) × (worker.new.run ≡ worker.old.run) × (worker.new.seat.own ≡ worker.old.seat.own) }
 {
-    let heard = bell.heard();
+    let heard = bell.heard(worker.rank);
     match attempt(rt, lock, worker, call) {
         Attempt::Replied(reply) => {
             bell.ring(call, &reply);
