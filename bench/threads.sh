@@ -61,5 +61,5 @@ program work 4 "for(i=0;i<10;i++){for(j=0;j<240000;j++)y=(y*5+j)%1000;x=y;MPI_Se
 for count in 1 2 4; do
   [ "$count" -le "$(nproc)" ] || continue
   processors=(taskset -c "0-$((count - 1))")
-  row work "4 ranks that compute, $count processors"
+  row work "4 ranks that compute, processors: $count"
 done
