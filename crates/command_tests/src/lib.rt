@@ -2,10 +2,22 @@
 #![tactic(auto)]
 
 #[cfg(test)]
+mod checks;
+#[cfg(test)]
+mod faults;
+#[cfg(test)]
+mod logs;
+#[cfg(test)]
+mod programs;
+#[cfg(test)]
 mod records;
 #[cfg(test)]
 mod replays;
 #[cfg(test)]
 mod rows;
 #[cfg(test)]
+mod serial;
+#[cfg(test)]
 mod threads;
+#[cfg(test)]
+mod words;

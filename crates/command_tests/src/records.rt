@@ -1,44 +1,17 @@
 //! Recordings of files in memory: status, files and what is printed.
+use crate::programs::{BAD_RANK, CYCLE, FIRST};
+use crate::serial::{answers, files};
 use std::alloc::Global;
 use wiz_cli::top::wiz_serial;
 use wiz_io::{MemorySink, MemoryStore};
-
-/// Rank 0 sends a 7, which rank 1 receives and prints.
-const FIRST: &[u8] =
-    b"int main(void){int r,x=7;MPI_Comm_rank(MPI_COMM_WORLD,&r);if(r==0)MPI_Send(&x,1,MPI_INT,1,5,MPI_COMM_WORLD);if(r==1){x=0;MPI_Recv(&x,1,MPI_INT,0,5,MPI_COMM_WORLD,MPI_STATUS_IGNORE);printf(\"%d\\n\",x);}return 0;}";
-
-/// Two ranks that receive from each other before anything is sent.
-const CYCLE: &[u8] =
-    b"int main(void){int r,x=0;MPI_Comm_rank(MPI_COMM_WORLD,&r);if(r==0){MPI_Recv(&x,1,MPI_INT,1,5,MPI_COMM_WORLD,MPI_STATUS_IGNORE);}if(r==1){MPI_Recv(&x,1,MPI_INT,0,5,MPI_COMM_WORLD,MPI_STATUS_IGNORE);}return 0;}";
-
-/// Rank 0 sends to a rank that there is not.
-const BAD_RANK: &[u8] =
-    b"int main(void){int r,x=7;MPI_Comm_rank(MPI_COMM_WORLD,&r);if(r==0)MPI_Send(&x,1,MPI_INT,2,5,MPI_COMM_WORLD);if(r==1){x=0;MPI_Recv(&x,1,MPI_INT,0,5,MPI_COMM_WORLD,MPI_STATUS_IGNORE);printf(\"%d\\n\",x);}return 0;}";
 
 const SERIAL: &[&str] = &["record", "P", "Q", "A", "--serial"];
 
 const ORDERED: &[&str] = &["record", "P", "Q", "A", "--order", "F"];
 
 /// The files `P`, `Q` and `F`: a program, a plan and an order.
-fn files(alloc: Global, program: &[u8], plan: &[u8], order: &[u8]) -> Option<MemoryStore> {
-    let mut store = MemoryStore::new(alloc);
-    store.add("P", program).ok()?;
-    store.add("Q", plan).ok()?;
-    store.add("F", order).ok()?;
-    Some(store)
-}
-
-/// Runs a command over these files, and compares its status and output.
-fn answers(
-    alloc: Global,
-    store: &mut MemoryStore,
-    words: &[&str],
-    status: u8,
-    printed: &[u8],
-) -> bool {
-    let mut out = MemorySink::new(alloc);
-    let report = wiz_serial(alloc, words, store, &mut out);
-    report.status == status && out.bytes() == printed
+fn inputs(alloc: Global, program: &[u8], plan: &[u8], order: &[u8]) -> Option<MemoryStore> {
+    files(alloc, &[("P", program), ("Q", plan), ("F", order)])
 }
 
 /// Whether a file ends so.
@@ -52,7 +25,7 @@ fn ends_with(store: &MemoryStore, name: &str, tail: &[u8]) -> bool {
 #[test]
 fn runs_are_recorded(rt: HostRuntime) {
     let alloc = rt.alloc();
-    let rows: [(&[u8], &[u8], &[&str], u8, &[u8], &str, &[u8], &[u8]); 4] = [
+    let rows: [(&[u8], &[u8], &[&str], u8, &[u8], &str, &[u8], &[u8]); 5] = [
         (
             FIRST,
             b"0\n1\n",
@@ -67,6 +40,16 @@ fn runs_are_recorded(rt: HostRuntime) {
             FIRST,
             b"0 1",
             ORDERED,
+            0,
+            b"rank 0 output 0\n\nrank 1 output 2\n7\n\nfinished\n",
+            "A.0.srr",
+            b"\nrank 0 2\ns\nz\nrank 1 3\np\nt 0=0.0\nz\nend\n",
+            b"1\n0\n1\n0\n1\n",
+        ),
+        (
+            FIRST,
+            b"0 1",
+            &["record", "--order", "F", "P", "Q", "A"],
             0,
             b"rank 0 output 0\n\nrank 1 output 2\n7\n\nfinished\n",
             "A.0.srr",
@@ -95,7 +78,7 @@ fn runs_are_recorded(rt: HostRuntime) {
         ),
     ];
     for (program, plan, words, status, printed, name, tail, order) in rows {
-        let mut store = files(alloc, program, plan, b"1\n1\n").expect(&rt, "files");
+        let mut store = inputs(alloc, program, plan, b"1\n1\n").expect(&rt, "files");
         assert!(&rt; answers(alloc, &mut store, words, status, printed));
         assert!(&rt; ends_with(&store, name, tail));
         assert!(&rt; ends_with(&store, "A.order", order));
@@ -116,7 +99,7 @@ fn inputs_are_refused(rt: HostRuntime) {
         (FIRST, b"0 1", b"1\n2", 6, b"order line 2\n"),
     ];
     for (program, plan, order, status, message) in rows {
-        let mut store = files(alloc, program, plan, order).expect(&rt, "files");
+        let mut store = inputs(alloc, program, plan, order).expect(&rt, "files");
         assert!(&rt; answers(alloc, &mut store, ORDERED, status, message));
         assert!(&rt; store.file("A.order").is_none());
     }
@@ -135,14 +118,14 @@ fn faults_of_files_are_told(rt: HostRuntime) {
         (4, SERIAL, 4, b"cannot write A.order\n"),
     ];
     for (call, words, status, message) in rows {
-        let mut store = files(alloc, FIRST, b"0\n1\n", b"1").expect(&rt, "files");
+        let mut store = inputs(alloc, FIRST, b"0\n1\n", b"1").expect(&rt, "files");
         store.fail(call).expect(&rt, "a call");
         assert!(&rt; answers(alloc, &mut store, words, status, message));
         assert!(&rt; store.file("A.0.srr").is_some() == (call > 2));
         assert!(&rt; store.file("A.order").is_none());
     }
     // The output fails at its first put, and all files are written.
-    let mut store = files(alloc, FIRST, b"0\n1\n", b"1").expect(&rt, "files");
+    let mut store = inputs(alloc, FIRST, b"0\n1\n", b"1").expect(&rt, "files");
     let mut full = MemorySink::new(alloc);
     full.fail(0).expect(&rt, "a put");
     let report = wiz_serial(alloc, SERIAL, &mut store, &mut full);

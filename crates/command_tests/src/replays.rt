@@ -2,6 +2,8 @@
 ghost use Rattle.std.specs.Prelude.{[], IfOk};
 ghost use Rattle.srr_replay.specs.Rounds.{IsReplayable, RunAll};
 
+use crate::programs::{FIRST, FIRST_LOG, NOT_SENT, SENT_TO_SELF};
+use crate::serial::files;
 use c_eval::rank::EvalRank;
 use c_program::CProgram;
 use c_types::read_program;
@@ -19,11 +21,13 @@ use wiz_cli::top::wiz;
 use wiz_io::{MemorySink, MemoryStore};
 use wiz_trace::trace::trace_text;
 
-const FIRST: &[u8] =
-    b"srr 1\nranks 2\ngroup 0 1\nprogram 209\nint main(void){int r,x=7;MPI_Comm_rank(MPI_COMM_WORLD,&r);if(r==0)MPI_Send(&x,1,MPI_INT,1,5,MPI_COMM_WORLD);if(r==1){x=0;MPI_Recv(&x,1,MPI_INT,0,5,MPI_COMM_WORLD,MPI_STATUS_IGNORE);printf(\"%d\\n\",x);}return 0;}\nrank 0 2\ns\nz\nrank 1 3\np\nt 0=0.0\nz\nend\n";
-
+/// The trace of the first log.
 const FIRST_TRACE: &[u8] =
     b"rank 0\n0 send comm=0 to=1 tag=5 data=7 -> done\n1 end -> done\noutput 0\n\nended\nrank 1\n0 post comm=0 from=0 tag=5 room=1 -> done\n1 take all 0 -> took 0=0.0 tag=5 data=7\n2 end -> done\noutput 2\n7\n\nended\n";
+
+/// The same, where rank 1 stops before its second call.
+const STOPPED_TRACE: &[u8] =
+    b"rank 0\n0 send comm=0 to=1 tag=5 data=7 -> done\n1 end -> done\noutput 0\n\nended\nrank 1\n0 post comm=0 from=0 tag=5 room=1 -> done\noutput 0\n\nbreak\nvar 0 r 1\nvar 0 x 0\n";
 
 /// The first log, but its program sends to rank 0.
 const DIVERGED: &[u8] =
@@ -31,6 +35,10 @@ const DIVERGED: &[u8] =
 
 const DIVERGED_TRACE: &[u8] =
     b"rank 0\n0 send comm=0 to=0 tag=5 data=7 -> done\n1 end -> done\noutput 0\n\nended\nrank 1\n0 post comm=0 from=0 tag=5 room=1 -> done\noutput 0\n\ndiverged call 1 entry t 0=0.0 made take all 0 found 0.0 send comm=0 to=0 tag=5 data=7\n";
+
+/// The first log, but rank 0 ends at once.
+const ENDS_AT_ONCE: &[u8] =
+    b"srr 1\nranks 2\ngroup 0 1\nprogram 209\nint main(void){int r,x=7;MPI_Comm_rank(MPI_COMM_WORLD,&r);if(r==0)MPI_Send(&x,1,MPI_INT,1,5,MPI_COMM_WORLD);if(r==1){x=0;MPI_Recv(&x,1,MPI_INT,0,5,MPI_COMM_WORLD,MPI_STATUS_IGNORE);printf(\"%d\\n\",x);}return 0;}\nrank 0 1\nz\nrank 1 3\np\nt 0=0.0\nz\nend\n";
 
 /// The first log, but its program sends nothing and rank 0 ends at once.
 const STARVED: &[u8] =
@@ -71,18 +79,17 @@ const CUT_OFF: &[u8] =
 const SHORT: &[u8] =
     b"srr 1\nranks 1\ngroup 0\nprogram 25\nint main(void){return 0;}\nrank 0 0\nend\n";
 
-/// Runs a command where the one file `L` holds a log, and compares its status and output.
+/// Runs a command over files with these names and bytes, and compares its status and output.
 fn answers<R: Threads + Wait + Sync + AllocGlobal>(
     rt: &R,
     words: &[&str],
-    log: &[u8],
+    named: &[(&str, &[u8])],
     status: u8,
     printed: &[u8],
 ) -> bool {
-    let mut store = MemoryStore::new(rt.alloc());
-    if store.add("L", log).is_err() {
+    let Some(mut store) = files(rt.alloc(), named) else {
         return false;
-    }
+    };
     let mut out = MemorySink::new(rt.alloc());
     let report = wiz(rt, rt.alloc(), words, &mut store, &mut out, &OpenGate);
     report.status == status && out.bytes() == printed
@@ -92,12 +99,12 @@ fn answers<R: Threads + Wait + Sync + AllocGlobal>(
 fn commands_have_their_status_and_output(rt: HostRuntime) {
     let replay: &[&str] = &["replay", "L", "--serial"];
     let on_threads: &[&str] = &["replay", "L"];
-    let table: [(&[&str], &[u8], u8, &[u8]); 23] = [
-        (on_threads, FIRST, 0, FIRST_TRACE),
+    let table: [(&[&str], &[u8], u8, &[u8]); 24] = [
+        (on_threads, FIRST_LOG, 0, FIRST_TRACE),
         (on_threads, DIVERGED, 9, DIVERGED_TRACE),
         (on_threads, STARVED, 10, STARVED_TRACE),
-        (&["replay", "L9"], FIRST, 2, b"no file L9\n"),
-        (replay, FIRST, 0, FIRST_TRACE),
+        (&["replay", "L9"], FIRST_LOG, 2, b"no file L9\n"),
+        (replay, FIRST_LOG, 0, FIRST_TRACE),
         (replay, DIVERGED, 9, DIVERGED_TRACE),
         (replay, STARVED, 10, STARVED_TRACE),
         (replay, ALONE, 0, ALONE_TRACE),
@@ -110,15 +117,54 @@ fn commands_have_their_status_and_output(rt: HostRuntime) {
         (replay, TWICE, 5, b"program 1:26 twice\n"),
         (replay, CUT_OFF, 5, b"program 1:24 unexpected\n"),
         (replay, SHORT, 0, b"rank 0\noutput 0\n\nlog ended\n"),
-        (replay, &FIRST[..270], 8, b"log 270 short\n"),
+        (replay, &FIRST_LOG[..270], 8, b"log 270 short\n"),
         (replay, b"srr 2\n", 8, b"log 0 bad version\n"),
-        (&["replay", "L9", "--serial"], FIRST, 2, b"no file L9\n"),
-        (&[], FIRST, 1, b"refused words\n"),
-        (&["play"], FIRST, 1, b"refused words\n"),
-        (&["replay", "--serial", "L"], FIRST, 1, b"refused words\n"),
+        (&["replay", "L9", "--serial"], FIRST_LOG, 2, b"no file L9\n"),
+        (&[], FIRST_LOG, 1, b"refused words\n"),
+        (&["play"], FIRST_LOG, 1, b"refused words\n"),
+        (&["replay"], FIRST_LOG, 1, b"refused words\n"),
+        (&["replay", "--serial", "L"], FIRST_LOG, 0, FIRST_TRACE),
     ];
     for (words, log, status, printed) in table {
-        assert!(&rt; answers(&rt, words, log, status, printed));
+        assert!(&rt;
+            answers(&rt, words, &[("L", log)], status, printed),
+            "{words:?}"
+        );
+    }
+}
+
+#[test]
+fn a_log_is_replayed_with_another_program(rt: HostRuntime) {
+    let replay: &[&str] = &["replay", "L", "--program", "G", "--serial"];
+    let on_threads: &[&str] = &["replay", "--program=G", "L"];
+    // The words, the log `L`, the program `G`, the status, and what is printed.
+    let table: [(&[&str], &[u8], &[u8], u8, &[u8]); 9] = [
+        (replay, FIRST_LOG, SENT_TO_SELF, 9, DIVERGED_TRACE),
+        (on_threads, FIRST_LOG, SENT_TO_SELF, 9, DIVERGED_TRACE),
+        (replay, ENDS_AT_ONCE, NOT_SENT, 10, STARVED_TRACE),
+        (on_threads, ENDS_AT_ONCE, NOT_SENT, 10, STARVED_TRACE),
+        (replay, FIRST_LOG, FIRST, 0, FIRST_TRACE),
+        // The text in the log is not looked at.
+        (
+            replay,
+            REFUSED,
+            b"int main(void){return 0;}",
+            0,
+            b"rank 0\noutput 0\n\nlog ended\n",
+        ),
+        (replay, FIRST_LOG, b"int x;", 5, b"program 1:6 unexpected\n"),
+        (replay, b"srr 2\n", b"int x;", 8, b"log 0 bad version\n"),
+        (
+            &["replay", "L", "--program", "H", "--serial"],
+            b"srr 2\n",
+            FIRST,
+            2,
+            b"no file H\n",
+        ),
+    ];
+    for (words, log, program, status, printed) in table {
+        let named: [(&str, &[u8]); 2] = [("L", log), ("G", program)];
+        assert!(&rt; answers(&rt, words, &named, status, printed), "{words:?}");
     }
 }
 
@@ -184,14 +230,22 @@ fn a_forged_log_starves_or_diverges(rt: HostRuntime) {
     for (head, tail, status, front, back) in table {
         let log = joined(rt.alloc(), head, tail).expect(&rt, "bytes");
         let trace = joined(rt.alloc(), front, back).expect(&rt, "bytes");
-        assert!(&rt; answers(&rt, replay, log.as_slice(), status, trace.as_slice()));
+        assert!(&rt;
+            answers(
+                &rt,
+                replay,
+                &[("L", log.as_slice())],
+                status,
+                trace.as_slice()
+            )
+        );
     }
 }
 
 #[test]
 fn a_failing_read_or_put_is_told(rt: HostRuntime) {
     let mut store = MemoryStore::new(rt.alloc());
-    store.add("L", FIRST).expect(&rt, "bytes");
+    store.add("L", FIRST_LOG).expect(&rt, "bytes");
     store.fail(0).expect(&rt, "number");
     let mut out = MemorySink::new(rt.alloc());
     let words: &[&str] = &["replay", "L", "--serial"];
@@ -267,7 +321,7 @@ pub fn trace_of_both(alloc: Global, log: &[u8], stop: Option<(u8, u32)>) -> Opti
 
 /// Whether a replay of the first log with this breakpoint has this trace, by both evaluators.
 fn stops_with(alloc: Global, stop: (u8, u32), trace: &[u8]) -> bool {
-    match trace_of_both(alloc, FIRST, Some(stop)) {
+    match trace_of_both(alloc, FIRST_LOG, Some(stop)) {
         Some(found) => found.as_slice() == trace,
         None => false,
     }
@@ -275,18 +329,35 @@ fn stops_with(alloc: Global, stop: (u8, u32), trace: &[u8]) -> bool {
 
 #[test]
 fn a_rank_stops_at_its_breakpoint(rt: HostRuntime) {
-    let table: [((u8, u32), &[u8]); 3] = [
+    // The breakpoint, the words that ask for it, and the trace.
+    let table: [((u8, u32), &[&str], &[u8]); 5] = [
         (
             (0, 0),
+            &["replay", "L", "--break", "0:0", "--serial"],
             b"rank 0\noutput 0\n\nbreak\nvar 0 r 0\nvar 0 x 7\nrank 1\n0 post comm=0 from=0 tag=5 room=1 -> done\noutput 0\n\nstarved 0.0\n",
         ),
         (
             (1, 1),
-            b"rank 0\n0 send comm=0 to=1 tag=5 data=7 -> done\n1 end -> done\noutput 0\n\nended\nrank 1\n0 post comm=0 from=0 tag=5 room=1 -> done\noutput 0\n\nbreak\nvar 0 r 1\nvar 0 x 0\n",
+            &["replay", "L", "--break", "1:1", "--serial"],
+            STOPPED_TRACE,
         ),
-        ((7, 0), FIRST_TRACE),
+        (
+            (1, 1),
+            &["replay", "--break=1:1", "L", "--serial"],
+            STOPPED_TRACE,
+        ),
+        ((1, 1), &["replay", "L", "--break", "1:1"], STOPPED_TRACE),
+        (
+            (7, 0),
+            &["replay", "L", "--break", "7:0", "--serial"],
+            FIRST_TRACE,
+        ),
     ];
-    for (stop, trace) in table {
-        assert!(&rt; stops_with(rt.alloc(), stop, trace));
+    for (stop, words, trace) in table {
+        assert!(&rt; stops_with(rt.alloc(), stop, trace), "{words:?}");
+        assert!(&rt;
+            answers(&rt, words, &[("L", FIRST_LOG)], 0, trace),
+            "{words:?}"
+        );
     }
 }

@@ -9,5 +9,6 @@ mod SizeLaws
 mod UniqueLaws
 mod PlanLaws
 mod ReadLaws
+mod FoundLaws
 mod GroupLaws
 mod WorkedExamples

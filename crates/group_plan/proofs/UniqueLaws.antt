@@ -20,10 +20,10 @@ use Rattle.group_plan.proofs.ZipLaws.{zip_unique, no_bad, first_bad_unique}
 rank_unique : (n : ℕ) (line : List ℕ) (rank rank' : ℕ) → IsRankLine n line rank → IsRankLine n line rank' → rank ≡ rank'
 rank_unique n line rank rank' (is, below) (is', below') = decimal_text_injective rank rank' (sym is ∙ is')
 
-order_unique : (n : ℕ) (text ranks ranks' : List ℕ) → IsOrderText n text ranks → IsOrderText n text ranks' → ranks ≡ ranks'
+pub order_unique : (n : ℕ) (text ranks ranks' : List ℕ) → IsOrderText n text ranks → IsOrderText n text ranks' → ranks ≡ ranks'
 order_unique n text ranks ranks' = zip_unique (IsRankLine n) (rank_unique n) (order_lines text) ranks ranks'
 
-order_no_fault : (n : ℕ) (text ranks : List ℕ) (fault : OrderFault) → IsOrderText n text ranks → IsOrderFault n text fault → ⊥
+pub order_no_fault : (n : ℕ) (text ranks : List ℕ) (fault : OrderFault) → IsOrderText n text ranks → IsOrderFault n text fault → ⊥
 order_no_fault n text ranks (BadRankLine line) order bad = no_bad (IsRankLine n) (order_lines text) ranks line bad order
 order_no_fault n text ranks OrderMemory order bad = bad
 
@@ -37,7 +37,7 @@ pub order_err_ok : (n : ℕ) (text ranks : List ℕ) (fault : OrderFault) → Is
 order_err_ok n text ranks fault (inl bad) order = absurd (order_no_fault n text ranks fault order bad)
 order_err_ok n text ranks fault (inr memory) order = inr (ap (λ (f : OrderFault). Err f) memory)
 
-order_fault_unique : (n : ℕ) (text : List ℕ) (fault other : OrderFault) → IsOrderFault n text fault → IsOrderFault n text other → fault ≡ other
+pub order_fault_unique : (n : ℕ) (text : List ℕ) (fault other : OrderFault) → IsOrderFault n text fault → IsOrderFault n text other → fault ≡ other
 order_fault_unique n text (BadRankLine line) (BadRankLine line') bad bad' =
     ap (λ (k : ℕ). BadRankLine k) (first_bad_unique (λ line. (rank : ℕ) × IsRankLine n line rank) (order_lines text) line line' bad bad')
 order_fault_unique n text (BadRankLine line) OrderMemory bad bad' = absurd bad'
@@ -54,7 +54,7 @@ line_unique line = zip_unique IsSpan span_unique (words_in (before_comment line)
 lists_unique : (text : List ℕ) (listing listing' : List (List Span)) → Lists text listing → Lists text listing' → listing ≡ listing'
 lists_unique text = zip_unique IsPlanLine line_unique (plan_lines text)
 
-plan_unique : (text : List ℕ) (groups groups' : List (List ℕ)) → IsPlanText text groups → IsPlanText text groups' → groups ≡ groups'
+pub plan_unique : (text : List ℕ) (groups groups' : List (List ℕ)) → IsPlanText text groups → IsPlanText text groups' → groups ≡ groups'
 plan_unique text groups groups' plan plan' = plan.are ∙ ap groups_of (lists_unique text plan.listing plan'.listing plan.lists plan'.lists) ∙ sym plan'.are
 
 once_no_fault : (listing : List (List Span)) (n : ℕ) (fault : PlanFault) → IsListedOnce listing n → IsListingFault listing fault → ⊥
@@ -76,7 +76,7 @@ plan_no_listing_fault text groups listing fault plan lists bad =
     let same : listing ≡ plan.listing = lists_unique text listing plan.listing lists plan.lists in
     once_no_fault plan.listing plan.n fault plan.once (rw same at bad)
 
-plan_no_fault : (text : List ℕ) (groups : List (List ℕ)) (fault : PlanFault) → IsPlanText text groups → IsFault text fault → ⊥
+pub plan_no_fault : (text : List ℕ) (groups : List (List ℕ)) (fault : PlanFault) → IsPlanText text groups → IsFault text fault → ⊥
 plan_no_fault text groups (BadLine line) plan bad = no_bad IsPlanLine (plan_lines text) plan.listing line bad plan.lists
 plan_no_fault text groups TooManyRanks plan (listing, lists, bad) = plan_no_listing_fault text groups listing TooManyRanks plan lists bad
 plan_no_fault text groups Empty plan (listing, lists, bad) = plan_no_listing_fault text groups listing Empty plan lists bad
@@ -130,7 +130,7 @@ fault_cases text (Repeated rank) bad = inr bad
 fault_cases text (Gap rank) bad = inr bad
 fault_cases text NoMemory bad = inr bad
 
-fault_unique : (text : List ℕ) (fault other : PlanFault) → IsFault text fault → IsFault text other → fault ≡ other
+pub fault_unique : (text : List ℕ) (fault other : PlanFault) → IsFault text fault → IsFault text other → fault ≡ other
 fault_unique text fault other bad bad' = elim (fault_cases text fault bad) [
   | inl (line, is, first) ↦ elim (fault_cases text other bad') [
     | inl (line', is', first') ↦ is ∙ ap (λ (k : ℕ). BadLine k) (first_bad_unique IsGoodLine (plan_lines text) line line' first first') ∙ sym is'

@@ -1,3 +1,5 @@
+pub mod Sums
+pub mod Weights
 pub mod FewRanks
 pub mod RunLengths
 pub mod Writable
@@ -8,3 +10,12 @@ pub mod EnterPlaces
 pub mod FewCommunicators
 pub mod SmallNumbers
 pub mod Reading
+pub mod Sizes
+pub mod LineLengths
+pub mod TextLengths
+pub mod HistoryLengths
+pub mod Shares
+pub mod Listed
+pub mod Collected
+pub mod Sent
+pub mod LogBytes

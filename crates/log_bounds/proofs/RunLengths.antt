@@ -37,7 +37,7 @@ going_on next n before me call reply is going =
       ]
     ]
 
-none_parts : (a b : Option Halt) → or_else a b ≡ None → (a ≡ None) × (b ≡ None)
+pub none_parts : (a b : Option Halt) → or_else a b ≡ None → (a ≡ None) × (b ≡ None)
 none_parts None b h = (refl, h)
 none_parts (Some halt) b h = absurd (cc)
 
@@ -67,7 +67,7 @@ was_ended ((call, reply) ∷ view) h =
       | inr t ↦ or_right (ends (call, reply)) (list_any ends view) (was_ended view t)
     ]
 
-live_going : (next : Next) (n rank : ℕ) (view : View) (call : Call) → Lawful next → IsRankOf n rank → IsViewOf next n rank view
+pub live_going : (next : Next) (n rank : ℕ) (view : View) (call : Call) → Lawful next → IsRankOf n rank → IsViewOf next n rank view
     → next n rank (replies_in view) ≡ Some call → was_stopped view ≡ false
 live_going next n rank view call lawful is came asked =
     false_from_ne_true (was_stopped view) (λ t.
@@ -75,7 +75,7 @@ live_going next n rank view call lawful is came asked =
     let no : Some call ≡ None = sym asked ∙ none in
     cc)
 
-stopped_last : (xs : View) (call : Call) (reply : Reply) → is_stopped reply ≡ true → was_stopped (xs ++ (call, reply) ∷ []) ≡ true
+pub stopped_last : (xs : View) (call : Call) (reply : Reply) → is_stopped reply ≡ true → was_stopped (xs ++ (call, reply) ∷ []) ≡ true
 stopped_last [] call reply h = or_left (is_stopped reply) false h
 stopped_last ((c, r) ∷ xs) call reply h = or_right (is_stopped r) (was_stopped (xs ++ (call, reply) ∷ [])) (stopped_last xs call reply h)
 

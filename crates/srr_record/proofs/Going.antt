@@ -4,7 +4,9 @@ use Rattle.std.proofs.lemmas.Bool.{eq-eqb, eqb-true}
 use Rattle.mpi_call.specs.declared.call.Call.{Call}
 use Rattle.mpi_call.specs.Members.{is_member}
 use Rattle.run_model.specs.declared.event.Event.{Event}
-use Rattle.run_model.specs.Lists.{world}
+use Rattle.run_model.specs.Chosen.{IsChosen, order_of}
+use Rattle.run_model.specs.Lists.{IsPrefixOf, world}
+use Rattle.run_model.specs.MachineLaws.{has_stuck, OrderBeginsSerial}
 use Rattle.run_model.specs.Serial.{IsSerial, Stage, at_first, attempt, attempts, call_after, rounds}
 use Rattle.run_model.specs.Views.{Next}
 use Rattle.run_model.proofs.Prefixes.{prefix_refl, prefix_trans}
@@ -117,6 +119,13 @@ are_rounds next one two events goes ended same stage s =
 -- turns and then rounds make the serial run
 pub is_serial : (next : Next) (n : ℕ) (turns : List ℕ) (events : List Event) → AreRounds next n (attempts next n at_first turns) events → IsSerial next n turns events
 is_serial next n turns events are = record { count = are.count; made = are.made; ended = are.ended }
+
+-- and a run of the machine in the order of the turns begins it
+pub begins_serial : (next : Next) (n : ℕ) (turns : List ℕ) (events : List Event) → OrderBeginsSerial next n → IsSerial next n turns events
+    → (run : List Event) → IsChosen next n run → has_stuck run ≡ false → order_of run ≡ turns → IsPrefixOf run events
+begins_serial next n turns events law serial run chosen free same =
+    let F : List ℕ → Type 0 = λ order. IsSerial next n order events in
+    law run events chosen free (subst F (sym same) serial)
 
 -- one more attempt, on a machine whose program is still the first one's
 pub one_turn : {P : Type 0} (next : P → Next) (turns : List ℕ) (rank : ℕ) (one two three : MachineState P) → GoesBy (next one.program) turns one two

@@ -6,8 +6,9 @@ use Rattle.mpi_call.specs.declared.reply.Reply.{Reply}
 use Rattle.run_model.specs.declared.event.Event.{Event}
 use Rattle.run_model.specs.Chosen.{IsChosen}
 use Rattle.run_model.specs.Lists.{are_below, world}
+use Rattle.run_model.specs.MachineLaws.{OrderBeginsSerial}
 use Rattle.run_model.specs.Program.{IsAfter, Standing}
-use Rattle.run_model.specs.Serial.{Stage, at_first, attempts}
+use Rattle.run_model.specs.Serial.{IsSerial, Stage, at_first, attempts}
 use Rattle.run_model.specs.Views.{Next}
 use Rattle.run_model.proofs.RunLaws.{Lawful}
 use Rattle.srr_entry.specs.Seen.{AreRanksViews}
@@ -16,7 +17,7 @@ use Rattle.mpi_machine.specs.Turns.{MachineState, StandsAt, kept_of}
 use Rattle.srr_record.specs.declared.recording.Recording.{Recording}
 use Rattle.srr_record.specs.Recordings.{IsRecorded, IsRecording, printed_of}
 use Rattle.srr_record.specs.Rounds.{AreRounds, GoesBy}
-use Rattle.srr_record.proofs.Going.{is_serial, world_next}
+use Rattle.srr_record.proofs.Going.{begins_serial, is_serial, world_next}
 
 -- 1. logs
 
@@ -65,12 +66,13 @@ both_ok (Ok x) F G H f one two = f x one two
 both_ok (Err e) F G H f one two = one
 
 pub recorded : {P E : Type 0} (next : P → Next) (output : P → ℕ → ℕ → List Reply → List ℕ) (program : P) (n ranks : ℕ) (text : List ℕ) (groups : List (List ℕ)) (turns : List ℕ)
-    (first after : MachineState P) (result : Result Recording E) → first ≡ record { program = program; ranks = ranks; events = []; kept = replicate ranks None } → ranks ≡ n
+    (first after : MachineState P) (result : Result Recording E) → OrderBeginsSerial (next program) ranks
+    → first ≡ record { program = program; ranks = ranks; events = []; kept = replicate ranks None } → ranks ≡ n
     → GoesBy (next first.program) turns first after
     → IfOk result (λ recording. (stage : Stage) → StandsAt after stage → AreRounds (next after.program) after.ranks stage recording.history.events)
     → IfOk result (λ recording. IsRecorded (next after.program) (output after.program) after.ranks text groups recording)
     → IfOk result (λ recording. IsRecording (next program) (output program) n text groups turns recording)
-recorded {P} next output program n ranks text groups turns first after result is many goes rounds kept =
+recorded {P} next output program n ranks text groups turns first after result law is many goes rounds kept =
     let p : first.program ≡ program = ap (λ (m : MachineState P). m.program) is in
     let r : first.ranks ≡ n = ap (λ (m : MachineState P). m.ranks) is ∙ many in
     let S : MachineState P → Type 0 = λ m. StandsAt m at_first in
@@ -86,9 +88,12 @@ recorded {P} next output program n ranks text groups turns first after result is
     let D : ℕ → Type 0 = λ m. AreRounds (next program) n (attempts (next program) m at_first turns) recording.history.events in
     let K : P → Type 0 = λ q. IsRecorded (next q) (output q) after.ranks text groups recording in
     let L : ℕ → Type 0 = λ m. IsRecorded (next program) (output program) m text groups recording in
+    let M : ℕ → Type 0 = λ m. OrderBeginsSerial (next program) m in
+    let serial : IsSerial (next program) n turns recording.history.events = is_serial (next program) n turns recording.history.events
+    (subst D r (subst C (goes.ranks ∙ r) (subst B p (subst A (goes.program ∙ p) (one (attempts (next first.program) first.ranks at_first turns) there))))) in
     record {
-      serial = is_serial (next program) n turns recording.history.events
-          (subst D r (subst C (goes.ranks ∙ r) (subst B p (subst A (goes.program ∙ p) (one (attempts (next first.program) first.ranks at_first turns) there)))));
+      serial = serial;
+      begins = begins_serial (next program) n turns recording.history.events (subst M many law) serial;
       recorded = subst L (goes.ranks ∙ r) (subst K (goes.program ∙ p) two);
     })
     rounds kept

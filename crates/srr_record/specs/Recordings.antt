@@ -1,11 +1,12 @@
 -- What a recording keeps of a run, and which run is recorded.
-use Rattle.std.specs.Prelude.{◌≡◌, ◌<◌, ℕ, List, length, map}
+use Rattle.std.specs.Prelude.{◌≡◌, ◌<◌, ℕ, List, false, length, map}
 use Rattle.std.specs.List.{slice_index_or}
 use Rattle.mpi_call.specs.declared.reply.Reply.{Reply}
 use Rattle.run_model.specs.declared.event.Event.{Event}
-use Rattle.run_model.specs.Chosen.{IsChosen}
+use Rattle.run_model.specs.Chosen.{IsChosen, order_of}
 use Rattle.run_model.specs.Endings.{ending_of}
-use Rattle.run_model.specs.Lists.{world}
+use Rattle.run_model.specs.Lists.{IsPrefixOf, world}
+use Rattle.run_model.specs.MachineLaws.{has_stuck}
 use Rattle.run_model.specs.Program.{IsAfter, Standing}
 use Rattle.run_model.specs.Serial.{IsSerial}
 use Rattle.run_model.specs.Views.{Next, replies_in, view_of}
@@ -30,7 +31,8 @@ pub record IsRecorded (next : Next) (output : ℕ → ℕ → List Reply → Lis
   pub outputs : recording.outputs ≡ map (printed_of output n recording.history.events) (world n 0)
   pub ending : recording.ending ≡ ending_of recording.history.events
 
--- the recorded run is the serial run of the turns
+-- the recorded run is the serial run of the turns; each run of the machine in their order without a Stuck reply begins it
 pub record IsRecording (next : Next) (output : ℕ → ℕ → List Reply → List ℕ) (n : ℕ) (text : List ℕ) (groups : List (List ℕ)) (turns : List ℕ) (recording : Recording) : Type 0 where
   pub serial : IsSerial next n turns recording.history.events
+  pub begins : (run : List Event) → IsChosen next n run → has_stuck run ≡ false → order_of run ≡ turns → IsPrefixOf run recording.history.events
   pub recorded : IsRecorded next output n text groups recording

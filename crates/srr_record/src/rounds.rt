@@ -91,6 +91,7 @@ pub fn make_rounds<P: Program, R: RankRun<Of = P>>(
     ensures ended { OnOk result (HaveEnded (P.next machine.old.program) machine.old.ranks machine.new.events) }
 {
     let ranks = runs.len() as u8;
+    // For the proof that the loop ends: the number of events is below 2^32, and each round adds to it.
     let mut count = machine.history().len();
     while is_live(machine, ranks) {
         round(machine, runs)?;

@@ -16,6 +16,7 @@ use group_plan::Plan;
 use mpi_call::call::Halt;
 use mpi_machine::machine::Machine;
 use run_model::ending::Ending;
+use run_model::laws::order_begins_serial;
 use run_model::lists::Outputs;
 use run_model::program::{Program, RankRun};
 use srr_entry::log::{Log, Logs};
@@ -37,7 +38,10 @@ pub fn record_serial<P: Program, R: RankRun<Of = P>>(
     requires turns { All (λ rank. rank < number_of_ranks plan.now) turns.now }
     ensures { IfOk result (λ recording. IsRecording (P.next program.now) (P.output program.now) (number_of_ranks plan.now) text.now plan.now turns.now recording) }
 {
-    let mut machine = Machine::new(alloc, program, plan.n())?;
+    let ranks = plan.n();
+    // A law: a run of the machine in the order of the turns, without a Stuck reply, begins their serial run.
+    order_begins_serial(program, ranks);
+    let mut machine = Machine::new(alloc, program, ranks)?;
     let all = runs.as_mut_slice();
     take_turns(&mut machine, all, turns)?;
     finish(alloc, machine, text, plan, all)

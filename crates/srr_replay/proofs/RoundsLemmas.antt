@@ -1,5 +1,5 @@
 -- The runs of the ranks beside a replay, and rounds over them.
-use Rattle.std.proofs.Common.{◌≡◌, ◌≢◌, ◌<◌, ◌≤◌, ◌+◌, ◌==◌, ◌⊎◌, ℕ, zero, suc, List, [], ◌∷◌, ◌++◌, Some, None, Bool, true, false, inl, inr, refl, ap, sym, ◌∙◌, map, length, length-append, length-set, slice_index, set, get_or-set_same, get_or-set_other, take, arith}
+use Rattle.std.proofs.Common.{◌≡◌, ◌≢◌, ◌<◌, ◌≤◌, ◌+◌, ◌==◌, ◌⊎◌, ℕ, zero, suc, List, [], ◌∷◌, ◌++◌, Some, None, Bool, true, false, inl, inr, refl, ap, sym, ◌∙◌, map, length, length-append, length-set, slice_index, set, get_or-set_same, get_or-set_other, subst, take, arith}
 use Rattle.std.proofs.lemmas.List.{take_more, map-append}
 use Rattle.std.proofs.lemmas.Bool.{eqb-true, eq-eqb}
 use Rattle.mpi_call.specs.declared.call.Call.{Call}
@@ -13,8 +13,8 @@ use Rattle.run_model.proofs.Prefixes.{prefix_trans}
 use Rattle.run_model.proofs.Views.{test_cases, view_of-own, view_of-other}
 use Rattle.srr_entry.specs.declared.log.Log.{Log}
 use Rattle.replay_model.specs.declared.step.Step.TheVariants.{Replied}
-use Rattle.replay_model.specs.Replays.{Stop, IsExhausted, answer_of, event_of}
-use Rattle.srr_replay.specs.Rounds.{GrowsBy, HasNoStep, RunAll}
+use Rattle.replay_model.specs.Replays.{ReplayState, Stop, IsExhausted, answer_of, event_of}
+use Rattle.srr_replay.specs.Rounds.{GrowsBy, HasNoStep, RunAll, attempt, attempts, rounds}
 
 snoc-map : {A B : Type 0} (f : A → B) (xs : List A) (x : A) → map f (xs ++ x ∷ []) ≡ map f xs ++ f x ∷ []
 snoc-map f [] x = refl
@@ -167,3 +167,37 @@ RunAll-kept {P} {R} standing program log events runs k run all lt stands =
 -- one element more of a list that was mapped so far
 pub map_take-more : {Y : Type 0} (f : ℕ → Y) (xs : List ℕ) (k : ℕ) → k < length xs → map f (take (k + 1) xs) ≡ map f (take k xs) ++ f (slice_index xs k) ∷ []
 map_take-more f xs k lt = ap (map f) (take_more xs k 0 lt) ∙ map-append f (take k xs) (slice_index xs k ∷ [])
+
+-- one attempt more, one round more
+attempts_last : (next : Next) (log : Log) (stop : Stop) (events : List Event) (ranks : List ℕ) (rank : ℕ)
+    → attempts next log stop events (ranks ++ rank ∷ []) ≡ attempt next log stop (attempts next log stop events ranks) rank
+attempts_last next log stop events [] rank = refl
+attempts_last next log stop events (first ∷ ranks) rank = attempts_last next log stop (attempt next log stop events first) ranks rank
+
+rounds_last : (next : Next) (log : Log) (stop : Stop) (count : ℕ) (events : List Event)
+    → rounds next log stop (suc count) events ≡ attempts next log stop (rounds next log stop count events) log.group
+rounds_last next log stop zero events = refl
+rounds_last next log stop (suc count) events = rounds_last next log stop count (attempts next log stop events log.group)
+
+-- one rank more of a round
+pub one_attempt : (next : Next) (log : Log) (stop : Stop) (group : List ℕ) (k : ℕ) (start before after : List Event) → k < length group
+    → before ≡ attempts next log stop start (take k group) → after ≡ attempt next log stop before (slice_index group k)
+    → after ≡ attempts next log stop start (take (k + 1) group)
+one_attempt next log stop group k start before after within so_far one =
+    one ∙ ap (λ events. attempt next log stop events (slice_index group k)) so_far
+    ∙ sym (ap (attempts next log stop start) (take_more group k 0 within) ∙ attempts_last next log stop start (take k group) (slice_index group k))
+
+one_more : (next : Next) (log : Log) (stop : Stop) (count : ℕ) (start before after : List Event) → before ≡ rounds next log stop count start
+    → after ≡ attempts next log stop before log.group → after ≡ rounds next log stop (suc count) start
+one_more next log stop count start before after so_far one =
+    one ∙ ap (λ events. attempts next log stop events log.group) so_far ∙ sym (rounds_last next log stop count start)
+
+-- the same of a replay whose program, log and breakpoint are still the first one's
+pub one_round : {P : Type 0} (next : P → Next) (count : ℕ) (one two three : ReplayState P) → two.program ≡ one.program → two.log ≡ one.log → two.stop ≡ one.stop
+    → two.events ≡ rounds (next one.program) one.log one.stop count one.events → three.events ≡ attempts (next two.program) two.log two.stop two.events two.log.group
+    → three.events ≡ rounds (next one.program) one.log one.stop (suc count) one.events
+one_round {P} next count one two three program log stop so_far step =
+    let F : P → Type 0 = λ p. three.events ≡ attempts (next p) two.log two.stop two.events two.log.group in
+    let G : Log → Type 0 = λ l. three.events ≡ attempts (next one.program) l two.stop two.events l.group in
+    let H : Stop → Type 0 = λ s. three.events ≡ attempts (next one.program) one.log s two.events one.log.group in
+    one_more (next one.program) one.log one.stop count one.events two.events three.events so_far (subst H stop (subst G log (subst F program step)))

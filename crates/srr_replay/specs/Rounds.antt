@@ -1,13 +1,14 @@
 -- Logs that can be replayed, and rounds over the ranks of a group.
-use Rattle.std.specs.Prelude.{◌≡◌, ◌<◌, ◌≤◌, ℕ, List, [], ◌∷◌, ◌++◌, Bool, true, false, All, length, slice_index}
+use Rattle.std.specs.Prelude.{◌≡◌, ◌<◌, ◌≤◌, ℕ, zero, suc, List, [], ◌∷◌, ◌++◌, Option, Some, None, Bool, true, false, All, length, slice_index}
 use Rattle.std.specs.List.{slice_index_or}
+use Rattle.mpi_call.specs.declared.call.Call.{Call}
 use Rattle.mpi_call.specs.Collectives.{is_distinct}
 use Rattle.run_model.specs.declared.event.Event.{Event}
 use Rattle.run_model.specs.Lists.{are_below}
 use Rattle.run_model.specs.Program.{Standing, IsAfter}
-use Rattle.run_model.specs.Views.{Next, view_of}
+use Rattle.run_model.specs.Views.{Next, replies_in, view_of}
 use Rattle.srr_entry.specs.declared.log.Log.{Log}
-use Rattle.replay_model.specs.Replays.{Stop, IsStep}
+use Rattle.replay_model.specs.Replays.{Stop, IsStep, answer_of, events_after}
 
 -- 1 to 64 ranks, a group of distinct ranks below their number, a list of entries for each, no longer than a log holds
 pub record IsReplayable (log : Log) : Type 0 where
@@ -34,3 +35,27 @@ HasNoStep next log stop events rank = (event : Event) → event.rank ≡ rank �
 pub record RunAll {P R : Type 0} (standing : R → Standing P) (program : P) (log : Log) (events : List Event) (runs : List R) : Type 0 where
   pub as_many : length runs ≡ length log.group
   pub each : (k : ℕ) (run : R) → k < length log.group → IsAfter program log.ranks (slice_index log.group k) events (standing (slice_index_or runs k run))
+
+-- an attempt of a rank: one event more, where it has a step
+abbrev pub attempt_with : Log → Stop → List Event → ℕ → Option Call → List Event
+attempt_with log stop events rank None = events
+attempt_with log stop events rank (Some call) = events_after events rank call (answer_of log stop (view_of events) (view_of events rank) rank call)
+
+abbrev pub attempt : Next → Log → Stop → List Event → ℕ → List Event
+attempt next log stop events rank = attempt_with log stop events rank (next log.ranks rank (replies_in (view_of events rank)))
+
+-- these ranks attempt in order
+abbrev pub attempts : Next → Log → Stop → List Event → List ℕ → List Event
+attempts next log stop events [] = events
+attempts next log stop events (rank ∷ ranks) = attempts next log stop (attempt next log stop events rank) ranks
+
+-- so many rounds over the group, in the order of its ranks
+abbrev pub rounds : Next → Log → Stop → ℕ → List Event → List Event
+rounds next log stop zero events = events
+rounds next log stop (suc more) events = rounds next log stop more (attempts next log stop events log.group)
+
+-- the events after as many rounds as it takes until one has no event
+pub record AreRounds (next : Next) (log : Log) (stop : Stop) (before events : List Event) : Type 0 where
+  pub count : ℕ
+  pub made : rounds next log stop count before ≡ events
+  pub rests : attempts next log stop events log.group ≡ events

@@ -7,7 +7,7 @@ ghost use Rattle.run_model.specs.Program.{IsAfter};
 ghost use Rattle.run_model.specs.Views.{view_of, replies_in};
 ghost use Rattle.replay_model.specs.Laws.{IsReplayOfEveryRun};
 ghost use Rattle.replay_model.specs.Replays.{IsExhausted, IsWholeReplay, Replays};
-ghost use Rattle.srr_replay.specs.Rounds.{GrowsBy, HasNoStep, IsReplayable, RunAll};
+ghost use Rattle.srr_replay.specs.Rounds.{AreRounds, GrowsBy, HasNoStep, IsReplayable, RunAll, attempt, attempts};
 ghost use Rattle.replay_model.specs.Stands.{IsReplayed, printed_of, stand_of};
 
 use crate::replay::Replay;
@@ -37,6 +37,7 @@ fn try_rank<P: Program, R: RankRun<Of = P>>(
     ensures run { OnOk result (IsAfter replay.old.program replay.old.log.ranks rank replay.new.events (R.standing run.new)) }
     ensures grows { IfOk result (λ moved. GrowsBy rank replay.old.events replay.new.events moved) }
     ensures rests { IfOk result (λ moved. moved ≡ false → HasNoStep (P.next replay.old.program) replay.old.log replay.old.stop replay.old.events rank) }
+    ensures goes { OnOk result (replay.new.events ≡ attempt (P.next replay.old.program) replay.old.log replay.old.stop replay.old.events rank) }
 {
     match run.want()? {
         Want::Ended => Ok(false),
@@ -61,6 +62,7 @@ fn try_call<P: Program, R: RankRun<Of = P>>(
     ensures run { OnOk result (IsAfter replay.old.program replay.old.log.ranks rank replay.new.events (R.standing run.new)) }
     ensures grows { IfOk result (λ moved. GrowsBy rank replay.old.events replay.new.events moved) }
     ensures rests { IfOk result (λ moved. moved ≡ false → HasNoStep (P.next replay.old.program) replay.old.log replay.old.stop replay.old.events rank) }
+    ensures goes { OnOk result (replay.new.events ≡ attempt (P.next replay.old.program) replay.old.log replay.old.stop replay.old.events rank) }
 {
     match replay.attempt(rank, call)? {
         Step::Replied(reply) => {
@@ -86,7 +88,9 @@ fn round<P: Program, R: RankRun<Of = P>>(
     ensures runs { OnOk result (RunAll R.standing replay.old.program replay.old.log replay.new.events runs.new) }
     ensures begins { OnOk result (IsPrefixOf replay.old.events replay.new.events) }
     ensures moved { IfOk result (λ moved. moved ≡ true → length replay.old.events < length replay.new.events) }
+    ensures still { IfOk result (λ moved. moved ≡ false → replay.new.events ≡ replay.old.events) }
     ensures rests { IfOk result (λ moved. moved ≡ false → IsExhausted (P.next replay.old.program) replay.old.log replay.old.stop replay.new.events) }
+    ensures goes { OnOk result (replay.new.events ≡ attempts (P.next replay.old.program) replay.old.log replay.old.stop replay.old.events replay.old.log.group) }
 {
     let mut moved = false;
     for (k, run) in runs.iter_mut().enumerate() {
@@ -108,6 +112,7 @@ pub fn replay_serial<P: Program, R: RankRun<Of = P>>(
 ) -> Result<Replayed, AllocError>
     requires log { IsReplayable log.now }
     requires runs { RunAll R.standing program.now log.now [] runs.items }
+    ensures rounds { IfOk result (λ replayed. AreRounds (P.next program.now) log.now stop [] replayed.events.events) }
     ensures replay { IfOk result (λ replayed. IsReplayed (P.next program.now) (P.output program.now) (P.variables program.now) log.now stop replayed) }
     ensures runs { IfOk result (λ replayed. IsReplayOfEveryRun (P.next program.now) (P.output program.now) log.now stop replayed) }
     ensures alike { IfOk result (λ replayed. (other : List Event) → IsWholeReplay (P.next program.now) log.now stop other → (rank : ℕ) → view_of replayed.events.events rank ≡ view_of other rank) }
@@ -126,6 +131,7 @@ pub fn finish_replay<P: Program, R: RankRun<Of = P>>(
 ) -> Result<Replayed, AllocError>
     requires runs { RunAll R.standing replay.program replay.log replay.events runs.items }
     ensures begins { IfOk result (λ replayed. IsPrefixOf replay.entry.events replayed.events.events) }
+    ensures rounds { IfOk result (λ replayed. AreRounds (P.next replay.entry.program) replay.entry.log replay.entry.stop replay.entry.events replayed.events.events) }
     ensures replay { IfOk result (λ replayed. IsReplayed (P.next replay.entry.program) (P.output replay.entry.program) (P.variables replay.entry.program) replay.entry.log replay.entry.stop replayed) }
     ensures runs { IfOk result (λ replayed. IsReplayOfEveryRun (P.next replay.entry.program) (P.output replay.entry.program) replay.entry.log replay.entry.stop replayed) }
     ensures alike { IfOk result (λ replayed. (other : List Event) → IsWholeReplay (P.next replay.entry.program) replay.entry.log replay.entry.stop other → (rank : ℕ) → view_of replayed.events.events rank ≡ view_of other rank) }
@@ -161,6 +167,7 @@ fn finish<P: Program, R: RankRun<Of = P>>(
 ) -> Result<Replayed, AllocError>
     requires runs { RunAll R.standing replay.program replay.log replay.events runs.old }
     ensures begins { IfOk result (λ replayed. IsPrefixOf replay.entry.events replayed.events.events) }
+    ensures rounds { IfOk result (λ replayed. AreRounds (P.next replay.entry.program) replay.entry.log replay.entry.stop replay.entry.events replayed.events.events) }
     ensures replay { IfOk result (λ replayed. IsReplayed (P.next replay.entry.program) (P.output replay.entry.program) (P.variables replay.entry.program) replay.entry.log replay.entry.stop replayed) }
 {
     let (_, log, _) = replay.told();
@@ -179,7 +186,8 @@ fn replay_all<P: Program, R: RankRun<Of = P>>(
 ) -> Result<Replayed, AllocError>
     requires log { IsReplayable log.now }
     requires runs { RunAll R.standing program.now log.now [] runs.old }
-    ensures { IfOk result (λ replayed. IsReplayed (P.next program.now) (P.output program.now) (P.variables program.now) log.now stop replayed) }
+    ensures rounds { IfOk result (λ replayed. AreRounds (P.next program.now) log.now stop [] replayed.events.events) }
+    ensures replay { IfOk result (λ replayed. IsReplayed (P.next program.now) (P.output program.now) (P.variables program.now) log.now stop replayed) }
 {
     let replay = Replay::new(alloc, program, log, stop)?;
     finish(alloc, replay, runs)
@@ -225,6 +233,7 @@ fn run_all<P: Program, R: RankRun<Of = P>>(
     ensures log { replay.new.log ≡ replay.old.log }
     ensures stop { replay.new.stop ≡ replay.old.stop }
     ensures rests { OnOk result (IsExhausted (P.next replay.old.program) replay.old.log replay.old.stop replay.new.events) }
+    ensures rounds { OnOk result (AreRounds (P.next replay.old.program) replay.old.log replay.old.stop replay.old.events replay.new.events) }
     ensures outputs { IfOk result (λ found. found.outputs ≡ map (printed_of (P.output replay.old.program) replay.old.log.ranks replay.new.events) replay.old.log.group) }
     ensures stands { IfOk result (λ found. map Some found.stands ≡ map (stand_of (P.next replay.old.program) (P.variables replay.old.program) replay.old.log replay.old.stop replay.new.events) replay.old.log.group) }
 {
@@ -247,7 +256,9 @@ fn exhaust<P: Program, R: RankRun<Of = P>>(
     ensures stop { replay.new.stop ≡ replay.old.stop }
     ensures runs { OnOk result (RunAll R.standing replay.old.program replay.old.log replay.new.events runs.new) }
     ensures rests { OnOk result (IsExhausted (P.next replay.old.program) replay.old.log replay.old.stop replay.new.events) }
+    ensures rounds { OnOk result (AreRounds (P.next replay.old.program) replay.old.log replay.old.stop replay.old.events replay.new.events) }
 {
+    // For the proof that the loop ends: the number of events is below 2^32, and each round adds to it.
     let mut count = replay.len();
     while round(replay, group, runs)? {
         count = replay.len();

@@ -2,11 +2,17 @@
 #![tactic(auto)]
 
 #[cfg(test)]
+mod binary_logs;
+#[cfg(test)]
 mod bounds;
 #[cfg(test)]
 mod bytes;
 #[cfg(test)]
+mod checks;
+#[cfg(test)]
 mod entries;
+#[cfg(test)]
+mod listings;
 #[cfg(test)]
 mod logs;
 #[cfg(test)]

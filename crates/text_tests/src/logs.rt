@@ -129,12 +129,13 @@ fn marks_outside_have_their_texts(rt: HostRuntime) -> Result<(), Fail> {
 }
 
 /// The log of the first example.
-static FIRST: &[u8] = b"srr 1\nranks 2\ngroup 0 1\nprogram 209\n\
+pub static FIRST: &[u8] = b"srr 1\nranks 2\ngroup 0 1\nprogram 209\n\
 int main(void){int r,x=7;MPI_Comm_rank(MPI_COMM_WORLD,&r);if(r==0)MPI_Send(&x,1,MPI_INT,1,5,MPI_COMM_WORLD);\
 if(r==1){x=0;MPI_Recv(&x,1,MPI_INT,0,5,MPI_COMM_WORLD,MPI_STATUS_IGNORE);printf(\"%d\\n\",x);}return 0;}\n\
 rank 0 2\ns\nz\nrank 1 3\np\nt 0=0.0\nz\nend\n";
 
-fn read(alloc: Global, text: &[u8]) -> Result<Log, LogFault>
+/// The log of a text in format 1, within its bounds.
+pub fn read(alloc: Global, text: &[u8]) -> Result<Log, LogFault>
     ensures { IfOk result (λ log. IsInBounds log) }
 {
     if text.len() < 4_294_967_296 {
@@ -229,7 +230,7 @@ fn faults_have_their_places(rt: HostRuntime) {
 }
 
 /// A log with every kind of entry.
-static EVERY: &[u8] = b"srr 1\nranks 3\ngroup 0 2\nprogram 0\n\nrank 0 9\ns\np\ne\n\
+pub const EVERY: &[u8] = b"srr 1\nranks 3\ngroup 0 2\nprogram 0\n\nrank 0 9\ns\np\ne\n\
 t 0=0.0 1=s 2=n 3=c 4=m.1 5=c:6 6=m.1:0,2\nt 1=1.0.9:1,-20 7=1.0.5:\nn\nk 2.12\nk 1.0.3:1\nz\n\
 rank 2 1\nx 1 1 -4\nend\n";
 

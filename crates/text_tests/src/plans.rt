@@ -1,5 +1,5 @@
 //! Plans and orders worked out by hand.
-use group_plan::{OrderFault, Plan, PlanFault, read_order, read_plan};
+use group_plan::{OrderFault, Plan, PlanFault, one_reading, read_order, read_plan};
 use std::alloc::Global;
 use std::process::Abort;
 use std::rt::HostRuntime;
@@ -100,4 +100,5 @@ fn orders_are_read(rt: HostRuntime) {
         };
         assert_eq!(rt; found, *expected);
     }
+    one_reading();
 }

@@ -20,7 +20,8 @@ use wiz_trace::order::order_text;
 use wiz_trace::recording::record_text;
 use wiz_trace::trace::trace_text;
 
-fn add(history: &mut History, rank: u8, call: Call, reply: Reply) -> Result<(), Fail> {
+/// One event more.
+pub fn add(history: &mut History, rank: u8, call: Call, reply: Reply) -> Result<(), Fail> {
     if history.len() == u32::MAX {
         return Err("a long history".into());
     }
@@ -82,7 +83,8 @@ fn first_run(alloc: Global) -> Result<History, Fail> {
     Ok(history)
 }
 
-fn outputs(alloc: Global, printed: &[&[u8]]) -> Result<Outputs, Fail> {
+/// What each rank printed.
+pub fn outputs(alloc: Global, printed: &[&[u8]]) -> Result<Outputs, Fail> {
     let mut outputs = Outputs::new(alloc);
     for bytes in printed {
         pushed(outputs.push(Bytes::from_slice(alloc, bytes)?))?;
@@ -146,7 +148,7 @@ fn records_are_told(rt: HostRuntime) -> Result<(), Fail> {
 }
 
 /// What a group replayed: the events, what each rank printed, and how each stands.
-fn replay(
+pub fn replay(
     alloc: Global,
     group: &[u8],
     events: History,

@@ -8,6 +8,8 @@ use srr_entry::log::Log;
 use std::sync::Wait;
 use std::sync::atomic::{AtomicU64, Ordering};
 use std::thread::Threads;
+use wiz_cli::top::wiz;
+use wiz_io::{MemorySink, MemoryStore};
 
 /// Each rank but 0 sends a block of its number, and rank 0 adds them up. (`examples/blocks` has the same with larger blocks.)
 const PROGRAM: &[u8] = b"#include <stdio.h>
@@ -34,6 +36,9 @@ int main(int argc, char **argv) {
 }
 ";
 
+/// The groups of its ranks.
+const PLAN: &[u8] = b"0-2\n3-5\n6 7 # rest\n";
+
 /// What the ranks print.
 const OUTPUTS: &[&[u8]] = &[b"sum 140\n", b"", b"", b"", b"", b"", b"", b""];
 
@@ -42,6 +47,10 @@ const PRINTED: [&[&[u8]]; 3] = [&[b"sum 140\n", b"", b""], &[b"", b"", b""], &[b
 
 /// How many calls the ranks of the three groups make.
 const CALLS: u64 = 29;
+
+/// What a check of the run prints.
+const CHECKED: &[u8] =
+    b"rank 0 group 0 calls 15 output 8 same\nrank 1 group 0 calls 2 output 0 same\nrank 2 group 0 calls 2 output 0 same\nrank 3 group 1 calls 2 output 0 same\nrank 4 group 1 calls 2 output 0 same\nrank 5 group 1 calls 2 output 0 same\nrank 6 group 2 calls 2 output 0 same\nrank 7 group 2 calls 2 output 0 same\nfinished\n";
 
 /// A gate that counts its passes.
 #[derive(Drop)]
@@ -59,7 +68,7 @@ impl Gate for Counter {
 fn a_program_is_recorded_and_replayed_by_groups(rt: HostRuntime) {
     let alloc = rt.alloc();
     let program = program_of(alloc, PROGRAM).expect(&rt, "a program");
-    let plan = read_plan(alloc, b"0-2\n3-5\n6 7 # rest\n").expect(&rt, "a plan");
+    let plan = read_plan(alloc, PLAN).expect(&rt, "a plan");
     let source = Source {
         program: &program,
         text: PROGRAM,
@@ -92,4 +101,20 @@ fn prints<W: Threads + Wait + Sync + AllocGlobal>(
         Ok(replayed) => are(replayed.outputs.as_slice(), printed),
         Err(_) => false,
     }
+}
+
+/// Each call passes the gate when the run is recorded, and again when its group is replayed.
+#[test]
+fn a_check_passes_the_gate_twice_at_each_call(rt: HostRuntime) {
+    let mut store = MemoryStore::new(rt.alloc());
+    store.add("P", PROGRAM).expect(&rt, "a program");
+    store.add("Q", PLAN).expect(&rt, "a plan");
+    let mut out = MemorySink::new(rt.alloc());
+    let gate = Counter {
+        passes: AtomicU64::new(0),
+    };
+    let words: &[&str] = &["check", "P", "Q"];
+    let report = wiz(&rt, rt.alloc(), words, &mut store, &mut out, &gate);
+    assert!(&rt; report.status == 0 && out.bytes() == CHECKED);
+    assert!(&rt; gate.passes.load(Ordering::SeqCst) == 2 * CALLS);
 }

@@ -1,65 +1,73 @@
--- Reports without threads are reports where there are threads, for words that ask for none.
-use Rattle.std.proofs.Common.{ℕ, List, [], ◌∷◌, Option, false, true, inl, inr}
-use Rattle.run_model.specs.Views.{Kept}
+-- What each command does.
+use Rattle.std.proofs.Common.{refl, ℕ, List, [], Bool, false, inr}
+use Rattle.c_program.specs.declared.program.CProgram.{CProgram}
 use Rattle.replay_model.specs.declared.replayed.Replayed.{Replayed}
-use Rattle.wiz_cli.specs.declared.outcome.Refusal.TheVariants.{Words, Missing, ReadFault, Program, Plan, Order, Log as LogRefused, TooLong}
-use Rattle.wiz_cli.specs.declared.outcome.Outcome.{Outcome}
-use Rattle.wiz_cli.specs.declared.outcome.Outcome.TheVariants.{Refused, Replayed as WasReplayed}
-use Rattle.wiz_cli.specs.Commands.{IsCommandReport}
-use Rattle.wiz_cli.specs.RecordReports.{Outside}
-use Rattle.wiz_cli.specs.RecordWords.{IsNotThreaded}
-use Rattle.wiz_cli.specs.Reports.{IsCutShort, IsOutcome, IsReport, ReplaysShowEveryRun}
-use Rattle.wiz_cli.proofs.WordLemmas.{IsNoThreadedReplay, record_anyway, record_without, replay_anyway, replay_without}
-use Rattle.wiz_io.specs.Files.{Files}
+use Rattle.srr_record.specs.declared.recording.Recording.{Recording}
+use Rattle.wiz_trace.specs.CheckTexts.{check_text}
+use Rattle.wiz_trace.specs.DemoTexts.{demo_text}
+use Rattle.wiz_words.specs.declared.command.Command.TheVariants.{Record, Check, Demo, Replay}
+use Rattle.wiz_words.specs.declared.command.ReplayWords.{ReplayWords}
+use Rattle.wiz_words.specs.declared.command.RunWords.{RunWords}
+use Rattle.wiz_words.specs.Words.{is_threaded_run}
+use Rattle.wiz_cli.specs.declared.commands.check.CheckedRun.{CheckedRun}
+use Rattle.wiz_cli.specs.declared.failure.Failure.{Failure}
+use Rattle.wiz_cli.specs.declared.recording.ready.Ready.{Ready}
+use Rattle.wiz_cli.specs.declared.replaying.subject.Subject.{Subject}
+use Rattle.wiz_cli.specs.Commands.{IsDoneFor, IsRefusedFor, check_outcome, checked, demo_texts, demonstrated, record_outcome, replay_inputs, replay_outcome, run_inputs, run_requirements, run_texts, TellsCheck, TellsRecord}
+use Rattle.wiz_cli.specs.Inputs.{AreHeld}
+use Rattle.wiz_cli.specs.Outcomes.{Outcome}
+use Rattle.wiz_cli.specs.Recordings.{Records, RunTexts}
+use Rattle.wiz_cli.specs.Replayings.{IsReplayOf}
+use Rattle.wiz_cli.specs.Steps.{IsCheckedRun, IsFailureBy, IsMade, IsReady, IsSubjectOf, IsUnmetIn, used_text}
+use Rattle.wiz_cli.specs.World.{Outside}
+use Rattle.wiz_cli.proofs.InputLemmas.{weaken}
 
-outcome_anyway : (words : List (List ℕ)) (files : Option Files) (before after : ℕ) (name : List ℕ) (outcome : Outcome) → IsNoThreadedReplay words
-    → IsOutcome false words files before after name outcome → IsOutcome true words files before after name outcome
-outcome_anyway words files before after name (Refused Words) none is = λ other replay. is other (replay_without words other none replay)
-outcome_anyway words files before after name (Refused Missing) none is = (replay_anyway words name is.0, is.1)
-outcome_anyway words files before after name (Refused ReadFault) none is = (replay_anyway words name is.0, is.1)
-outcome_anyway words files before after name (Refused (Program fault)) none is = (replay_anyway words name is.0, is.1)
-outcome_anyway words files before after name (Refused (Plan fault)) none is = (replay_anyway words name is.0, is.1)
-outcome_anyway words files before after name (Refused (Order fault)) none is = (replay_anyway words name is.0, is.1)
-outcome_anyway words files before after name (Refused (LogRefused fault)) none is = (replay_anyway words name is.0, is.1)
-outcome_anyway words files before after name (Refused TooLong) none is = (replay_anyway words name is.0, is.1)
-outcome_anyway words files before after name (WasReplayed replayed) none is = (replay_anyway words name is.0, is.1)
+-- a recording of what texts hold
+records : (is_threaded : Bool) (texts : RunTexts) (ready : Ready) (recording : Recording) (Tells : CProgram → List (List ℕ) → Recording → Outcome → Type 0) (outcome : Outcome)
+    → IsReady texts ready → IsMade is_threaded ready recording → Tells ready.program ready.plan recording outcome → Records is_threaded texts Tells outcome
+records is_threaded texts ready recording Tells outcome is made tells = record {
+  program = ready.program;
+  groups = ready.plan;
+  turns = ready.turns;
+  recording = recording;
+  prepared = is.prepared;
+  is_recording = rw is.text at made.is_recording;
+  tells = tells;
+}
 
-short_anyway : (words : List (List ℕ)) (files : Option Files) (reads reads' : ℕ) (before after : Option (List ℕ)) → IsNoThreadedReplay words
-    → IsCutShort false words files reads reads' before after → IsCutShort true words files reads reads' before after
-short_anyway words files reads reads' before after none (inl same) = inl same
-short_anyway words files reads reads' before after none (inr (name, outcome, comes, grew)) =
-    inr (name, outcome, outcome_anyway words files reads reads' name outcome none comes, grew)
+pub record_done : (run : RunWords (List ℕ)) (prefix : List ℕ) (before : Outside) (texts : List (List ℕ)) (ready : Ready) (recording : Recording)
+    → AreHeld before.store.files (run_inputs run) texts → IsReady (run_texts texts) ready → IsMade (is_threaded_run run) ready recording
+    → IsDoneFor (Record run prefix) before (record_outcome prefix recording)
+record_done run prefix before texts ready recording held is made =
+    (texts, held, records (is_threaded_run run) (run_texts texts) ready recording (TellsRecord prefix) (record_outcome prefix recording) is made refl)
 
-other_anyway : (words : List (List ℕ)) (files : Option Files) (reads reads' : ℕ) (before after : Option (List ℕ)) (faults faults' status : ℕ) (run : Option Kept) (replays : List Replayed) → IsNoThreadedReplay words
-    → IsReport false words files reads reads' before after faults faults' status run replays → IsReport true words files reads reads' before after faults faults' status run replays
-other_anyway words files reads reads' before after faults faults' status run replays none (inl memory) =
-    inl (memory.0, memory.1, memory.2, short_anyway words files reads reads' before after none memory.3)
-other_anyway words files reads reads' before after faults faults' status run replays none (inr (name, outcome, comes, told)) =
-    inr (name, outcome, outcome_anyway words files reads reads' name outcome none comes, told)
+pub check_done : (run : RunWords (List ℕ)) (before : Outside) (texts : List (List ℕ)) (ready : Ready) (of : CheckedRun)
+    → AreHeld before.store.files (run_inputs run) texts → IsReady (run_texts texts) ready → IsCheckedRun (is_threaded_run run) ready of
+    → IsDoneFor (Check run) before (check_outcome (check_text ready.plan of.replays of.recording.ending) of.recording of.replays)
+check_done run before texts ready of held is made = (
+  texts,
+  held,
+  records (is_threaded_run run) (run_texts texts) ready of.recording (TellsCheck checked)
+      (check_outcome (check_text ready.plan of.replays of.recording.ending) of.recording of.replays) is made.made (of.replays, made.checks, refl),
+)
 
-pub report_anyway : (words : List (List ℕ)) (before after : Outside) (status : ℕ) (run : Option Kept) (replays : List Replayed) → IsNotThreaded words → IsNoThreadedReplay words
-    → IsCommandReport false words before after status run replays → IsCommandReport true words before after status run replays
-report_anyway words before after status run replays none no_replay (inl (names, is, report)) = inl (names, record_anyway words names is, report)
-report_anyway words before after status run replays none no_replay (inr other) =
-    inr (record {
-      other = λ names is. other.other names (record_without words names none is);
-      report = other_anyway words _ _ _ _ _ _ _ status run replays no_replay other.report;
-      untouched = other.untouched;
-    })
+pub demo_done : (seed rounds : ℕ) (before : Outside) (ready : Ready) (of : CheckedRun) → IsReady (run_texts (demo_texts seed rounds)) ready → IsCheckedRun false ready of
+    → IsDoneFor (Demo seed rounds) before
+    (check_outcome (demo_text seed rounds of.recording.history.events ready.plan of.replays of.recording.ending) of.recording of.replays)
+demo_done seed rounds before ready of is made = (
+  [],
+  tt,
+  records false (run_texts (demo_texts seed rounds)) ready of.recording (TellsCheck (demonstrated seed rounds))
+      (check_outcome (demo_text seed rounds of.recording.history.events ready.plan of.replays of.recording.ending) of.recording of.replays) is made.made (of.replays, made.checks, refl),
+)
 
-pub headline_anyway : (words : List (List ℕ)) (files : Option Files) (replays : List Replayed) (status : ℕ)
-    → ReplaysShowEveryRun false words files replays status → ReplaysShowEveryRun true words files replays status
-headline_anyway words files [] status shows = tt
-headline_anyway words files (replayed ∷ more) status shows =
-    let each = shows.1 in (
-      shows.0,
-      record {
-        name = each.name;
-        bytes = each.bytes;
-        log = each.log;
-        is_named = replay_anyway words each.name each.is_named;
-        is_there = each.is_there;
-        is_text = each.is_text;
-        shown = each.shown;
-      },
-    )
+pub demo_unmet : (seed rounds : ℕ) (before after : Outside) (failure : Failure) → IsFailureBy (IsUnmetIn (run_requirements (demo_texts seed rounds))) failure
+    → IsFailureBy (IsRefusedFor (Demo seed rounds) before after) failure
+demo_unmet seed rounds before after failure is =
+    weaken (IsUnmetIn (run_requirements (demo_texts seed rounds))) (IsRefusedFor (Demo seed rounds) before after) (λ refused first. inr ([], tt, first.0, first.1)) failure is
+
+pub replay_done : (replay : ReplayWords (List ℕ)) (before : Outside) (texts : List (List ℕ)) (subject : Subject) (replayed : Replayed)
+    → AreHeld before.store.files (replay_inputs replay) texts → IsSubjectOf texts subject
+    → IsReplayOf (used_text subject.log subject.text) subject.log replay.stop replayed → IsDoneFor (Replay replay) before (replay_outcome replayed)
+replay_done replay before texts subject replayed held is of =
+    (texts, held, (subject.log, is.is_log, (replayed, rw is.is_text at of, refl)))

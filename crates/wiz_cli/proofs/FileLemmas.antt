@@ -2,10 +2,10 @@
 use Rattle.std.proofs.Common.{◌≡◌, ◌≢◌, ◌≤◌, ℕ, List, [], ◌∷◌, ◌++◌, Option, Some, None, inl, inr, refl, sym, ap, ◌∙◌, map, append_assoc, arith}
 use Rattle.std.specs.List.{AllByRecursion}
 use Rattle.std.proofs.lemmas.List.{map-append, append-nil}
-use Rattle.wiz_cli.specs.declared.record_files.Unwritten.{Unwritten}
-use Rattle.wiz_cli.specs.declared.record_files.Unwritten.TheVariants.{Failed, NoMemory}
-use Rattle.wiz_cli.specs.RecordFiles.{AreWritten, AreWrittenUpTo, ArePartlyWritten, ChangesNone, IsStoppedAt, NamedFile}
-use Rattle.wiz_cli.specs.RecordSteps.{IsStopped}
+use Rattle.wiz_cli.specs.declared.commands.record_files.Unwritten.{Unwritten}
+use Rattle.wiz_cli.specs.declared.commands.record_files.Unwritten.TheVariants.{Failed, OutOfMemory}
+use Rattle.wiz_cli.specs.Files.{AreWritten, AreWrittenUpTo, ArePartlyWritten, ChangesNone, IsStoppedAt, NamedFile}
+use Rattle.wiz_cli.specs.Steps.{IsStopped}
 use Rattle.wiz_io.specs.Files.{ChangesOnly, Files, HasFile, HasRisen}
 
 -- each name is apart from each of the others
@@ -121,7 +121,7 @@ pub IsStopped-behind : (before mid after : Option Files) (writes writes' writes'
     → IsStopped before after writes writes'' (front ++ behind) why
 IsStopped-behind before mid after writes writes' writes'' front behind (Failed name) first stopped later apart =
     (HasRisen-earlier writes writes' writes'' later stopped.0, IsStoppedAt-behind before mid after front behind _ first stopped.1 apart)
-IsStopped-behind before mid after writes writes' writes'' front behind NoMemory first stopped later apart = ArePartlyWritten-behind before mid after front behind first stopped apart
+IsStopped-behind before mid after writes writes' writes'' front behind OutOfMemory first stopped later apart = ArePartlyWritten-behind before mid after front behind first stopped apart
 
 -- where the writing of the front stops already
 IsStoppedAt-front : (before after : Option Files) (front behind : List NamedFile) (name : List ℕ) → IsStoppedAt before after front name → IsStoppedAt before after (front ++ behind) name
@@ -144,12 +144,12 @@ AreWrittenUpTo-front before after front behind up = record {
 
 pub IsStopped-front : (before after : Option Files) (writes writes' : ℕ) (front behind : List NamedFile) (why : Unwritten) → IsStopped before after writes writes' front why → IsStopped before after writes writes' (front ++ behind) why
 IsStopped-front before after writes writes' front behind (Failed name) stopped = (stopped.0, IsStoppedAt-front before after front behind _ stopped.1)
-IsStopped-front before after writes writes' front behind NoMemory (inl up) = inl (AreWrittenUpTo-front before after front behind up)
-IsStopped-front before after writes writes' front behind NoMemory (inr at) = inr (at.0, IsStoppedAt-front before after front behind at.0 at.1)
+IsStopped-front before after writes writes' front behind OutOfMemory (inl up) = inl (AreWrittenUpTo-front before after front behind up)
+IsStopped-front before after writes writes' front behind OutOfMemory (inr at) = inr (at.0, IsStoppedAt-front before after front behind at.0 at.1)
 
 pub IsStopped-later : (before after : Option Files) (writes writes' writes'' : ℕ) (files : List NamedFile) (why : Unwritten) → IsStopped before after writes writes' files why → writes' ≤ writes'' → IsStopped before after writes writes'' files why
 IsStopped-later before after writes writes' writes'' files (Failed name) stopped later = (omega (arith, stopped.0, later), stopped.1)
-IsStopped-later before after writes writes' writes'' files NoMemory stopped later = stopped
+IsStopped-later before after writes writes' writes'' files OutOfMemory stopped later = stopped
 
 -- one file
 only_this : (before after : Option Files) (name : List ℕ) → ChangesOnly before after name → ChangesNone before after (name ∷ [])

@@ -1,86 +1,153 @@
--- Reading the input files of a recording, and what they hold.
-use Rattle.std.proofs.Common.{◌<◌, ◌≤◌, ℕ, List, [], ◌∷◌, Option, Some, None, All, arith, inl, inr, map}
+-- Reading input files, and what they hold.
+use Rattle.std.proofs.Common.{◌≡◌, ◌<◌, ◌≤◌, ℕ, List, [], ◌∷◌, Option, Some, None, All, arith, inl, inr, refl, map}
 use Rattle.std.specs.List.{AllZip}
 use Rattle.std.proofs.lemmas.List.{length-map}
 use Rattle.std.proofs.lemmas.List.Elements.{All-cons, All-nil}
-use Rattle.run_model.specs.declared.event.Event.{Event}
-use Rattle.srr_entry.specs.Entries.{log_of}
+use Rattle.c_program.specs.declared.program.CProgram.{CProgram}
+use Rattle.c_types.specs.Checks.{IsProgramOf}
 use Rattle.group_plan.specs.OrderText.{IsRankLine}
 use Rattle.group_plan.specs.Plans.{number_of_ranks}
 use Rattle.group_plan.specs.PlanText.{IsPlanText}
-use Rattle.c_program.specs.declared.program.CProgram.{CProgram}
-use Rattle.c_types.specs.Checks.{IsProgramOf}
-use Rattle.wiz_cli.specs.declared.outcome.Refusal.{Refusal}
-use Rattle.wiz_cli.specs.declared.outcome.Refusal.TheVariants.{Words, Missing, ReadFault, Program as BadProgram, Plan as BadPlan, Order as BadOrder, Log, TooLong}
-use Rattle.wiz_cli.specs.declared.record_outcome.InputFile.TheVariants.{Program, Plan, Order}
-use Rattle.wiz_cli.specs.declared.record_outcome.Inputs.{Inputs}
-use Rattle.wiz_cli.specs.declared.record_outcome.Unrecorded.{Unrecorded}
-use Rattle.wiz_cli.specs.declared.record_outcome.Unrecorded.TheVariants.{Refused, NoMemory as Wanting}
-use Rattle.wiz_cli.specs.Recordings.{AreInputs, AreTurns, IsFirstUnread, IsOrderRefusal, IsPlanRefusal, IsRefusal, IsRefusedBy, IsThere, IsUnread, IsUnreadOrder}
-use Rattle.wiz_cli.specs.RecordSteps.{HasLists, IsAt, IsStop}
-use Rattle.wiz_cli.specs.RecordWords.{RecordNames, order_of}
-use Rattle.wiz_cli.specs.Reports.{IsProgramRefusal}
+use Rattle.run_model.specs.declared.event.Event.{Event}
+use Rattle.srr_entry.specs.declared.log.Log.{Log}
+use Rattle.srr_entry.specs.Entries.{log_of}
+use Rattle.srr_text.specs.LogText.{IsLogText}
 use Rattle.wiz_io.specs.Files.{Files}
+use Rattle.wiz_cli.specs.declared.failure.Failure.{Failure}
+use Rattle.wiz_cli.specs.declared.failure.Failure.TheVariants.{Refused as IsRefused, OutOfMemory}
+use Rattle.wiz_cli.specs.declared.refusal.Refusal.{Refusal}
+use Rattle.wiz_cli.specs.declared.refusal.Refusal.TheVariants.{Words, Missing, ReadFault, Program as BadProgram, Plan as BadPlan, Order as BadOrder, Log as BadLog, TooLong}
+use Rattle.wiz_cli.specs.Commands.{IsRefusedBy, replay_requirements, run_requirements, run_texts}
+use Rattle.wiz_cli.specs.Inputs.{AreHeld, Input, IsFirstUnread, IsThere, IsUnread, IsUnreadInput, Refused}
+use Rattle.wiz_cli.specs.Recordings.{AreTurns}
+use Rattle.wiz_cli.specs.Requirements.{Requirement, a_log, a_plan, a_program}
+use Rattle.wiz_cli.specs.Steps.{AreRefusedTurns, HasLists, IsFailureBy, IsUnmetIn, listed, used_text}
+
+-- what follows from what a failure is
+pub weaken : (P Q : Refused → Type 0) → ((refused : Refused) → P refused → Q refused) → (failure : Failure) → IsFailureBy P failure → IsFailureBy Q failure
+weaken P Q weaker (IsRefused refusal name) is = weaker (record { refusal = refusal; name = name.now }) is
+weaken P Q weaker OutOfMemory is = tt
+
+-- ---- files
 
 -- a count that rose later rose
-IsUnread-earlier : (files : Option Files) (reads mid reads' : ℕ) (name : List ℕ) (limit : ℕ) (refusal : Refusal) → reads ≤ mid → IsUnread files mid reads' name limit refusal → IsUnread files reads reads' name limit refusal
-IsUnread-earlier files reads mid reads' name limit Words later unread = unread
-IsUnread-earlier files reads mid reads' name limit Missing later unread = unread
-IsUnread-earlier files reads mid reads' name limit ReadFault later unread = omega (arith, later, unread)
-IsUnread-earlier files reads mid reads' name limit (BadProgram fault) later unread = unread
-IsUnread-earlier files reads mid reads' name limit (BadPlan fault) later unread = unread
-IsUnread-earlier files reads mid reads' name limit (BadOrder fault) later unread = unread
-IsUnread-earlier files reads mid reads' name limit (Log fault) later unread = unread
-IsUnread-earlier files reads mid reads' name limit TooLong later unread = unread
+unread_earlier : (files : Option Files) (reads mid reads' : ℕ) (input : Input) (refusal : Refusal) → reads ≤ mid → IsUnread files mid reads' input refusal
+    → IsUnread files reads reads' input refusal
+unread_earlier files reads mid reads' input Words later unread = unread
+unread_earlier files reads mid reads' input Missing later unread = unread
+unread_earlier files reads mid reads' input ReadFault later unread = omega (arith, later, unread)
+unread_earlier files reads mid reads' input (BadProgram fault) later unread = unread
+unread_earlier files reads mid reads' input (BadPlan fault) later unread = unread
+unread_earlier files reads mid reads' input (BadOrder fault) later unread = unread
+unread_earlier files reads mid reads' input (BadLog fault) later unread = unread
+unread_earlier files reads mid reads' input TooLong later unread = unread
 
-order_earlier : (files : Option Files) (reads mid reads' : ℕ) (order : Option (List ℕ)) (refusal : Refusal) → reads ≤ mid → IsUnreadOrder files mid reads' order refusal → IsUnreadOrder files reads reads' order refusal
-order_earlier files reads mid reads' None refusal later unread = unread
-order_earlier files reads mid reads' (Some name) refusal later unread = IsUnread-earlier files reads mid reads' name 8388608 refusal later unread
+first_earlier : (files : Option Files) (reads mid reads' : ℕ) (inputs : List Input) (refused : Refused) → reads ≤ mid → IsFirstUnread files mid reads' inputs refused
+    → IsFirstUnread files reads reads' inputs refused
+first_earlier files reads mid reads' [] refused later unread = unread
+first_earlier files reads mid reads' (input ∷ inputs) refused later (inl here) = inl (here.0, unread_earlier files reads mid reads' input refused.refusal later here.1)
+first_earlier files reads mid reads' (input ∷ inputs) refused later (inr behind) = inr (behind.0, first_earlier files reads mid reads' inputs refused later behind.1)
 
--- the first that is not read
-pub program_unread : (files : Option Files) (reads reads' : ℕ) (names : RecordNames) (why : Unrecorded)
-    → IsStop (IsAt Program (IsUnread files reads reads' names.program 65536)) why → IsStop (IsFirstUnread files reads reads' names) why
-program_unread files reads reads' names (Refused refused) stop = rw stop.0 stop.1
-program_unread files reads reads' names Wanting stop = tt
+-- the first input is not read
+pub first_unread : (files : Option Files) (reads reads' : ℕ) (input : Input) (inputs : List Input) (requirements : List (List ℕ) → List Requirement) (failure : Failure)
+    → IsFailureBy (IsUnreadInput files reads reads' input) failure → IsFailureBy (IsRefusedBy files reads reads' (input ∷ inputs) requirements) failure
+first_unread files reads reads' input inputs requirements failure is =
+    weaken (IsUnreadInput files reads reads' input) (IsRefusedBy files reads reads' (input ∷ inputs) requirements) (λ refused unread. inl (inl unread)) failure is
 
-pub plan_unread : (files : Option Files) (reads mid reads' : ℕ) (names : RecordNames) (why : Unrecorded) → IsThere files names.program 65536 → reads ≤ mid
-    → IsStop (IsAt Plan (IsUnread files mid reads' names.plan 65536)) why → IsStop (IsFirstUnread files reads reads' names) why
-plan_unread files reads mid reads' names (Refused refused) program later stop =
-    rw stop.0 (program, IsUnread-earlier files reads mid reads' names.plan 65536 refused.refusal later stop.1)
-plan_unread files reads mid reads' names Wanting program later stop = tt
+-- one of those behind it is not read
+pub later_unread : (files : Option Files) (reads mid reads' : ℕ) (input : Input) (inputs : List Input) (requirements : List (List ℕ) → List Requirement) (failure : Failure)
+    → IsThere files input → reads ≤ mid → IsFailureBy (IsFirstUnread files mid reads' inputs) failure
+    → IsFailureBy (IsRefusedBy files reads reads' (input ∷ inputs) requirements) failure
+later_unread files reads mid reads' input inputs requirements failure there later is =
+    weaken (IsFirstUnread files mid reads' inputs) (IsRefusedBy files reads reads' (input ∷ inputs) requirements) (λ refused unread. inl (inr (there, first_earlier files reads mid reads' inputs refused later unread))) failure is
 
-pub order_unread : (files : Option Files) (reads mid reads' : ℕ) (names : RecordNames) (why : Unrecorded) → IsThere files names.program 65536 → IsThere files names.plan 65536 → reads ≤ mid
-    → IsStop (IsAt Order (IsUnreadOrder files mid reads' (order_of names.schedule))) why → IsStop (IsFirstUnread files reads reads' names) why
-order_unread files reads mid reads' names (Refused refused) program plan later stop =
-    rw stop.0 (program, plan, order_earlier files reads mid reads' (order_of names.schedule) refused.refusal later stop.1)
-order_unread files reads mid reads' names Wanting program plan later stop = tt
+pub second_unread : (files : Option Files) (reads mid reads' : ℕ) (input second : Input) (inputs : List Input) (requirements : List (List ℕ) → List Requirement) (failure : Failure)
+    → IsThere files input → reads ≤ mid → IsFailureBy (IsUnreadInput files mid reads' second) failure
+    → IsFailureBy (IsRefusedBy files reads reads' (input ∷ second ∷ inputs) requirements) failure
+second_unread files reads mid reads' input second inputs requirements failure there later is =
+    later_unread files reads mid reads' input (second ∷ inputs) requirements failure there later
+    (weaken (IsUnreadInput files mid reads' second) (IsFirstUnread files mid reads' (second ∷ inputs)) (λ refused unread. inl unread) failure is)
 
--- why what the files hold is refused
-pub program_refused : (inputs : Inputs) (why : Unrecorded) → IsStop (IsAt Program (IsProgramRefusal inputs.program)) why → IsStop (IsRefusedBy inputs) why
-program_refused inputs (Refused refused) stop = rw stop.0 stop.1
-program_refused inputs Wanting stop = tt
+pub third_unread : (files : Option Files) (reads mid reads' : ℕ) (input second : Input) (inputs : List Input) (requirements : List (List ℕ) → List Requirement) (failure : Failure)
+    → IsThere files input → IsThere files second → reads ≤ mid → IsFailureBy (IsFirstUnread files mid reads' inputs) failure
+    → IsFailureBy (IsRefusedBy files reads reads' (input ∷ second ∷ inputs) requirements) failure
+third_unread files reads mid reads' input second inputs requirements failure there then later is =
+    later_unread files reads mid reads' input (second ∷ inputs) requirements failure there later
+    (weaken (IsFirstUnread files mid reads' inputs) (IsFirstUnread files mid reads' (second ∷ inputs)) (λ refused unread. inr (then, unread)) failure is)
 
-pub plan_refused : (inputs : Inputs) (program : CProgram) (why : Unrecorded) → IsProgramOf inputs.program program → IsStop (IsAt Plan (IsPlanRefusal inputs.plan)) why → IsStop (IsRefusedBy inputs) why
-plan_refused inputs program (Refused refused) text stop = rw stop.0 ((program, text), stop.1)
-plan_refused inputs program Wanting text stop = tt
+-- all are read, and a requirement is not met
+pub unmet : (files : Option Files) (reads reads' : ℕ) (inputs : List Input) (requirements : List (List ℕ) → List Requirement) (texts : List (List ℕ)) (failure : Failure)
+    → AreHeld files inputs texts → IsFailureBy (IsUnmetIn (requirements texts)) failure → IsFailureBy (IsRefusedBy files reads reads' inputs requirements) failure
+unmet files reads reads' inputs requirements texts failure held is =
+    weaken (IsUnmetIn (requirements texts)) (IsRefusedBy files reads reads' inputs requirements) (λ refused first. inr (texts, held, first.0, first.1)) failure is
 
-pub order_refused : (inputs : Inputs) (program : CProgram) (groups : List (List ℕ)) (why : Unrecorded) → IsProgramOf inputs.program program → IsPlanText inputs.plan groups
-    → IsStop (IsAt Order (IsOrderRefusal (number_of_ranks groups) inputs.order)) why → IsStop (IsRefusedBy inputs) why
-order_refused inputs program groups (Refused refused) text plan stop = rw stop.0 ((program, text), (groups, plan, stop.1))
-order_refused inputs program groups Wanting text plan stop = tt
+-- ---- what the texts of a run hold
 
--- why nothing is recorded
-pub unread_why : (files : Option Files) (reads reads' : ℕ) (names : RecordNames) (why : Unrecorded) → IsStop (IsFirstUnread files reads reads' names) why
-    → IsStop (λ input refusal. IsRefusal files reads reads' names (record { input = input; refusal = refusal })) why
-unread_why files reads reads' names (Refused refused) stop = inl stop
-unread_why files reads reads' names Wanting stop = tt
+pub run_texts_are : (text plan : List ℕ) (order : Option (List ℕ)) → run_texts (text ∷ plan ∷ listed order) ≡ record { program = text; plan = plan; order = order }
+run_texts_are text plan None = refl
+run_texts_are text plan (Some order) = refl
 
-pub refused_why : (files : Option Files) (reads reads' : ℕ) (names : RecordNames) (inputs : Inputs) (why : Unrecorded) → AreInputs files names inputs → IsStop (IsRefusedBy inputs) why
-    → IsStop (λ input refusal. IsRefusal files reads reads' names (record { input = input; refusal = refusal })) why
-refused_why files reads reads' names inputs (Refused refused) are stop = inr (inputs, are, stop)
-refused_why files reads reads' names inputs Wanting are stop = tt
+program_first : (text plan : List ℕ) (order : Option (List ℕ)) (refused : Refused) → IsUnmetIn (a_program text ∷ []) refused
+    → IsUnmetIn (run_requirements (text ∷ plan ∷ listed order)) refused
+program_first text plan None refused (inl here, none) = (inl here, none)
+program_first text plan None refused (inr later, none) = absurd later.1
+program_first text plan (Some order) refused (inl here, none) = (inl here, none)
+program_first text plan (Some order) refused (inr later, none) = absurd later.1
 
--- turns are of ranks
+pub program_unmet : (text plan : List ℕ) (order : Option (List ℕ)) (failure : Failure) → IsFailureBy (IsUnmetIn (a_program text ∷ [])) failure
+    → IsFailureBy (IsUnmetIn (run_requirements (text ∷ plan ∷ listed order))) failure
+program_unmet text plan order =
+    weaken (IsUnmetIn (a_program text ∷ [])) (IsUnmetIn (run_requirements (text ∷ plan ∷ listed order))) (program_first text plan order)
+
+plan_first : (text plan : List ℕ) (order : Option (List ℕ)) (program : CProgram) → IsProgramOf text program → (refused : Refused) → IsUnmetIn (a_plan plan ∷ []) refused
+    → IsUnmetIn (run_requirements (text ∷ plan ∷ listed order)) refused
+plan_first text plan None program is refused (inl here, none) = (inr ((program, is), inl here), none)
+plan_first text plan None program is refused (inr later, none) = absurd later.1
+plan_first text plan (Some order) program is refused (inl here, none) = (inr ((program, is), inl here), none)
+plan_first text plan (Some order) program is refused (inr later, none) = absurd later.1
+
+pub plan_unmet : (text plan : List ℕ) (order : Option (List ℕ)) (program : CProgram) (failure : Failure) → IsProgramOf text program → IsFailureBy (IsUnmetIn (a_plan plan ∷ [])) failure
+    → IsFailureBy (IsUnmetIn (run_requirements (text ∷ plan ∷ listed order))) failure
+plan_unmet text plan order program failure is =
+    weaken (IsUnmetIn (a_plan plan ∷ [])) (IsUnmetIn (run_requirements (text ∷ plan ∷ listed order))) (plan_first text plan order program is) failure
+
+order_first : (text plan : List ℕ) (order : Option (List ℕ)) (program : CProgram) (groups : List (List ℕ)) → IsProgramOf text program → IsPlanText plan groups
+    → (refused : Refused) → AreRefusedTurns (number_of_ranks groups) order refused → IsUnmetIn (run_requirements (text ∷ plan ∷ listed order)) refused
+order_first text plan None program groups is is_plan refused none = absurd none
+order_first text plan (Some order) program groups is is_plan refused (refusal, none) =
+    (inr ((program, is), inr ((groups, is_plan), inl (groups, is_plan, refusal))), none)
+
+pub order_unmet : (text plan : List ℕ) (order : Option (List ℕ)) (program : CProgram) (groups : List (List ℕ)) (failure : Failure) → IsProgramOf text program → IsPlanText plan groups
+    → IsFailureBy (AreRefusedTurns (number_of_ranks groups) order) failure → IsFailureBy (IsUnmetIn (run_requirements (text ∷ plan ∷ listed order))) failure
+order_unmet text plan order program groups failure is is_plan =
+    weaken (AreRefusedTurns (number_of_ranks groups) order) (IsUnmetIn (run_requirements (text ∷ plan ∷ listed order))) (order_first text plan order program groups is is_plan) failure
+
+-- ---- what the texts of a replay hold
+
+log_first : (bytes : List ℕ) (text : Option (List ℕ)) (refused : Refused) → IsUnmetIn (a_log bytes ∷ []) refused → IsUnmetIn (replay_requirements (bytes ∷ listed text)) refused
+log_first bytes None refused (inl here, none) = (inl here, none)
+log_first bytes None refused (inr later, none) = absurd later.1
+log_first bytes (Some text) refused (inl here, none) = (inl here, none)
+log_first bytes (Some text) refused (inr later, none) = absurd later.1
+
+pub log_unmet : (bytes : List ℕ) (text : Option (List ℕ)) (failure : Failure) → IsFailureBy (IsUnmetIn (a_log bytes ∷ [])) failure
+    → IsFailureBy (IsUnmetIn (replay_requirements (bytes ∷ listed text))) failure
+log_unmet bytes text = weaken (IsUnmetIn (a_log bytes ∷ [])) (IsUnmetIn (replay_requirements (bytes ∷ listed text))) (log_first bytes text)
+
+used_first : (bytes : List ℕ) (log : Log) (text : Option (List ℕ)) → IsLogText bytes log → (refused : Refused) → IsUnmetIn (a_program (used_text log text) ∷ []) refused
+    → IsUnmetIn (replay_requirements (bytes ∷ listed text)) refused
+used_first bytes log None is refused (inl here, none) = (inr ((log, is), inl (log, is, here)), none)
+used_first bytes log None is refused (inr later, none) = absurd later.1
+used_first bytes log (Some text) is refused (inl here, none) = (inr ((log, is), inl here), none)
+used_first bytes log (Some text) is refused (inr later, none) = absurd later.1
+
+pub used_unmet : (bytes : List ℕ) (log : Log) (text : Option (List ℕ)) (failure : Failure) → IsLogText bytes log → IsFailureBy (IsUnmetIn (a_program (used_text log text) ∷ [])) failure
+    → IsFailureBy (IsUnmetIn (replay_requirements (bytes ∷ listed text))) failure
+used_unmet bytes log text failure is =
+    weaken (IsUnmetIn (a_program (used_text log text) ∷ [])) (IsUnmetIn (replay_requirements (bytes ∷ listed text))) (used_first bytes log text is) failure
+
+-- ---- turns and logs
+
 zip_below : (n : ℕ) (lines : List (List ℕ)) (ranks : List ℕ) → AllZip (IsRankLine n) lines ranks → All (λ rank. rank < n) ranks
 zip_below n [] [] all = All-nil (λ rank. rank < n)
 zip_below n [] (rank ∷ ranks) all = absurd all

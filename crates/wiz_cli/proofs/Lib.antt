@@ -1,4 +1,10 @@
+pub mod Apart
+pub mod CheckLemmas
 pub mod CommandLemmas
+pub mod Complete
+pub mod DemoLemmas
+pub mod EndLemmas
+pub mod Faithful
 pub mod FileLemmas
 pub mod FileNames
 pub mod InputLemmas
@@ -7,6 +13,7 @@ pub mod LogLemmas
 pub mod ReadableLogs
 pub mod RecordLemmas
 pub mod RecordingLemmas
-pub mod ReportLemmas
+pub mod ResultLemmas
 pub mod RunLemmas
-pub mod WordLemmas
+pub mod ShowLemmas
+pub mod TellLemmas

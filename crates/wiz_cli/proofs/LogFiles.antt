@@ -3,9 +3,10 @@ use Rattle.std.proofs.Common.{◌≡◌, ◌≤◌, ◌+◌, ◌-◌, ℕ, suc, 
 use Rattle.std.proofs.Math.Seq.{take-length}
 use Rattle.std.proofs.lemmas.List.{append-nil}
 use Rattle.srr_entry.specs.declared.log.Log.{Log}
-use Rattle.wiz_cli.specs.declared.record_files.Unwritten.{Unwritten}
-use Rattle.wiz_cli.specs.RecordFiles.{AreWritten, log_files}
-use Rattle.wiz_cli.specs.RecordSteps.{IsStopped}
+use Rattle.wiz_cli.specs.declared.commands.record_files.Unwritten.{Unwritten}
+use Rattle.wiz_cli.specs.Files.{AreWritten}
+use Rattle.wiz_cli.specs.RecordFiles.{log_files}
+use Rattle.wiz_cli.specs.Steps.{IsStopped}
 use Rattle.wiz_cli.proofs.FileLemmas.{AreApart, AreWritten-append, IsStopped-behind, IsStopped-front, names_of}
 use Rattle.wiz_cli.proofs.FileNames.{log_apart}
 use Rattle.wiz_io.specs.Files.{Files}

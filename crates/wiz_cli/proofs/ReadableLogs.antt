@@ -3,18 +3,14 @@ use Rattle.std.proofs.Common.{◌≡◌, ◌<◌, ◌≤◌, ◌+◌, ℕ, List,
 use Rattle.std.specs.List.{AllByRecursion}
 use Rattle.std.proofs.lemmas.Bool.{lt-ltb}
 use Rattle.group_plan.specs.Plans.{IsPlan, Rises, number_of_ranks, top, IsGroup as IsPlanGroup}
-use Rattle.log_bounds.specs.RunBounds.{AreOfWords, LogsAreInBounds}
+use Rattle.log_bounds.specs.RunBounds.{AreOfWords, LogsAreInBounds, LogTextsAreShort}
 use Rattle.run_model.specs.declared.event.Event.{Event}
 use Rattle.run_model.specs.Chosen.{IsChosen}
 use Rattle.run_model.specs.Lists.{are_below}
 use Rattle.run_model.specs.Views.{Next}
-use Rattle.srr_entry.specs.declared.log.Log.{Log}
 use Rattle.srr_entry.specs.Entries.{log_of}
 use Rattle.srr_text.specs.Bounds.{IsGroup, RiseFrom}
-use Rattle.srr_text.specs.LogText.{IsLogText, log_text}
-
-abbrev IsReadable : Log → Type 0
-IsReadable log = IsLogText (log_text log) log
+use Rattle.wiz_cli.specs.Recordings.{IsReadable}
 
 rise_from : (least other : ℕ) (ranks : List ℕ) → least ≡ other → Rises least ranks → RiseFrom other ranks
 rise_from least other [] e h = tt
@@ -31,15 +27,18 @@ some (rank ∷ ranks) h = omega arith
 group_is : (n : ℕ) (ranks : List ℕ) → IsPlanGroup ranks → top ranks ≤ n → IsGroup n ranks
 group_is n ranks h low = (some ranks h.0, rise_from 0 0 ranks refl h.1, below n ranks low)
 
-readable_from : (next : Next) (n : ℕ) (text : List ℕ) (events : List Event) (groups : List (List ℕ)) → LogsAreInBounds next n → IsChosen next n events → AreOfWords events
+readable_from : (next : Next) (n : ℕ) (text : List ℕ) (events : List Event) (groups : List (List ℕ)) → LogsAreInBounds next n → LogTextsAreShort next n → IsChosen next n events → AreOfWords events
     → length text ≤ 65536 → AllByRecursion IsPlanGroup groups → number_of_ranks groups ≤ n → AllByRecursion IsReadable (map (log_of text n events) groups)
-readable_from next n text events [] law chosen words short are low = tt
-readable_from next n text events (group ∷ groups) law chosen words short are low = (
-  (refl, law events group text chosen words (group_is n group are.0 (omega (arith, low))) short),
-  readable_from next n text events groups law chosen words short are.1 (omega (arith, low)),
+readable_from next n text events [] law brief chosen words short are low = tt
+readable_from next n text events (group ∷ groups) law brief chosen words short are low = (
+  record {
+    is_text = (refl, law events group text chosen words (group_is n group are.0 (omega (arith, low))) short);
+    short = brief events group text chosen words (group_is n group are.0 (omega (arith, low))) short;
+  },
+  readable_from next n text events groups law brief chosen words short are.1 (omega (arith, low)),
 )
 
-pub readable_logs : (next : Next) (text : List ℕ) (events : List Event) (groups : List (List ℕ)) → LogsAreInBounds next (number_of_ranks groups) → IsChosen next (number_of_ranks groups) events
+pub readable_logs : (next : Next) (text : List ℕ) (events : List Event) (groups : List (List ℕ)) → LogsAreInBounds next (number_of_ranks groups) → LogTextsAreShort next (number_of_ranks groups) → IsChosen next (number_of_ranks groups) events
     → AreOfWords events → length text ≤ 65536 → IsPlan groups → AllByRecursion IsReadable (map (log_of text (number_of_ranks groups) events) groups)
-readable_logs next text events groups law chosen words short plan =
-    readable_from next (number_of_ranks groups) text events groups law chosen words short plan.rising (omega arith)
+readable_logs next text events groups law brief chosen words short plan =
+    readable_from next (number_of_ranks groups) text events groups law brief chosen words short plan.rising (omega arith)

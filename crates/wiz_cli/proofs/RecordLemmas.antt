@@ -1,98 +1,47 @@
--- Reports of recordings, from what their steps answer.
-use Rattle.std.proofs.Common.{◌≡◌, Bool, ℕ, List, [], Option, Some, None, Result, Ok, Err, IfOk, OnErr, OnOk, inl, inr, refl}
-use Rattle.std.specs.Prelude.{IfErr}
-use Rattle.run_model.specs.Views.{Kept}
-use Rattle.srr_record.specs.declared.recording.Recording.{Recording}
+-- Telling a recording.
+use Rattle.std.proofs.Common.{◌≡◌, inl, inr, ℕ, List, [], Some, Ok, Err, IfOk, OnErr, Result}
+use Rattle.std.specs.declared.alloc.AllocError.{AllocError}
 use Rattle.replay_model.specs.declared.replayed.Replayed.{Replayed}
-use Rattle.wiz_cli.specs.declared.record_outcome.Inputs.{Inputs}
-use Rattle.wiz_cli.specs.declared.record_outcome.RecordRefusal.{RecordRefusal}
-use Rattle.wiz_cli.specs.Commands.{IsCommandCut, IsCommandReport}
-use Rattle.wiz_cli.specs.RecordFiles.{AreWritten, IsStoppedAt, files_of}
-use Rattle.wiz_cli.specs.Recordings.{AreInputs, IsRecordingOf, IsRefusal}
-use Rattle.wiz_cli.specs.RecordReports.{HasRecorded, IsCutAt, IsCutRecord, IsRecordPut, IsRecordReport, IsRefusalTold, IsUntouched, Outside, refused_text, unwritten_text}
-use Rattle.wiz_cli.specs.RecordWords.{RecordNames, has_threads}
-use Rattle.wiz_cli.specs.Reports.{GrewByPart, HasSaid}
+use Rattle.srr_record.specs.declared.recording.Recording.{Recording}
 use Rattle.wiz_io.specs.Files.{HasRisen}
+use Rattle.wiz_io.specs.Output.{OutTold}
+use Rattle.wiz_trace.specs.RecordTexts.{record_text}
+use Rattle.wiz_cli.specs.declared.report.Report.{Report}
+use Rattle.wiz_cli.specs.declared.status.Status.{Status}
+use Rattle.wiz_cli.specs.declared.status.Status.TheVariants.{Unwritten}
+use Rattle.wiz_cli.specs.Commands.{record_outcome}
+use Rattle.wiz_cli.specs.Files.{AreWritten, IsStoppedAt}
+use Rattle.wiz_cli.specs.Messages.{unwritten_text}
+use Rattle.wiz_cli.specs.Outcomes.{IsPut}
+use Rattle.wiz_cli.specs.Output.{GrewByPart, HasSaid}
+use Rattle.wiz_cli.specs.RecordFiles.{files_of}
+use Rattle.wiz_cli.specs.Statuses.{number_of, of_ending}
+use Rattle.wiz_cli.specs.Steps.{IsToldBy}
+use Rattle.wiz_cli.specs.World.{Outside}
 
-untouched : (before after : Outside) → after.files ≡ before.files → after.writes ≡ before.writes → IsUntouched before after
-untouched before after files writes = record { files = files; writes = writes }
+-- a run's text and status make its outcome
+pub put_recording : (prefix : List ℕ) (recording : Recording) (text : List ℕ) (status : Status) (replays : List Replayed) (before after : OutTold) (report : Report)
+    → text ≡ record_text recording.outputs recording.ending → status ≡ of_ending recording.ending → replays ≡ []
+    → IsPut (record { files = files_of prefix recording; text = text; status = status; run = Some recording.history; replays = replays }) before after report
+    → IsPut (record_outcome prefix recording) before after report
+put_recording prefix recording text status replays before after report text_is status_is none put = rw (← text_is, ← status_is, ← none) put
 
--- nothing is recorded
-pub IsRecordReport-refused : (names : RecordNames) (before after : Outside) (status : ℕ) (run : Option Kept) (replays : List Replayed) (refused : RecordRefusal)
-    → after.files ≡ before.files → after.writes ≡ before.writes → IsRefusal before.files before.reads after.reads names refused
-    → IsRefusalTold names refused before.written after.written before.puts after.puts status run replays
-    → IsRecordReport names before after status run replays
-IsRecordReport-refused names before after status run replays refused files writes why told =
-    inr (inl (record { refusal = refused; why = why; untouched = untouched before after files writes; told = told }))
+-- all files are written, and the run is told
+pub written_told : (prefix : List ℕ) (recording : Recording) (before after : Outside) (result : Result Report AllocError)
+    → AreWritten before.store.files after.store.files (files_of prefix recording) []
+    → IfOk result (λ report. (front : List ℕ) → IsPut (record_outcome front recording) before.out after.out report)
+    → OnErr result (GrewByPart before.out.bytes after.out.bytes (record_text recording.outputs recording.ending))
+    → IsToldBy (record_outcome prefix recording) before after result
+written_told prefix recording before after (Ok report) files put short = inl (record { files = files; put = put prefix })
+written_told prefix recording before after (Err error) files put short = inr (inl (files, short))
 
-pub IsCutRecord-refused : (names : RecordNames) (before after : Outside) (refused : RecordRefusal)
-    → after.files ≡ before.files → after.writes ≡ before.writes → IsRefusal before.files before.reads after.reads names refused
-    → GrewByPart before.written after.written (refused_text names refused) → IsCutRecord names before after
-IsCutRecord-refused names before after refused files writes why said =
-    inl (record { untouched = untouched before after files writes; said = inr (refused, why, said) })
-
-pub IsCutRecord-silent : (names : RecordNames) (before after : Outside) → after.files ≡ before.files → after.writes ≡ before.writes → after.written ≡ before.written → IsCutRecord names before after
-IsCutRecord-silent names before after files writes same = inl (record { untouched = untouched before after files writes; said = inl same })
-
-pub has_recorded : (names : RecordNames) (before : Outside) (inputs : Inputs) (recording : Recording) → AreInputs before.files names inputs
-    → IsRecordingOf (has_threads names.schedule) inputs recording → HasRecorded names before recording
-has_recorded names before inputs recording are recorded = record { inputs = inputs; are_inputs = are; recorded = recorded }
-
--- a run is recorded, and all files are written
-pub IsRecordReport-recorded : (names : RecordNames) (before after : Outside) (status : ℕ) (run : Option Kept) (replays : List Replayed) (recording : Recording)
-    → HasRecorded names before recording
-    → AreWritten before.files after.files (files_of names.prefix recording) []
-    → IsRecordPut recording before.written after.written before.puts after.puts status run replays
-    → IsRecordReport names before after status run replays
-IsRecordReport-recorded names before after status run replays recording recorded files told =
-    inr (inr (inl (record { recording = recording; recorded = recorded; files = files; told = told })))
-
--- a file was not written
-pub IsRecordReport-unwritten : (names : RecordNames) (before after : Outside) (status : ℕ) (recording : Recording) (name : List ℕ)
-    → HasRecorded names before recording → HasRisen before.writes after.writes
-    → IsStoppedAt before.files after.files (files_of names.prefix recording) name
-    → status ≡ 4 → HasSaid before.written after.written before.puts after.puts (unwritten_text name)
-    → IsRecordReport names before after status (Some recording.history) []
-IsRecordReport-unwritten names before after status recording name recorded risen files is said =
-    inr (inr (inr (record {
-      recording = recording;
-      recorded = recorded;
-      risen = risen;
-      name = name;
-      files = files;
-      told = record { run_is = refl; no_replays = refl; status_is = is; said = said };
-    })))
-
--- memory was wanting when a run was recorded
-pub IsCutRecord-run : (names : RecordNames) (before after : Outside) (recording : Recording) → HasRecorded names before recording → IsCutAt before after names.prefix recording → IsCutRecord names before after
-IsCutRecord-run names before after recording recorded cut = inr (record { recording = recording; recorded = recorded; cut = cut })
-
--- a recording replays nothing
-pub no_replays : (names : RecordNames) (before after : Outside) (status : ℕ) (run : Option Kept) (replays : List Replayed) → IsRecordReport names before after status run replays → replays ≡ []
-no_replays names before after status run replays (inl cut) = cut.2
-no_replays names before after status run replays (inr (inl refused)) = refused.told.no_replays
-no_replays names before after status run replays (inr (inr (inl recorded))) = recorded.told.no_replays
-no_replays names before after status run replays (inr (inr (inr unwritten))) = unwritten.told.no_replays
-
--- where memory was wanting for a command
-pub IsCommandReport-cut : (threads : Bool) (words : List (List ℕ)) (before after : Outside) → IsCommandCut threads words before after → IsCommandReport threads words before after 11 None []
-IsCommandReport-cut threads words before after (inl (names, is, cut)) = inl (names, is, inl (refl, refl, refl, cut))
-IsCommandReport-cut threads words before after (inr (other, untouched, short)) =
-    inr (record { other = other; report = inl (refl, refl, refl, short); untouched = untouched })
-
--- what follows from what a result is
-pub if_ok : {A E : Type 0} (result : Result A E) (P Q : A → Type 0) → ((value : A) → P value → Q value) → IfOk result P → IfOk result Q
-if_ok (Ok value) P Q weaker h = weaker value h
-if_ok (Err error) P Q weaker h = h
-
-pub if_err : {A E : Type 0} (result : Result A E) (P Q : E → Type 0) → ((error : E) → P error → Q error) → IfErr result P → IfErr result Q
-if_err (Ok value) P Q weaker h = h
-if_err (Err error) P Q weaker h = weaker error h
-
-pub on_ok : {A E : Type 0} (result : Result A E) (P Q : Type 0) → (P → Q) → OnOk result P → OnOk result Q
-on_ok (Ok value) P Q weaker h = weaker h
-on_ok (Err error) P Q weaker h = h
-
-pub on_err : {A E : Type 0} (result : Result A E) (P Q : Type 0) → (P → Q) → OnErr result P → OnErr result Q
-on_err (Ok value) P Q weaker h = h
-on_err (Err error) P Q weaker h = weaker h
+-- a file is not written, and that is told
+pub unwritten_told : (prefix : List ℕ) (recording : Recording) (before after : Outside) (result : Result Report AllocError) (name : List ℕ)
+    → HasRisen before.store.writes after.store.writes → IsStoppedAt before.store.files after.store.files (files_of prefix recording) name
+    → IfOk result (λ report. HasSaid before.out.bytes after.out.bytes before.out.faults after.out.faults (unwritten_text name)
+    × (report ≡ record { status = number_of Unwritten; run = Some recording.history; replayed = [] }))
+    → OnErr result (GrewByPart before.out.bytes after.out.bytes (unwritten_text name))
+    → IsToldBy (record_outcome prefix recording) before after result
+unwritten_told prefix recording before after (Ok report) name risen stopped said short =
+    inr (record { name = name; files = stopped; risen = risen; said = said.0; is_report = said.1 })
+unwritten_told prefix recording before after (Err error) name risen stopped said short = inr (inr (name, stopped, risen, short))

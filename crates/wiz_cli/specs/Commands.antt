@@ -1,29 +1,205 @@
--- The report of any words, where there are threads or none.
-use Rattle.std.specs.Prelude.{◌⊎◌, ℕ, List, Option, Bool}
-use Rattle.run_model.specs.Views.{Kept}
+-- The commands: their input files, what is required of these, and what is done. The report of any words.
+use Rattle.std.specs.Prelude.{◌≡◌, ◌⊎◌, ℕ, List, [], ◌∷◌, false, Option, Some, None}
+use Rattle.c_program.specs.declared.program.CProgram.{CProgram}
+use Rattle.log_bounds.specs.RunBounds.{log_limit}
 use Rattle.replay_model.specs.declared.replayed.Replayed.{Replayed}
-use Rattle.wiz_cli.specs.RecordReports.{IsCutRecord, IsRecordReport, IsUntouched, Outside}
-use Rattle.wiz_cli.specs.RecordWords.{IsRecordOf, RecordNames}
-use Rattle.wiz_cli.specs.Reports.{IsCutShort, IsReport}
+use Rattle.replay_model.specs.Replays.{Stop}
+use Rattle.srr_entry.specs.declared.log.Log.{Log}
+use Rattle.srr_record.specs.declared.recording.Recording.{Recording}
+use Rattle.srr_text.specs.LogText.{IsLogText}
+use Rattle.wiz_trace.specs.CheckTexts.{check_text}
+use Rattle.wiz_trace.specs.DemoProgram.{demo_program}
+use Rattle.wiz_trace.specs.DemoTexts.{demo_text}
+use Rattle.wiz_trace.specs.RecordTexts.{record_text}
+use Rattle.wiz_trace.specs.ShowTexts.{show_text}
+use Rattle.wiz_trace.specs.StatsTexts.{stats_text}
+use Rattle.wiz_trace.specs.TraceTexts.{trace_text}
+use Rattle.wiz_words.specs.Words.{AskFor, is_threaded, is_threaded_run}
+use Rattle.wiz_words.specs.declared.command.Command.{Command}
+use Rattle.wiz_words.specs.declared.command.Command.TheVariants.{Record, Check, Demo, Replay, Show, Stats}
+use Rattle.wiz_words.specs.declared.command.ReplayWords.{ReplayWords}
+use Rattle.wiz_words.specs.declared.command.RunWords.{RunWords}
+use Rattle.wiz_io.specs.Files.{Files}
+use Rattle.wiz_cli.specs.declared.refusal.Refusal.TheVariants.{Words}
+use Rattle.wiz_cli.specs.declared.report.Report.{Report}
+use Rattle.wiz_cli.specs.declared.status.Status.TheVariants.{Done}
+use Rattle.wiz_cli.specs.Demos.{demo_plan}
+use Rattle.wiz_cli.specs.Inputs.{AreHeld, Input, IsFirstUnread, Refused, input, option_input, order_limit, text_limit}
+use Rattle.wiz_cli.specs.Messages.{message_text}
+use Rattle.wiz_cli.specs.Outcomes.{IsTold, IsUntouched, Outcome, out_of_memory}
+use Rattle.wiz_cli.specs.RecordFiles.{files_of}
+use Rattle.wiz_cli.specs.Recordings.{Records, RunTexts}
+use Rattle.wiz_cli.specs.Replayings.{AreChecksOf, IsReplayOf}
+use Rattle.wiz_cli.specs.Requirements.{IsFirstUnmet, Requirement, a_log, a_plan, a_program, an_order, its_program}
+use Rattle.wiz_cli.specs.Statuses.{of_ending, of_refusal, of_stands}
+use Rattle.wiz_cli.specs.World.{Outside}
 
-abbrev pub IsNoRecord : Bool → List (List ℕ) → Type 0
-IsNoRecord threads words = (names : RecordNames) → IsRecordOf threads words names → ⊥
+-- ---- the input files, in the order in which they are read
 
--- the words are no recording; they are a replay or no command, and no file has changed
-pub record IsOtherReport (threads : Bool) (words : List (List ℕ)) (before after : Outside) (status : ℕ) (run : Option Kept) (replays : List Replayed) : Type 0 where
-  pub other : IsNoRecord threads words
-  pub report : IsReport threads words before.files before.reads after.reads before.written after.written before.puts after.puts status run replays
-  pub untouched : IsUntouched before after
+abbrev pub run_inputs : RunWords (List ℕ) → List Input
+run_inputs run = input text_limit run.program ∷ input text_limit run.plan ∷ option_input order_limit run.order
 
--- the report of a recording, or of other words
-abbrev pub IsCommandReport : Bool → List (List ℕ) → Outside → Outside → ℕ → Option Kept → List Replayed → Type 0
-IsCommandReport threads words before after status run replays =
-    ((names : RecordNames) × IsRecordOf threads words names × IsRecordReport names before after status run replays)
-    ⊎ IsOtherReport threads words before after status run replays
+abbrev pub replay_inputs : ReplayWords (List ℕ) → List Input
+replay_inputs replay = input log_limit replay.log ∷ option_input text_limit replay.program
 
--- memory was wanting
-abbrev pub IsCommandCut : Bool → List (List ℕ) → Outside → Outside → Type 0
-IsCommandCut threads words before after =
-    ((names : RecordNames) × IsRecordOf threads words names × IsCutRecord names before after)
-    ⊎ (IsNoRecord threads words × IsUntouched before after
-    × IsCutShort threads words before.files before.reads after.reads before.written after.written)
+abbrev pub inputs_of : Command (List ℕ) → List Input
+inputs_of (Record run prefix) = run_inputs run
+inputs_of (Check run) = run_inputs run
+inputs_of (Demo seed rounds) = []
+inputs_of (Replay replay) = replay_inputs replay
+inputs_of (Show log) = input log_limit log ∷ []
+inputs_of (Stats log) = input log_limit log ∷ []
+
+-- ---- what is required of their texts, in this order
+
+abbrev pub run_requirements : List (List ℕ) → List Requirement
+run_requirements (text ∷ plan ∷ []) = a_program text ∷ a_plan plan ∷ []
+run_requirements (text ∷ plan ∷ order ∷ more) = a_program text ∷ a_plan plan ∷ an_order plan order ∷ []
+run_requirements texts = []
+
+abbrev pub replay_requirements : List (List ℕ) → List Requirement
+replay_requirements (bytes ∷ []) = a_log bytes ∷ its_program bytes ∷ []
+replay_requirements (bytes ∷ text ∷ more) = a_log bytes ∷ a_program text ∷ []
+replay_requirements texts = []
+
+abbrev pub log_requirements : List (List ℕ) → List Requirement
+log_requirements (bytes ∷ more) = a_log bytes ∷ []
+log_requirements texts = []
+
+-- a demo has no input files: its program and its plan are its own
+abbrev pub demo_texts : ℕ → ℕ → List (List ℕ)
+demo_texts seed rounds = demo_program seed rounds ∷ demo_plan ∷ []
+
+abbrev pub requirements_of : Command (List ℕ) → List (List ℕ) → List Requirement
+requirements_of (Record run prefix) texts = run_requirements texts
+requirements_of (Check run) texts = run_requirements texts
+requirements_of (Demo seed rounds) texts = run_requirements (demo_texts seed rounds)
+requirements_of (Replay replay) texts = replay_requirements texts
+requirements_of (Show log) texts = log_requirements texts
+requirements_of (Stats log) texts = log_requirements texts
+
+-- ---- what is done
+
+abbrev pub run_texts : List (List ℕ) → RunTexts
+run_texts (text ∷ plan ∷ []) = record { program = text; plan = plan; order = None }
+run_texts (text ∷ plan ∷ order ∷ more) = record { program = text; plan = plan; order = Some order }
+run_texts texts = record { program = []; plan = []; order = None }
+
+-- the logs and the order of a run are written, and the record text is put out
+abbrev pub record_outcome : List ℕ → Recording → Outcome
+record_outcome prefix recording = record {
+  files = files_of prefix recording;
+  text = record_text recording.outputs recording.ending;
+  status = of_ending recording.ending;
+  run = Some recording.history;
+  replays = [];
+}
+
+-- no file is written, and a text of a run and its replays is put out
+abbrev pub check_outcome : List ℕ → Recording → List Replayed → Outcome
+check_outcome text recording replays = record {
+  files = [];
+  text = text;
+  status = of_ending recording.ending;
+  run = Some recording.history;
+  replays = replays;
+}
+
+abbrev pub replay_outcome : Replayed → Outcome
+replay_outcome replayed = record {
+  files = [];
+  text = trace_text replayed;
+  status = of_stands replayed.ends;
+  run = None;
+  replays = replayed ∷ [];
+}
+
+abbrev pub text_outcome : List ℕ → Outcome
+text_outcome text = record { files = []; text = text; status = Done; run = None; replays = [] }
+
+-- how a recording is told: as it is, or when the log of each group is replayed
+abbrev pub TellsRecord : List ℕ → CProgram → List (List ℕ) → Recording → Outcome → Type 0
+TellsRecord prefix program groups recording outcome = outcome ≡ record_outcome prefix recording
+
+abbrev pub TellsCheck : (List (List ℕ) → Recording → List Replayed → List ℕ) → CProgram → List (List ℕ) → Recording → Outcome → Type 0
+TellsCheck text program groups recording outcome =
+    (replays : List Replayed) × AreChecksOf program recording.history.events recording.logs replays
+    × (outcome ≡ check_outcome (text groups recording replays) recording replays)
+
+abbrev pub checked : List (List ℕ) → Recording → List Replayed → List ℕ
+checked groups recording replays = check_text groups replays recording.ending
+
+abbrev pub demonstrated : ℕ → ℕ → List (List ℕ) → Recording → List Replayed → List ℕ
+demonstrated seed rounds groups recording replays = demo_text seed rounds recording.history.events groups replays recording.ending
+
+-- a log is replayed with the program of a text
+abbrev pub TellsReplay : List ℕ → Log → Stop → Outcome → Type 0
+TellsReplay text log stop outcome =
+    (replayed : Replayed) × IsReplayOf text log stop replayed × (outcome ≡ replay_outcome replayed)
+
+-- the log that the first file holds, and the program with which it is replayed: that of the second file, or its own
+abbrev pub IsLogOf : List (List ℕ) → Log → Type 0
+IsLogOf [] log = ⊥
+IsLogOf (bytes ∷ more) log = IsLogText bytes log
+
+abbrev pub program_text : List (List ℕ) → Log → List ℕ
+program_text (bytes ∷ text ∷ more) log = text
+program_text texts log = log.program
+
+-- a line for each command
+abbrev pub Does : Command (List ℕ) → List (List ℕ) → Outcome → Type 0
+Does (Record run prefix) texts outcome = Records (is_threaded_run run) (run_texts texts) (TellsRecord prefix) outcome
+Does (Check run) texts outcome = Records (is_threaded_run run) (run_texts texts) (TellsCheck checked) outcome
+Does (Demo seed rounds) texts outcome = Records false (run_texts (demo_texts seed rounds)) (TellsCheck (demonstrated seed rounds)) outcome
+Does (Replay replay) texts outcome = (log : Log) × IsLogOf texts log × TellsReplay (program_text texts log) log replay.stop outcome
+Does (Show name) texts outcome = (log : Log) × IsLogOf texts log × (outcome ≡ text_outcome (show_text log))
+Does (Stats name) texts outcome = (log : Log) × IsLogOf texts log × (outcome ≡ text_outcome (stats_text log))
+
+-- ---- the report
+
+-- an input file is not read, or all are and what they hold is refused: the first of these in order
+abbrev pub IsRefusedBy : Option Files → ℕ → ℕ → List Input → (List (List ℕ) → List Requirement) → Refused → Type 0
+IsRefusedBy files reads reads' inputs requirements refused =
+    IsFirstUnread files reads reads' inputs refused
+    ⊎ ((texts : List (List ℕ)) × AreHeld files inputs texts × IsFirstUnmet (requirements texts) refused.refusal × (refused.name ≡ []))
+
+abbrev pub IsRefusedFor : Command (List ℕ) → Outside → Outside → Refused → Type 0
+IsRefusedFor command before after refused =
+    IsRefusedBy before.store.files before.store.reads after.store.reads (inputs_of command) (requirements_of command) refused
+
+-- what the command asks for is done, with what its input files hold
+abbrev pub IsDoneFor : Command (List ℕ) → Outside → Outcome → Type 0
+IsDoneFor command before outcome =
+    (texts : List (List ℕ)) × AreHeld before.store.files (inputs_of command) texts × Does command texts outcome
+
+-- a refusal is told by its message and its status
+abbrev pub refusal_outcome : Refused → Outcome
+refusal_outcome refused = record {
+  files = [];
+  text = message_text refused.refusal refused.name;
+  status = of_refusal refused.refusal;
+  run = None;
+  replays = [];
+}
+
+-- what comes of a command
+abbrev pub ComesOf : Command (List ℕ) → Outside → Outside → Outcome → Type 0
+ComesOf command before after outcome =
+    ((refused : Refused) × IsRefusedFor command before after refused × (outcome ≡ refusal_outcome refused))
+    ⊎ IsDoneFor command before outcome
+
+-- what comes of words: those that ask for nothing are refused
+abbrev pub ComesOfWords : (List (List ℕ) → Command (List ℕ) → Type 0) → List (List ℕ) → Outside → Outside → Outcome → Type 0
+ComesOfWords Ask words before after outcome =
+    (((command : Command (List ℕ)) → Ask words command → ⊥) × (outcome ≡ refusal_outcome (record { refusal = Words; name = [] })))
+    ⊎ ((command : Command (List ℕ)) × Ask words command × ComesOf command before after outcome)
+
+-- what comes of the words is told; or memory was out before anything was done
+abbrev pub IsReport : (List (List ℕ) → Command (List ℕ) → Type 0) → List (List ℕ) → Outside → Outside → Report → Type 0
+IsReport Ask words before after report =
+    (IsUntouched before after × (report ≡ out_of_memory))
+    ⊎ ((outcome : Outcome) × ComesOfWords Ask words before after outcome × IsTold outcome before after report)
+
+-- the words of the call without threads: those that ask for threads ask for nothing
+abbrev pub AskForSerially : List (List ℕ) → Command (List ℕ) → Type 0
+AskForSerially words command = AskFor words command × (is_threaded command ≡ false)

@@ -1,16 +1,15 @@
 //! The top call: words and files in, texts, files and an exit status out.
 #![tactic(auto)]
 
-pub mod outcome;
+mod accept;
+pub mod commands;
+pub mod failure;
+mod inputs;
+mod message;
 pub mod ranks;
-pub mod record_files;
-mod record_inputs;
-pub mod record_outcome;
-mod record_run;
-mod record_tell;
-mod record_words;
-mod replay_file;
+pub mod recording;
+pub mod refusal;
+pub mod replaying;
 pub mod report;
-mod tell;
+pub mod status;
 pub mod top;
-mod words;

@@ -1,58 +1,125 @@
-//! What the top call answers.
-ghost use Rattle.std.specs.Prelude.{◌≡◌, ◌∷◌, [], IfOk, None, Some};
+//! What the top call answers, and how it is told.
+ghost use Rattle.std.specs.Prelude.{◌≡◌, [], List, IfOk, None, OnErr, OnOk};
+ghost use Rattle.wiz_cli.specs.Commands.{text_outcome};
+ghost use Rattle.wiz_cli.specs.Files.{NamedFile};
+ghost use Rattle.wiz_cli.specs.Outcomes.{IsPut, out_of_memory};
+ghost use Rattle.wiz_cli.specs.Output.{GrewByPart, HasSaid};
+ghost use Rattle.wiz_cli.specs.Statuses.{number_of};
+ghost use Rattle.wiz_cli.specs.Steps.{IsRefusalTold, IsSettled, outcome_of};
 
-use replay_model::replayed::{Replayed, Replays};
+use crate::failure::Failure;
+use crate::message::message;
+use crate::refusal::Refusal;
+use crate::status::{Status, of_refusal};
+use replay_model::replayed::Replays;
 use run_model::history::History;
-use srr_record::Recording;
 use std::alloc::{AllocError, Global};
+use wiz_base::Bytes;
+use wiz_io::{PutFault, Sink};
 
 /// The outcome of a command.
 #[derive(Drop)]
 pub struct Report {
-    /// The exit status: 0 done, 1 words, 2 no such file, 3 read fault, 4 write fault, 5 program refused, 6 plan or order
-    /// refused, 7 halted, 8 log refused, 9 diverged, 10 starved, 11 want of memory, 12 too long.
+    /// The exit status, by its number.
     pub status: u8,
-    /// The run that was recorded; of a recording whose status is 0, 4 or 7.
+    /// The run that was recorded: of `record`, `check` and `demo` where the status is 0, 4 or 7.
     pub run: Option<History>,
-    /// The replays that were made; of a replay one where the status is 0, 4, 9 or 10.
+    /// The replays that were made: of `replay` one where the status is 0, 4, 9 or 10; of `check` and `demo` one for each group
+    /// where it is 0, 4 or 7.
     pub replayed: Replays,
 }
 
 impl Report {
-    /// A status alone. Takes no memory.
-    pub fn of_status(alloc: Global, status: u8) -> Self
-        ensures { result ≡ record { status = status; run = None; replayed = [] } }
+    /// A report of this status. Takes no memory.
+    pub fn new(status: Status, run: Option<History>, replayed: Replays) -> Self
+        ensures { result ≡ record { status = number_of status; run = run; replayed = replayed } }
     {
         Report {
-            status,
-            run: None,
-            replayed: Replays::new(alloc),
+            status: status.number(),
+            run,
+            replayed,
         }
     }
+}
 
-    /// The run of a recording. Takes no memory.
-    pub fn of_run(alloc: Global, status: u8, recording: Recording) -> Self
-        ensures { result ≡ record { status = status; run = Some recording.history; replayed = [] } }
-    {
-        Report {
-            status,
-            run: Some(recording.history),
-            replayed: Replays::new(alloc),
-        }
+/// What a command tells and keeps, when its files are written.
+#[derive(Drop)]
+pub struct Done {
+    pub text: Bytes,
+    pub status: Status,
+    pub run: Option<History>,
+    pub replays: Replays,
+}
+
+/// A text, told with status 0.
+pub fn text_alone(alloc: Global, text: Bytes) -> Done
+    ensures { outcome_of [] result ≡ text_outcome text }
+{
+    Done {
+        text,
+        status: Status::Done,
+        run: None,
+        replays: Replays::new(alloc),
     }
+}
 
-    /// One replay.
-    pub fn of_replay(alloc: Global, status: u8, replayed: Replayed) -> Result<Self, AllocError>
-        ensures { IfOk result (λ report. report ≡ record { status = status; run = None; replayed = replayed ∷ [] }) }
-    {
-        let mut replays = Replays::new(alloc);
-        match replays.push(replayed) {
-            Ok(()) => Ok(Report {
-                status,
-                run: None,
-                replayed: replays,
-            }),
-            Err(_) => Err(AllocError),
-        }
+/// Puts the text out, and reports the rest.
+pub fn tell<K: Sink>(done: Done, out: &mut K) -> Result<Report, AllocError>
+    ensures put { IfOk result (λ report. (files : List NamedFile) → IsPut (outcome_of files done) (K.told out.old) (K.told out.new) report) }
+    ensures short { OnErr result (GrewByPart (K.told out.old).bytes (K.told out.new).bytes done.text) }
+{
+    let status = match out.put(done.text.as_slice()) {
+        Ok(()) => done.status,
+        Err(PutFault::Failed) => done.status.unput(),
+        Err(PutFault::NoMemory) => return Err(AllocError),
+    };
+    Ok(Report::new(status, done.run, done.replays))
+}
+
+/// Puts a message out. A fault of the sink changes no status.
+pub fn put_message<K: Sink>(text: &[u8], out: &mut K) -> Result<(), AllocError>
+    ensures said { OnOk result (HasSaid (K.told out.old).bytes (K.told out.new).bytes (K.told out.old).faults (K.told out.new).faults text.now) }
+    ensures short { OnErr result (GrewByPart (K.told out.old).bytes (K.told out.new).bytes text.now) }
+{
+    match out.put(text) {
+        Ok(()) | Err(PutFault::Failed) => Ok(()),
+        Err(PutFault::NoMemory) => Err(AllocError),
+    }
+}
+
+/// The report of a command that came to its end, or else what it failed by, told.
+pub fn settle<K: Sink>(alloc: Global, answered: Result<Report, Failure<'_>>, out: &mut K) -> Report
+    ensures { IsSettled answered.entry (K.told out.old) (K.told out.new) result }
+{
+    match answered {
+        Ok(report) => report,
+        Err(Failure::Refused { refusal, name }) => refuse(alloc, refusal, name, out),
+        Err(Failure::OutOfMemory) => out_of_memory(alloc),
+    }
+}
+
+/// The report when memory is out. Takes no memory.
+fn out_of_memory(alloc: Global) -> Report
+    ensures { result ≡ out_of_memory }
+{
+    Report::new(Status::OutOfMemory, None, Replays::new(alloc))
+}
+
+/// Tells a refusal.
+fn refuse<K: Sink>(alloc: Global, refusal: Refusal, name: &str, out: &mut K) -> Report
+    ensures { IsRefusalTold (record { refusal = refusal; name = name.now }) (K.told out.old) (K.told out.new) result }
+{
+    let Ok(text) = message(alloc, refusal, name) else {
+        return out_of_memory(alloc);
+    };
+    let done = Done {
+        text,
+        status: of_refusal(refusal),
+        run: None,
+        replays: Replays::new(alloc),
+    };
+    match tell(done, out) {
+        Ok(report) => report,
+        Err(_) => out_of_memory(alloc),
     }
 }

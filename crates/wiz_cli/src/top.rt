@@ -1,21 +1,27 @@
 //! The top call.
-ghost use Rattle.std.specs.Prelude.{◌≡◌, IfOk, OnErr, false, map, true};
+ghost use Rattle.std.specs.Prelude.{◌≡◌, false};
 ghost use Rattle.srr_replay.specs.Rounds.{IsReplayable};
-ghost use Rattle.wiz_cli.specs.Commands.{IsCommandCut, IsCommandReport};
-ghost use Rattle.wiz_cli.specs.RecordReports.{outside};
-ghost use Rattle.wiz_cli.specs.RecordSteps.{IsReady};
-ghost use Rattle.wiz_cli.specs.RecordWords.{IsNotThreaded};
-ghost use Rattle.wiz_cli.specs.Reports.{IsCutShort, IsReport, ReplaysShowEveryRun};
+ghost use Rattle.wiz_cli.specs.Commands.{AskForSerially, IsReport};
+ghost use Rattle.wiz_cli.specs.Promises.{IsComplete, NeverDiverges, ShowsEveryRun};
+ghost use Rattle.wiz_cli.specs.Steps.{CanRun, Ends, EndsWords, IsFailureBy, MakesRecordings, MakesReplays, TakesLogs, TakesReady, refused_words};
+ghost use Rattle.wiz_cli.specs.World.{outside};
+ghost use Rattle.wiz_words.specs.Texts.{texts, with_texts};
+ghost use Rattle.wiz_words.specs.Words.{AskFor, is_threaded};
 
-use crate::outcome::{Outcome, Refusal};
-use crate::record_outcome::Ready;
-use crate::record_run::{record, record_in_turns, record_on_threads};
-use crate::record_words::{record_words, threaded_words};
-use crate::replay_file::{replay, replay_in_rounds, replay_on_threads};
-use crate::report::Report;
-use crate::tell::tell;
-use crate::words::{log_name, threaded_log_name};
+use crate::commands::check::check;
+use crate::commands::demo::demo;
+use crate::commands::record::record;
+use crate::commands::replay::replay;
+use crate::commands::show::show;
+use crate::commands::stats::stats;
+use crate::failure::Failure;
+use crate::recording::make::{record_in_turns, record_on_threads};
+use crate::recording::ready::Ready;
+use crate::refusal::Refusal;
+use crate::replaying::make::{replay_in_rounds, replay_on_threads};
+use crate::report::{Report, settle};
 use c_program::CProgram;
+use group_plan::one_reading;
 use rank_threads::Gate;
 use replay_model::replayed::Replayed;
 use srr_entry::log::Log;
@@ -24,34 +30,36 @@ use std::alloc::{AllocError, Global};
 use std::sync::Wait;
 use std::thread::Threads;
 use wiz_io::{Sink, Store};
+use wiz_words::command::Command;
+use wiz_words::read::read_command;
 
-/// The tool as a function of its words, its files and its output, without threads. `replay LOG --serial` prints the trace
-/// of the log's group, replayed with the program that stands in the log. `record PROGRAM PLAN PREFIX --serial` runs the
-/// program on the plan's ranks, in rounds, and writes the log of each group and the order of the run; with `--order FILE` in
-/// place of `--serial` the ranks of the file have the first turns. Other words are refused, and so are those that ask for
-/// threads.
-///
-/// The clause `headline` is what the tool is for. For every program of the log's text, and every run with this log that the matching
-/// rules allow: whatever the order of the replay's events, at every moment each rank of the group has a prefix of its recorded calls,
-/// replies and printed output; a replay that can go no further has given all of them; no rank outside the group takes a step.
+/// The tool as a function of its words, its files and its output, without threads: words that ask for threads are refused.
 pub fn wiz_serial<S: Store, K: Sink>(
     alloc: Global,
     words: &[&str],
     store: &mut S,
     out: &mut K,
 ) -> Report
-    ensures report { IsCommandReport false (map (λ word. word.now) words.now) (outside (S.files store.old) (S.read_faults store.old) (S.write_faults store.old) (K.written out.old) (K.faults out.old)) (outside (S.files store.new) (S.read_faults store.new) (S.write_faults store.new) (K.written out.new) (K.faults out.new)) result.status result.run result.replayed }
-    ensures headline { ReplaysShowEveryRun false (map (λ word. word.now) words.now) (S.files store.old) result.replayed result.status }
+    ensures report { IsReport AskForSerially (texts words.now) (outside (S.told store.old) (K.told out.old)) (outside (S.told store.new) (K.told out.new)) result }
+    ensures headline { ShowsEveryRun AskForSerially (texts words.now) (outside (S.told store.old) (K.told out.old)) result }
+    ensures never_diverges { NeverDiverges AskForSerially (texts words.now) (outside (S.told store.old) (K.told out.old)) result }
+    ensures complete { IsComplete AskForSerially (texts words.now) (outside (S.told store.old) (K.told out.old)) (outside (S.told store.new) (K.told out.new)) result }
 {
-    match answer(alloc, words, store, out) {
-        Ok(report) => report,
-        Err(_) => Report::of_status(alloc, 11),
-    }
+    let answered = answer_words(alloc, words, store, out);
+    // A law: a plan or an order has one reading or one first fault, so that what is accepted is not refused.
+    one_reading();
+    settle(alloc, answered, out)
 }
 
-/// The same call with threads at hand. `replay LOG` replays with a thread for each rank of the group, and `record PROGRAM PLAN
-/// PREFIX` records with a thread for each rank, where the system gives one; each thread passes the gate before each of its
-/// rank's calls. All other words are those of `wiz_serial`. The call returns where the threads do: of waiting nothing is promised.
+/// The tool with threads: a recording or a replay has a thread for each of its ranks, where the system gives one, unless its words
+/// ask for one thread. Each thread passes the gate before each of its rank's calls. The call returns where the threads do: of waiting
+/// nothing is promised.
+///
+/// `report` says what comes of the words and how it is told. `headline` is what the tool is for: for every program of a replayed log,
+/// and every run with this log that the matching rules allow, whatever the order of the replay's events, at every moment each rank of
+/// the group has a prefix of its recorded calls, replies and printed output; a replay that can go no further has given all of them; no
+/// rank outside the group takes a step. `never_diverges` says that such a replay is never told as diverged or starved. `complete` says
+/// that nothing but the named causes keeps a command from its work.
 pub fn wiz<R: Threads + Wait + Sync, S: Store, K: Sink, G: Gate + Sync>(
     rt: &R,
     alloc: Global,
@@ -60,108 +68,123 @@ pub fn wiz<R: Threads + Wait + Sync, S: Store, K: Sink, G: Gate + Sync>(
     out: &mut K,
     gate: &G,
 ) -> Report
-    ensures report { IsCommandReport true (map (λ word. word.now) words.now) (outside (S.files store.old) (S.read_faults store.old) (S.write_faults store.old) (K.written out.old) (K.faults out.old)) (outside (S.files store.new) (S.read_faults store.new) (S.write_faults store.new) (K.written out.new) (K.faults out.new)) result.status result.run result.replayed }
-    ensures headline { ReplaysShowEveryRun true (map (λ word. word.now) words.now) (S.files store.old) result.replayed result.status }
+    ensures report { IsReport AskFor (texts words.now) (outside (S.told store.old) (K.told out.old)) (outside (S.told store.new) (K.told out.new)) result }
+    ensures headline { ShowsEveryRun AskFor (texts words.now) (outside (S.told store.old) (K.told out.old)) result }
+    ensures never_diverges { NeverDiverges AskFor (texts words.now) (outside (S.told store.old) (K.told out.old)) result }
+    ensures complete { IsComplete AskFor (texts words.now) (outside (S.told store.old) (K.told out.old)) (outside (S.told store.new) (K.told out.new)) result }
 {
-    match answer_on_threads(rt, alloc, words, store, out, gate) {
-        Ok(report) => report,
-        Err(_) => Report::of_status(alloc, 11),
-    }
+    let answered = answer_words_on_threads(rt, alloc, words, store, out, gate);
+    // A law: a plan or an order has one reading or one first fault, so that what is accepted is not refused.
+    one_reading();
+    settle(alloc, answered, out)
 }
 
-/// What the words come to without threads, told. The error is want of memory.
-fn answer<S: Store, K: Sink>(
+/// What the words come to without threads.
+fn answer_words<'a, S: Store, K: Sink>(
     alloc: Global,
-    words: &[&str],
+    words: &'a [&'a str],
     store: &mut S,
     out: &mut K,
-) -> Result<Report, AllocError>
-    ensures short { OnErr result (IsCommandCut false (map (λ word. word.now) words.now) (outside (S.files store.old) (S.read_faults store.old) (S.write_faults store.old) (K.written out.old) (K.faults out.old)) (outside (S.files store.new) (S.read_faults store.new) (S.write_faults store.new) (K.written out.new) (K.faults out.new))) }
-    ensures report { IfOk result (λ report. IsCommandReport false (map (λ word. word.now) words.now) (outside (S.files store.old) (S.read_faults store.old) (S.write_faults store.old) (K.written out.old) (K.faults out.old)) (outside (S.files store.new) (S.read_faults store.new) (S.write_faults store.new) (K.written out.new) (K.faults out.new)) report.status report.run report.replayed) }
-    ensures headline { IfOk result (λ report. ReplaysShowEveryRun false (map (λ word. word.now) words.now) (S.files store.old) report.replayed report.status) }
+) -> Result<Report, Failure<'a>>
+    ensures { EndsWords AskForSerially (texts words.now) (outside (S.told store.old) (K.told out.old)) (outside (S.told store.new) (K.told out.new)) result }
 {
-    match record_words(words) {
-        Some(names) => record(
-            alloc,
-            &names,
-            store,
-            out,
-            &|ready: &Ready| record_in_turns(alloc, ready),
-        ),
-        None => answer_other(alloc, words, store, out),
+    let Some(command) = read_command(alloc, words)? else {
+        return Err(refused_words());
+    };
+    if command.is_threaded() {
+        return Err(refused_words());
     }
+    answer_serially(alloc, command, store, out)
 }
 
-/// What words that are no recording come to without threads, told.
-fn answer_other<S: Store, K: Sink>(
-    alloc: Global,
-    words: &[&str],
-    store: &mut S,
-    out: &mut K,
-) -> Result<Report, AllocError>
-    ensures short { OnErr result (IsCutShort false (map (λ word. word.now) words.now) (S.files store.old) (S.read_faults store.old) (S.read_faults store.new) (K.written out.old) (K.written out.new)) }
-    ensures report { IfOk result (λ report. IsReport false (map (λ word. word.now) words.now) (S.files store.old) (S.read_faults store.old) (S.read_faults store.new) (K.written out.old) (K.written out.new) (K.faults out.old) (K.faults out.new) report.status report.run report.replayed) }
-    ensures headline { IfOk result (λ report. ReplaysShowEveryRun false (map (λ word. word.now) words.now) (S.files store.old) report.replayed report.status) }
-    ensures files { S.files store.new ≡ S.files store.old }
-    ensures writes { S.write_faults store.new ≡ S.write_faults store.old }
-{
-    match log_name(words) {
-        None => tell(alloc, Outcome::Refused(Refusal::Words), "", out),
-        Some(name) => replay(
-            alloc,
-            name,
-            store,
-            out,
-            &|program: &CProgram, log: &Log| replay_in_rounds(alloc, program, log),
-        ),
-    }
-}
-
-/// What the words come to with threads, told. The error is want of memory.
-fn answer_on_threads<R: Threads + Wait + Sync, S: Store, K: Sink, G: Gate + Sync>(
+/// What the words come to with threads.
+fn answer_words_on_threads<'a, R: Threads + Wait + Sync, S: Store, K: Sink, G: Gate + Sync>(
     rt: &R,
     alloc: Global,
-    words: &[&str],
+    words: &'a [&'a str],
     store: &mut S,
     out: &mut K,
     gate: &G,
-) -> Result<Report, AllocError>
-    ensures short { OnErr result (IsCommandCut true (map (λ word. word.now) words.now) (outside (S.files store.old) (S.read_faults store.old) (S.write_faults store.old) (K.written out.old) (K.faults out.old)) (outside (S.files store.new) (S.read_faults store.new) (S.write_faults store.new) (K.written out.new) (K.faults out.new))) }
-    ensures report { IfOk result (λ report. IsCommandReport true (map (λ word. word.now) words.now) (outside (S.files store.old) (S.read_faults store.old) (S.write_faults store.old) (K.written out.old) (K.faults out.old)) (outside (S.files store.new) (S.read_faults store.new) (S.write_faults store.new) (K.written out.new) (K.faults out.new)) report.status report.run report.replayed) }
-    ensures headline { IfOk result (λ report. ReplaysShowEveryRun true (map (λ word. word.now) words.now) (S.files store.old) report.replayed report.status) }
+) -> Result<Report, Failure<'a>>
+    ensures { EndsWords AskFor (texts words.now) (outside (S.told store.old) (K.told out.old)) (outside (S.told store.new) (K.told out.new)) result }
 {
-    match threaded_words(words) {
-        Some(names) => {
-            let run = |ready: &Ready| -> Result<Recording, AllocError>
-                requires { IsReady ready.now }
-            { record_on_threads(rt, alloc, ready, gate) };
-            record(alloc, &names, store, out, &run)
-        }
-        None => answer_other_on_threads(rt, alloc, words, store, out, gate),
+    let Some(command) = read_command(alloc, words)? else {
+        return Err(refused_words());
+    };
+    if !command.is_threaded() {
+        return answer_serially(alloc, command, store, out);
+    }
+    let recorder = |ready: &Ready| -> Result<Recording, AllocError>
+        requires { CanRun ready.now }
+    { record_on_threads(rt, alloc, ready, gate) };
+    let replayer = |program: &CProgram, log: &Log, stop: Option<(u8, u32)>| -> Result<
+        Replayed,
+        AllocError,
+    >
+        requires { IsReplayable log.now }
+    { replay_on_threads(rt, alloc, program, log, stop, gate) };
+    answer(alloc, command, store, out, &recorder, &replayer)
+}
+
+fn refused_words() -> Failure<'static>
+    ensures { IsFailureBy (λ refused. refused ≡ refused_words) result }
+{
+    Failure::Refused {
+        refusal: Refusal::Words,
+        name: "",
     }
 }
 
-/// What words that are no recording on threads come to, told.
-fn answer_other_on_threads<R: Threads + Wait + Sync, S: Store, K: Sink, G: Gate + Sync>(
-    rt: &R,
+/// What a command comes to on one thread.
+fn answer_serially<'a, S: Store, K: Sink>(
     alloc: Global,
-    words: &[&str],
+    command: Command<&'a str>,
     store: &mut S,
     out: &mut K,
-    gate: &G,
-) -> Result<Report, AllocError>
-    requires { IsNotThreaded (map (λ word. word.now) words.now) }
-    ensures short { OnErr result (IsCommandCut true (map (λ word. word.now) words.now) (outside (S.files store.old) (S.read_faults store.old) (S.write_faults store.old) (K.written out.old) (K.faults out.old)) (outside (S.files store.new) (S.read_faults store.new) (S.write_faults store.new) (K.written out.new) (K.faults out.new))) }
-    ensures report { IfOk result (λ report. IsCommandReport true (map (λ word. word.now) words.now) (outside (S.files store.old) (S.read_faults store.old) (S.write_faults store.old) (K.written out.old) (K.faults out.old)) (outside (S.files store.new) (S.read_faults store.new) (S.write_faults store.new) (K.written out.new) (K.faults out.new)) report.status report.run report.replayed) }
-    ensures headline { IfOk result (λ report. ReplaysShowEveryRun true (map (λ word. word.now) words.now) (S.files store.old) report.replayed report.status) }
+) -> Result<Report, Failure<'a>>
+    requires { is_threaded (with_texts command) ≡ false }
+    ensures serial { is_threaded (with_texts command.entry) ≡ false }
+    ensures ends { Ends (with_texts command.entry) (outside (S.told store.old) (K.told out.old)) (outside (S.told store.new) (K.told out.new)) result }
 {
-    match threaded_log_name(words) {
-        Some(name) => {
-            let run = |program: &CProgram, log: &Log| -> Result<Replayed, AllocError>
-                requires { IsReplayable log.now }
-            { replay_on_threads(rt, alloc, program, log, gate) };
-            replay(alloc, name, store, out, &run)
-        }
-        None => Ok(wiz_serial(alloc, words, store, out)),
+    let recorder = |ready: &Ready| -> Result<Recording, AllocError>
+        requires { CanRun ready.now }
+    { record_in_turns(alloc, ready) };
+    let replayer = |program: &CProgram, log: &Log, stop: Option<(u8, u32)>| -> Result<
+        Replayed,
+        AllocError,
+    >
+        requires { IsReplayable log.now }
+    { replay_in_rounds(alloc, program, log, stop) };
+    answer(alloc, command, store, out, &recorder, &replayer)
+}
+
+/// What a command comes to: `recorder` makes a recording, and `replayer` the replay of a log.
+fn answer<
+    'a,
+    S: Store,
+    K: Sink,
+    F: Fn(&Ready) -> Result<Recording, AllocError>,
+    G: Fn(&CProgram, &Log, Option<(u8, u32)>) -> Result<Replayed, AllocError>,
+>(
+    alloc: Global,
+    command: Command<&'a str>,
+    store: &mut S,
+    out: &mut K,
+    recorder: &F,
+    replayer: &G,
+) -> Result<Report, Failure<'a>>
+    requires takes { TakesReady (F.pre recorder.now) }
+    requires makes { MakesRecordings (is_threaded (with_texts command)) (F.post recorder.now) }
+    requires takes_logs { TakesLogs (G.pre replayer.now) }
+    requires replays { MakesReplays (G.post replayer.now) }
+    ensures { Ends (with_texts command.entry) (outside (S.told store.old) (K.told out.old)) (outside (S.told store.new) (K.told out.new)) result }
+{
+    match command {
+        Command::Record { run, prefix } => record(alloc, &run, prefix, store, out, recorder),
+        Command::Check(run) => check(alloc, &run, store, out, recorder, replayer),
+        Command::Demo { seed, rounds } => demo(alloc, seed, rounds, store, out, recorder, replayer),
+        Command::Replay(words) => replay(alloc, &words, store, out, replayer),
+        Command::Show(log) => show(alloc, log, store, out),
+        Command::Stats(log) => stats(alloc, log, store, out),
     }
 }

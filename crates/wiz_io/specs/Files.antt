@@ -7,6 +7,12 @@ use Rattle.wiz_io.specs.declared.fault.ReadFault.TheVariants.{Missing, TooLong, 
 abbrev pub Files : Type 0
 Files = List ℕ → Option (List ℕ)
 
+-- what a store tells: the files, where it tells them, and how many reads and writes failed
+pub record FilesTold : Type 0 where
+  pub files : Option Files
+  pub reads : ℕ
+  pub writes : ℕ
+
 -- a count rose, or stands at its last value
 abbrev pub HasRisen : ℕ → ℕ → Type 0
 HasRisen before now = min (before + 1) (2 ^ 64 - 1) ≤ now

@@ -4,6 +4,11 @@ use Rattle.wiz_io.specs.declared.fault.PutFault.{PutFault}
 use Rattle.wiz_io.specs.declared.fault.PutFault.TheVariants.{Failed, NoMemory}
 use Rattle.wiz_io.specs.Calls.{Calls, one_more, with_one_more}
 
+-- what a sink tells: the bytes so far, where it tells them, and how many puts failed
+pub record OutTold : Type 0 where
+  pub bytes : Option (List ℕ)
+  pub faults : ℕ
+
 -- where the bytes are told, they have grown by the piece, or after a refusal by a part at its front
 abbrev pub HasPut : {T : Type 0} → Option (List ℕ) → Option (List ℕ) → List ℕ → Result T PutFault → Type 0
 HasPut None after piece result = after ≡ None

@@ -67,11 +67,7 @@ impl MemoryStore {
 }
 
 impl Store for MemoryStore {
-    ghost files = { λ s. Some (memory_of s).files };
-
-    ghost read_faults = { λ s. s.read_faults };
-
-    ghost write_faults = { λ s. s.write_faults };
+    ghost told = { λ s. record { files = Some (memory_of s).files; reads = s.read_faults; writes = s.write_faults } };
 
     /// Fails exactly where the call was named.
     fn read(&mut self, name: &str, limit: u64) -> Result<Bytes, ReadFault>
@@ -153,9 +149,7 @@ impl MemorySink {
 }
 
 impl Sink for MemorySink {
-    ghost written = { λ s. Some s.bytes };
-
-    ghost faults = { λ s. s.faults };
+    ghost told = { λ s. record { bytes = Some s.bytes; faults = s.faults } };
 
     /// Fails exactly where the put was named. A refused put writes nothing.
     fn put(&mut self, bytes: &[u8]) -> Result<(), PutFault>

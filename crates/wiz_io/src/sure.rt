@@ -44,11 +44,7 @@ impl SureStore {
 }
 
 impl Store for SureStore {
-    ghost files = { λ s. Some (sure_files s) };
-
-    ghost read_faults = { λ s. 0 };
-
-    ghost write_faults = { λ s. 0 };
+    ghost told = { λ s. record { files = Some (sure_files s); reads = 0; writes = 0 } };
 
     fn read(&mut self, name: &str, limit: u64) -> Result<Bytes, ReadFault>
         ensures read { IsRead (sure_files self.old name.now) limit result }
@@ -103,9 +99,7 @@ impl SureSink {
 }
 
 impl Sink for SureSink {
-    ghost written = { λ s. Some s };
-
-    ghost faults = { λ s. 0 };
+    ghost told = { λ s. record { bytes = Some s; faults = 0 } };
 
     /// A refused put writes nothing.
     fn put(&mut self, bytes: &[u8]) -> Result<(), PutFault>

@@ -1,1 +1,5 @@
+pub mod CallLaws
+pub mod CheckLaws
+pub mod CountLaws
+pub mod Countable
 pub mod OrderLaws

@@ -1,4 +1,11 @@
+pub mod CallCounts
 pub mod CallTexts
+pub mod CheckTexts
+pub mod Counting
+pub mod DemoProgram
+pub mod DemoTexts
 pub mod OrderTexts
 pub mod RecordTexts
+pub mod ShowTexts
+pub mod StatsTexts
 pub mod TraceTexts

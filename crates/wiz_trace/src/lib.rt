@@ -2,6 +2,11 @@
 #![tactic(auto)]
 
 mod call_text;
+mod calls;
+pub mod check;
+pub mod demo;
 pub mod order;
 pub mod recording;
+pub mod show;
+pub mod stats;
 pub mod trace;

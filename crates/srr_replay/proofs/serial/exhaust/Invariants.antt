@@ -1,6 +1,6 @@
-use Rattle.std.proofs.Common.{◌≡◌, length, ◌-◌, ◌^◌}
+use Rattle.std.proofs.Common.{◌≡◌, ℕ, length, ◌-◌, ◌^◌}
 use Rattle.run_model.specs.Lists.{IsPrefixOf}
-use Rattle.srr_replay.specs.Rounds.{RunAll}
+use Rattle.srr_replay.specs.Rounds.{RunAll, rounds}
 use Rattle.srr_replay.proofs.serial.exhaust.Given as goal
 
 abbrev pub invariant-loop-replay : goal.invariant-loop-replay
@@ -12,6 +12,7 @@ invariant-loop-replay g l =
       begins : IsPrefixOf l.fn.replay.events l.replay.events;
       runs : RunAll g.R.RankRun.standing l.replay.program l.replay.log l.replay.events l.runs;
       counted : l.count ≡ length l.replay.events;
+      so_far : (made : ℕ) × (l.replay.events ≡ rounds (g.P.Program.next l.fn.replay.program) l.fn.replay.log l.fn.replay.stop made l.fn.replay.events);
     }
 
 abbrev pub decreases-loop-replay : goal.decreases-loop-replay

@@ -1,6 +1,6 @@
 use Rattle.std.proofs.Common.{◌≡◌, ◌<◌, ap, sym, ◌∙◌, length, true, arith, below_more, slice_index}
 use Rattle.mpi_call.specs.Collectives.{is_distinct}
-use Rattle.srr_replay.proofs.RoundsLemmas.{RunAll-set, IsExhausted-each, grows_on, longer, no_shorter}
+use Rattle.srr_replay.proofs.RoundsLemmas.{RunAll-set, IsExhausted-each, grows_on, longer, no_shorter, one_attempt}
 use Rattle.srr_replay.proofs.serial.round.Goals as goal
 use Rattle.srr_replay.proofs.serial.round.Goals.{then-branch, else-branch}
 
@@ -40,6 +40,8 @@ loop-k-preserved g c =
             let same : c.try_rank.new.replay.events ≡ c.loop-k.replay.events = rw w.if-branch.false at ok.grows in
             rw same (below_more _ _ (inv.rests (sym w.moved-is ∙ is)) (rw (inv.program, inv.log, inv.stop, group_at) at (ok.rests w.if-branch.false)))
       ];
+      goes = one_attempt (g.P.Program.next c.args.replay.now.program) c.args.replay.now.log c.args.replay.now.stop c.args.replay.now.log.group c.loop-k.k
+          c.args.replay.now.events c.loop-k.replay.events c.try_rank.new.replay.events (rw inv.log at lt) inv.goes (rw (inv.program, inv.log, inv.stop, group_at) at ok.goes);
     }
 
 pub returns-clause-rests : goal.returns-clause-rests

@@ -1,6 +1,6 @@
-use Rattle.std.proofs.Common.{◌≡◌, ◌<◌, ℕ, length, true, false, slice_index}
+use Rattle.std.proofs.Common.{◌≡◌, ◌<◌, ℕ, length, take, true, false, slice_index}
 use Rattle.run_model.specs.Lists.{IsPrefixOf}
-use Rattle.srr_replay.specs.Rounds.{HasNoStep, RunAll}
+use Rattle.srr_replay.specs.Rounds.{HasNoStep, RunAll, attempts}
 use Rattle.srr_replay.proofs.serial.round.Given as goal
 
 abbrev pub invariant-loop-k : goal.invariant-loop-k
@@ -15,4 +15,5 @@ invariant-loop-k g l =
       still : l.moved ≡ false → l.replay.events ≡ l.fn.replay.events;
       rests : l.moved ≡ false → (j : ℕ) → j < l.k
           → HasNoStep (g.P.Program.next l.fn.replay.program) l.fn.replay.log l.fn.replay.stop l.replay.events (slice_index l.fn.replay.log.group j);
+      goes : l.replay.events ≡ attempts (g.P.Program.next l.fn.replay.program) l.fn.replay.log l.fn.replay.stop l.fn.replay.events (take l.k l.fn.replay.log.group);
     }

@@ -1,0 +1,196 @@
+//! Words that are in a command's form, with what they ask for, and words that are not.
+use std::alloc::{AllocError, Global};
+use wiz_words::command::{Command, ReplayWords, RunWords};
+use wiz_words::read::read_command;
+
+/// The program P by the plan Q, on threads.
+const RUN: RunWords<&str> = RunWords {
+    program: "P",
+    plan: "Q",
+    order: None,
+    is_serial: false,
+};
+
+/// The log L, on threads.
+const REPLAY: ReplayWords<&str> = ReplayWords {
+    log: "L",
+    program: None,
+    stop: None,
+    is_serial: false,
+};
+
+#[test]
+fn words_in_form_ask_for_a_command(rt: HostRuntime) {
+    let serial_run = RunWords {
+        is_serial: true,
+        ..RUN
+    };
+    let ordered_run = RunWords {
+        order: Some("F"),
+        ..RUN
+    };
+    let serial_replay = ReplayWords {
+        is_serial: true,
+        ..REPLAY
+    };
+    let stopped_replay = ReplayWords {
+        program: Some("G"),
+        stop: Some((1, 1)),
+        ..REPLAY
+    };
+    let last_stop = ReplayWords {
+        stop: Some((63, 999_999)),
+        ..serial_replay
+    };
+    let table: [(&[&str], bool, Command<&str>); 20] = [
+        (
+            &["record", "P", "Q", "A"],
+            true,
+            Command::Record {
+                run: RUN,
+                prefix: "A",
+            },
+        ),
+        (
+            &["record", "--serial", "P", "Q", "A"],
+            false,
+            Command::Record {
+                run: serial_run,
+                prefix: "A",
+            },
+        ),
+        (
+            &["record", "P", "--order", "F", "Q", "A"],
+            false,
+            Command::Record {
+                run: ordered_run,
+                prefix: "A",
+            },
+        ),
+        (
+            &["record", "P", "Q", "A", "--order=F"],
+            false,
+            Command::Record {
+                run: ordered_run,
+                prefix: "A",
+            },
+        ),
+        (&["check", "P", "Q"], true, Command::Check(RUN)),
+        (
+            &["check", "P", "Q", "--serial"],
+            false,
+            Command::Check(serial_run),
+        ),
+        (
+            &["demo", "1", "8"],
+            false,
+            Command::Demo { seed: 1, rounds: 8 },
+        ),
+        (
+            &["demo", "0", "1"],
+            false,
+            Command::Demo { seed: 0, rounds: 1 },
+        ),
+        (
+            &["demo", "2147483647", "1000"],
+            false,
+            Command::Demo {
+                seed: 2_147_483_647,
+                rounds: 1000,
+            },
+        ),
+        (&["replay", "L"], true, Command::Replay(REPLAY)),
+        (
+            &["replay", "L", "--serial"],
+            false,
+            Command::Replay(serial_replay),
+        ),
+        (
+            &["replay", "--break=1:1", "L", "--program", "G"],
+            true,
+            Command::Replay(stopped_replay),
+        ),
+        (
+            &["replay", "--serial", "--break", "63:999999", "L"],
+            false,
+            Command::Replay(last_stop),
+        ),
+        (
+            &["replay", "-"],
+            true,
+            Command::Replay(ReplayWords { log: "-", ..REPLAY }),
+        ),
+        (
+            &["replay", "--", "--serial"],
+            true,
+            Command::Replay(ReplayWords {
+                log: "--serial",
+                ..REPLAY
+            }),
+        ),
+        (
+            &["replay", "L", "--program", "-"],
+            true,
+            Command::Replay(ReplayWords {
+                program: Some("-"),
+                ..REPLAY
+            }),
+        ),
+        (&["show", "L"], false, Command::Show("L")),
+        (&["show", "--", "L"], false, Command::Show("L")),
+        (&["stats", "L"], false, Command::Stats("L")),
+        (&["stats", ""], false, Command::Stats("")),
+    ];
+    for (words, threads, wanted) in table {
+        let found = read_command(rt.alloc(), words).expect(&rt, "memory");
+        assert!(&rt; found == Some(wanted), "{words:?}");
+        assert!(&rt; wanted.is_threaded() == threads, "{words:?}");
+    }
+}
+
+/// Whether words are out of form.
+fn ask_for_nothing(alloc: Global, words: &[&str]) -> bool {
+    match read_command(alloc, words) {
+        Ok(found) => found.is_none(),
+        Err(AllocError) => false,
+    }
+}
+
+#[test]
+fn words_out_of_form_ask_for_nothing(rt: HostRuntime) {
+    let table: [&[&str]; 30] = [
+        &[],
+        &[""],
+        &["play"],
+        &["Record", "P", "Q", "A"],
+        &["--help"],
+        &["replay", "--help"],
+        &["replay", "L", "-h"],
+        &["record", "P", "Q"],
+        &["record", "P", "Q", "A", "B"],
+        &["record", "P", "Q", "A", "--order"],
+        &["record", "P", "Q", "A", "--order", "F", "--serial"],
+        &["record", "P", "Q", "A", "--order", "F", "--order", "F"],
+        &["check", "P", "Q", "--order", "F"],
+        &["check", "P", "Q", "--serial", "--serial"],
+        &["demo", "1"],
+        &["demo", "1", "0"],
+        &["demo", "1", "1001"],
+        &["demo", "2147483648", "1"],
+        &["demo", "01", "1"],
+        &["demo", "1", "1", "--serial"],
+        &["replay"],
+        &["replay", "L", "--serial=true"],
+        &["replay", "L", "--break", "01:1"],
+        &["replay", "L", "--break", "64:0"],
+        &["replay", "L", "--break", "1:1000000"],
+        &["replay", "L", "--break", "1"],
+        &["replay", "L", "--break", "1:1:1"],
+        &["show"],
+        &["show", "A", "B"],
+        &["stats", "L", "--serial"],
+    ];
+    for words in table {
+        assert!(&rt; ask_for_nothing(rt.alloc(), words), "{words:?}");
+    }
+}

@@ -1,0 +1,7 @@
+pub mod Kinds
+pub mod EntryBytes
+pub mod LogBytes
+pub mod Lengths
+pub mod Fields
+pub mod EntryReading
+pub mod Reading

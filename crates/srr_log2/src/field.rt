@@ -1,0 +1,151 @@
+//! Fields: numbers of one byte and of four, ranks and faults.
+ghost use mir.Syntax.{w32};
+ghost use Rattle.std.specs.Prelude.{◌≡◌, ◌≤◌, IfOk, FitsSigned, ◌<◌, ◌^◌, ◌↔◌, ℕ, List, length, IsTrue, true};
+ghost use Rattle.mpi_call.specs.Collectives.{is_member};
+ghost use Rattle.srr_log.specs.declared.fault.LogWhy.TheVariants.{BadEntry};
+ghost use Rattle.srr_log2.specs.EntryBytes.{word_bytes};
+ghost use Rattle.srr_log2.specs.Fields.{Gives, IsByte, IsField, IsWord, byte_in, word_in, only_if};
+ghost use Rattle.srr_log2.specs.Kinds.{fault_of};
+ghost use Rattle.srr_log2.specs.EntryReading.{between, count_in, fault_in, int_in, rank_in, sender_in, small_in, tag_in};
+
+use crate::kind;
+use crate::stop::{Stop, bad_entry, cut_off};
+use byteorder::{BigEndian, ByteOrder};
+use mpi_call::call::Fault;
+use srr_log::fault::LogWhy;
+use wiz_base::Cursor;
+
+/// The greatest number of a start, of a communicator, and of an index in a list of starts.
+pub const LAST_NUMBER: u32 = 999_999;
+
+/// The greatest tag.
+const LAST_TAG: u32 = 2_147_483_647;
+
+/// The most ints of a message.
+pub const MESSAGE_INTS: u32 = 65_536;
+
+/// The next byte, and how many bytes there are from it on.
+pub fn byte(cursor: &mut Cursor<'_>) -> Result<(u8, usize), Stop>
+    ensures { IsByte cursor.old result cursor.new }
+{
+    let left = cursor.rest().len();
+    match cursor.take(1) {
+        Some(bytes) => Ok((bytes[0], left)),
+        None => Err(cut_off()),
+    }
+}
+
+/// The next so many bytes, and how many there are from them on.
+pub fn field<'a>(cursor: &mut Cursor<'a>, width: usize) -> Result<(&'a [u8], usize), Stop>
+    ensures { IsField width cursor.old result cursor.new }
+{
+    let left = cursor.rest().len();
+    match cursor.take(width) {
+        Some(bytes) => Ok((bytes, left)),
+        None => Err(cut_off()),
+    }
+}
+
+/// The next number of four bytes, and how many bytes there are from it on.
+pub fn word(cursor: &mut Cursor<'_>) -> Result<(u32, usize), Stop>
+    ensures { IsWord cursor.old result cursor.new }
+{
+    let left = cursor.rest().len();
+    match cursor.take(4) {
+        Some(bytes) => Ok((word_of(bytes), left)),
+        None => Err(cut_off()),
+    }
+}
+
+/// The number that four bytes are, the highest first.
+fn word_of(bytes: &[u8]) -> u32
+    requires { length bytes.now ≡ 4 }
+    ensures { bytes.now ≡ word_bytes result }
+{
+    BigEndian::read_u32(bytes)
+}
+
+/// A number of four bytes, from `least` to `most`.
+pub fn number(cursor: &mut Cursor<'_>, why: LogWhy, least: u32, most: u32) -> Result<u32, Stop>
+    ensures read { Gives (word_in why (between least most) cursor.old) result cursor.new }
+    ensures within { IfOk result (λ number. (least ≤ number) × (number ≤ most)) }
+{
+    let (number, left) = word(cursor)?;
+    if least <= number && number <= most {
+        Ok(number)
+    } else {
+        Err(Stop::Fault { why, left })
+    }
+}
+
+/// A start's number, or a communicator's.
+#[tactic(auto, unfolding(crate::specs::EntryReading::small_in))]
+pub fn small(cursor: &mut Cursor<'_>) -> Result<u32, Stop>
+    ensures { Gives (small_in cursor.old) result cursor.new }
+{
+    number(cursor, LogWhy::BadEntry, 0, LAST_NUMBER)
+}
+
+/// A message's tag.
+#[tactic(auto, unfolding(crate::specs::EntryReading::tag_in))]
+pub fn tag(cursor: &mut Cursor<'_>) -> Result<u32, Stop>
+    ensures { Gives (tag_in cursor.old) result cursor.new }
+{
+    number(cursor, LogWhy::BadEntry, 0, LAST_TAG)
+}
+
+/// A count of ints, so many at most.
+#[tactic(auto, unfolding(crate::specs::EntryReading::count_in))]
+pub fn count(cursor: &mut Cursor<'_>, most: u32) -> Result<u32, Stop>
+    ensures { Gives (count_in most cursor.old) result cursor.new }
+{
+    number(cursor, LogWhy::BadEntry, 0, most)
+}
+
+/// An int in two's complement.
+#[tactic(auto, unfolding(crate::specs::EntryReading::int_in))]
+pub fn int(cursor: &mut Cursor<'_>) -> Result<i32, Stop>
+    ensures read { Gives (int_in cursor.old) result cursor.new }
+    ensures fits { IfOk result (λ int. FitsSigned w32 int) }
+{
+    let (number, _) = word(cursor)?;
+    Ok(number.cast_signed())
+}
+
+/// A rank of the run.
+#[tactic(auto, unfolding(crate::specs::EntryReading::rank_in))]
+pub fn rank(cursor: &mut Cursor<'_>, ranks: u8) -> Result<u8, Stop>
+    ensures { Gives (rank_in ranks cursor.old) result cursor.new }
+{
+    let (rank, left) = byte(cursor)?;
+    if rank < ranks {
+        Ok(rank)
+    } else {
+        Err(bad_entry(left))
+    }
+}
+
+/// The sender of a message, in the group or outside it.
+#[tactic(auto, unfolding(crate::specs::EntryReading::sender_in))]
+pub fn sender(cursor: &mut Cursor<'_>, ranks: u8, group: &[u8], inside: bool) -> Result<u8, Stop>
+    ensures { Gives (sender_in ranks group.now inside cursor.old) result cursor.new }
+{
+    let (rank, left) = byte(cursor)?;
+    if rank < ranks && group.contains(&rank) == inside {
+        Ok(rank)
+    } else {
+        Err(bad_entry(left))
+    }
+}
+
+/// Why a program trapped.
+#[tactic(auto, unfolding(crate::specs::EntryReading::fault_in))]
+pub fn fault(cursor: &mut Cursor<'_>) -> Result<Fault, Stop>
+    ensures { Gives (fault_in cursor.old) result cursor.new }
+{
+    let (number, left) = byte(cursor)?;
+    match kind::fault(number) {
+        Some(fault) => Ok(fault),
+        None => Err(bad_entry(left)),
+    }
+}

@@ -1,0 +1,90 @@
+//! Marks: what a completed start gave.
+ghost use Rattle.std.specs.Prelude.{◌≡◌};
+ghost use Rattle.srr_log2.specs.declared.kind.MarkKind.TheVariants.{Outside};
+ghost use Rattle.srr_log2.specs.Fields.{Gives};
+ghost use Rattle.srr_log2.specs.EntryReading.{mark_in, mark_kind_in, mark_of};
+
+use crate::field::{LAST_NUMBER, MESSAGE_INTS, byte, number, sender, small, tag};
+use crate::kind::{MarkKind, mark_kind};
+use crate::list::{ints, members};
+use crate::stop::{Stop, bad_entry};
+use srr_entry::entry::Mark;
+use srr_log::fault::LogWhy;
+use std::alloc::Global;
+use wiz_base::Cursor;
+
+/// The most ints of a collective's result.
+const RESULT_INTS: u32 = 262_144;
+
+/// The kind of a mark.
+#[tactic(auto, unfolding(crate::specs::EntryReading::mark_kind_in))]
+fn kind(cursor: &mut Cursor<'_>) -> Result<MarkKind, Stop>
+    ensures { Gives (mark_kind_in cursor.old) result cursor.new }
+{
+    let (number, left) = byte(cursor)?;
+    match mark_kind(number) {
+        Some(kind) => Ok(kind),
+        None => Err(bad_entry(left)),
+    }
+}
+
+/// A mark: its kind, and what follows.
+#[tactic(auto, unfolding(crate::specs::EntryReading::mark_in))]
+pub fn mark(alloc: Global, cursor: &mut Cursor<'_>, ranks: u8, group: &[u8]) -> Result<Mark, Stop>
+    ensures { Gives (mark_in ranks group.now cursor.old) result cursor.new }
+{
+    let kind = kind(cursor)?;
+    mark_of(alloc, cursor, ranks, group, kind)
+}
+
+/// A message from outside the group, after its kind.
+fn outside(alloc: Global, cursor: &mut Cursor<'_>, ranks: u8, group: &[u8]) -> Result<Mark, Stop>
+    ensures { Gives (mark_of ranks group.now Outside cursor.old) result cursor.new }
+{
+    let source = sender(cursor, ranks, group, false)?;
+    let start = small(cursor)?;
+    let tag = tag(cursor)?;
+    let ints = ints(alloc, cursor, MESSAGE_INTS)?;
+    Ok(Mark::Outside {
+        source,
+        start,
+        tag,
+        ints,
+    })
+}
+
+/// What follows the kind of a mark.
+fn mark_of(
+    alloc: Global,
+    cursor: &mut Cursor<'_>,
+    ranks: u8,
+    group: &[u8],
+    kind: MarkKind,
+) -> Result<Mark, Stop>
+    ensures { Gives (mark_of ranks group.now kind cursor.old) result cursor.new }
+{
+    match kind {
+        MarkKind::Sent => Ok(Mark::Sent),
+        MarkKind::Nothing => Ok(Mark::Nothing),
+        MarkKind::Inside => {
+            let source = sender(cursor, ranks, group, true)?;
+            let start = small(cursor)?;
+            Ok(Mark::Inside { source, start })
+        }
+        MarkKind::Outside => outside(alloc, cursor, ranks, group),
+        MarkKind::Inner => Ok(Mark::Inner),
+        MarkKind::Outer => {
+            let ints = ints(alloc, cursor, RESULT_INTS)?;
+            Ok(Mark::Outer { ints })
+        }
+        MarkKind::Made => {
+            let comm = small(cursor)?;
+            Ok(Mark::Made { comm })
+        }
+        MarkKind::MadeOutside => {
+            let comm = number(cursor, LogWhy::BadEntry, 1, LAST_NUMBER)?;
+            let members = members(alloc, cursor, ranks)?;
+            Ok(Mark::MadeOutside { comm, members })
+        }
+    }
+}

@@ -1,0 +1,64 @@
+-- What is required of the texts of input files, in order.
+use Rattle.std.specs.Prelude.{◌⊎◌, ℕ, List, [], ◌∷◌}
+use Rattle.c_program.specs.declared.program.CProgram.{CProgram}
+use Rattle.c_types.specs.Checks.{IsFaultOf, IsProgramOf}
+use Rattle.group_plan.specs.OrderText.{IsOrderText, IsFault as IsOrderFault}
+use Rattle.group_plan.specs.Plans.{number_of_ranks}
+use Rattle.group_plan.specs.PlanText.{IsPlanText, IsFault as IsPlanFault}
+use Rattle.srr_entry.specs.declared.log.Log.{Log}
+use Rattle.srr_log.specs.Faults.{IsFirstFault}
+use Rattle.srr_text.specs.LogText.{IsLogText}
+use Rattle.wiz_cli.specs.declared.refusal.Refusal.{Refusal}
+use Rattle.wiz_cli.specs.declared.refusal.Refusal.TheVariants.{Program, Plan as BadPlan, Order as BadOrder, Log as BadLog}
+
+-- that a text is a program, or a plan; that it is an order of a plan's ranks; that bytes are a log, and the text in a log a program
+pub data Requirement : Type 0 where
+  a_program : List ℕ → Requirement
+  a_plan : List ℕ → Requirement
+  an_order : List ℕ → List ℕ → Requirement
+  a_log : List ℕ → Requirement
+  its_program : List ℕ → Requirement
+
+abbrev pub IsMet : Requirement → Type 0
+IsMet (a_program text) = (program : CProgram) × IsProgramOf text program
+IsMet (a_plan text) = (groups : List (List ℕ)) × IsPlanText text groups
+IsMet (an_order plan text) =
+    (groups : List (List ℕ)) × (turns : List ℕ) × IsPlanText plan groups × IsOrderText (number_of_ranks groups) text turns
+IsMet (a_log bytes) = (log : Log) × IsLogText bytes log
+IsMet (its_program bytes) = (log : Log) × (program : CProgram) × IsLogText bytes log × IsProgramOf log.program program
+
+-- the first fault of each text
+abbrev pub IsProgramRefusal : List ℕ → Refusal → Type 0
+IsProgramRefusal text (Program fault) = IsFaultOf text fault
+IsProgramRefusal text refusal = ⊥
+
+abbrev pub IsPlanRefusal : List ℕ → Refusal → Type 0
+IsPlanRefusal text (BadPlan fault) = IsPlanFault text fault
+IsPlanRefusal text refusal = ⊥
+
+abbrev pub IsOrderRefusal : ℕ → List ℕ → Refusal → Type 0
+IsOrderRefusal n text (BadOrder fault) = IsOrderFault n text fault
+IsOrderRefusal n text refusal = ⊥
+
+abbrev pub IsLogRefusal : List ℕ → Refusal → Type 0
+IsLogRefusal bytes (BadLog fault) = IsFirstFault bytes fault
+IsLogRefusal bytes refusal = ⊥
+
+-- what a requirement is refused by
+abbrev pub IsUnmetBy : Requirement → Refusal → Type 0
+IsUnmetBy (a_program text) refusal = IsProgramRefusal text refusal
+IsUnmetBy (a_plan text) refusal = IsPlanRefusal text refusal
+IsUnmetBy (an_order plan text) refusal =
+    (groups : List (List ℕ)) × IsPlanText plan groups × IsOrderRefusal (number_of_ranks groups) text refusal
+IsUnmetBy (a_log bytes) refusal = IsLogRefusal bytes refusal
+IsUnmetBy (its_program bytes) refusal = (log : Log) × IsLogText bytes log × IsProgramRefusal log.program refusal
+
+-- one is not met, and those before it are
+abbrev pub IsFirstUnmet : List Requirement → Refusal → Type 0
+IsFirstUnmet [] refusal = ⊥
+IsFirstUnmet (requirement ∷ requirements) refusal =
+    IsUnmetBy requirement refusal ⊎ (IsMet requirement × IsFirstUnmet requirements refusal)
+
+abbrev pub AreMet : List Requirement → Type 0
+AreMet [] = Unit {0}
+AreMet (requirement ∷ requirements) = IsMet requirement × AreMet requirements

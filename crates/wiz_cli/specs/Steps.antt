@@ -1,0 +1,181 @@
+-- What each step of a command answers.
+use Rattle.std.specs.Prelude.{◌≡◌, ◌≤◌, ◌⊎◌, ℕ, List, [], ◌∷◌, Option, Some, None, Result, Ok, Err, IfOk, Bool, length}
+use Rattle.std.specs.Borrow.{Bor}
+use Rattle.std.specs.List.{AllByRecursion}
+use Rattle.std.specs.String.{string_bytes}
+use Rattle.std.specs.declared.alloc.AllocError.{AllocError}
+use Rattle.c_program.specs.declared.program.CProgram.{CProgram}
+use Rattle.c_program.specs.Program.{next_of, output_of, variables_of}
+use Rattle.c_types.specs.Checks.{IsProgramOf}
+use Rattle.replay_model.specs.declared.replayed.Replayed.{Replayed}
+use Rattle.replay_model.specs.Laws.{IsReplayOfEveryRun}
+use Rattle.replay_model.specs.Replays.{Stop}
+use Rattle.replay_model.specs.Stands.{IsReplayed}
+use Rattle.srr_entry.specs.declared.log.Log.{Log}
+use Rattle.srr_record.specs.declared.recording.Recording.{Recording}
+use Rattle.srr_replay.specs.Rounds.{IsReplayable}
+use Rattle.wiz_io.specs.Files.{Files, HasRisen}
+use Rattle.wiz_io.specs.Output.{OutTold}
+use Rattle.wiz_words.specs.declared.command.Command.{Command}
+use Rattle.wiz_cli.specs.declared.failure.Failure.{Failure}
+use Rattle.wiz_cli.specs.declared.failure.Failure.TheVariants.{Refused as IsRefused, OutOfMemory}
+use Rattle.wiz_cli.specs.declared.commands.check.CheckedRun.{CheckedRun}
+use Rattle.wiz_cli.specs.declared.commands.record_files.Unwritten.{Unwritten}
+use Rattle.wiz_cli.specs.declared.commands.record_files.Unwritten.TheVariants.{Failed, OutOfMemory as WriteMemory}
+use Rattle.wiz_cli.specs.declared.recording.ready.Ready.{Ready}
+use Rattle.wiz_cli.specs.declared.replaying.subject.Subject.{Subject}
+use Rattle.wiz_cli.specs.declared.refusal.Refusal.TheVariants.{Words}
+use Rattle.wiz_cli.specs.declared.report.Done.{Done}
+use Rattle.wiz_cli.specs.declared.report.Report.{Report}
+use Rattle.wiz_cli.specs.Commands.{IsDoneFor, IsLogOf, IsRefusedFor, program_text, refusal_outcome}
+use Rattle.wiz_cli.specs.Files.{ArePartlyWritten, IsStoppedAt, NamedFile}
+use Rattle.wiz_cli.specs.Inputs.{Refused, text_limit}
+use Rattle.wiz_cli.specs.Outcomes.{IsDone, IsPartlyDone, IsPut, IsUntouched, IsUnwritten, Outcome, out_of_memory}
+use Rattle.wiz_cli.specs.Output.{GrewByPart}
+use Rattle.wiz_cli.specs.Recordings.{ArePrepared, IsReadable, IsRecordingOf, RunTexts}
+use Rattle.wiz_cli.specs.Replayings.{AreChecksOf}
+use Rattle.wiz_cli.specs.Requirements.{IsFirstUnmet, IsOrderRefusal, Requirement}
+use Rattle.wiz_cli.specs.World.{Outside}
+
+-- ---- failures
+
+-- what is said of a refusal holds; being out of memory says nothing
+abbrev pub IsFailureBy : (Refused → Type 0) → Failure → Type 0
+IsFailureBy IsSo (IsRefused refusal name) = IsSo (record { refusal = refusal; name = name.now })
+IsFailureBy IsSo OutOfMemory = Unit {0}
+
+-- texts break a requirement; the message names no file
+abbrev pub IsUnmetIn : List Requirement → Refused → Type 0
+IsUnmetIn requirements refused = IsFirstUnmet requirements refused.refusal × (refused.name ≡ [])
+
+-- the turns of an order are refused
+abbrev pub AreRefusedTurns : ℕ → Option (List ℕ) → Refused → Type 0
+AreRefusedTurns n None refused = ⊥
+AreRefusedTurns n (Some text) refused = IsOrderRefusal n text refused.refusal × (refused.name ≡ [])
+
+-- an optional text as a list
+abbrev pub listed : Option (List ℕ) → List (List ℕ)
+listed None = []
+listed (Some text) = text ∷ []
+
+-- ---- the end of a command, before a refusal is told
+
+abbrev pub refused_words : Refused
+refused_words = record { refusal = Words; name = [] }
+
+abbrev pub IsRefusedForWords : (List (List ℕ) → Command (List ℕ) → Type 0) → List (List ℕ) → Outside → Outside → Refused → Type 0
+IsRefusedForWords Ask words before after refused =
+    (((command : Command (List ℕ)) → Ask words command → ⊥) × (refused ≡ refused_words))
+    ⊎ ((command : Command (List ℕ)) × Ask words command × IsRefusedFor command before after refused)
+
+abbrev pub EndsBy : (Refused → Type 0) → (Outcome → Type 0) → Outside → Outside → Result Report Failure → Type 0
+EndsBy IsRefusal Does before after (Ok report) =
+    (outcome : Outcome) × Does outcome × (IsDone outcome before after report ⊎ IsUnwritten outcome before after report)
+EndsBy IsRefusal Does before after (Err (IsRefused refusal name)) =
+    IsUntouched before after × IsRefusal (record { refusal = refusal; name = name.now })
+EndsBy IsRefusal Does before after (Err OutOfMemory) =
+    IsUntouched before after ⊎ ((outcome : Outcome) × Does outcome × IsPartlyDone outcome before after)
+
+abbrev pub Ends : Command (List ℕ) → Outside → Outside → Result Report Failure → Type 0
+Ends command before after result = EndsBy (IsRefusedFor command before after) (IsDoneFor command before) before after result
+
+-- the end of words: those that ask for nothing are refused
+abbrev pub EndsWords : (List (List ℕ) → Command (List ℕ) → Type 0) → List (List ℕ) → Outside → Outside → Result Report Failure → Type 0
+EndsWords Ask words before after result =
+    EndsBy (IsRefusedForWords Ask words before after)
+    (λ outcome. (command : Command (List ℕ)) × Ask words command × IsDoneFor command before outcome) before after result
+
+-- an outcome is told
+abbrev pub IsToldBy : Outcome → Outside → Outside → Result Report AllocError → Type 0
+IsToldBy outcome before after (Ok report) = IsDone outcome before after report ⊎ IsUnwritten outcome before after report
+IsToldBy outcome before after (Err error) = IsPartlyDone outcome before after
+
+-- what is told when these files are written
+abbrev pub outcome_of : List NamedFile → Done → Outcome
+outcome_of files done = record { files = files; text = done.text; status = done.status; run = done.run; replays = done.replays }
+
+-- a refusal is told; or memory was out, and a part of its message may be out
+abbrev pub IsRefusalTold : Refused → OutTold → OutTold → Report → Type 0
+IsRefusalTold refused before after report =
+    IsPut (refusal_outcome refused) before after report
+    ⊎ (GrewByPart before.bytes after.bytes (refusal_outcome refused).text × (report ≡ out_of_memory))
+
+-- the report is what was answered, or a refusal is told
+abbrev pub IsSettled : Result Report Failure → OutTold → OutTold → Report → Type 0
+IsSettled (Ok answer) before after report = (report ≡ answer) × (after ≡ before)
+IsSettled (Err (IsRefused refusal name)) before after report =
+    IsRefusalTold (record { refusal = refusal; name = name.now }) before after report
+IsSettled (Err OutOfMemory) before after report = (report ≡ out_of_memory) × (after ≡ before)
+
+-- ---- recording
+
+-- each log has a list for each rank of its group
+abbrev pub HasLists : List Log → Type 0
+HasLists logs = AllByRecursion (λ (log : Log). length log.lists ≡ length log.group) logs
+
+-- the files are written up to one that is not, or memory was out
+abbrev pub IsStopped : Option Files → Option Files → ℕ → ℕ → List NamedFile → Unwritten → Type 0
+IsStopped before after writes writes' files (Failed name) = HasRisen writes writes' × IsStoppedAt before after files (string_bytes name)
+IsStopped before after writes writes' files WriteMemory = ArePartlyWritten before after files
+
+-- it is what these texts hold; the program's text is not longer than such a file may be
+pub record IsReady (texts : RunTexts) (ready : Ready) : Type 0 where
+  pub text : ready.text ≡ texts.program
+  pub short : length texts.program ≤ text_limit
+  pub prepared : ArePrepared texts ready.program ready.plan ready.turns
+
+abbrev pub CanRun : Ready → Type 0
+CanRun ready = (texts : RunTexts) × IsReady texts ready
+
+-- a recording of it, with a log for each of at most 64 groups
+pub record IsMade (is_threaded : Bool) (ready : Ready) (recording : Recording) : Type 0 where
+  pub is_recording : IsRecordingOf is_threaded ready.text ready.program ready.plan ready.turns recording
+  pub lists : HasLists recording.logs
+  pub few : length recording.logs ≤ 64
+
+-- a log with the text of a program, which can be read back from its own text
+pub record IsKeptLog (program : CProgram) (log : Log) : Type 0 where
+  pub lists : length log.lists ≡ length log.group
+  pub readable : IsReadable log
+  pub is_program : IsProgramOf log.program program
+
+-- beside it the replay of each group's log
+pub record IsCheckedRun (is_threaded : Bool) (ready : Ready) (checked : CheckedRun) : Type 0 where
+  pub made : IsMade is_threaded ready checked.recording
+  pub checks : AreChecksOf ready.program checked.recording.history.events checked.recording.logs checked.replays
+
+-- what is command of a call that makes a recording, on one thread or on threads, by what it takes and what it answers
+abbrev pub TakesReady : (Bor Ready → Type 0) → Type 0
+TakesReady Takes = (ready : Bor Ready) → CanRun ready.now → Takes ready
+
+abbrev pub MakesRecordings : Bool → (Bor Ready → Result Recording AllocError → Type 0) → Type 0
+MakesRecordings is_threaded Makes =
+    (ready : Bor Ready) (made : Result Recording AllocError) → Makes ready made → IfOk made (IsMade is_threaded ready.now)
+
+-- ---- replaying
+
+-- the text of the program with which a log is replayed
+abbrev pub used_text : Log → Option (List ℕ) → List ℕ
+used_text log None = log.program
+used_text log (Some text) = text
+
+-- it is the log that the texts of files hold, which can be replayed, and the program for it
+pub record IsSubjectOf (texts : List (List ℕ)) (subject : Subject) : Type 0 where
+  pub is_log : IsLogOf texts subject.log
+  pub replayable : IsReplayable subject.log
+  pub is_text : used_text subject.log subject.text ≡ program_text texts subject.log
+  pub is_program : IsProgramOf (used_text subject.log subject.text) subject.program
+
+-- a whole replay of a log's group with a program, beside every run of the program with that log
+pub record IsReplayBy (program : CProgram) (log : Log) (stop : Stop) (replayed : Replayed) : Type 0 where
+  pub replay : IsReplayed (next_of program) (output_of program) (variables_of program) log stop replayed
+  pub runs : IsReplayOfEveryRun (next_of program) (output_of program) log stop replayed
+
+-- what is command of a call that makes a replay
+abbrev pub TakesLogs : (Bor CProgram → Bor Log → Stop → Type 0) → Type 0
+TakesLogs Takes = (program : Bor CProgram) (log : Bor Log) (stop : Stop) → IsReplayable log.now → Takes program log stop
+
+abbrev pub MakesReplays : (Bor CProgram → Bor Log → Stop → Result Replayed AllocError → Type 0) → Type 0
+MakesReplays Makes =
+    (program : Bor CProgram) (log : Bor Log) (stop : Stop) (made : Result Replayed AllocError) → Makes program log stop made
+    → IfOk made (IsReplayBy program.now log.now stop)

@@ -1,0 +1,87 @@
+//! What texts hold: a program, a plan, an order, a log; or why they are refused.
+ghost use Rattle.std.specs.Prelude.{◌≡◌, ◌∷◌, ◌≤◌, [], IfErr, IfOk, length};
+ghost use Rattle.c_types.specs.Checks.{IsProgramOf};
+ghost use Rattle.group_plan.specs.PlanText.{IsPlanText};
+ghost use Rattle.log_bounds.specs.RunBounds.{log_limit};
+ghost use Rattle.srr_text.specs.LogText.{IsLogText};
+ghost use Rattle.wiz_cli.specs.Inputs.{text_limit};
+ghost use Rattle.wiz_cli.specs.Recordings.{AreTurns};
+ghost use Rattle.wiz_cli.specs.Requirements.{a_log, a_plan, a_program};
+ghost use Rattle.wiz_cli.specs.Steps.{AreRefusedTurns, IsFailureBy, IsUnmetIn};
+
+use crate::failure::Failure;
+use crate::refusal::Refusal;
+use c_lex::Why;
+use c_program::CProgram;
+use c_types::read_program;
+use group_plan::{OrderFault, Plan, PlanFault, read_order, read_plan};
+use srr_entry::log::Log;
+use srr_log::fault::LogWhy;
+use srr_log::read_log::read_log;
+use std::alloc::Global;
+use wiz_base::Bytes;
+
+/// A text is refused.
+fn refused(refusal: Refusal) -> Failure<'static>
+    ensures { IsFailureBy (λ refused. refused ≡ record { refusal = refusal; name = [] }) result }
+{
+    Failure::Refused { refusal, name: "" }
+}
+
+/// The program with this text.
+pub fn program_in(alloc: Global, text: &[u8]) -> Result<CProgram, Failure<'static>>
+    requires { length text.now ≤ text_limit }
+    ensures program { IfOk result (λ program. IsProgramOf text.now program) }
+    ensures refused { IfErr result (IsFailureBy (IsUnmetIn (a_program text.now ∷ []))) }
+{
+    match read_program(alloc, text) {
+        Ok(program) => Ok(program),
+        Err(fault) => match fault.why {
+            Why::NoMemory => Err(Failure::OutOfMemory),
+            _ => Err(refused(Refusal::Program(fault))),
+        },
+    }
+}
+
+/// The plan with this text.
+pub fn plan_in(alloc: Global, text: &[u8]) -> Result<Plan, Failure<'static>>
+    ensures plan { IfOk result (λ plan. IsPlanText text.now plan) }
+    ensures refused { IfErr result (IsFailureBy (IsUnmetIn (a_plan text.now ∷ []))) }
+{
+    match read_plan(alloc, text) {
+        Ok(plan) => Ok(plan),
+        Err(PlanFault::NoMemory) => Err(Failure::OutOfMemory),
+        Err(fault) => Err(refused(Refusal::Plan(fault))),
+    }
+}
+
+/// The turns that come before the rounds: those of an order of `n` ranks, or none.
+pub fn turns_in(alloc: Global, text: &Option<Bytes>, n: u8) -> Result<Bytes, Failure<'static>>
+    ensures turns { IfOk result (λ turns. AreTurns n text.now turns) }
+    ensures refused { IfErr result (IsFailureBy (AreRefusedTurns n text.now)) }
+{
+    let Some(text) = text else {
+        return Ok(Bytes::new(alloc));
+    };
+    match read_order(alloc, text.as_slice(), n) {
+        Ok(turns) => Ok(turns),
+        Err(OrderFault::NoMemory) => Err(Failure::OutOfMemory),
+        Err(fault) => Err(refused(Refusal::Order(fault))),
+    }
+}
+
+/// The log with these bytes.
+pub fn log_in(alloc: Global, bytes: &[u8]) -> Result<Log, Failure<'static>>
+    requires { length bytes.now ≤ log_limit }
+    ensures log { IfOk result (λ log. IsLogText bytes.now log) }
+    ensures short { IfOk result (λ log. length log.program ≤ text_limit) }
+    ensures refused { IfErr result (IsFailureBy (IsUnmetIn (a_log bytes.now ∷ []))) }
+{
+    match read_log(alloc, bytes) {
+        Ok(log) => Ok(log),
+        Err(fault) => match fault.why {
+            LogWhy::NoMemory => Err(Failure::OutOfMemory),
+            _ => Err(refused(Refusal::Log(fault))),
+        },
+    }
+}

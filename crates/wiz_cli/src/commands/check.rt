@@ -1,0 +1,151 @@
+//! `check PROGRAM PLAN [--serial]`: a run is recorded, and each group is replayed from the bytes of its log.
+ghost use Rattle.std.specs.Prelude.{◌≡◌, ◌++◌, ◌∷◌, [], Bool, IfOk, None, OnOk};
+ghost use Rattle.std.specs.List.{AllByRecursion, AllZip};
+ghost use Rattle.c_types.specs.Checks.{IsProgramOf};
+ghost use Rattle.srr_entry.specs.declared.log.Log.{Log};
+ghost use Rattle.wiz_cli.specs.Commands.{check_outcome};
+ghost use Rattle.wiz_cli.specs.Replayings.{IsReplayOf};
+ghost use Rattle.wiz_cli.specs.Steps.{CanRun, Ends, IsCheckedRun, IsKeptLog, MakesRecordings, MakesReplays, TakesLogs, TakesReady, outcome_of};
+ghost use Rattle.wiz_cli.specs.World.{outside};
+ghost use Rattle.wiz_words.specs.Texts.{run_with_texts};
+ghost use Rattle.wiz_words.specs.Words.{is_threaded_run};
+ghost use Rattle.wiz_words.specs.declared.command.Command.TheVariants.{Check};
+
+use crate::failure::Failure;
+use crate::recording::ready::{Ready, read_run};
+use crate::replaying::make::replay_text;
+use crate::report::{Done, Report, tell};
+use crate::status::of_ending;
+use c_program::CProgram;
+use replay_model::replayed::{Replayed, Replays};
+use srr_entry::log::Log;
+use srr_log::read_log::read_log;
+use srr_record::Recording;
+use srr_text::write_log::write_log;
+use std::alloc::{AllocError, Global};
+use wiz_base::Bytes;
+use wiz_io::{Sink, Store};
+use wiz_trace::check::check_text;
+use wiz_words::command::RunWords;
+
+/// Records what the words name, and replays each group: `recorder` makes the recording, and `replayer` the replay of a log.
+pub fn check<
+    'a,
+    S: Store,
+    K: Sink,
+    F: Fn(&Ready) -> Result<Recording, AllocError>,
+    G: Fn(&CProgram, &Log, Option<(u8, u32)>) -> Result<Replayed, AllocError>,
+>(
+    alloc: Global,
+    run: &RunWords<&'a str>,
+    store: &mut S,
+    out: &mut K,
+    recorder: &F,
+    replayer: &G,
+) -> Result<Report, Failure<'a>>
+    requires takes { TakesReady (F.pre recorder.now) }
+    requires makes { MakesRecordings (is_threaded_run (run_with_texts run.now)) (F.post recorder.now) }
+    requires takes_logs { TakesLogs (G.pre replayer.now) }
+    requires replays { MakesReplays (G.post replayer.now) }
+    ensures { Ends (Check (run_with_texts run.now)) (outside (S.told store.old) (K.told out.old)) (outside (S.told store.new) (K.told out.new)) result }
+{
+    let ready = read_run(alloc, run, store)?;
+    let checked = run_and_replay(alloc, &ready, recorder, replayer)?;
+    let text = check_text(
+        alloc,
+        &ready.plan,
+        &checked.replays,
+        &checked.recording.ending,
+    )?;
+    let report = tell(checked.told_by(text), out)?;
+    Ok(report)
+}
+
+/// A run, and the replay of each group's log.
+#[derive(Drop)]
+pub struct CheckedRun {
+    pub recording: Recording,
+    pub replays: Replays,
+}
+
+impl CheckedRun {
+    /// What is told of it, by a text.
+    pub fn told_by(self, text: Bytes) -> Done
+        ensures { outcome_of [] result ≡ check_outcome text self.recording self.replays }
+    {
+        let CheckedRun { recording, replays } = self;
+        let status = of_ending(&recording.ending);
+        Done {
+            text,
+            status,
+            run: Some(recording.history),
+            replays,
+        }
+    }
+}
+
+/// Records a run and replays each group.
+pub fn run_and_replay<
+    F: Fn(&Ready) -> Result<Recording, AllocError>,
+    G: Fn(&CProgram, &Log, Option<(u8, u32)>) -> Result<Replayed, AllocError>,
+>(alloc: Global, ready: &Ready, recorder: &F, replayer: &G) -> Result<CheckedRun, AllocError>
+    requires ready { CanRun ready.now }
+    requires takes { TakesReady (F.pre recorder.now) }
+    requires makes { (is_threaded : Bool) × MakesRecordings is_threaded (F.post recorder.now) }
+    requires takes_logs { TakesLogs (G.pre replayer.now) }
+    requires replays { MakesReplays (G.post replayer.now) }
+    ensures { IfOk result (λ checked. (is_threaded : Bool) → MakesRecordings is_threaded (F.post recorder.now) → IsCheckedRun is_threaded ready.now checked) }
+{
+    let recording = recorder(ready)?;
+    let replays = replay_groups(alloc, &ready.program, recording.logs.as_slice(), replayer)?;
+    Ok(CheckedRun { recording, replays })
+}
+
+/// The replay of each log with the one program that all of them hold.
+fn replay_groups<G: Fn(&CProgram, &Log, Option<(u8, u32)>) -> Result<Replayed, AllocError>>(
+    alloc: Global,
+    program: &CProgram,
+    logs: &[Log],
+    replayer: &G,
+) -> Result<Replays, AllocError>
+    requires logs { AllByRecursion (IsKeptLog program.now) logs.now }
+    requires takes { TakesLogs (G.pre replayer.now) }
+    requires makes { MakesReplays (G.post replayer.now) }
+    ensures { IfOk result (λ replays. AllZip (λ (log : Log). IsReplayOf log.program log None) logs.now replays) }
+{
+    let mut replays = Replays::new(alloc);
+    for log in logs {
+        let replayed = replay_kept(alloc, program, log, replayer)?;
+        push_replay(&mut replays, replayed)?;
+    }
+    Ok(replays)
+}
+
+/// The replay of a log that is read from its text.
+fn replay_kept<G: Fn(&CProgram, &Log, Option<(u8, u32)>) -> Result<Replayed, AllocError>>(
+    alloc: Global,
+    program: &CProgram,
+    log: &Log,
+    replayer: &G,
+) -> Result<Replayed, AllocError>
+    requires log { IsKeptLog program.now log.now }
+    requires takes { TakesLogs (G.pre replayer.now) }
+    requires makes { MakesReplays (G.post replayer.now) }
+    ensures { IfOk result (IsReplayOf log.now.program log.now None) }
+{
+    let text = write_log(alloc, log)?;
+    // The text of a log is read back unless memory is out.
+    let Ok(read) = read_log(alloc, text.as_slice()) else {
+        return Err(AllocError);
+    };
+    replay_text(program, read.program.as_slice(), &read, None, replayer)
+}
+
+fn push_replay(replays: &mut Replays, replayed: Replayed) -> Result<(), AllocError>
+    ensures { OnOk result (replays.new ≡ replays.old ++ replayed ∷ []) }
+{
+    match replays.push(replayed) {
+        Ok(()) => Ok(()),
+        Err(_) => Err(AllocError),
+    }
+}

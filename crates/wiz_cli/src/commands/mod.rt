@@ -1,0 +1,8 @@
+//! The commands, a file for each: what it reads, what it does, and what it tells.
+pub mod check;
+pub mod demo;
+pub mod record;
+pub mod record_files;
+pub mod replay;
+pub mod show;
+pub mod stats;

@@ -1,0 +1,106 @@
+//! `record PROGRAM PLAN PREFIX [--order FILE] [--serial]`: a run is recorded, and the log of each group and the order are written.
+ghost use Rattle.std.specs.Prelude.{◌≡◌, ◌≤◌, [], List, ℕ, IfOk, OnErr, Some, length};
+ghost use Rattle.wiz_cli.specs.Commands.{record_outcome};
+ghost use Rattle.wiz_cli.specs.Messages.{unwritten_text};
+ghost use Rattle.wiz_cli.specs.Outcomes.{IsPut};
+ghost use Rattle.wiz_cli.specs.Output.{GrewByPart, HasSaid};
+ghost use Rattle.wiz_cli.specs.Statuses.{number_of};
+ghost use Rattle.wiz_cli.specs.Steps.{Ends, HasLists, IsToldBy, MakesRecordings, TakesReady};
+ghost use Rattle.wiz_cli.specs.World.{outside};
+ghost use Rattle.wiz_words.specs.Texts.{run_with_texts};
+ghost use Rattle.wiz_words.specs.Words.{is_threaded_run};
+ghost use Rattle.wiz_words.specs.declared.command.Command.TheVariants.{Record};
+ghost use Rattle.wiz_trace.specs.RecordTexts.{record_text};
+ghost use Rattle.wiz_cli.specs.declared.status.Status.TheVariants.{Unwritten as IsUnwritten};
+
+use crate::commands::record_files::{Unwritten, write_files};
+use crate::failure::Failure;
+use crate::message::push_about_file;
+use crate::recording::ready::{Ready, read_run};
+use crate::report::{Done, Report, put_message, tell};
+use crate::status::{Status, of_ending};
+use replay_model::replayed::Replays;
+use srr_record::Recording;
+use std::alloc::{AllocError, Global};
+use wiz_base::Bytes;
+use wiz_io::{Sink, Store};
+use wiz_trace::recording::record_text;
+use wiz_words::command::RunWords;
+
+/// Records what the words name: `recorder` makes the recording.
+pub fn record<'a, S: Store, K: Sink, F: Fn(&Ready) -> Result<Recording, AllocError>>(
+    alloc: Global,
+    run: &RunWords<&'a str>,
+    prefix: &str,
+    store: &mut S,
+    out: &mut K,
+    recorder: &F,
+) -> Result<Report, Failure<'a>>
+    requires takes { TakesReady (F.pre recorder.now) }
+    requires makes { MakesRecordings (is_threaded_run (run_with_texts run.now)) (F.post recorder.now) }
+    ensures { Ends (Record (run_with_texts run.now) prefix.now) (outside (S.told store.old) (K.told out.old)) (outside (S.told store.new) (K.told out.new)) result }
+{
+    let ready = read_run(alloc, run, store)?;
+    let recording = recorder(&ready)?;
+    let report = write(alloc, prefix, recording, store, out)?;
+    Ok(report)
+}
+
+/// Writes the files of a recording and tells it.
+fn write<S: Store, K: Sink>(
+    alloc: Global,
+    prefix: &str,
+    recording: Recording,
+    store: &mut S,
+    out: &mut K,
+) -> Result<Report, AllocError>
+    requires lists { HasLists recording.logs }
+    requires few { length recording.logs ≤ 64 }
+    ensures told { IsToldBy (record_outcome prefix.now recording) (outside (S.told store.old) (K.told out.old)) (outside (S.told store.new) (K.told out.new)) result }
+    ensures reads { (S.told store.new).reads ≡ (S.told store.old).reads }
+{
+    match write_files(alloc, prefix, &recording, store) {
+        Ok(()) => tell_recording(alloc, recording, out),
+        Err(Unwritten::Failed(name)) => tell_unwritten(alloc, &name, recording, out),
+        Err(Unwritten::OutOfMemory) => Err(AllocError),
+    }
+}
+
+/// Tells a run whose files are written.
+fn tell_recording<K: Sink>(
+    alloc: Global,
+    recording: Recording,
+    out: &mut K,
+) -> Result<Report, AllocError>
+    ensures put { IfOk result (λ report. (prefix : List ℕ) → IsPut (record_outcome prefix recording) (K.told out.old) (K.told out.new) report) }
+    ensures short { OnErr result (GrewByPart (K.told out.old).bytes (K.told out.new).bytes (record_text recording.outputs recording.ending)) }
+{
+    let text = record_text(alloc, &recording.outputs, &recording.ending)?;
+    let done = Done {
+        text,
+        status: of_ending(&recording.ending),
+        run: Some(recording.history),
+        replays: Replays::new(alloc),
+    };
+    tell(done, out)
+}
+
+/// Tells a run of which a file was not written.
+fn tell_unwritten<K: Sink>(
+    alloc: Global,
+    name: &str,
+    recording: Recording,
+    out: &mut K,
+) -> Result<Report, AllocError>
+    ensures said { IfOk result (λ report. HasSaid (K.told out.old).bytes (K.told out.new).bytes (K.told out.old).faults (K.told out.new).faults (unwritten_text name.now) × (report ≡ record { status = number_of IsUnwritten; run = Some recording.history; replayed = [] })) }
+    ensures short { OnErr result (GrewByPart (K.told out.old).bytes (K.told out.new).bytes (unwritten_text name.now)) }
+{
+    let mut text = Bytes::new(alloc);
+    push_about_file(&mut text, b"cannot write ", name)?;
+    put_message(text.as_slice(), out)?;
+    Ok(Report::new(
+        Status::Unwritten,
+        Some(recording.history),
+        Replays::new(alloc),
+    ))
+}

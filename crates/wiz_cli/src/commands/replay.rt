@@ -1,0 +1,78 @@
+//! `replay LOG [--program FILE] [--break R:C] [--serial]`: the group of a log is replayed.
+ghost use Rattle.std.specs.Prelude.{◌≡◌, ◌∷◌, [], IfOk, OnErr};
+ghost use Rattle.wiz_cli.specs.Commands.{replay_outcome};
+ghost use Rattle.wiz_cli.specs.Outcomes.{IsPut};
+ghost use Rattle.wiz_cli.specs.Output.{GrewByPart};
+ghost use Rattle.wiz_trace.specs.TraceTexts.{trace_text};
+ghost use Rattle.wiz_cli.specs.Steps.{Ends, MakesReplays, TakesLogs};
+ghost use Rattle.wiz_cli.specs.World.{outside};
+ghost use Rattle.wiz_words.specs.Texts.{replay_with_texts};
+ghost use Rattle.wiz_words.specs.declared.command.Command.TheVariants.{Replay};
+
+use crate::failure::Failure;
+use crate::replaying::make::replay_text;
+use crate::replaying::subject::{read_subject, used_text};
+use crate::report::{Done, Report, tell};
+use crate::status::of_stands;
+use c_program::CProgram;
+use replay_model::replayed::{Replayed, Replays};
+use srr_entry::log::Log;
+use std::alloc::{AllocError, Global};
+use wiz_io::{Sink, Store};
+use wiz_trace::trace::trace_text;
+use wiz_words::command::ReplayWords;
+
+/// Replays what the words name: `replayer` makes the replay.
+pub fn replay<
+    'a,
+    S: Store,
+    K: Sink,
+    G: Fn(&CProgram, &Log, Option<(u8, u32)>) -> Result<Replayed, AllocError>,
+>(
+    alloc: Global,
+    words: &ReplayWords<&'a str>,
+    store: &mut S,
+    out: &mut K,
+    replayer: &G,
+) -> Result<Report, Failure<'a>>
+    requires takes { TakesLogs (G.pre replayer.now) }
+    requires makes { MakesReplays (G.post replayer.now) }
+    ensures { Ends (Replay (replay_with_texts words.now)) (outside (S.told store.old) (K.told out.old)) (outside (S.told store.new) (K.told out.new)) result }
+{
+    let subject = read_subject(alloc, words, store)?;
+    let text = used_text(&subject.log, &subject.text);
+    let replayed = replay_text(&subject.program, text, &subject.log, words.stop, replayer)?;
+    let report = tell_replay(alloc, replayed, out)?;
+    Ok(report)
+}
+
+/// Tells a replay by its trace.
+fn tell_replay<K: Sink>(
+    alloc: Global,
+    replayed: Replayed,
+    out: &mut K,
+) -> Result<Report, AllocError>
+    ensures put { IfOk result (IsPut (replay_outcome replayed) (K.told out.old) (K.told out.new)) }
+    ensures short { OnErr result (GrewByPart (K.told out.old).bytes (K.told out.new).bytes (trace_text replayed)) }
+{
+    let text = trace_text(alloc, &replayed)?;
+    let status = of_stands(replayed.ends.as_slice());
+    let replays = one_replay(alloc, replayed)?;
+    let done = Done {
+        text,
+        status,
+        run: None,
+        replays,
+    };
+    tell(done, out)
+}
+
+fn one_replay(alloc: Global, replayed: Replayed) -> Result<Replays, AllocError>
+    ensures { IfOk result (λ replays. replays ≡ replayed ∷ []) }
+{
+    let mut replays = Replays::new(alloc);
+    match replays.push(replayed) {
+        Ok(()) => Ok(replays),
+        Err(_) => Err(AllocError),
+    }
+}

@@ -1,0 +1,26 @@
+//! `stats LOG`: the entries of a log are counted.
+ghost use Rattle.wiz_cli.specs.Steps.{Ends};
+ghost use Rattle.wiz_cli.specs.World.{outside};
+ghost use Rattle.wiz_words.specs.declared.command.Command.TheVariants.{Stats};
+
+use crate::failure::Failure;
+use crate::replaying::subject::read_log_file;
+use crate::report::{Report, tell, text_alone};
+use std::alloc::Global;
+use wiz_io::{Sink, Store};
+use wiz_trace::stats::stats_text;
+
+/// Counts the entries of the log of this file.
+pub fn stats<'a, S: Store, K: Sink>(
+    alloc: Global,
+    name: &'a str,
+    store: &mut S,
+    out: &mut K,
+) -> Result<Report, Failure<'a>>
+    ensures { Ends (Stats name.now) (outside (S.told store.old) (K.told out.old)) (outside (S.told store.new) (K.told out.new)) result }
+{
+    let log = read_log_file(alloc, name, store)?;
+    let text = stats_text(alloc, &log)?;
+    let report = tell(text_alone(alloc, text), out)?;
+    Ok(report)
+}

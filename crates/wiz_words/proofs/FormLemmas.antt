@@ -1,0 +1,94 @@
+-- Laws of the names and forms of the commands.
+use Rattle.std.proofs.Common.{◌≡◌, ◌≢◌, ◌∙◌, ap, refl, sym, true, false, Bool, cond, Option, Some, None, List, [], ◌∷◌, find, slice_get, Bor}
+use Rattle.std.specs.Prelude.{MatchOption, option_map}
+use Rattle.std.specs.Str.{bytes_eq}
+use Rattle.std.proofs.lemmas.Option.{slice_get-map}
+use Rattle.std.proofs.lemmas.Slice.Eq.{bytes_eq-Decides}
+use Rattle.clap.specs.Words.{App, Row, Text, fault_of, is_simple_and_free, matches_of}
+use Rattle.clap.proofs.OnLiterals.{clap_on_literals}
+use Rattle.wiz_words.specs.declared.command.Command.{Command}
+use Rattle.wiz_words.specs.declared.command.Verb.{Verb}
+use Rattle.wiz_words.specs.declared.command.Verb.TheVariants.{Record, Check, Demo, Replay, Show, Stats}
+use Rattle.wiz_words.specs.Forms.{form_of, name_of, verb_named, verbs}
+use Rattle.wiz_words.specs.Texts.{texts, with_texts}
+use Rattle.wiz_words.specs.Words.{AreWordsOf, AskFor, AskForNothing, verb_of}
+
+-- clap's exact reading covers each form
+pub form_is_simple : (verb : Verb) → is_simple_and_free (form_of verb) ≡ true
+unfolding clap_on_literals
+form_is_simple Record = refl
+form_is_simple Check = refl
+form_is_simple Demo = refl
+form_is_simple Replay = refl
+form_is_simple Show = refl
+form_is_simple Stats = refl
+
+-- each command is that of its name
+verb_of_name : (verb : Verb) → verb_named (name_of verb) ≡ Some verb
+verb_of_name Record = refl
+verb_of_name Check = refl
+verb_of_name Demo = refl
+verb_of_name Replay = refl
+verb_of_name Show = refl
+verb_of_name Stats = refl
+
+pub some_is : {A : Type 0} (a b : A) → Some a ≡ Some b → a ≡ b
+some_is a b h = cc
+
+-- what is found passes the test
+found_passes : {A : Type 0} (test : A → Bool) (xs : List A) (x : A) → find test xs ≡ Some x → test x ≡ true
+found_passes test [] x found = absurd (cc)
+found_passes test (y ∷ ys) x found = go (test y) refl found (found_passes test ys x)
+  where
+    go : (b : Bool) → test y ≡ b → cond b (Some y) (find test ys) ≡ Some x → (find test ys ≡ Some x → test x ≡ true) → test x ≡ true
+    go true is here later = sym (ap test (some_is y x here)) ∙ is
+    go false is here later = later here
+
+name_is : (name : Text) (verb : Verb) → verb_named name ≡ Some verb → name ≡ name_of verb
+name_is name verb found = (bytes_eq-Decides name (name_of verb)).0 (found_passes (λ (v : Verb). bytes_eq name (name_of v)) verbs verb found)
+
+one_verb : (a b : Verb) → name_of a ≡ name_of b → a ≡ b
+one_verb a b same = some_is a b (sym (verb_of_name a) ∙ (ap verb_named same ∙ verb_of_name b))
+
+-- the words begin with the name of this command
+abbrev pub BeginWith : List Text → Verb → Type 0
+BeginWith words verb = slice_get words 0 ≡ Some (name_of verb)
+
+first_text : (words : List (Bor Text)) (name : Bor Text) → Some name ≡ slice_get words 0 → slice_get (texts words) 0 ≡ Some name.now
+first_text words name first = slice_get-map (λ (word : Bor Text). word.now) words 0 ∙ ap (option_map (λ (word : Bor Text). word.now)) (sym first)
+
+pub begin_with : (words : List (Bor Text)) (name : Bor Text) (verb : Verb) → Some name ≡ slice_get words 0 → Some verb ≡ verb_named name.now
+    → BeginWith (texts words) verb
+begin_with words name verb first found = first_text words name first ∙ ap Some (name_is name.now verb (sym found))
+
+-- what such words ask for is this command
+pub verb_is : (words : List Text) (command : Command Text) (verb : Verb) → AskFor words command → BeginWith words verb → verb_of command ≡ verb
+verb_is words command verb asks begin = one_verb (verb_of command) verb (some_is _ _ (sym asks.begin ∙ begin))
+
+-- words whose first names no command ask for nothing
+pub unnamed : (words : List (Bor Text)) (name : Bor Text) → Some name ≡ slice_get words 0 → None ≡ verb_named name.now → AskForNothing (texts words)
+unnamed words name first none command asks =
+    let same : name.now ≡ name_of (verb_of command) = some_is _ _ (sym (first_text words name first) ∙ asks.begin) in
+    let found : None ≡ Some (verb_of command) = none ∙ (ap verb_named same ∙ verb_of_name (verb_of command)) in
+    absurd (cc)
+
+-- words that the form refuses ask for nothing
+pub refused : (words : List Text) (verb : Verb) (form : App) → BeginWith words verb → form ≡ form_of verb → fault_of form words ≢ [] → AskForNothing words
+refused words verb form begin is faults command asks =
+    let same = verb_is words command verb asks begin in
+    faults (ap (λ (f : App). fault_of f words) (is ∙ ap form_of (sym same)) ∙ asks.accepted)
+
+-- and others ask for what the values say
+pub asked_by : (words : List Text) (verb : Verb) (form : App) (given : List Row) (found : Option (Command (Bor Text))) → BeginWith words verb → form ≡ form_of verb
+    → fault_of form words ≡ [] → given ≡ matches_of form words
+    → MatchOption found ((command : Command Text) → verb_of command ≡ verb → AreWordsOf given command → ⊥)
+    (λ command. (verb_of (with_texts command) ≡ verb) × AreWordsOf given (with_texts command))
+    → MatchOption found (AskForNothing words) (λ command. AskFor words (with_texts command))
+asked_by words verb form given None begin is accepted given_is said = λ command asks.
+    let same = verb_is words command verb asks begin in
+    said command same (rw (given_is, is, ← same) asks.says)
+asked_by words verb form given (Some command) begin is accepted given_is said = record {
+  begin = rw said.0 begin;
+  accepted = rw (said.0, ← is) accepted;
+  says = rw (said.0, ← is, ← given_is) said.1;
+}

@@ -1,0 +1,4 @@
+pub mod FormLemmas
+pub mod BreakpointLemmas
+pub mod OneCommand
+pub mod TextLemmas

@@ -1,0 +1,72 @@
+-- Words ask for one command.
+use Rattle.std.proofs.Common.{◌≡◌, ◌∙◌, ap, ap₂, refl, sym, subst, ℕ, Bool, Option, Some, None, List, ◌∷◌, arith}
+use Rattle.wiz_base.specs.Decimals.{decimal_text}
+use Rattle.wiz_base.proofs.DecimalLaws.{decimal_text-and_rest, decimal_text_injective}
+use Rattle.clap.specs.Words.{Row, Text, matches_of}
+use Rattle.wiz_words.specs.declared.command.Command.{Command}
+use Rattle.wiz_words.specs.declared.command.Command.TheVariants.{Record, Check, Demo, Replay, Show, Stats}
+use Rattle.wiz_words.specs.declared.command.ReplayWords.{ReplayWords}
+use Rattle.wiz_words.specs.declared.command.RunWords.{RunWords}
+use Rattle.wiz_words.specs.declared.command.Verb.{Verb}
+use Rattle.wiz_words.specs.Forms.{form_of}
+use Rattle.wiz_words.specs.Values.{IsBreakpoint, IsBreakpointText, IsNumberIn}
+use Rattle.wiz_words.specs.Words.{AreReplayWords, AreRunWords, AreWordsOf, AskForOneThing, verb_of}
+use Rattle.wiz_words.proofs.FormLemmas.{some_is, verb_is}
+
+one_text : (found : Option Text) (a b : Text) → found ≡ Some a → found ≡ Some b → a ≡ b
+one_text found a b here there = some_is a b (sym here ∙ there)
+
+one_number : (given : List Row) (name : Text) (least most m n : ℕ) → IsNumberIn given name least most m → IsNumberIn given name least most n → m ≡ n
+one_number given name least most m n a b = decimal_text_injective m n (one_text _ _ _ a.spelled b.spelled)
+
+pair_is : (a b : ℕ × ℕ) → a.0 ≡ b.0 → a.1 ≡ b.1 → a ≡ b
+pair_is a b first second = ap₂ (λ x y. (x, y)) first second
+
+one_breakpoint_text : (text : Text) (s t : ℕ × ℕ) → IsBreakpointText text s → IsBreakpointText text t → s ≡ t
+one_breakpoint_text text s t a b =
+    let parts = decimal_text-and_rest s.0 t.0 (58 ∷ decimal_text s.1) (58 ∷ decimal_text t.1) (λ digit. omega (arith, digit.1)) (λ digit. omega (arith, digit.1)) (sym a.spelled ∙ b.spelled) in
+    pair_is s t parts.0 (decimal_text_injective s.1 t.1 (rest_is _ _ parts.1))
+  where
+    rest_is : (xs ys : List ℕ) → 58 ∷ xs ≡ 58 ∷ ys → xs ≡ ys
+    rest_is xs ys h = cc
+
+one_breakpoint : (found : Option Text) (s t : Option (ℕ × ℕ)) → IsBreakpoint found s → IsBreakpoint found t → s ≡ t
+one_breakpoint None s t a b = a ∙ sym b
+one_breakpoint (Some text) None t a b = absurd a
+one_breakpoint (Some text) (Some s) None a b = absurd b
+one_breakpoint (Some text) (Some s) (Some t) a b = ap Some (one_breakpoint_text text s t a b)
+
+one_run : (given : List Row) (order : Option Text) (r s : RunWords Text) → AreRunWords given order r → AreRunWords given order s → r ≡ s
+one_run given order r s a b =
+    build _ _ _ _ _ _ _ _ (one_text _ _ _ a.program b.program) (one_text _ _ _ a.plan b.plan) (a.order ∙ sym b.order) (a.is_serial ∙ sym b.is_serial)
+  where
+    run_of : Text → Text → Option Text → Bool → RunWords Text
+    run_of program plan order is_serial = record { program = program; plan = plan; order = order; is_serial = is_serial }
+
+    build : (p p' l l' : Text) (o o' : Option Text) (b b' : Bool) → p ≡ p' → l ≡ l' → o ≡ o' → b ≡ b' → run_of p l o b ≡ run_of p' l' o' b'
+    build p p' l l' o o' b b' pp ll oo bb = rw (pp, ll, oo, bb) refl
+
+one_replay : (given : List Row) (r s : ReplayWords Text) → AreReplayWords given r → AreReplayWords given s → r ≡ s
+one_replay given r s a b =
+    build _ _ _ _ _ _ _ _ (one_text _ _ _ a.log b.log) (a.program ∙ sym b.program) (one_breakpoint _ _ _ a.stop b.stop) (a.is_serial ∙ sym b.is_serial)
+  where
+    replay_of : Text → Option Text → Option (ℕ × ℕ) → Bool → ReplayWords Text
+    replay_of log program stop is_serial = record { log = log; program = program; stop = stop; is_serial = is_serial }
+
+    build : (l l' : Text) (p p' : Option Text) (s s' : Option (ℕ × ℕ)) (b b' : Bool) → l ≡ l' → p ≡ p' → s ≡ s' → b ≡ b' → replay_of l p s b ≡ replay_of l' p' s' b'
+    build l l' p p' s s' b b' ll pp ss bb = rw (ll, pp, ss, bb) refl
+
+one_said : (given : List Row) (a b : Command Text) → verb_of a ≡ verb_of b → AreWordsOf given a → AreWordsOf given b → a ≡ b
+one_said given (Record r prefix) (Record s other) same a b = ap₂ Record (one_run given _ r s a.0 b.0) (one_text _ _ _ a.1 b.1)
+one_said given (Check r) (Check s) same a b = ap Check (one_run given None r s a b)
+one_said given (Demo seed rounds) (Demo seed' rounds') same a b = ap₂ Demo (one_number _ _ _ _ _ _ a.0 b.0) (one_number _ _ _ _ _ _ a.1 b.1)
+one_said given (Replay r) (Replay s) same a b = ap Replay (one_replay given r s a b)
+one_said given (Show log) (Show other) same a b = ap Show (one_text _ _ _ a b)
+one_said given (Stats log) (Stats other) same a b = ap Stats (one_text _ _ _ a b)
+one_said given one other same a b = absurd (cc)
+
+pub one_command : AskForOneThing
+one_command words one other a b =
+    let same = verb_is words one (verb_of other) a b.begin in
+    let says : AreWordsOf (matches_of (form_of (verb_of other)) words) one = subst (λ (verb : Verb). AreWordsOf (matches_of (form_of verb) words) one) same a.says in
+    one_said _ one other same says b.says

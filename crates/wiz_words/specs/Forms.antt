@@ -1,0 +1,49 @@
+-- The commands by name, and the arguments of each, in the terms of clap.
+use Rattle.std.specs.Prelude.{List, [], ◌∷◌, Option, Some, true, codes, find, fold}
+use Rattle.std.specs.Str.{bytes_eq}
+use Rattle.clap.specs.Words.{App, Rule, Text, new_app, new_rule, with_rule}
+use Rattle.clap.specs.declared.builder.action.ArgAction.TheVariants.{SetTrue}
+use Rattle.wiz_words.specs.declared.command.Verb.{Verb}
+use Rattle.wiz_words.specs.declared.command.Verb.TheVariants.{Record, Check, Demo, Replay, Show, Stats}
+
+-- the first word of each command
+abbrev pub name_of : Verb → Text
+name_of Record = codes "record"
+name_of Check = codes "check"
+name_of Demo = codes "demo"
+name_of Replay = codes "replay"
+name_of Show = codes "show"
+name_of Stats = codes "stats"
+
+abbrev pub verbs : List Verb
+verbs = Record ∷ Check ∷ Demo ∷ Replay ∷ Show ∷ Stats ∷ []
+
+-- the command of a name
+abbrev pub verb_named : Text → Option Verb
+verb_named name = find (λ verb. bytes_eq name (name_of verb)) verbs
+
+-- a value that has to be there, by its place
+abbrev pub positional : Text → Rule
+positional name = record (new_rule name) { required = true }
+
+-- `--name VALUE` or `--name=VALUE`
+abbrev pub option : Text → Rule
+option name = record (new_rule name) { long = Some name }
+
+-- `--name`
+abbrev pub flag : Text → Rule
+flag name = record (new_rule name) { long = Some name; action = Some SetTrue }
+
+-- the arguments of each command, those by place in their order
+abbrev pub arguments_of : Verb → List Rule
+arguments_of Record =
+    positional (codes "PROGRAM") ∷ positional (codes "PLAN") ∷ positional (codes "PREFIX") ∷ option (codes "order") ∷ flag (codes "serial") ∷ []
+arguments_of Check = positional (codes "PROGRAM") ∷ positional (codes "PLAN") ∷ flag (codes "serial") ∷ []
+arguments_of Demo = positional (codes "SEED") ∷ positional (codes "ROUNDS") ∷ []
+arguments_of Replay = positional (codes "LOG") ∷ option (codes "program") ∷ option (codes "break") ∷ flag (codes "serial") ∷ []
+arguments_of Show = positional (codes "LOG") ∷ []
+arguments_of Stats = positional (codes "LOG") ∷ []
+
+-- the clap command that reads the words of a command: its name and its arguments, and no other setting
+abbrev pub form_of : Verb → App
+form_of verb = fold with_rule (new_app (name_of verb)) (arguments_of verb)

@@ -1,0 +1,5 @@
+pub mod Limits
+pub mod Forms
+pub mod Values
+pub mod Words
+pub mod Texts

@@ -1,0 +1,28 @@
+-- The texts that code borrows.
+use Rattle.std.specs.Prelude.{List, map}
+use Rattle.std.specs.Borrow.{Bor}
+use Rattle.std.specs.Option.{option_map}
+use Rattle.clap.specs.Words.{Text}
+use Rattle.wiz_words.specs.declared.command.Command.{Command}
+use Rattle.wiz_words.specs.declared.command.Command.TheVariants.{Record, Check, Demo, Replay, Show, Stats}
+use Rattle.wiz_words.specs.declared.command.ReplayWords.{ReplayWords}
+use Rattle.wiz_words.specs.declared.command.RunWords.{RunWords}
+
+-- the texts of words
+abbrev pub texts : List (Bor Text) → List Text
+texts words = map (λ word. word.now) words
+
+abbrev pub run_with_texts : RunWords (Bor Text) → RunWords Text
+run_with_texts run = record { program = run.program.now; plan = run.plan.now; order = option_map (λ text. text.now) run.order; is_serial = run.is_serial }
+
+abbrev pub replay_with_texts : ReplayWords (Bor Text) → ReplayWords Text
+replay_with_texts replay = record { log = replay.log.now; program = option_map (λ text. text.now) replay.program; stop = replay.stop; is_serial = replay.is_serial }
+
+-- a command with its texts in place of what borrows them
+abbrev pub with_texts : Command (Bor Text) → Command Text
+with_texts (Record run prefix) = Record (run_with_texts run) prefix.now
+with_texts (Check run) = Check (run_with_texts run)
+with_texts (Demo seed rounds) = Demo seed rounds
+with_texts (Replay replay) = Replay (replay_with_texts replay)
+with_texts (Show log) = Show log.now
+with_texts (Stats log) = Stats log.now

@@ -1,0 +1,43 @@
+-- What clap finds in the words, and the values that it gives.
+use Rattle.std.specs.Prelude.{◌≡◌, ◌≢◌, ◌≤◌, ℕ, List, [], ◌∷◌, ◌++◌, Bool, false, Option, Some, None, codes}
+use Rattle.std.specs.Option.{option_map_or}
+use Rattle.std.specs.Str.{bytes_eq}
+use Rattle.clap.specs.Words.{App, Row, Text, fault_of, first_of, found_of, matches_of, rows_of}
+use Rattle.clap.specs.declared.parser.matches.ArgMatches.{ArgMatches}
+use Rattle.wiz_base.specs.Decimals.{decimal_text}
+use Rattle.wiz_words.specs.Limits.{greatest_call, greatest_rank}
+
+-- what was found, a row an argument
+abbrev pub given_by : ArgMatches → List Row
+given_by matches = rows_of (found_of matches)
+
+-- what clap finds in the words; nothing, where the form refuses them
+abbrev pub AreMatchesOf : App → List Text → Option ArgMatches → Type 0
+AreMatchesOf form words None = fault_of form words ≢ []
+AreMatchesOf form words (Some matches) = (fault_of form words ≡ []) × (given_by matches ≡ matches_of form words)
+
+-- the value of an argument, where one is given
+abbrev pub value_in : List Row → Text → Option Text
+value_in given name = first_of name given
+
+-- a flag has the value `true` where it is given, and else `false`
+abbrev pub flag_in : List Row → Text → Bool
+flag_in given name = option_map_or (λ text. bytes_eq text (codes "true")) (value_in given name) false
+
+-- the value of an argument is a number from `least` to `most`, in decimal without a leading zero
+pub record IsNumberIn (given : List Row) (name : Text) (least most number : ℕ) : Type 0 where
+  pub spelled : value_in given name ≡ Some (decimal_text number)
+  pub from : least ≤ number
+  pub to : number ≤ most
+
+-- R:C, a rank and the number of a call, each a number as above
+pub record IsBreakpointText (text : Text) (stop : ℕ × ℕ) : Type 0 where
+  pub spelled : text ≡ decimal_text stop.0 ++ 58 ∷ decimal_text stop.1
+  pub rank : stop.0 ≤ greatest_rank
+  pub call : stop.1 ≤ greatest_call
+
+-- a breakpoint where `--break` has a value, and then the one that it spells
+abbrev pub IsBreakpoint : Option Text → Option (ℕ × ℕ) → Type 0
+IsBreakpoint None stop = stop ≡ None
+IsBreakpoint (Some text) None = ⊥
+IsBreakpoint (Some text) (Some stop) = IsBreakpointText text stop

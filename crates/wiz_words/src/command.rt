@@ -1,0 +1,71 @@
+//! The commands, with what their words say. A text `T` is a list of bytes in definitions, and a borrowed one in code.
+ghost use Rattle.std.specs.Prelude.{◌≡◌};
+
+/// The name of a command: its first word.
+#[derive(Clone, Copy, Debug, PartialEq, Eq)]
+pub enum Verb {
+    Record,
+    Check,
+    Demo,
+    Replay,
+    Show,
+    Stats,
+}
+
+/// The program and the plan of a run, and how its ranks take their turns. With neither an order nor `is_serial` each rank
+/// has a thread of its own; the two never stand together.
+#[derive(Clone, Copy, Debug, PartialEq, Eq)]
+pub struct RunWords<T> {
+    pub program: T,
+    pub plan: T,
+    /// The file of the ranks that have the first turns, on one thread.
+    pub order: Option<T>,
+    /// On one thread, in rounds over the ranks.
+    pub is_serial: bool,
+}
+
+/// The log of a replay, and how it is replayed.
+#[derive(Clone, Copy, Debug, PartialEq, Eq)]
+pub struct ReplayWords<T> {
+    pub log: T,
+    /// The file of a program that takes the place of the log's own.
+    pub program: Option<T>,
+    /// The breakpoint: a rank, at most 63, and the number of the call before which it stops, at most 999,999.
+    pub stop: Option<(u8, u32)>,
+    /// On one thread.
+    pub is_serial: bool,
+}
+
+/// A command with what its words say.
+#[derive(Clone, Copy, Debug, PartialEq, Eq)]
+pub enum Command<T> {
+    /// Records a run; `prefix` is the front of the names of the files that are written.
+    Record { run: RunWords<T>, prefix: T },
+    /// Records a run and replays its groups. It has no order.
+    Check(RunWords<T>),
+    /// Checks a program that is made from a seed, at most 2,147,483,647, and a number of rounds, 1 to 1,000.
+    Demo { seed: u32, rounds: u32 },
+    /// Replays the group of a log.
+    Replay(ReplayWords<T>),
+    /// Shows the log in this file.
+    Show(T),
+    /// Counts the log in this file.
+    Stats(T),
+}
+
+impl<T> Command<T> {
+    ghost use Rattle.wiz_words.specs.Words.{is_threaded};
+
+    /// Whether it is to run on threads.
+    pub fn is_threaded(&self) -> bool
+        ensures { result ≡ is_threaded self.now }
+    {
+        match self {
+            Command::Record { run, .. } | Command::Check(run) => {
+                !run.is_serial && run.order.is_none()
+            }
+            Command::Replay(replay) => !replay.is_serial,
+            Command::Demo { .. } | Command::Show(_) | Command::Stats(_) => false,
+        }
+    }
+}

@@ -1,0 +1,87 @@
+//! The commands by name, and one clap command for each.
+ghost use Rattle.std.specs.Prelude.{◌≡◌, IfOk};
+ghost use Rattle.clap.specs.Words.{app_of, with_rule};
+ghost use Rattle.wiz_words.specs.Forms.{flag, form_of, option, positional, verb_named};
+
+use crate::command::Verb;
+use clap::{Arg, ArgAction, Command};
+use std::alloc::{AllocError, Global};
+
+/// The command of a name.
+pub fn verb_named(name: &str) -> Option<Verb>
+    ensures { result ≡ verb_named name.now }
+{
+    match name {
+        "record" => Some(Verb::Record),
+        "check" => Some(Verb::Check),
+        "demo" => Some(Verb::Demo),
+        "replay" => Some(Verb::Replay),
+        "show" => Some(Verb::Show),
+        "stats" => Some(Verb::Stats),
+        _ => None,
+    }
+}
+
+/// The clap command that reads the words of a command.
+pub fn form_of<'a>(alloc: Global, verb: Verb) -> Result<Command<'a>, AllocError>
+    ensures { IfOk result (λ form. app_of form ≡ form_of verb) }
+{
+    match verb {
+        Verb::Record => {
+            let form = with_positional(alloc, Command::new(alloc, "record"), "PROGRAM")?;
+            let form = with_positional(alloc, form, "PLAN")?;
+            let form = with_positional(alloc, form, "PREFIX")?;
+            let form = with_option(alloc, form, "order")?;
+            with_flag(alloc, form, "serial")
+        }
+        Verb::Check => {
+            let form = with_positional(alloc, Command::new(alloc, "check"), "PROGRAM")?;
+            let form = with_positional(alloc, form, "PLAN")?;
+            with_flag(alloc, form, "serial")
+        }
+        Verb::Demo => {
+            let form = with_positional(alloc, Command::new(alloc, "demo"), "SEED")?;
+            with_positional(alloc, form, "ROUNDS")
+        }
+        Verb::Replay => {
+            let form = with_positional(alloc, Command::new(alloc, "replay"), "LOG")?;
+            let form = with_option(alloc, form, "program")?;
+            let form = with_option(alloc, form, "break")?;
+            with_flag(alloc, form, "serial")
+        }
+        Verb::Show => with_positional(alloc, Command::new(alloc, "show"), "LOG"),
+        Verb::Stats => with_positional(alloc, Command::new(alloc, "stats"), "LOG"),
+    }
+}
+
+/// A form with one more value that has to be there, by its place.
+fn with_positional<'a>(
+    alloc: Global,
+    form: Command<'a>,
+    name: &'a str,
+) -> Result<Command<'a>, AllocError>
+    ensures { IfOk result (λ more. app_of more ≡ with_rule (app_of form.entry) (positional name.entry.now)) }
+{
+    let argument = Arg::new(alloc, name).required(true);
+    form.arg(argument)
+}
+
+/// A form with one more option that has a value.
+fn with_option<'a>(
+    alloc: Global,
+    form: Command<'a>,
+    name: &'a str,
+) -> Result<Command<'a>, AllocError>
+    ensures { IfOk result (λ more. app_of more ≡ with_rule (app_of form.entry) (option name.entry.now)) }
+{
+    let argument = Arg::new(alloc, name).long(name);
+    form.arg(argument)
+}
+
+/// A form with one more option that has no value.
+fn with_flag<'a>(alloc: Global, form: Command<'a>, name: &'a str) -> Result<Command<'a>, AllocError>
+    ensures { IfOk result (λ more. app_of more ≡ with_rule (app_of form.entry) (flag name.entry.now)) }
+{
+    let argument = Arg::new(alloc, name).long(name).action(ArgAction::SetTrue);
+    form.arg(argument)
+}

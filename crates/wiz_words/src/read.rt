@@ -1,0 +1,109 @@
+//! Which command the words ask for.
+ghost use Rattle.std.specs.Prelude.{◌≡◌, IfOk, MatchOption};
+ghost use Rattle.std.specs.Option.{option_map};
+ghost use Rattle.clap.specs.Words.{Text};
+ghost use Rattle.wiz_words.specs.declared.command.Command.{Command};
+ghost use Rattle.wiz_words.specs.declared.command.ReplayWords.{ReplayWords};
+ghost use Rattle.wiz_words.specs.declared.command.RunWords.{RunWords};
+ghost use Rattle.wiz_words.specs.Texts.{replay_with_texts, run_with_texts, texts, with_texts};
+ghost use Rattle.wiz_words.specs.Values.{given_by};
+ghost use Rattle.wiz_words.specs.Words.{AreReplayWords, AreRunWords, AreWordsOf, AskFor, AskForNothing, AskForOneThing, verb_of};
+
+use crate::command::{Command, ReplayWords, RunWords, Verb};
+use crate::forms::{form_of, verb_named};
+use crate::values::{breakpoint, flag_in, matches_of, number_in, value_in};
+use clap::ArgMatches;
+use std::alloc::{AllocError, Global};
+
+/// The greatest seed of a demo.
+const GREATEST_SEED: u32 = 2_147_483_647;
+
+/// The fewest rounds of a demo.
+const FEWEST_ROUNDS: u32 = 1;
+
+/// The most rounds of a demo.
+const MOST_ROUNDS: u32 = 1000;
+
+/// The command that the words ask for, or nothing where they are in no command's form. The program's own name is not among
+/// the words.
+pub fn read_command<'a>(
+    alloc: Global,
+    words: &'a [&'a str],
+) -> Result<Option<Command<&'a str>>, AllocError>
+    ensures { IfOk result (λ found. MatchOption found (AskForNothing (texts words.entry.now))
+        (λ command. AskFor (texts words.entry.now) (with_texts command))) }
+{
+    let Some(name) = words.first() else {
+        return Ok(None);
+    };
+    let Some(verb) = verb_named(*name) else {
+        return Ok(None);
+    };
+    match matches_of(form_of(alloc, verb)?, words)? {
+        Some(matches) => Ok(command_from(verb, &matches)),
+        None => Ok(None),
+    }
+}
+
+/// Words ask for one thing: no two commands have the same words.
+pub fn words_ask_for_one_thing()
+    ensures { AskForOneThing }
+{}
+
+/// The command of this name whose words clap found, where their values are in form.
+fn command_from<'a>(verb: Verb, matches: &ArgMatches<'a>) -> Option<Command<&'a str>>
+    ensures { MatchOption result ((command : Command Text) → verb_of command ≡ verb → AreWordsOf (given_by matches.now) command → ⊥)
+        (λ command. (verb_of (with_texts command) ≡ verb) × AreWordsOf (given_by matches.now) (with_texts command)) }
+{
+    match verb {
+        Verb::Record => {
+            let run = run_words(matches, value_in(matches, "order"))?;
+            let prefix = value_in(matches, "PREFIX")?;
+            Some(Command::Record { run, prefix })
+        }
+        Verb::Check => Some(Command::Check(run_words(matches, None)?)),
+        Verb::Demo => {
+            let seed = number_in(matches, "SEED", 0, GREATEST_SEED)?;
+            let rounds = number_in(matches, "ROUNDS", FEWEST_ROUNDS, MOST_ROUNDS)?;
+            Some(Command::Demo { seed, rounds })
+        }
+        Verb::Replay => Some(Command::Replay(replay_words(matches)?)),
+        Verb::Show => Some(Command::Show(value_in(matches, "LOG")?)),
+        Verb::Stats => Some(Command::Stats(value_in(matches, "LOG")?)),
+    }
+}
+
+/// The words of a run with this file for its order; nothing where an order and `--serial` stand together.
+fn run_words<'a>(matches: &ArgMatches<'a>, order: Option<&'a str>) -> Option<RunWords<&'a str>>
+    ensures { let order = option_map (λ text. text.now) order.entry
+        in MatchOption result ((run : RunWords Text) → AreRunWords (given_by matches.now) order run → ⊥)
+        (λ run. AreRunWords (given_by matches.now) order (run_with_texts run)) }
+{
+    let is_serial = flag_in(matches, "serial");
+    if is_serial && order.is_some() {
+        return None;
+    }
+    Some(RunWords {
+        program: value_in(matches, "PROGRAM")?,
+        plan: value_in(matches, "PLAN")?,
+        order,
+        is_serial,
+    })
+}
+
+/// The words of a replay; nothing where its breakpoint is out of form.
+fn replay_words<'a>(matches: &ArgMatches<'a>) -> Option<ReplayWords<&'a str>>
+    ensures { MatchOption result ((replay : ReplayWords Text) → AreReplayWords (given_by matches.now) replay → ⊥)
+        (λ replay. AreReplayWords (given_by matches.now) (replay_with_texts replay)) }
+{
+    let stop = match value_in(matches, "break") {
+        Some(text) => Some(breakpoint(text)?),
+        None => None,
+    };
+    Some(ReplayWords {
+        log: value_in(matches, "LOG")?,
+        program: value_in(matches, "program"),
+        stop,
+        is_serial: flag_in(matches, "serial"),
+    })
+}

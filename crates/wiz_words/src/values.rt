@@ -1,0 +1,75 @@
+//! What clap finds in the words, and the values that it gives.
+ghost use Rattle.std.specs.Prelude.{◌≡◌, ℕ, IfOk, MatchOption, true};
+ghost use Rattle.std.specs.Option.{option_map};
+ghost use Rattle.clap.specs.Words.{app_of, is_simple_and_free};
+ghost use Rattle.wiz_words.specs.Texts.{texts};
+ghost use Rattle.wiz_words.specs.Values.{AreMatchesOf, IsBreakpointText, IsNumberIn, flag_in, given_by, value_in};
+
+use clap::error::ErrorKind;
+use clap::{ArgMatches, Command};
+use std::alloc::AllocError;
+use wiz_base::number::decimal;
+
+/// The greatest rank of a breakpoint.
+const GREATEST_RANK: u64 = 63;
+
+/// The greatest number of a call of a breakpoint.
+const GREATEST_CALL: u64 = 999_999;
+
+/// What clap finds in the words; nothing where the form refuses them.
+pub fn matches_of<'a>(
+    form: Command<'a>,
+    words: &'a [&'a str],
+) -> Result<Option<ArgMatches<'a>>, AllocError>
+    requires { is_simple_and_free (app_of form) ≡ true }
+    ensures { IfOk result (λ found. AreMatchesOf (app_of form.entry) (texts words.entry.now) found) }
+{
+    match form.try_get_matches_from(words) {
+        Ok(matches) => Ok(Some(matches)),
+        Err(error) => match error.kind() {
+            ErrorKind::OutOfMemory => Err(AllocError),
+            _ => Ok(None),
+        },
+    }
+}
+
+/// The value of an argument, where one is given.
+pub fn value_in<'a>(matches: &ArgMatches<'a>, name: &str) -> Option<&'a str>
+    ensures { option_map (λ text. text.now) result ≡ value_in (given_by matches.now) name.now }
+{
+    matches.get_str(name)
+}
+
+/// Whether a flag is given.
+pub fn flag_in(matches: &ArgMatches<'_>, name: &str) -> bool
+    ensures { result ≡ flag_in (given_by matches.now) name.now }
+{
+    match value_in(matches, name) {
+        Some(text) => text == "true",
+        None => false,
+    }
+}
+
+/// The number from `least` to `most` that the value of an argument spells.
+pub fn number_in(matches: &ArgMatches<'_>, name: &str, least: u32, most: u32) -> Option<u32>
+    ensures { MatchOption result ((value : ℕ) → IsNumberIn (given_by matches.now) name.now least most value → ⊥)
+        (λ value. IsNumberIn (given_by matches.now) name.now least most value) }
+{
+    let text = value_in(matches, name)?;
+    let value = decimal(text.as_bytes(), most as u64)?;
+    if value < least as u64 {
+        return None;
+    }
+    Some(value as u32)
+}
+
+/// The breakpoint that `R:C` spells.
+pub fn breakpoint(text: &str) -> Option<(u8, u32)>
+    ensures { MatchOption result ((stop : ℕ × ℕ) → IsBreakpointText text.now stop → ⊥)
+        (λ stop. IsBreakpointText text.now stop) }
+{
+    let (rank, call) = text.split_once(':')?;
+    let rank = decimal(rank.as_bytes(), GREATEST_RANK)?;
+    let call = decimal(call.as_bytes(), GREATEST_CALL)?;
+    Some((rank as u8, call as u32))
+}
