@@ -2,12 +2,12 @@
 use Rattle.std.proofs.Common.{◌≡◌, Bool, List, [], ◌∷◌, Option, Some, None, refl, ◌∙◌}
 use Rattle.c_grammar.specs.declared.word.Spot.{Spot}
 use Rattle.c_check.specs.Programs.{after_parameter, after_parameters, declare_optional, parameter_name, parameter_thing}
-use Rattle.c_scope.specs.declared.thing.Thing.{Thing}
+use Rattle.c_check_expr.specs.declared.thing.Thing.{Thing}
 use Rattle.c_grammar.specs.Tree as t
 use Rattle.c_names.specs.declared.kind.Kind.{Kind}
-use Rattle.c_scope.specs.Scopes.{Env, closed, opened}
-use Rattle.c_scope.specs.Signatures.{listed}
-use Rattle.c_scope.specs.Kinds.{kind_of_word}
+use Rattle.c_check_expr.specs.Scopes.{Env, closed, opened}
+use Rattle.c_check_expr.specs.Signatures.{listed}
+use Rattle.c_check_expr.specs.Kinds.{kind_of_word}
 use Rattle.c_check.specs.Statements.{after_declaration, after_item, after_items, after_part, after_parts, after_start}
 
 abbrev pub closing : Env → Env

@@ -8,14 +8,14 @@ use Rattle.c_grammar.specs.declared.tree.Expr.{Expr}
 use Rattle.c_grammar.specs.StmtView.{item_view, part_view, parts_view}
 use Rattle.c_grammar.specs.View.{view}
 use Rattle.c_names.specs.declared.kind.Kind.{Kind}
-use Rattle.c_scope.specs.Expressions.{int_faults}
-use Rattle.c_scope.specs.Least.{least_from}
-use Rattle.c_scope.specs.Scopes.{Env}
+use Rattle.c_check_expr.specs.Expressions.{int_faults}
+use Rattle.c_check_expr.specs.Least.{least_from}
+use Rattle.c_check_expr.specs.Scopes.{Env}
 use Rattle.c_check.specs.Statements.{after_item, after_items, after_part, after_parts, item_faults, items_faults, part_faults, parts_faults, values_faults}
-use Rattle.c_scope.specs.declared.fault.Fault.{Fault}
-use Rattle.c_scope.proofs.Least.{least_from_append}
-use Rattle.c_scope.proofs.Lists.{drop_at, drop_past}
-use Rattle.c_scope.proofs.Rows.{behind_viewed}
+use Rattle.c_check_expr.specs.declared.fault.Fault.{Fault}
+use Rattle.c_check_expr.proofs.Least.{least_from_append}
+use Rattle.c_check_expr.proofs.Lists.{drop_at, drop_past}
+use Rattle.c_check_expr.proofs.Rows.{behind_viewed}
 
 pub values_next : (env : Env) (best : Option Fault) (more : List (Behind Expr)) (i : ℕ) (one : Behind Expr) → i < length more → one ≡ get_or more i one
     → least_from best (values_faults env (behind_viewed view (drop i more)))

@@ -4,13 +4,13 @@ use Rattle.c_grammar.specs.Tree as t
 use Rattle.c_grammar.specs.declared.statement.Top.{Top}
 use Rattle.c_grammar.specs.declared.statement.Head.{Head}
 use Rattle.c_grammar.specs.StmtView.{head_view, top_view}
-use Rattle.c_scope.specs.Least.{least_from}
+use Rattle.c_check_expr.specs.Least.{least_from}
 use Rattle.c_check.specs.Programs.{heads_of, text_env, after_parameter, after_parameters, after_top, optional_twice_faults, parameter_faults, parameter_name, parameters_faults, prototype_faults, seen_after, top_faults, tops_faults}
-use Rattle.c_scope.specs.Scopes.{Env, Signature}
-use Rattle.c_scope.specs.Signatures.{function_entries, signature_of}
-use Rattle.c_scope.specs.declared.fault.Fault.{Fault}
-use Rattle.c_scope.proofs.Least.{least_from_append}
-use Rattle.c_scope.proofs.Lists.{drop_at, drop_got}
+use Rattle.c_check_expr.specs.Scopes.{Env, Signature}
+use Rattle.c_check_expr.specs.Signatures.{function_entries, signature_of}
+use Rattle.c_check_expr.specs.declared.fault.Fault.{Fault}
+use Rattle.c_check_expr.proofs.Least.{least_from_append}
+use Rattle.c_check_expr.proofs.Lists.{drop_at, drop_got}
 
 pub prototype_next : (env : Env) (main : Bool) (best : Option Fault) (all : List t.Parameter) (i : ℕ) (one : t.Parameter) → slice_get all i ≡ Some one
     → least_from best (prototype_faults env main (drop i all))

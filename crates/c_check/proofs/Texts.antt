@@ -5,7 +5,7 @@ use Rattle.c_grammar.specs.Tree as t
 use Rattle.c_grammar.specs.declared.statement.Top.{Top}
 use Rattle.c_grammar.specs.StmtView.{top_view}
 use Rattle.c_check.specs.Programs.{heads_of, is_main, with_head}
-use Rattle.c_scope.proofs.Lists.{drop_at, drop_past}
+use Rattle.c_check_expr.proofs.Lists.{drop_at, drop_past}
 
 head_and : (top : t.Top) (heads : List t.Head) → with_head top [] ++ heads ≡ with_head top heads
 head_and (t.define word name value end) heads = refl

@@ -2,11 +2,11 @@
 use Rattle.std.proofs.Common.{◌≡◌, ℕ, Bool, List, Option, sym, ◌∙◌, ap}
 use Rattle.c_grammar.specs.Tree as t
 use Rattle.c_grammar.specs.declared.word.Spot.{Spot}
-use Rattle.c_scope.specs.Least.{least_from}
-use Rattle.c_scope.specs.Scopes.{Env}
-use Rattle.c_scope.specs.Signatures.{parameters_listed}
-use Rattle.c_scope.specs.declared.fault.Fault.{Fault}
-use Rattle.c_scope.proofs.Wanted.{both}
+use Rattle.c_check_expr.specs.Least.{least_from}
+use Rattle.c_check_expr.specs.Scopes.{Env}
+use Rattle.c_check_expr.specs.Signatures.{parameters_listed}
+use Rattle.c_check_expr.specs.declared.fault.Fault.{Fault}
+use Rattle.c_check_expr.proofs.Wanted.{both}
 use Rattle.c_check.specs.Programs.{function_faults, is_main, prototype_faults, top_faults, top_twice_faults}
 
 pub define_top : (env : Env) (text : List ℕ) (seen : List (List ℕ)) (word name : Spot) (value : t.Value) (end : Spot) (top : t.Top) (old new : Option Fault)

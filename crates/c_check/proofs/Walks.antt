@@ -8,14 +8,14 @@ use Rattle.c_grammar.specs.declared.statement.Item.{Item}
 use Rattle.c_grammar.specs.declared.statement.Part.{Part}
 use Rattle.c_grammar.specs.declared.word.Spot.{Spot}
 use Rattle.c_names.specs.declared.kind.Kind.{Kind}
-use Rattle.c_scope.specs.Kinds.{place_start}
-use Rattle.c_scope.specs.Least.{least_from}
-use Rattle.c_scope.specs.Scopes.{Env, declare, opened, twice_faults}
-use Rattle.c_scope.specs.declared.fault.Fault.{Fault}
-use Rattle.c_scope.specs.declared.thing.Thing.{Thing}
-use Rattle.c_scope.proofs.Lists.{drop_past}
-use Rattle.c_scope.proofs.Rows.{behind_viewed}
-use Rattle.c_scope.proofs.Wanted.{both, three}
+use Rattle.c_check_expr.specs.Kinds.{place_start}
+use Rattle.c_check_expr.specs.Least.{least_from}
+use Rattle.c_check_expr.specs.Scopes.{Env, declare, opened, twice_faults}
+use Rattle.c_check_expr.specs.declared.fault.Fault.{Fault}
+use Rattle.c_check_expr.specs.declared.thing.Thing.{Thing}
+use Rattle.c_check_expr.proofs.Lists.{drop_past}
+use Rattle.c_check_expr.proofs.Rows.{behind_viewed}
+use Rattle.c_check_expr.proofs.Wanted.{both, three}
 use Rattle.c_check.specs.Statements.{after_item, after_items, after_parts, after_start, declared_thing, initial_faults, item_faults, parts_faults, place_length_faults, start_faults, step_faults, stmt_faults, test_faults}
 
 pub item_after : (env now : Env) (kind : Kind) (item : t.Item) (name : Spot) (thing : Thing)

@@ -8,15 +8,15 @@ use Rattle.c_grammar.specs.declared.word.Spot.{Spot}
 use Rattle.c_grammar.specs.Tree as t
 use Rattle.c_names.specs.Predefined.{predefined}
 use Rattle.c_names.specs.declared.kind.Kind.TheVariants.{Int, Communicator}
-use Rattle.c_scope.specs.Least.{unless}
-use Rattle.c_scope.specs.Literals.{number_at}
-use Rattle.c_scope.specs.Constants.{length_faults}
-use Rattle.c_scope.specs.Signatures.{function_entries, is_int, parameters_listed, signature_of}
-use Rattle.c_scope.specs.Scopes.{Env, cut, declare, opened, twice_faults}
+use Rattle.c_check_expr.specs.Least.{unless}
+use Rattle.c_check_expr.specs.Literals.{number_at}
+use Rattle.c_check_expr.specs.Constants.{length_faults}
+use Rattle.c_check_expr.specs.Signatures.{function_entries, is_int, parameters_listed, signature_of}
+use Rattle.c_check_expr.specs.Scopes.{Env, cut, declare, opened, twice_faults}
 use Rattle.c_check.specs.Statements.{parts_faults}
-use Rattle.c_scope.specs.declared.fault.Fault.{Fault}
-use Rattle.c_scope.specs.declared.thing.Thing.{Thing}
-use Rattle.c_scope.specs.declared.thing.Thing.TheVariants as d
+use Rattle.c_check_expr.specs.declared.fault.Fault.{Fault}
+use Rattle.c_check_expr.specs.declared.thing.Thing.{Thing}
+use Rattle.c_check_expr.specs.declared.thing.Thing.TheVariants as d
 
 -- ---- main
 

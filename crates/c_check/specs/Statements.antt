@@ -7,18 +7,18 @@ use Rattle.c_grammar.specs.declared.word.Word.TheVariants as w
 use Rattle.c_grammar.specs.Tree as t
 use Rattle.c_names.specs.declared.kind.Kind.{Kind}
 use Rattle.c_names.specs.declared.kind.Kind.TheVariants.{Int, Status}
-use Rattle.c_scope.specs.Least.{fault, unless}
-use Rattle.c_scope.specs.Constants.{length_faults, length_of}
-use Rattle.c_scope.specs.Kinds.{cell_kind, kind_of_word, place_start, target_kind}
-use Rattle.c_scope.specs.Signatures.{listed}
-use Rattle.c_scope.specs.Scopes.{Env, declare, meaning, opened, twice_faults}
-use Rattle.c_scope.specs.Expressions.{int_faults, place_faults}
-use Rattle.c_call_check.specs.Calls.{call_faults, right_faults, right_start}
-use Rattle.c_scope.specs.declared.fault.Fault.{Fault}
-use Rattle.c_scope.specs.declared.thing.ExprKind.{ExprKind}
-use Rattle.c_scope.specs.declared.thing.ExprKind.TheVariants.{Of, Other, Nothing}
-use Rattle.c_scope.specs.declared.thing.Thing.{Thing}
-use Rattle.c_scope.specs.declared.thing.Thing.TheVariants as d
+use Rattle.c_check_expr.specs.Least.{fault, unless}
+use Rattle.c_check_expr.specs.Constants.{length_faults, length_of}
+use Rattle.c_check_expr.specs.Kinds.{cell_kind, kind_of_word, place_start, target_kind}
+use Rattle.c_check_expr.specs.Signatures.{listed}
+use Rattle.c_check_expr.specs.Scopes.{Env, declare, meaning, opened, twice_faults}
+use Rattle.c_check_expr.specs.Expressions.{int_faults, place_faults}
+use Rattle.c_check_call.specs.Calls.{call_faults, right_faults, right_start}
+use Rattle.c_check_expr.specs.declared.fault.Fault.{Fault}
+use Rattle.c_check_expr.specs.declared.thing.ExprKind.{ExprKind}
+use Rattle.c_check_expr.specs.declared.thing.ExprKind.TheVariants.{Of, Other, Nothing}
+use Rattle.c_check_expr.specs.declared.thing.Thing.{Thing}
+use Rattle.c_check_expr.specs.declared.thing.Thing.TheVariants as d
 
 -- ---- assignments
 

@@ -3,22 +3,22 @@ ghost use Rattle.std.specs.Prelude.{◌≡◌, ◌≤◌, ◌++◌, ◌∷◌, [
 ghost use Rattle.std.specs.List.{list_any};
 ghost use Rattle.std.specs.Str.{bytes_eq};
 ghost use Rattle.c_grammar.specs.StmtView.{head_view, parameter_view, parameters_view, parts_view, top_view, tree_view, value_view};
-ghost use Rattle.c_scope.specs.Least.{IsFirst, least_from};
+ghost use Rattle.c_check_expr.specs.Least.{IsFirst, least_from};
 ghost use Rattle.c_check.specs.Programs.{after_parameter, after_parameters, after_top, are_main_parameters, declare_optional, define_value, faults, function_faults, heads_of, is_main, is_one_int, is_text, main_faults, optional_twice_faults, parameter_faults, parameter_name, parameter_thing, parameters_faults, prototype_faults, seen_after, text_env, top_faults, top_twice_faults, tops_faults, with_head};
-ghost use Rattle.c_scope.specs.Scopes.{cut};
-ghost use Rattle.c_scope.specs.Signatures.{parameters_listed};
+ghost use Rattle.c_check_expr.specs.Scopes.{cut};
+ghost use Rattle.c_check_expr.specs.Signatures.{parameters_listed};
 
 use crate::statement::check_parts;
-use c_call_check::call::{is_int, parameter_at, parameter_count};
+use c_check_call::call::{is_int, parameter_at, parameter_count};
 use c_grammar::statement::{Head, Parameter, Parameters, Part, Top, Tree, Value};
 use c_grammar::word::Spot;
 use c_lex::Why;
 use c_names::kind::Kind;
 use c_names::predefined::meaning_of;
-use c_scope::constant::want_length;
-use c_scope::fault::{Fault, note, note_unless};
-use c_scope::scope::{Scope, cut, is_same, number_at};
-use c_scope::thing::Thing;
+use c_check_expr::constant::want_length;
+use c_check_expr::fault::{Fault, note, note_unless};
+use c_check_expr::scope::{Scope, cut, is_same, number_at};
+use c_check_expr::thing::Thing;
 use std::alloc::{AllocError, Global};
 
 // ---- main
@@ -144,7 +144,7 @@ fn declare(scope: &mut Scope, name: Option<Spot>, thing: Thing) -> Result<(), Al
 }
 
 /// A parameter, which is then declared.
-#[tactic(auto, using(c_scope::proofs::Least::least_from_append))]
+#[tactic(auto, using(c_check_expr::proofs::Least::least_from_append))]
 fn check_declared(
     best: &mut Option<Fault>,
     scope: &mut Scope,
@@ -179,7 +179,7 @@ fn check_parameters(
 }
 
 /// The faults of a function behind its name.
-#[tactic(auto, using(c_scope::proofs::Least::least_from_append, crate::proofs::Closed::closed_function))]
+#[tactic(auto, using(c_check_expr::proofs::Least::least_from_append, crate::proofs::Closed::closed_function))]
 fn check_function(
     best: &mut Option<Fault>,
     scope: &mut Scope,
@@ -239,7 +239,7 @@ pub fn define_value(text: &[u8], value: &Value) -> i32
 }
 
 /// The faults of what stands in the text, which is then seen, and declared if it is a define.
-#[tactic(auto, using(c_scope::proofs::Least::least_from_append))]
+#[tactic(auto, using(c_check_expr::proofs::Least::least_from_append))]
 fn check_top<'a>(
     best: &mut Option<Fault>,
     scope: &mut Scope<'a>,
@@ -355,7 +355,7 @@ fn check_tops<'a>(
 }
 
 /// The first fault of a program in source order, or `None` where it has none.
-#[tactic(auto, using(c_scope::proofs::Least::least_from_append, c_scope::proofs::Least::first_of))]
+#[tactic(auto, using(c_check_expr::proofs::Least::least_from_append, c_check_expr::proofs::Least::first_of))]
 pub fn first_fault(alloc: Global, text: &[u8], tree: &Tree) -> Result<Option<Fault>, AllocError>
     requires { length text.now ≤ 65536 }
     ensures { IfOk result (λ first. MatchOption first (faults text.now (tree_view tree.now) ≡ []) (λ found. IsFirst (faults text.now (tree_view tree.now)) found)) }

@@ -3,13 +3,13 @@ ghost use Rattle.std.specs.Prelude.{◌≡◌, ◌++◌, OnOk, option_map, true}
 ghost use Rattle.c_grammar.specs.StmtView.{declaration_view, initial_view, item_view, part_view, parts_view, right_view, row_view, simple_view, start_view, stmt_view};
 ghost use Rattle.c_grammar.specs.View.{place_view, view};
 ghost use Rattle.c_lex.specs.declared.fault.Why.TheVariants.{WrongType};
-ghost use Rattle.c_scope.specs.Expressions.{int_faults};
-ghost use Rattle.c_scope.specs.Least.{least_from, unless};
-ghost use Rattle.c_scope.specs.Scopes.{opened};
-ghost use Rattle.c_scope.specs.Signatures.{listed};
+ghost use Rattle.c_check_expr.specs.Expressions.{int_faults};
+ghost use Rattle.c_check_expr.specs.Least.{least_from, unless};
+ghost use Rattle.c_check_expr.specs.Scopes.{opened};
+ghost use Rattle.c_check_expr.specs.Signatures.{listed};
 ghost use Rattle.c_check.specs.Statements.{after_declaration, after_item, after_part, after_parts, after_start, array_length, begins_with, begun_takes, braces_faults, can_begin, declaration_faults, declared_thing, goal_kind, goal_takes, initial_faults, int_goal_faults, is_assign, is_goal, is_int_array, is_int_goal, item_faults, part_faults, parts_faults, place_length_faults, return_faults, simple_faults, start_faults, step_faults, stmt_faults, test_faults, values_faults};
 
-use c_call_check::call::{check_call, right_start, want_right};
+use c_check_call::call::{check_call, right_start, want_right};
 use c_grammar::statement::{
     Declaration, ForStart, Initial, Item, Listed, Part, Right, Simple, Stmt,
 };
@@ -17,13 +17,13 @@ use c_grammar::tree::{Expr, Place};
 use c_grammar::word::{Spot, Word};
 use c_lex::Why;
 use c_names::kind::Kind;
-use c_scope::constant::{length_of, want_length};
-use c_scope::expression::{check_place, want_int};
-use c_scope::fault::{Fault, note_at, note_unless};
-use c_scope::kind::{cell_kind, place_start, target_kind};
-use c_scope::row::item_count;
-use c_scope::scope::Scope;
-use c_scope::thing::{ExprKind, Thing, kind_of_word};
+use c_check_expr::constant::{length_of, want_length};
+use c_check_expr::expression::{check_place, want_int};
+use c_check_expr::fault::{Fault, note_at, note_unless};
+use c_check_expr::kind::{cell_kind, place_start, target_kind};
+use c_check_expr::row::item_count;
+use c_check_expr::scope::Scope;
+use c_check_expr::thing::{ExprKind, Thing, kind_of_word};
 use std::alloc::AllocError;
 
 // ---- assignments
@@ -80,7 +80,7 @@ pub fn is_assign(word: Word) -> bool
 }
 
 /// A place of an int.
-#[tactic(auto, using(c_scope::proofs::Least::least_from_append))]
+#[tactic(auto, using(c_check_expr::proofs::Least::least_from_append))]
 fn want_int_goal(best: &mut Option<Fault>, scope: &Scope, place: &Place)
     ensures { best.new ≡ least_from best.old (int_goal_faults scope.now (place_view place.now)) }
 {
@@ -90,7 +90,7 @@ fn want_int_goal(best: &mut Option<Fault>, scope: &Scope, place: &Place)
 }
 
 /// The faults of an assignment or a call.
-#[tactic(auto, using(c_scope::proofs::Least::least_from_append))]
+#[tactic(auto, using(c_check_expr::proofs::Least::least_from_append))]
 pub fn check_simple(best: &mut Option<Fault>, scope: &Scope, simple: &Simple)
     ensures { best.new ≡ least_from best.old (simple_faults scope.now (simple_view simple.now)) }
 {
@@ -186,7 +186,7 @@ fn array_length(thing: Thing) -> u32
 }
 
 /// Ints in braces.
-#[tactic(auto, using(c_scope::proofs::Least::least_from_append))]
+#[tactic(auto, using(c_check_expr::proofs::Least::least_from_append))]
 fn want_values(best: &mut Option<Fault>, scope: &Scope, values: &Listed<Expr>)
     ensures { best.new ≡ least_from best.old (values_faults scope.now (listed (row_view view values.now))) }
 {
@@ -208,7 +208,7 @@ fn want_braces(best: &mut Option<Fault>, name: Spot, thing: Thing, count: usize)
     }
 }
 
-#[tactic(auto, using(c_scope::proofs::Least::least_from_append))]
+#[tactic(auto, using(c_check_expr::proofs::Least::least_from_append))]
 fn check_initial(
     best: &mut Option<Fault>,
     scope: &Scope,
@@ -233,7 +233,7 @@ fn check_initial(
 }
 
 /// A declared name, which is then declared.
-#[tactic(auto, using(c_scope::proofs::Least::least_from_append))]
+#[tactic(auto, using(c_check_expr::proofs::Least::least_from_append))]
 fn check_item(
     best: &mut Option<Fault>,
     scope: &mut Scope,
@@ -253,7 +253,7 @@ fn check_item(
 }
 
 /// The faults of a declaration, whose names are then declared.
-#[tactic(auto, using(c_scope::proofs::Least::least_from_append))]
+#[tactic(auto, using(c_check_expr::proofs::Least::least_from_append))]
 pub fn check_declaration(
     best: &mut Option<Fault>,
     scope: &mut Scope,
@@ -273,7 +273,7 @@ pub fn check_declaration(
 // ---- statements
 
 /// What a function gives back.
-#[tactic(auto, using(c_scope::proofs::Least::least_from_append))]
+#[tactic(auto, using(c_check_expr::proofs::Least::least_from_append))]
 fn check_return(best: &mut Option<Fault>, scope: &Scope, gives: bool, value: &Option<Right>)
     ensures { best.new ≡ least_from best.old (return_faults scope.now gives (option_map right_view value.now)) }
 {

@@ -6,11 +6,11 @@ use Rattle.run_model.specs.Program.{ends}
 use Rattle.c_program.specs.Courses.{Course, Over as OverCourse, after, asks_last}
 use Rattle.c_program.specs.Performing.{Onward}
 use Rattle.c_program.specs.State.{State}
-use Rattle.c_questions.proofs.MoreReplies.{after-over}
+use Rattle.c_run_replies.proofs.MoreReplies.{after-over}
 use Rattle.c_eval.specs.declared.outcome.Stop.{Stop}
-use Rattle.c_parts.specs.Comes.{Fails, Leads}
-use Rattle.c_parts.specs.declared.fail.Fail.{Fail}
-use Rattle.c_parts.specs.declared.fail.Fail.TheVariants.{Memory as NoMemory, Trapped as FailsAt}
+use Rattle.c_run_parts.specs.Comes.{Fails, Leads}
+use Rattle.c_run_parts.specs.declared.fail.Fail.{Fail}
+use Rattle.c_run_parts.specs.declared.fail.Fail.TheVariants.{Memory as NoMemory, Trapped as FailsAt}
 use Rattle.c_eval.specs.Evaluated.{Evaluated, GoesOn, StopsAt, stop_of}
 
 -- ---- the end of a rank

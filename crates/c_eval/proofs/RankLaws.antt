@@ -13,7 +13,7 @@ use Rattle.c_program.specs.Meaning.{call_at, course_of}
 use Rattle.c_program.specs.Performing.{Onward}
 use Rattle.c_program.specs.Program.{next_of, output_of, variables_of}
 use Rattle.c_program.specs.State.{State}
-use Rattle.c_questions.proofs.MoreReplies.{live-variables, shaped-more}
+use Rattle.c_run_replies.proofs.MoreReplies.{live-variables, shaped-more}
 use Rattle.c_eval.specs.Standing.{IsRankAt, Wants}
 
 -- ---- ranks

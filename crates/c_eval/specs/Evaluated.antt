@@ -6,8 +6,8 @@ use Rattle.c_program.specs.Courses.{Course, Asks, Over as OverCourse, after, tra
 use Rattle.c_program.specs.Meaning.{Passing}
 use Rattle.c_program.specs.Performing.{Onward}
 use Rattle.c_program.specs.State.{State}
-use Rattle.c_parts.specs.declared.fail.Fail.{Fail}
-use Rattle.c_parts.specs.declared.fail.Fail.TheVariants.{Memory as NoMemory, Trapped as FailsAt}
+use Rattle.c_run_parts.specs.declared.fail.Fail.{Fail}
+use Rattle.c_run_parts.specs.declared.fail.Fail.TheVariants.{Memory as NoMemory, Trapped as FailsAt}
 use Rattle.c_eval.specs.declared.outcome.Stop.{Stop}
 use Rattle.c_eval.specs.declared.outcome.Stop.TheVariants.{Memory, Trapped, Waits, Over}
 

@@ -10,9 +10,9 @@ use crate::calls::Calls;
 use crate::flow::Flow;
 use crate::outcome::{Replies, Stop};
 use crate::perform::call_mpi;
-use c_cells::store::Store;
+use c_run_cells::store::Store;
 use c_names::operator::Operator;
-use c_parts::parts::{
+use c_run_parts::parts::{
     add, arguments_of, enter, function_at, print, put_assigned, put_values_of, take_step,
 };
 use c_program::expr::{Call, Expr, Place, Right};

@@ -4,7 +4,7 @@ ghost use Rattle.c_eval.specs.Evaluated.{stop_of};
 ghost use Rattle.c_eval.specs.Replies.{IsNextReply};
 ghost use Rattle.c_eval.specs.declared.outcome.Stop.TheVariants.{Memory, Trapped};
 
-use c_parts::fail::Fail;
+use c_run_parts::fail::Fail;
 use mpi_call::call::{Call, Fault};
 use mpi_call::reply::Reply;
 use std::alloc::{AllocError, AllocFailed};

@@ -1,19 +1,19 @@
 //! MPI calls over the replies that are left.
 ghost use Rattle.std.specs.Prelude.{◌≡◌, ◌<◌, ◌≤◌, OnOk, length};
 ghost use Rattle.c_program.specs.Performing.{Onward, perform};
-ghost use Rattle.c_parts.specs.Parts.{mpi};
-ghost use Rattle.c_questions.specs.Questions.{asks, reached};
+ghost use Rattle.c_run_parts.specs.Parts.{mpi};
+ghost use Rattle.c_run_replies.specs.Questions.{asks, reached};
 ghost use Rattle.c_eval.specs.Evaluated.{Evaluated, Passes};
 
 use crate::outcome::{Replies, Stop};
-use c_cells::store::Store;
-use c_effects::effects::effect_of;
+use c_run_cells::store::Store;
+use c_run_effects::effects::effect_of;
 use c_program::effect::{Effect, Rank};
 use c_program::mpi::MpiCall;
-use c_questions::ask::ask;
-use c_questions::call::call_of;
-use c_questions::question::{Question, Reached};
-use c_questions::reply::reply_to;
+use c_run_replies::ask::ask;
+use c_run_replies::call::call_of;
+use c_run_replies::question::{Question, Reached};
+use c_run_replies::reply::reply_to;
 use std::alloc::Global;
 
 /// Calls an MPI function.

@@ -9,7 +9,7 @@ ghost use Rattle.c_eval.specs.Standing.{Wants};
 use crate::calls::Calls;
 use crate::evaluate::call_function;
 use crate::outcome::{Replies, Stop};
-use c_cells::store::Store;
+use c_run_cells::store::Store;
 use c_program::CProgram;
 use c_program::effect::Rank;
 use c_program::state::Passed;

@@ -4,18 +4,18 @@ use Rattle.mpi_call.specs.declared.call.Op.{Op}
 use Rattle.c_grammar.specs.Tree as t
 use Rattle.c_names.specs.declared.function.MpiFunction.{MpiFunction}
 use Rattle.c_names.specs.declared.predefined.Predefined.TheVariants as p
-use Rattle.c_call_check.specs.Calls.{word_of}
-use Rattle.c_scope.specs.Scopes.{Env}
+use Rattle.c_check_call.specs.Calls.{word_of}
+use Rattle.c_check_expr.specs.Scopes.{Env}
 use Rattle.c_program.specs.Effects.{effect_of, status}
 use Rattle.c_program.specs.State.{State}
 use Rattle.c_program.specs.Values.{given}
 use Rattle.c_program.specs.declared.effect.Rank.{Rank}
 use Rattle.c_program.specs.declared.expr.Reference.{Reference}
 use Rattle.c_program.specs.declared.mpi.MpiCall.{MpiCall}
-use Rattle.c_arguments.specs.Calls as r
-use Rattle.c_arguments.specs.Calls.{IsReference}
-use Rattle.c_calls.specs.MpiCalls as c
-use Rattle.c_calls.specs.MpiCalls.{IsMpiCall, IsOperation, IsStatus}
+use Rattle.c_type_expr.specs.Calls as r
+use Rattle.c_type_expr.specs.Calls.{IsReference}
+use Rattle.c_type_mpi.specs.MpiCalls as c
+use Rattle.c_type_mpi.specs.MpiCalls.{IsMpiCall, IsOperation, IsStatus}
 use Rattle.c_meaning.proofs.SameValues.{same_given, same_range}
 
 module _ (env : Env) where

@@ -2,7 +2,7 @@
 use Rattle.std.proofs.Common.{◌≡◌, ◌∙◌, ℕ, ℤ, pos, zero, suc, List, [], ◌∷◌, Some, refl, sym, ap, subst, slice_get}
 use Rattle.mpi_call.specs.declared.call.Fault.TheVariants.{Cells as CellsFault}
 use Rattle.c_grammar.specs.Tree as t
-use Rattle.c_scope.specs.Scopes.{Env, cut}
+use Rattle.c_check_expr.specs.Scopes.{Env, cut}
 use Rattle.c_program.specs.Courses.{call_in, ended, shaped_after, state_in, trapped, variables_in}
 use Rattle.c_program.specs.Meaning as m
 use Rattle.c_program.specs.Meaning.{Calls, call_at, course_of}

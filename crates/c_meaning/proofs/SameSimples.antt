@@ -4,8 +4,8 @@ use Rattle.mpi_call.specs.Operations.{is_set}
 use Rattle.mpi_call.specs.declared.call.Fault.TheVariants.{Cells as CellsFault}
 use Rattle.c_grammar.specs.Tree as t
 use Rattle.c_names.specs.declared.kind.Kind.{Kind}
-use Rattle.c_call_check.specs.Calls.{arguments_of}
-use Rattle.c_scope.specs.Scopes.{Env}
+use Rattle.c_check_call.specs.Calls.{arguments_of}
+use Rattle.c_check_expr.specs.Scopes.{Env}
 use Rattle.c_program.specs.Courses.{trapped}
 use Rattle.c_program.specs.Meaning as m
 use Rattle.c_program.specs.Meaning.{Calls, Exits}
@@ -22,13 +22,13 @@ use Rattle.c_program.specs.declared.statement.ForStart.{ForStart}
 use Rattle.c_program.specs.declared.statement.Initial.{Initial}
 use Rattle.c_program.specs.declared.statement.Item.{Item}
 use Rattle.c_program.specs.declared.statement.Simple.{Simple}
-use Rattle.c_arguments.specs.Calls as c
-use Rattle.c_arguments.specs.Calls.{IsCall, IsRight}
-use Rattle.c_calls.specs.MpiCalls.{IsMpiCall}
+use Rattle.c_type_expr.specs.Calls as c
+use Rattle.c_type_expr.specs.Calls.{IsCall, IsRight}
+use Rattle.c_type_mpi.specs.MpiCalls.{IsMpiCall}
 use Rattle.c_meaning.proofs.SameEffects.{same_effect}
 use Rattle.c_meaning.proofs.SameValues.{same_cell, same_function, same_given, same_passed, same_value}
-use Rattle.c_blocks.specs.Statements as x
-use Rattle.c_blocks.specs.Statements.{AreExprs, AreItems, AreValues, IsDeclaration, IsInitial, IsItem, IsReturn, IsSimple, IsStart, IsStep, IsTest, update_of}
+use Rattle.c_type_stmt.specs.Statements as x
+use Rattle.c_type_stmt.specs.Statements.{AreExprs, AreItems, AreValues, IsDeclaration, IsInitial, IsItem, IsReturn, IsSimple, IsStart, IsStep, IsTest, update_of}
 
 module _ (rank : Rank) (calls : Calls) where
   -- ---- calls

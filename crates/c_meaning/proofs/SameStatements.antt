@@ -2,7 +2,7 @@
 use Rattle.std.proofs.Common.{◌≡◌, ◌∙◌, ℕ, zero, suc, List, Option, Some, Ok, refl, sym}
 use Rattle.mpi_call.specs.Operations.{is_set}
 use Rattle.c_grammar.specs.Tree as t
-use Rattle.c_scope.specs.Scopes.{Env}
+use Rattle.c_check_expr.specs.Scopes.{Env}
 use Rattle.c_program.specs.Equations.{act-block}
 use Rattle.c_program.specs.Meaning as m
 use Rattle.c_program.specs.Meaning.{Calls, Exits, Meaning, Passing, act, act_list, act_part, leaving}
@@ -14,8 +14,8 @@ use Rattle.c_program.specs.declared.expr.Expr.{Expr}
 use Rattle.c_program.specs.declared.statement.Part.{Part}
 use Rattle.c_program.specs.declared.statement.Stmt.{Stmt}
 use Rattle.c_meaning.proofs.SameValues.{same_value}
-use Rattle.c_blocks.specs.Statements as x
-use Rattle.c_blocks.specs.Statements.{AreParts, IsPart, IsStmt}
+use Rattle.c_type_stmt.specs.Statements as x
+use Rattle.c_type_stmt.specs.Statements.{AreParts, IsPart, IsStmt}
 use Rattle.c_meaning.proofs.SameSimples.{same_declaration, same_return, same_simple, same_start, same_step, same_test}
 
 -- ---- loops

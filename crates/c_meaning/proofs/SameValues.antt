@@ -4,10 +4,10 @@ use Rattle.mpi_call.specs.Operations.{is_set, int_of}
 use Rattle.c_grammar.specs.Tree as t
 use Rattle.c_names.specs.Operators.{signed}
 use Rattle.c_names.specs.declared.function.ArgumentKind.{ArgumentKind}
-use Rattle.c_call_check.specs.Calls.{arguments_of, signature_takes}
-use Rattle.c_scope.specs.Constants.{sign_of}
-use Rattle.c_scope.specs.Scopes.{Env, cut}
-use Rattle.c_scope.specs.Variables.{variable}
+use Rattle.c_check_call.specs.Calls.{arguments_of, signature_takes}
+use Rattle.c_check_expr.specs.Constants.{sign_of}
+use Rattle.c_check_expr.specs.Scopes.{Env, cut}
+use Rattle.c_check_expr.specs.Variables.{variable}
 use Rattle.c_program.specs.Equations.{chained_list, value-chain}
 use Rattle.c_program.specs.Meaning.{passed, passed_all}
 use Rattle.c_program.specs.State.{State, cell_at}
@@ -19,10 +19,10 @@ use Rattle.c_program.specs.declared.expr.Link.{Link}
 use Rattle.c_program.specs.declared.expr.Place.{Place}
 use Rattle.c_program.specs.declared.expr.Reference.{Reference}
 use Rattle.c_program.specs.declared.state.Passed.TheVariants.{Number, Cells as Lent}
-use Rattle.c_arguments.specs.Calls as c
-use Rattle.c_arguments.specs.Calls.{AreArguments, IsArgument, IsCall, IsReference, IsValue}
-use Rattle.c_arguments.specs.Exprs as x
-use Rattle.c_arguments.specs.Exprs.{AreLinks, IsExpr, IsPlace, field_of}
+use Rattle.c_type_expr.specs.Calls as c
+use Rattle.c_type_expr.specs.Calls.{AreArguments, IsArgument, IsCall, IsReference, IsValue}
+use Rattle.c_type_expr.specs.Exprs as x
+use Rattle.c_type_expr.specs.Exprs.{AreLinks, IsExpr, IsPlace, field_of}
 
 -- ---- expressions
 

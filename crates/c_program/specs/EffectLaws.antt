@@ -204,7 +204,7 @@ good_untaught n me own call reply s good form shape none =
 
 -- a start
 done_fits : (n me : ℕ) (own : View) (call : Call) → is_starting call ≡ true → has_shape n me own call Done ≡ true
-done_fits n me own (Send comm dest tag ints) starting = refl
+done_fits n me own (Send comm dest tag ints sync) starting = refl
 done_fits n me own (Post comm source tag room) starting = refl
 done_fits n me own (Enter comm kind root op count ints) starting = refl
 done_fits n me own (Take starts mode) starting = absurd (cc)
@@ -246,9 +246,9 @@ or_trap_keeps n me own s (Some t) go alike on = on t alike
 behind_start : (n me : ℕ) (own : View) (printed : List ℕ) (course : Course) (call : Call) (reply : Reply) → is_starting call ≡ true → Keeps n me (own ++ (call, Done) ∷ []) printed course → has_shape n me own call reply ≡ true → MatchBool (ends (call, reply)) (Unit {0}) (Keeps n me (own ++ (call, reply) ∷ []) printed course)
 behind_start n me own printed course call Done starting keeps shape = unless_ends (ends (call, Done)) _ keeps
 behind_start n me own printed course call (Stopped halt) starting keeps shape = tt
-behind_start n me own printed course (Send comm dest tag ints) (Took items) starting keeps shape = absurd (cc)
-behind_start n me own printed course (Send comm dest tag ints) NotYet starting keeps shape = absurd (cc)
-behind_start n me own printed course (Send comm dest tag ints) (Peeked source start t count) starting keeps shape = absurd (cc)
+behind_start n me own printed course (Send comm dest tag ints sync) (Took items) starting keeps shape = absurd (cc)
+behind_start n me own printed course (Send comm dest tag ints sync) NotYet starting keeps shape = absurd (cc)
+behind_start n me own printed course (Send comm dest tag ints sync) (Peeked source start t count) starting keeps shape = absurd (cc)
 behind_start n me own printed course (Post comm source tag room) (Took items) starting keeps shape = absurd (cc)
 behind_start n me own printed course (Post comm source tag room) NotYet starting keeps shape = absurd (cc)
 behind_start n me own printed course (Post comm source tag room) (Peeked from start t count) starting keeps shape = absurd (cc)

@@ -39,7 +39,7 @@ Onward = State → Course
 -- ---- starts
 
 abbrev pub send_call : Message → State → Call
-send_call m s = Send m.comm m.dest m.tag (ints_in m.ints s)
+send_call m s = Send m.comm m.dest m.tag (ints_in m.ints s) sync
 
 abbrev pub post_call : Receive → Call
 post_call r = Post r.comm r.source r.tag r.buffer.length

@@ -20,8 +20,8 @@ use Rattle.c_parse.specs.Parsing as parsed
 use Rattle.c_parse.specs.Parsing.{IsTree, place_of, signs_of}
 use Rattle.c_program.specs.declared.program.CProgram.{CProgram}
 use Rattle.c_check.specs.Programs.{faults}
-use Rattle.c_scope.specs.Least.{IsFirst, IsIn, is_less, rank}
-use Rattle.c_scope.specs.declared.fault.Fault.{Fault}
+use Rattle.c_check_expr.specs.Least.{IsFirst, IsIn, is_less, rank}
+use Rattle.c_check_expr.specs.declared.fault.Fault.{Fault}
 use Rattle.c_types.specs.Checks as x
 use Rattle.c_types.specs.Checks.{IsFaultOf, IsFirstIn, IsProgramOf}
 

@@ -8,20 +8,20 @@ use Rattle.c_grammar.specs.StmtGrammar.{AreTops, IsTop, are_named, has, is_named
 use Rattle.c_grammar.specs.StmtView.{top_view}
 use Rattle.c_grammar.specs.Tree as t
 use Rattle.c_check.specs.Programs.{after_parameter, after_parameters, after_top, declare_optional, function_faults, heads_of, is_main, main_faults, parameter_name, parameter_thing, parameters_faults, text_env, top_faults, top_twice_faults, tops_faults, with_head}
-use Rattle.c_scope.specs.Scopes.{Env, cut, opened}
-use Rattle.c_scope.specs.declared.fault.Fault.{Fault}
-use Rattle.c_scope.specs.declared.thing.Thing.{Thing}
+use Rattle.c_check_expr.specs.Scopes.{Env, cut, opened}
+use Rattle.c_check_expr.specs.declared.fault.Fault.{Fault}
+use Rattle.c_check_expr.specs.declared.thing.Thing.{Thing}
 use Rattle.c_lex.specs.declared.fault.Why.TheVariants.{NoMain}
 use Rattle.c_program.specs.declared.program.Function.{Function}
 use Rattle.c_program.specs.declared.program.Parameter.{Parameter}
 use Rattle.c_check.proofs.Parameters.{after_parameters_next}
-use Rattle.c_scope.specs.Signatures.{is_int, parameters_listed}
+use Rattle.c_check_expr.specs.Signatures.{is_int, parameters_listed}
 use Rattle.c_check.specs.Statements.{parts_faults}
-use Rattle.c_scope.proofs.Lists.{drop_at, drop_got, drop_past}
+use Rattle.c_check_expr.proofs.Lists.{drop_at, drop_got, drop_past}
 use Rattle.c_types.specs.Programs as x
 use Rattle.c_types.specs.Programs.{AreFunctions, AreParameters, IsFunction, IsFunctionOf, IsParameter}
-use Rattle.c_blocks.specs.Statements.{AreParts}
-use Rattle.c_blocks.proofs.Growing.{ended, grown, none_left, none_right}
+use Rattle.c_type_stmt.specs.Statements.{AreParts}
+use Rattle.c_type_stmt.proofs.Growing.{ended, grown, none_left, none_right}
 
 -- ---- parameters
 

@@ -11,8 +11,8 @@ use Rattle.c_parse.specs.Parsing.{IsTree}
 use Rattle.c_program.specs.declared.program.CProgram.{CProgram}
 use Rattle.c_types.specs.Programs.{IsProgram}
 use Rattle.c_check.specs.Programs.{faults}
-use Rattle.c_scope.specs.Least.{IsFirst}
-use Rattle.c_scope.specs.declared.fault.Fault.{Fault}
+use Rattle.c_check_expr.specs.Least.{IsFirst}
+use Rattle.c_check_expr.specs.declared.fault.Fault.{Fault}
 
 -- a token lies in its text, so the least of the two is its place
 pub record IsFirstIn (text : List ℕ) (faults : List Fault) (found : SourceFault) : Type 0 where

@@ -10,9 +10,9 @@ use Rattle.c_program.specs.declared.program.Parameter.{Parameter}
 use Rattle.c_program.specs.declared.program.ParameterKind.{ParameterKind}
 use Rattle.c_program.specs.declared.program.ParameterKind.TheVariants as k
 use Rattle.c_check.specs.Programs.{after_parameters, after_top, heads_of, is_main, parameter_name, text_env}
-use Rattle.c_scope.specs.Scopes.{Env, cut, opened}
-use Rattle.c_scope.specs.Signatures.{is_int, parameters_listed}
-use Rattle.c_blocks.specs.Statements.{AreParts}
+use Rattle.c_check_expr.specs.Scopes.{Env, cut, opened}
+use Rattle.c_check_expr.specs.Signatures.{is_int, parameters_listed}
+use Rattle.c_type_stmt.specs.Statements.{AreParts}
 
 abbrev pub parameter_kind : t.Parameter → ParameterKind
 parameter_kind (t.int word name) = k.Int

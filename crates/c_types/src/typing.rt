@@ -9,12 +9,12 @@ ghost use Rattle.c_lex.specs.Places.{IsPlaceOf};
 ghost use Rattle.c_lex.specs.declared.fault.SourceFault.{SourceFault};
 ghost use Rattle.c_program.specs.declared.program.CProgram.{CProgram};
 ghost use Rattle.c_check.specs.Programs.{after_parameter, after_parameters, after_top, faults, function_faults, heads_of, is_main, parameter_name, top_faults, tops_faults, with_head};
-ghost use Rattle.c_scope.specs.Signatures.{parameters_listed};
+ghost use Rattle.c_check_expr.specs.Signatures.{parameters_listed};
 ghost use Rattle.c_types.specs.Checks.{IsFaultOf, IsFirstIn, IsProgramOf};
 ghost use Rattle.c_types.specs.Programs.{AreFunctions, AreParameters, IsFunction, IsFunctionOf, IsParameter, IsProgram, parameter_kind};
 
-use c_blocks::statement_of::parts_of;
-use c_call_check::call::{is_int, parameter_at, parameter_count};
+use c_type_stmt::statement_of::parts_of;
+use c_check_call::call::{is_int, parameter_at, parameter_count};
 use c_check::program::{
     define_value, first_fault, is_main, parameter_name, parameter_thing, text_scope,
 };
@@ -23,9 +23,9 @@ use c_grammar::statement::{Head, Top, Tree};
 use c_lex::{SourceFault, fault_at, tokens};
 use c_parse::parse;
 use c_program::program::{CProgram, Function, Parameter, ParameterKind};
-use c_scope::fault::Fault;
-use c_scope::scope::{Scope, cut};
-use c_scope::thing::Thing;
+use c_check_expr::fault::Fault;
+use c_check_expr::scope::{Scope, cut};
+use c_check_expr::thing::Thing;
 use std::alloc::{AllocError, Global};
 use wiz_base::Bytes;
 

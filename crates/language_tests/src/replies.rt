@@ -1,6 +1,6 @@
 //! Effects over replies, worked out by hand from the standard.
 use crate::stores::with_array;
-use c_cells::store::Store;
+use c_run_cells::store::Store;
 use c_eval::outcome::{Replies, Stop};
 use c_eval::perform::perform;
 use c_program::effect::{Answer, Effect, Message, Rank, Receive, Start};

@@ -1,12 +1,12 @@
 //! A store to begin with.
-use c_cells::store::{Store, width_of};
+use c_run_cells::store::{Store, width_of};
 use c_names::kind::Kind;
 use std::alloc::Global;
 use std::test::Fail;
 use wiz_base::Bytes;
 
 /// A variable more.
-#[tactic(auto, using(c_cells::proofs::StoreLaws::cells_counted))]
+#[tactic(auto, using(c_run_cells::proofs::StoreLaws::cells_counted))]
 pub fn declare<'p>(
     store: &mut Store<'p>,
     name: &'p Bytes,

@@ -1,7 +1,7 @@
 //! Values worked out by hand, and what C's `printf` prints.
 use crate::stores::declare;
-use c_cells::print::text_of;
-use c_cells::store::Store;
+use c_run_cells::print::text_of;
+use c_run_cells::store::Store;
 use c_names::format::pieces;
 use c_names::kind::Kind;
 use c_names::operator::Operator;

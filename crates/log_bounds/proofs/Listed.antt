@@ -153,7 +153,7 @@ are_taken n before me (Take starts mode) items free shape gots =
     let two = and_parts (rises 0 (length starts) (indices_of items)) (list_all (λ k. can_take own k) starts && gots_fit n own me starts items) one.1 in
     let many = few_items (length starts) 0 items (omega arith) two.0 in
     record { gots = gots; once = taken_once starts items 0 (listed_once own [] starts good).0 two.0; few = omega (arith, many) }
-are_taken n before me (Send comm dest tag ints) items free shape gots = absurd (let h : false ≡ true = shape in cc)
+are_taken n before me (Send comm dest tag ints sync) items free shape gots = absurd (let h : false ≡ true = shape in cc)
 are_taken n before me (Post comm source tag room) items free shape gots = absurd (let h : false ≡ true = shape in cc)
 are_taken n before me (Enter comm kind root op count ints) items free shape gots = absurd (let h : false ≡ true = shape in cc)
 are_taken n before me (Peek comm source tag wait) items free shape gots = absurd (let h : false ≡ true = shape in cc)

@@ -66,7 +66,7 @@ items_listed next n before event (Took items) lawful run step is = (reply_taken 
 
 few_listed : (n got : ℕ) (call : Call) → IsInBounds n got call → length (listed_by call) ≤ 1000000
 few_listed n got (Take starts mode) bounds = bounds.1
-few_listed n got (Send comm dest tag ints) bounds = omega arith
+few_listed n got (Send comm dest tag ints sync) bounds = omega arith
 few_listed n got (Post comm source tag room) bounds = omega arith
 few_listed n got (Enter comm kind root op count ints) bounds = omega arith
 few_listed n got (Peek comm source tag wait) bounds = omega arith

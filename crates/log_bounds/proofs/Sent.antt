@@ -38,7 +38,7 @@ use Rattle.log_bounds.proofs.Sums.{sum_has, sum_over, sum_part, sum_swap, sum_wi
 -- the start of rank `me` that needs a start of rank m: the receive that a Send is paired with, and rank `me`'s Enter of the
 -- instance that an Enter is of
 abbrev owner : ℕ → List Event → ℕ → ℕ → ℕ → Call → Option ℕ
-owner n before me m number (Send comm dest tag ints) = option_map (λ (name : Name). name.1) (partner_of (pairs_of before) (m, number))
+owner n before me m number (Send comm dest tag ints sync) = option_map (λ (name : Name). name.1) (partner_of (pairs_of before) (m, number))
 owner n before me m number (Enter comm kind root op count ints) =
     option_map (λ (one : Entered). one.number) (enter_at n (view_of before me) comm (instance_of (view_of before m) number comm))
 owner n before me m number call = None
@@ -61,7 +61,7 @@ record Before (n : ℕ) (before : List Event) (me : ℕ) : Type 0 where
 message_given : (n : ℕ) (before : List Event) (me k : ℕ) (got : Got) → Before n before me → IsMessage before me k got → size_of_got got ≤ given n before me k
 message_given n before me k got b is =
     let sender : ℕ = is.send.0 in
-    let sent : Call = Send is.comm is.dest is.tag is.ints in
+    let sent : Call = Send is.comm is.dest is.tag is.ints is.sync in
     let below : sender < n = elim (cases_lt sender n) [
       | inl less ↦ less
       | inr above ↦ (let no : None ≡ Some sent = rw (b.empty.empty sender above) at is.sent in absurd (cc))
@@ -204,7 +204,7 @@ collected_given n before me k enter got b is at got_is =
 got_given : (n : ℕ) (before : List Event) (me k : ℕ) (start : Option Call) (got : Got) → Before n before me → start_at (view_of before me) k ≡ start
     → IsGot n before (view_of before me) me k start got → size_of_got got ≤ given n before me k
 got_given n before me k None got b at is = absurd is
-got_given n before me k (Some (Send comm dest tag ints)) got b at is = (let size = ap size_of_got is in omega (arith, size))
+got_given n before me k (Some (Send comm dest tag ints sync)) got b at is = (let size = ap size_of_got is in omega (arith, size))
 got_given n before me k (Some (Post comm Null tag room)) got b at is = (let size = ap size_of_got is in omega (arith, size))
 got_given n before me k (Some (Post comm Any tag room)) got b at is = message_given n before me k got b is
 got_given n before me k (Some (Post comm (From source) tag room)) got b at is = message_given n before me k got b is

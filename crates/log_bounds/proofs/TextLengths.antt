@@ -119,7 +119,7 @@ marks_kept n group me own starts (item ∷ items) =
     record { many = ap suc rest.many; size = omega (arith, first, more) }
 
 done_none : (call : Call) → (items_of_entry (entry_of_done call) ≡ 0) × (size_of_entry (entry_of_done call) ≡ 0)
-done_none (Send comm dest tag ints) = (refl, refl)
+done_none (Send comm dest tag ints sync) = (refl, refl)
 done_none (Post comm source tag room) = (refl, refl)
 done_none (Enter comm kind root op count ints) = (refl, refl)
 done_none call = (refl, refl)

@@ -80,7 +80,7 @@ next_started ranks at rank call old new started may is = next_as (is_enter call)
 
 -- which calls start
 pub message_starting : (call : Call) → is_message call ≡ true → is_starting call ≡ true
-message_starting (Send comm dest tag ints) h = refl
+message_starting (Send comm dest tag ints sync) h = refl
 message_starting (Post comm source tag room) h = refl
 message_starting call h = absurd (cc)
 

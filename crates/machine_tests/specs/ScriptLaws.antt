@@ -36,7 +36,7 @@ is_end call = false
 
 no_end : (n me : ℕ) (replies : List Reply) (call : Call) → is_fine n me replies call ≡ true → is_end call ≡ false
 no_end n me replies End h = absurd (cc)
-no_end n me replies (Send comm dest tag ints) h = refl
+no_end n me replies (Send comm dest tag ints sync) h = refl
 no_end n me replies (Post comm source tag room) h = refl
 no_end n me replies (Enter comm kind root op count ints) h = refl
 no_end n me replies (Take starts mode) h = refl
@@ -118,7 +118,7 @@ plain call NotYet c r = refl
 plain call (Took items) c r = refl
 plain call (Peeked source start tag count) c r = refl
 plain End Done c r = absurd (cc)
-plain (Send comm dest tag ints) Done c r = refl
+plain (Send comm dest tag ints sync) Done c r = refl
 plain (Post comm source tag room) Done c r = refl
 plain (Enter comm kind root op count ints) Done c r = refl
 plain (Take starts mode) Done c r = refl
@@ -325,7 +325,7 @@ fine_enter_of n me own comm kind root op count ints h =
     fine_enter n me own comm kind root op count ints both.0 both.1
 
 in_bounds : (n me got : ℕ) (own : View) (call : Call) → is_fine n me (replies_in own) call ≡ true → IsInBounds n got call
-in_bounds n me got own (Send comm dest tag ints) h =
+in_bounds n me got own (Send comm dest tag ints sync) h =
     let one = and_parts (nat_lt dest n) (nat_lt tag 2147483648 && nat_le (length ints) 65536) h in
     let two = and_parts (nat_lt tag 2147483648) (nat_le (length ints) 65536) one.1 in
     let low = ltb-true tag 2147483648 two.0 in
@@ -347,7 +347,7 @@ in_bounds n me got own End h = tt
 
 in_form : (n me : ℕ) (own : View) (call : Call) → is_fine n me (replies_in own) call ≡ true → IsInForm n own me call
 in_form n me own (Enter comm kind root op count ints) h = (fine_enter_of n me own comm kind root op count ints h).1
-in_form n me own (Send comm dest tag ints) h = tt
+in_form n me own (Send comm dest tag ints sync) h = tt
 in_form n me own (Post comm source tag room) h = tt
 in_form n me own (Take starts mode) h = tt
 in_form n me own (Peek comm source tag wait) h = tt

@@ -55,7 +55,7 @@ has_parts n me comm kind root op count ints = false
 
 -- the call may stand in a script of rank `me` of n, where it was answered this
 abbrev pub is_fine : ℕ → ℕ → List Reply → Call → Bool
-is_fine n me replies (Send comm dest tag ints) = nat_lt dest n && (nat_lt tag 2147483648 && nat_le (length ints) 65536)
+is_fine n me replies (Send comm dest tag ints sync) = nat_lt dest n && (nat_lt tag 2147483648 && nat_le (length ints) 65536)
 is_fine n me replies (Post comm source tag room) = is_open_source source && is_fine_tag tag
 is_fine n me replies (Enter comm kind root op count ints) = is_known comm replies && has_parts n me comm kind root op count (length ints)
 is_fine n me replies (Take starts mode) = nat_lt 0 (length starts) && (nat_le (length starts) 1000000 && list_all (λ k. nat_lt k 1000000) starts)

@@ -71,7 +71,7 @@ choice_of events starts rank call (Some at) knows e =
     )
 
 message_starts : (call : Call) → is_message call ≡ true → is_start (call, Done) ≡ true
-message_starts (Send comm dest tag ints) h = refl
+message_starts (Send comm dest tag ints sync) h = refl
 message_starts (Post comm source tag room) h = refl
 message_starts call h = absurd (cc)
 

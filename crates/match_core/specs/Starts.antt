@@ -8,7 +8,7 @@ use Rattle.run_model.specs.Pairs.{post_accepts}
 use Rattle.match_core.specs.declared.start.Start.{Start}
 
 abbrev pub is_send : Call → Bool
-is_send (Send comm dest tag ints) = true
+is_send (Send comm dest tag ints sync) = true
 is_send call = false
 
 abbrev pub is_post : Call → Bool
@@ -21,19 +21,19 @@ is_peek call = false
 
 -- the starts that are matched
 abbrev pub is_message : Call → Bool
-is_message (Send comm dest tag ints) = true
+is_message (Send comm dest tag ints sync) = true
 is_message (Post comm source tag room) = true
 is_message call = false
 
 -- a Send or Post as it is kept: matching does not read a message's ints
 abbrev pub without_ints : Call → Call
-without_ints (Send comm dest tag ints) = Send comm dest tag []
+without_ints (Send comm dest tag ints sync) = Send comm dest tag [] sync
 without_ints (Post comm source tag room) = Post comm source tag room
 without_ints call = End
 
 -- a call of `rank` fits a start of `owner`: a Send fits a Post that accepts it, a Post or Peek fits a Send that it accepts
 abbrev pub fits : ℕ → Call → ℕ → Call → Bool
-fits rank (Send comm dest tag ints) owner start = post_accepts owner start rank (Send comm dest tag ints)
+fits rank (Send comm dest tag ints sync) owner start = post_accepts owner start rank (Send comm dest tag ints sync)
 fits rank (Peek comm source tag wait) owner start = accepts rank comm source tag owner start
 fits rank call owner start = post_accepts rank call owner start
 

@@ -21,6 +21,6 @@ tag_agrees (Is tag) sent = tag == sent
 
 -- a receive or probe of `rank` accepts this call of `sender`: a Send on its communicator, to it, from its source, with its tag
 abbrev pub accepts : ℕ → ℕ → Source → Tag → ℕ → Call → Bool
-accepts rank comm source tag sender (Send c dest t ints) =
+accepts rank comm source tag sender (Send c dest t ints sync) =
     (c == comm) && ((dest == rank) && (source_agrees source sender && tag_agrees tag t))
 accepts rank comm source tag sender call = false

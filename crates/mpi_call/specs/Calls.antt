@@ -12,7 +12,7 @@ comm_of call = 0
 
 -- the ints that a call carries: a message's, or those entered
 abbrev pub ints_of : Call → List ℤ
-ints_of (Send comm dest tag ints) = ints
+ints_of (Send comm dest tag ints sync) = ints
 ints_of (Enter comm kind root op count ints) = ints
 ints_of call = []
 
@@ -33,7 +33,7 @@ makes call = false
 
 -- the calls that begin an operation: a send, a receive or a collective
 abbrev pub is_starting : Call → Bool
-is_starting (Send comm dest tag ints) = true
+is_starting (Send comm dest tag ints sync) = true
 is_starting (Post comm source tag room) = true
 is_starting (Enter comm kind root op count ints) = true
 is_starting call = false

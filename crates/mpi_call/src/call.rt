@@ -116,12 +116,14 @@ pub enum Halt {
 /// A primitive call.
 #[derive(Clone, Drop, PartialEq)]
 pub enum Call {
-    /// A standard send, always buffered: its ints are read as the call starts, at most 65,536 of them.
+    /// A send; its ints are read as the call starts, at most 65,536 of them. A standard send is always buffered, so it is
+    /// complete at once; with `sync` it is complete when a receive has matched it.
     Send {
         comm: Comm,
         dest: u8,
         tag: u32,
         ints: Ints,
+        sync: bool,
     },
     /// A receive of at most `room` ints.
     Post {

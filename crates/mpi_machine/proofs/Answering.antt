@@ -75,8 +75,8 @@ free_answered n events me call reply d p a = record { go = rw (d, p) refl; reply
 -- a start is answered at once: an Enter that agrees with those of its instance, a Send and a Post
 pub start_answered : (n : ℕ) (events : List Event) (me : ℕ) (call : Call) → bound_of events ≡ None → is_starting call ≡ true
     → (is_enter call ≡ true → is_mismatched n events (view_of events me) call ≡ false) → Answered n events me call Done
-start_answered n events me (Send comm dest tag ints) free h agrees =
-    free_answered n events me (Send comm dest tag ints) Done (due_free n events (view_of events me) me (Send comm dest tag ints) free) refl refl
+start_answered n events me (Send comm dest tag ints sync) free h agrees =
+    free_answered n events me (Send comm dest tag ints sync) Done (due_free n events (view_of events me) me (Send comm dest tag ints sync) free) refl refl
 start_answered n events me (Post comm source tag room) free h agrees =
     free_answered n events me (Post comm source tag room) Done (due_free n events (view_of events me) me (Post comm source tag room) free) refl refl
 start_answered n events me (Enter comm kind root op count ints) free h agrees =
@@ -93,7 +93,7 @@ pub mismatch_answered : (n : ℕ) (events : List Event) (me : ℕ) (call : Call)
     → is_mismatched n events (view_of events me) call ≡ true → Answered n events me call (Stopped (Mismatched me))
 mismatch_answered n events me (Enter comm kind root op count ints) free h other =
     halt_answered n events me (Enter comm kind root op count ints) (Mismatched me) free (rw other refl)
-mismatch_answered n events me (Send comm dest tag ints) free h other = absurd (cc)
+mismatch_answered n events me (Send comm dest tag ints sync) free h other = absurd (cc)
 mismatch_answered n events me (Post comm source tag room) free h other = absurd (cc)
 mismatch_answered n events me (Take starts mode) free h other = absurd (cc)
 mismatch_answered n events me (Peek comm source tag wait) free h other = absurd (cc)
@@ -200,7 +200,7 @@ waits_go n events me (Peek comm source tag wait) all free h =
       | inl some ↦ rw (d, h, some.1) (peek_there n events me comm source tag wait some.0 all some.1)
       | inr none ↦ rw (d, h, none) (peek_missed n events me comm source tag wait none)
     ]
-waits_go n events me (Send comm dest tag ints) all free h = absurd (cc)
+waits_go n events me (Send comm dest tag ints sync) all free h = absurd (cc)
 waits_go n events me (Post comm source tag room) all free h = absurd (cc)
 waits_go n events me (Enter comm kind root op count ints) all free h = absurd (cc)
 waits_go n events me (Abort code) all free h = absurd (cc)

@@ -46,7 +46,7 @@ may_join next n events rank (Enter comm kind root op count ints) lawful chosen b
       has_me = (kept.instances.same.fine rank comm form.0 below form.1).has_me;
       form = form.2;
     }
-may_join next n events rank (Send comm dest tag ints) lawful chosen below h form = absurd (cc)
+may_join next n events rank (Send comm dest tag ints sync) lawful chosen below h form = absurd (cc)
 may_join next n events rank (Post comm source tag room) lawful chosen below h form = absurd (cc)
 may_join next n events rank (Take starts mode) lawful chosen below h form = absurd (cc)
 may_join next n events rank (Peek comm source tag wait) lawful chosen below h form = absurd (cc)

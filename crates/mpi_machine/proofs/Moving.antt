@@ -95,7 +95,7 @@ and_no false = refl
 pub last_idle : (rank : ℕ) (call : Call) (halt : Option Halt) → ends (call, last_reply halt) ≡ true → IsIdle (event_with rank call (last_reply halt) None)
 last_idle rank call (Some halt) h = record { no_start = and_no (is_starting call); none_taken = refl; alone = refl }
 last_idle rank End None h = record { no_start = refl; none_taken = refl; alone = refl }
-last_idle rank (Send comm dest tag ints) None h = absurd (cc)
+last_idle rank (Send comm dest tag ints sync) None h = absurd (cc)
 last_idle rank (Post comm source tag room) None h = absurd (cc)
 last_idle rank (Enter comm kind root op count ints) None h = absurd (cc)
 last_idle rank (Take starts mode) None h = absurd (cc)
@@ -114,7 +114,7 @@ more_takes events call reply other e h t =
     sym h ∙ parts.0
 
 pub starting_more : (call : Call) → is_starting call ≡ true → ends (call, Done) ≡ false
-starting_more (Send comm dest tag ints) h = refl
+starting_more (Send comm dest tag ints sync) h = refl
 starting_more (Post comm source tag room) h = refl
 starting_more (Enter comm kind root op count ints) h = refl
 starting_more (Take starts mode) h = absurd (cc)
@@ -125,7 +125,7 @@ starting_more End h = absurd (cc)
 
 peeked_in_more : (call : Call) (send : Name) (found : Option Call) → ends (call, peeked_in send found) ≡ false
 peeked_in_more call send None = refl
-peeked_in_more call send (Some (Send comm dest tag ints)) = refl
+peeked_in_more call send (Some (Send comm dest tag ints sync)) = refl
 peeked_in_more call send (Some (Post comm source tag room)) = refl
 peeked_in_more call send (Some (Enter comm kind root op count ints)) = refl
 peeked_in_more call send (Some (Take starts mode)) = refl

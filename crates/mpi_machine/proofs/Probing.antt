@@ -63,14 +63,14 @@ peeked_from events at name event h there =
     ap (peeked_at events) h ∙ ap (peeked_in name) (named_at events at name event h there).made
 
 pub peeked_is : (events : List Event) (at : ℕ) (name : Name) (event : Event) (comm dest tag : ℕ) (ints : List ℤ) (number count : ℕ) → name_at events at ≡ Some name
-    → slice_get events at ≡ Some event → event.call ≡ Send comm dest tag ints → number ≡ name.1 → count ≡ length ints
+    → slice_get events at ≡ Some event → event.call ≡ Send comm dest tag ints sync → number ≡ name.1 → count ≡ length ints
     → Peeked event.rank number tag count ≡ peeked_at events (name_at events at)
 peeked_is events at name event comm dest tag ints number count h there call_is number_is count_is =
     let rank_is = (named_at events at name event h there).rank in
     rw (rank_is, number_is, count_is) (sym (peeked_from events at name event h there ∙ ap (λ (c : Call). peeked_in name (Some c)) call_is))
 
-no_send : (name : Name) (call : Call) → ((comm dest tag : ℕ) (ints : List ℤ) → call ≡ Send comm dest tag ints → ⊥) → peeked_in name (Some call) ≡ NotYet
-no_send name (Send comm dest tag ints) h = absurd (h comm dest tag ints refl)
+no_send : (name : Name) (call : Call) → ((comm dest tag : ℕ) (ints : List ℤ) (sync : Bool) → call ≡ Send comm dest tag ints sync → ⊥) → peeked_in name (Some call) ≡ NotYet
+no_send name (Send comm dest tag ints sync) h = absurd (h comm dest tag ints refl)
 no_send name (Post comm source tag room) h = refl
 no_send name (Enter comm kind root op count ints) h = refl
 no_send name (Take starts mode) h = refl
@@ -80,7 +80,7 @@ no_send name (Trap fault) h = refl
 no_send name End h = refl
 
 pub peeked_none : (events : List Event) (at : ℕ) (name : Name) (event : Event) → name_at events at ≡ Some name → slice_get events at ≡ Some event
-    → ((comm dest tag : ℕ) (ints : List ℤ) → event.call ≡ Send comm dest tag ints → ⊥) → NotYet ≡ peeked_at events (name_at events at)
+    → ((comm dest tag : ℕ) (ints : List ℤ) (sync : Bool) → event.call ≡ Send comm dest tag ints sync → ⊥) → NotYet ≡ peeked_at events (name_at events at)
 peeked_none events at name event h there none = sym (peeked_from events at name event h there ∙ no_send name event.call none)
 
 pub probe_starts : (events : List Event) (rank : ℕ) (call : Call) (at : ℕ) → choice events rank call ≡ Some at → IsStartAt events at

@@ -5,15 +5,15 @@ use Rattle.mpi_call.specs.declared.reply.Reply.{Reply}
 use Rattle.c_program.specs.declared.effect.Rank.{Rank}
 use Rattle.c_program.specs.Performing.{Onward}
 use Rattle.c_program.specs.State.{State}
-use Rattle.c_questions.specs.Questions.{reached}
-use Rattle.c_questions.proofs.MoreReplies.{live-variables, shaped-more}
+use Rattle.c_run_replies.specs.Questions.{reached}
+use Rattle.c_run_replies.proofs.MoreReplies.{live-variables, shaped-more}
 use Rattle.run_model.specs.Program.{MayGive, Says}
 use Rattle.c_program.specs.declared.program.CProgram.{CProgram}
 use Rattle.c_program.specs.Courses.{Course, after, behind, call_in, ended, listed_of, state_in, variables_in}
 use Rattle.c_program.specs.Meaning.{call_at, course_of, start}
 use Rattle.c_program.specs.Program.{course_after, next_of}
-use Rattle.c_questions.specs.declared.question.Reached.{Reached}
-use Rattle.c_questions.specs.declared.question.Reached.TheVariants.{Done, Asks as AsksQuestion, Over as OverHere}
+use Rattle.c_run_replies.specs.declared.question.Reached.{Reached}
+use Rattle.c_run_replies.specs.declared.question.Reached.TheVariants.{Done, Asks as AsksQuestion, Over as OverHere}
 use Rattle.rank_machine.specs.declared.frame.Code.{Code}
 use Rattle.rank_machine.specs.declared.going.Going.{Going}
 use Rattle.rank_machine.specs.Frames.{IsAt, within}

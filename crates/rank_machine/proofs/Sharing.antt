@@ -12,7 +12,7 @@ use Rattle.c_program.proofs.state.Mark.TheSendSync as mark
 use Rattle.rank_machine.proofs.frame.Called.TheSendSync as called
 use Rattle.mpi_call.proofs.reply.Reply.TheSendSync as reply
 use Rattle.std.proofs.option.Option.TheSendSync as option
-use Rattle.c_questions.proofs.question.Reached.TheSendSync as reached
+use Rattle.c_run_replies.proofs.question.Reached.TheSendSync as reached
 use Rattle.rank_machine.specs.contracts.frame.Code as Code
 use Rattle.rank_machine.specs.contracts.frame.Frame as Frame
 use Rattle.rank_machine.specs.contracts.frame.Loop as Loop
@@ -20,7 +20,7 @@ use Rattle.rank_machine.specs.contracts.going.Going as Going
 use Rattle.rank_machine.specs.contracts.rank.MachineRank as MachineRank
 use Rattle.rank_machine.specs.contracts.rank.MachineRank.TheInside as Inside
 use Rattle.rank_machine.specs.contracts.stack.Stack as Stack
-use Rattle.c_cells.specs.contracts.store.Store as Store
+use Rattle.c_run_cells.specs.contracts.store.Store as Store
 
 pub item_field : IsSync (Item.the_field).row
 item_field = search (right_field, expr_field, kind.the_field_sync, crosses, sendable) depth 60

@@ -15,13 +15,13 @@ use Rattle.c_program.specs.Courses.{Course, trapped}
 use Rattle.c_program.specs.Meaning.{Exits, Meaning, Passing, act, act_list, act_part, call_at, declare_all, exits_to, for_update, invoke, started, step, test, turn_exits, turns}
 use Rattle.c_program.specs.Performing.{Onward}
 use Rattle.c_program.specs.State.{State, mark_of, put}
-use Rattle.c_parts.specs.Comes.{Fails, Leads}
-use Rattle.c_parts.specs.Parts.{entered}
-use Rattle.c_parts.proofs.PartLaws.{entering}
-use Rattle.c_parts.specs.declared.fail.Fail.{Fail}
-use Rattle.c_questions.specs.Questions.{reached}
-use Rattle.c_questions.specs.declared.question.Reached.{Reached}
-use Rattle.c_questions.specs.declared.question.Reached.TheVariants.{Done}
+use Rattle.c_run_parts.specs.Comes.{Fails, Leads}
+use Rattle.c_run_parts.specs.Parts.{entered}
+use Rattle.c_run_parts.proofs.PartLaws.{entering}
+use Rattle.c_run_parts.specs.declared.fail.Fail.{Fail}
+use Rattle.c_run_replies.specs.Questions.{reached}
+use Rattle.c_run_replies.specs.declared.question.Reached.{Reached}
+use Rattle.c_run_replies.specs.declared.question.Reached.TheVariants.{Done}
 use Rattle.rank_machine.specs.declared.frame.Called.{Called as CalledHere}
 use Rattle.rank_machine.specs.declared.frame.Code.{Code}
 use Rattle.rank_machine.specs.declared.frame.Frame.{Frame}

@@ -14,11 +14,11 @@ use Rattle.c_program.specs.Courses.{Course, ended}
 use Rattle.c_program.specs.Meaning.{Calls, Exits, Meaning, Passing, act, act_list, call_at, choose, declare_all, exits_to, for_start, for_update, leaving, put_values, started, test, trying, turns}
 use Rattle.c_program.specs.Performing.{Onward}
 use Rattle.c_program.specs.State.{State, leave, mark_of, put}
-use Rattle.c_parts.specs.Comes.{Fails}
-use Rattle.c_parts.specs.Parts.{assigned}
-use Rattle.c_parts.specs.declared.fail.Fail.{Fail}
-use Rattle.c_questions.specs.Questions.{reached}
-use Rattle.c_questions.specs.declared.question.Reached.{Reached}
+use Rattle.c_run_parts.specs.Comes.{Fails}
+use Rattle.c_run_parts.specs.Parts.{assigned}
+use Rattle.c_run_parts.specs.declared.fail.Fail.{Fail}
+use Rattle.c_run_replies.specs.Questions.{reached}
+use Rattle.c_run_replies.specs.declared.question.Reached.{Reached}
 use Rattle.rank_machine.specs.declared.frame.Called.{Called as CalledHere}
 use Rattle.rank_machine.specs.declared.frame.Code.{Code}
 use Rattle.rank_machine.specs.declared.frame.Frame.{Frame}

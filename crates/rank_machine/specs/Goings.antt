@@ -6,9 +6,9 @@ use Rattle.c_program.specs.Courses.{Course, after}
 use Rattle.c_program.specs.Meaning.{course_of}
 use Rattle.c_program.specs.Program.{course_after}
 use Rattle.c_program.specs.State.{State}
-use Rattle.c_questions.specs.Questions.{call_of}
-use Rattle.c_questions.specs.declared.question.Reached.{Reached}
-use Rattle.c_questions.specs.declared.question.Reached.TheVariants.{Done, Asks, Over}
+use Rattle.c_run_replies.specs.Questions.{call_of}
+use Rattle.c_run_replies.specs.declared.question.Reached.{Reached}
+use Rattle.c_run_replies.specs.declared.question.Reached.TheVariants.{Done, Asks, Over}
 use Rattle.run_model.specs.declared.program.Want.{Want}
 use Rattle.run_model.specs.declared.program.Want.TheVariants.{Ask, Ended}
 use Rattle.rank_machine.specs.declared.frame.Code.{Code}

@@ -3,17 +3,17 @@ ghost use Rattle.std.specs.Prelude.{◌≡◌, ◌≢◌, ◌≤◌, ◌∷◌, 
 ghost use Rattle.c_program.specs.declared.state.Passed.TheVariants.{Number};
 ghost use Rattle.c_program.specs.Courses.{Course, ended};
 ghost use Rattle.c_program.specs.Meaning.{call_at, start};
-ghost use Rattle.c_questions.specs.declared.question.Reached.TheVariants.{Done};
+ghost use Rattle.c_run_replies.specs.declared.question.Reached.TheVariants.{Done};
 ghost use Rattle.rank_machine.specs.Frames.{IsAt, IsOpen, Stands};
 ghost use Rattle.rank_machine.specs.Goings.{HasCaughtUp};
 
 use crate::frame::{Code, Target};
 use crate::stack::Stack;
-use c_cells::store::Store;
-use c_parts::fail::Fail;
+use c_run_cells::store::Store;
+use c_run_parts::fail::Fail;
 use c_program::state::Passed;
-use c_questions::question::{Question, Reached};
-use c_questions::reply::reply_to;
+use c_run_replies::question::{Question, Reached};
+use c_run_replies::reply::reply_to;
 use mpi_call::reply::Reply;
 use std::alloc::AllocError;
 

@@ -2,19 +2,19 @@
 ghost use Rattle.std.specs.Prelude.{◌≡◌, ◌≤◌, ◌+◌, suc, OnOk};
 ghost use Rattle.c_program.specs.Meaning.{invoke, right};
 ghost use Rattle.c_program.specs.State.{leave};
-ghost use Rattle.c_parts.specs.Parts.{mpi};
+ghost use Rattle.c_run_parts.specs.Parts.{mpi};
 ghost use Rattle.rank_machine.specs.Frames.{Ends, IsOpen, Stands, calls_in, given_to, weight, within};
 
 use crate::frame::{Called, Code, Frame, Target};
-use c_cells::store::Store;
-use c_effects::effects::effect_of;
-use c_parts::fail::Fail;
-use c_parts::parts::{arguments_of, enter, function_at, put_assigned, take_step};
+use c_run_cells::store::Store;
+use c_run_effects::effects::effect_of;
+use c_run_parts::fail::Fail;
+use c_run_parts::parts::{arguments_of, enter, function_at, put_assigned, take_step};
 use c_program::expr::{Call, Right};
 use c_program::mpi::MpiCall;
 use c_program::state::Passed;
-use c_questions::ask::ask;
-use c_questions::question::{Question, Reached};
+use c_run_replies::ask::ask;
+use c_run_replies::question::{Question, Reached};
 use mpi_call::call::Fault;
 
 /// What stands: the places that are open, the innermost last, how many calls are open, and the store.

@@ -1,18 +1,18 @@
 //! Statements: what each does at once, and what it opens.
 ghost use Rattle.std.specs.Prelude.{◌≡◌, ◌≢◌, ◌≤◌, ◌<◌, ◌+◌, ◌*◌, OnOk, IfOk, option_copied};
 ghost use Rattle.c_program.specs.Meaning.{act, act_part, declare, declare_all, for_update, loop_after, return, simple, started, test, trying};
-ghost use Rattle.c_questions.specs.declared.question.Reached.TheVariants.{Done};
-ghost use Rattle.c_parts.specs.Comes.{Does};
+ghost use Rattle.c_run_replies.specs.declared.question.Reached.TheVariants.{Done};
+ghost use Rattle.c_run_parts.specs.Comes.{Does};
 ghost use Rattle.rank_machine.specs.Frames.{IsOpen, Stands, begun_value, call_in, calls_in, chosen, for_of, looping, turns_at, weight, within};
 
 use crate::frame::{Code, Frame, Loop, Target};
 use crate::stack::Stack;
-use c_cells::store::Store;
-use c_parts::fail::Fail;
-use c_parts::parts::{add, print, put_values_of, take_step};
+use c_run_cells::store::Store;
+use c_run_parts::fail::Fail;
+use c_run_parts::parts::{add, print, put_values_of, take_step};
 use c_program::expr::{Call, Expr, Right};
 use c_program::statement::{ForStart, Initial, Item, Part, Simple, Stmt};
-use c_questions::question::{Question, Reached};
+use c_run_replies::question::{Question, Reached};
 use mpi_call::call::Fault;
 
 impl<'p> Stack<'p> {

@@ -21,7 +21,7 @@ receive_at k = if k % 2 == 0 then Post 0 (From 0) (Is 0) 1 else Take (k / 2 ∷ 
 -- a rank's call with this number
 abbrev pub call_at : ℕ → ℕ → ℕ → ℕ → Call
 call_at messages n rank k =
-    if nat_lt k (calls_of messages n rank) then (if rank == 0 then Send 0 1 0 (pos 7 ∷ []) else receive_at k) else End
+    if nat_lt k (calls_of messages n rank) then (if rank == 0 then Send 0 1 0 (pos 7 ∷ []) false else receive_at k) else End
 
 abbrev pub is_stopped : Reply → Bool
 is_stopped (Stopped halt) = true

@@ -63,7 +63,7 @@ asked_is messages n rank own call asked =
 abbrev GoesOn : Call → Type 0
 GoesOn call = (reply : Reply) → is_stopped reply ≡ false → ends (call, reply) ≡ false
 
-send_goes_on : GoesOn (Send 0 1 0 (pos 7 ∷ []))
+send_goes_on : GoesOn (Send 0 1 0 (pos 7 ∷ []) false)
 send_goes_on Done live = refl
 send_goes_on (Took items) live = refl
 send_goes_on NotYet live = refl
@@ -90,13 +90,13 @@ chosen P true x y first second = first refl
 chosen P false x y first second = second refl
 
 -- and what holds of each call of the script holds of the one with a number
-call_cases : (P : Call → Type 0) (messages n rank k : ℕ) → (k < calls_of messages n rank → P (Send 0 1 0 (pos 7 ∷ []))) → (k < calls_of messages n rank → P (Post 0 (From 0) (Is 0) 1)) → (k < calls_of messages n rank → P (Take (k / 2 ∷ []) All)) → (calls_of messages n rank ≤ k → P End) → P (call_at messages n rank k)
+call_cases : (P : Call → Type 0) (messages n rank k : ℕ) → (k < calls_of messages n rank → P (Send 0 1 0 (pos 7 ∷ []) false)) → (k < calls_of messages n rank → P (Post 0 (From 0) (Is 0) 1)) → (k < calls_of messages n rank → P (Take (k / 2 ∷ []) All)) → (calls_of messages n rank ≤ k → P End) → P (call_at messages n rank k)
 call_cases P messages n rank k sends posts takes last =
     let calls : ℕ = calls_of messages n rank in
-    chosen P (ltb k calls) (if rank == 0 then Send 0 1 0 (pos 7 ∷ []) else receive_at k) End
+    chosen P (ltb k calls) (if rank == 0 then Send 0 1 0 (pos 7 ∷ []) false else receive_at k) End
     (λ more.
     let low = ltb-true k calls more in
-    chosen P (rank == 0) (Send 0 1 0 (pos 7 ∷ [])) (receive_at k)
+    chosen P (rank == 0) (Send 0 1 0 (pos 7 ∷ []) false) (receive_at k)
     (λ first. sends low)
     (λ other. chosen P (k % 2 == 0) (Post 0 (From 0) (Is 0) 1) (Take (k / 2 ∷ []) All) (λ even. posts low) (λ odd. takes low)))
     (λ over. last (ltb-false k calls over))

@@ -103,7 +103,7 @@ got_filled : (n : ℕ) (group : List ℕ) (before : List Event) (own : View) (me
     → start_at own k ≡ start → IsGot n before own me k start got
     → fill_mark n (within group (view_of before)) own me k (mark_of n group me own k got) ≡ Ok got
 got_filled n group before own me k None got at is = absurd is
-got_filled n group before own me k (Some (Send comm dest tag ints)) got at is = rw is
+got_filled n group before own me k (Some (Send comm dest tag ints sync)) got at is = rw is
 got_filled n group before own me k (Some (Post comm Null tag room)) got at is = rw is
 got_filled n group before own me k (Some (Post comm Any tag room)) got at is = message n group before own me k got is
 got_filled n group before own me k (Some (Post comm (From source) tag room)) got at is = message n group before own me k got is
@@ -125,7 +125,7 @@ gots_filled n group before own me starts (item ∷ items) are =
 pub filled_true : (n : ℕ) (group : List ℕ) (before : List Event) (own : View) (me : ℕ) (call : Call) (reply : Reply)
     → IsTrueReply n before own me call reply
     → filled n (within group (view_of before)) own me call (entry_of n group me own call reply) ≡ Ok reply
-filled_true n group before own me (Send comm dest tag ints) Done is = refl
+filled_true n group before own me (Send comm dest tag ints sync) Done is = refl
 filled_true n group before own me (Post comm source tag room) Done is = refl
 filled_true n group before own me (Enter comm kind root op count ints) Done is = refl
 filled_true n group before own me call Done is = refl

@@ -86,7 +86,7 @@ new-missing comm n V own me k (Some enter) =
 message-missing : (n : ℕ) (V : ℕ → View) (source start : ℕ) (o : Option Call) → start_at (V source) start ≡ o
     → first_missing n V (Start source start ∷ []) ≡ missing_in (message_from source start o)
 message-missing n V source start None e = rw e
-message-missing n V source start (Some (Send comm dest tag ints)) e = rw e
+message-missing n V source start (Some (Send comm dest tag ints sync)) e = rw e
 message-missing n V source start (Some (Post comm from tag room)) e = rw e
 message-missing n V source start (Some (Enter comm kind root op count ints)) e = rw e
 message-missing n V source start (Some (Take starts mode)) e = rw e
@@ -98,7 +98,7 @@ message-missing n V source start (Some End) e = rw e
 peeked-missing : (n : ℕ) (V : ℕ → View) (source start : ℕ) (o : Option Call) → start_at (V source) start ≡ o
     → first_missing n V (Start source start ∷ []) ≡ missing_in (peeked_from source start o)
 peeked-missing n V source start None e = rw e
-peeked-missing n V source start (Some (Send comm dest tag ints)) e = rw e
+peeked-missing n V source start (Some (Send comm dest tag ints sync)) e = rw e
 peeked-missing n V source start (Some (Post comm from tag room)) e = rw e
 peeked-missing n V source start (Some (Enter comm kind root op count ints)) e = rw e
 peeked-missing n V source start (Some (Take starts mode)) e = rw e

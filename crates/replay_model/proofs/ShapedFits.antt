@@ -95,7 +95,7 @@ mark_shaped : (n : ℕ) (group : List ℕ) (me : ℕ) (own : View) (k : ℕ) (st
     → start_at own k ≡ start → got_fits n own me start got ≡ true
     → mark_fits n group me own start (mark_of n group me own k got) ≡ true
 mark_shaped n group me own k None got member at h = absurd (cc)
-mark_shaped n group me own k (Some (Send comm dest tag ints)) Sent member at h = refl
+mark_shaped n group me own k (Some (Send comm dest tag ints sync)) Sent member at h = refl
 mark_shaped n group me own k (Some (Post comm Null tag room)) Nothing member at h = refl
 mark_shaped n group me own k (Some (Post comm Null tag room)) (Message source start t ints) member at h = absurd (cc)
 mark_shaped n group me own k (Some (Post comm Any tag room)) (Message source start t ints) member at h =
@@ -157,7 +157,7 @@ pub fits_shaped : (n : ℕ) (group : List ℕ) (me : ℕ) (own : View) (call : C
     → has_shape n me own call reply ≡ true → fits n group me own call (entry_of n group me own call reply) ≡ true
 unfolding fits
 fits_shaped n group me own call (Stopped halt) member h = h
-fits_shaped n group me own (Send comm dest tag ints) Done member h = refl
+fits_shaped n group me own (Send comm dest tag ints sync) Done member h = refl
 fits_shaped n group me own (Post comm source tag room) Done member h = refl
 fits_shaped n group me own (Enter comm kind root op count ints) Done member h = refl
 fits_shaped n group me own End Done member h = refl

@@ -132,7 +132,7 @@ mark_unbroken : (n : ℕ) (group : List ℕ) (before : List Event) (me k : ℕ) 
     → IsGot n before (view_of before me) me k start got → got_fits n (view_of before me) me start got ≡ true
     → break_mark n (within group (view_of before)) (view_of before me) me k (mark_of n group me (view_of before me) k got) ≡ None
 mark_unbroken n group before me k None got matched same at is fit = absurd is
-mark_unbroken n group before me k (Some (Send comm dest tag ints)) got matched same at is fit = rw is
+mark_unbroken n group before me k (Some (Send comm dest tag ints sync)) got matched same at is fit = rw is
 mark_unbroken n group before me k (Some (Post comm Null tag room)) got matched same at is fit = rw is
 mark_unbroken n group before me k (Some (Post comm Any tag room)) got matched same at is fit = message_unbroken n group before me k comm Any tag room got matched at is (message_short n (view_of before me) before me k comm Any tag room got is fit)
 mark_unbroken n group before me k (Some (Post comm (From other) tag room)) got matched same at is fit = message_unbroken n group before me k comm (From other) tag room got matched at is (message_short n (view_of before me) before me k comm (From other) tag room got is fit)
@@ -170,7 +170,7 @@ pub unbroken : (n : ℕ) (group : List ℕ) (before : List Event) (me : ℕ) (ca
     → SameInstances n (view_of before) → IsTrueReply n before (view_of before me) me call reply
     → has_shape n me (view_of before me) call reply ≡ true
     → broken n (within group (view_of before)) (view_of before me) me call (entry_of n group me (view_of before me) call reply) ≡ None
-unbroken n group before me (Send comm dest tag ints) Done matched same is shape = refl
+unbroken n group before me (Send comm dest tag ints sync) Done matched same is shape = refl
 unbroken n group before me (Post comm source tag room) Done matched same is shape = refl
 unbroken n group before me (Enter comm kind root op count ints) Done matched same is shape = refl
 unbroken n group before me call Done matched same is shape = refl

@@ -43,8 +43,8 @@ receive = Post 0 Any (Is 9) 1
 -- a wildcard receive, twice
 abbrev pub run3 : List Event
 run3 =
-    event 1 (Send 0 2 9 (pos 1 ∷ [])) Done None
-    ∷ event 0 (Send 0 2 9 (pos 0 ∷ [])) Done None
+    event 1 (Send 0 2 9 (pos 1 ∷ []) false) Done None
+    ∷ event 0 (Send 0 2 9 (pos 0 ∷ []) false) Done None
     ∷ event 1 End Done None
     ∷ event 2 receive Done (Some 0)
     ∷ event 0 End Done None
@@ -71,7 +71,7 @@ due3 : due 3 (take 5 run3) (view_of (take 5 run3) 2) 2 (Take (0 ∷ []) All) ≡
 due3 = refl
 
 -- a replay that has made rank 2's first event and rank 1's
-answer3 : answer_of (log_of [] 3 run3 (0 ∷ 1 ∷ 2 ∷ [])) None (view_of (event 1 (Send 0 2 9 (pos 1 ∷ [])) Done None ∷ event 2 receive Done None ∷ [])) ((receive, Done) ∷ []) 2 (Take (0 ∷ []) All) ≡ Replied (one 0 (Message 1 0 9 (pos 1 ∷ [])))
+answer3 : answer_of (log_of [] 3 run3 (0 ∷ 1 ∷ 2 ∷ [])) None (view_of (event 1 (Send 0 2 9 (pos 1 ∷ []) false) Done None ∷ event 2 receive Done None ∷ [])) ((receive, Done) ∷ []) 2 (Take (0 ∷ []) All) ≡ Replied (one 0 (Message 1 0 9 (pos 1 ∷ [])))
 unfolding fits
 answer3 = refl
 
@@ -81,7 +81,7 @@ unfolding fits
 wait3 = refl
 
 -- the named start is a Send to another rank
-diverged16 : answer_of (log_of [] 3 run3 (0 ∷ 1 ∷ 2 ∷ [])) None (view_of (event 1 (Send 0 0 9 (pos 1 ∷ [])) Done None ∷ event 2 receive Done None ∷ [])) ((receive, Done) ∷ []) 2 (Take (0 ∷ []) All) ≡ Diverged (record { rank = 2; call_number = 1; entry = marked 0 (Inside 1 0); call = Take (0 ∷ []) All; found = Some (record { rank = 1; start = 0; call = Send 0 0 9 (pos 1 ∷ []) }) })
+diverged16 : answer_of (log_of [] 3 run3 (0 ∷ 1 ∷ 2 ∷ [])) None (view_of (event 1 (Send 0 0 9 (pos 1 ∷ []) false) Done None ∷ event 2 receive Done None ∷ [])) ((receive, Done) ∷ []) 2 (Take (0 ∷ []) All) ≡ Diverged (record { rank = 2; call_number = 1; entry = marked 0 (Inside 1 0); call = Take (0 ∷ []) All; found = Some (record { rank = 1; start = 0; call = Send 0 0 9 (pos 1 ∷ []) false }) })
 unfolding fits
 diverged16 = refl
 
@@ -107,7 +107,7 @@ stuck9 = refl
 
 -- a probe finds a message
 abbrev run12 : List Event
-run12 = event 0 (Send 0 1 3 (pos 0 ∷ [])) Done None ∷ []
+run12 = event 0 (Send 0 1 3 (pos 0 ∷ []) false) Done None ∷ []
 
 open12 : has_open 2 run12 1 0 Any AnyTag ≡ true
 open12 = refl

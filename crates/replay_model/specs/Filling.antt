@@ -33,12 +33,12 @@ made_new comm n own me k enter (Err m) = Err (Member m (comm_of enter) (instance
 -- the message of a named start. Where that start is no Send any value serves: the entry breaks on it.
 abbrev pub message_from : ℕ → ℕ → Option Call → Result Got Missing
 message_from source start None = Err (Start source start)
-message_from source start (Some (Send comm dest tag ints)) = Ok (Message source start tag ints)
+message_from source start (Some (Send comm dest tag ints sync)) = Ok (Message source start tag ints)
 message_from source start (Some call) = Ok Nothing
 
 abbrev pub peeked_from : ℕ → ℕ → Option Call → Result Reply Missing
 peeked_from source start None = Err (Start source start)
-peeked_from source start (Some (Send comm dest tag ints)) = Ok (Peeked source start tag (length ints))
+peeked_from source start (Some (Send comm dest tag ints sync)) = Ok (Peeked source start tag (length ints))
 peeked_from source start (Some call) = Ok NotYet
 
 abbrev pub fill_inner : ℕ → (ℕ → View) → View → ℕ → ℕ → Option Call → Result Got Missing

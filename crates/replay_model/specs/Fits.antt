@@ -21,7 +21,7 @@ use Rattle.srr_entry.specs.Entries.{is_inner}
 -- tag and ints. A result from inside needs members of the group alone, one from outside does not.
 abbrev pub mark_fits : ℕ → List ℕ → ℕ → View → Option Call → Mark → Bool
 mark_fits n group me own None mark = false
-mark_fits n group me own (Some (Send comm dest tag ints)) MarkSent = true
+mark_fits n group me own (Some (Send comm dest tag ints sync)) MarkSent = true
 mark_fits n group me own (Some (Post comm Null tag room)) MarkNothing = true
 mark_fits n group me own (Some (Post comm from tag room)) (Inside source start) = source_agrees from source
 mark_fits n group me own (Some (Post comm from tag room)) (Outside source start t ints) =
@@ -47,7 +47,7 @@ marks_fit n group me own starts (marked ∷ marks) =
 -- an entry and the call that rank `me` makes after what it has seen. Abort and Trap fit a Stopped entry alone.
 unfoldable pub fits : ℕ → List ℕ → ℕ → View → Call → Entry → Bool
 fits n group me own call (EntryStopped halt) = halt_fits me call halt
-fits n group me own (Send comm dest tag ints) EntrySent = true
+fits n group me own (Send comm dest tag ints sync) EntrySent = true
 fits n group me own (Post comm source tag room) Posted = true
 fits n group me own (Enter comm kind root op count ints) Entered = true
 fits n group me own End Ended = true

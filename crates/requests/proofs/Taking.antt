@@ -195,7 +195,7 @@ taken_after n events state me starts mode items r k knows within out =
 -- what the items teach of communicators
 message_no : (comm : ℕ) (send : Name) (o : Option Call) → made_in_got comm (message_in send o) ≡ None
 message_no comm send None = refl
-message_no comm send (Some (Send c dest tag ints)) = refl
+message_no comm send (Some (Send c dest tag ints sync)) = refl
 message_no comm send (Some call) = refl
 
 no_made : (comm : ℕ) (rows : Rows) (mate : Option Name) → made_in_got comm (message_from rows mate) ≡ None
@@ -204,7 +204,7 @@ no_made comm rows (Some send) = message_no comm send (call_in rows send)
 
 made_by : (call : Call) (message result : Got) (comm : ℕ) (members : List ℕ) → made_in_got comm message ≡ None → made_in_got comm (got_as call message result) ≡ Some members
     → (is_enter call ≡ true) × (made_in_got comm result ≡ Some members)
-made_by (Send c dest tag ints) message result comm members none h = absurd (cc)
+made_by (Send c dest tag ints sync) message result comm members none h = absurd (cc)
 made_by (Post c Null tag room) message result comm members none h = absurd (cc)
 made_by (Post c Any tag room) message result comm members none h = absurd (let no : None ≡ Some members = sym none ∙ h in cc)
 made_by (Post c (From source) tag room) message result comm members none h = absurd (let no : None ≡ Some members = sym none ∙ h in cc)

@@ -62,7 +62,7 @@ answer_is stuck n before me (Take starts mode) matched all goes =
     take_is (holds mode (flags_of n before (view_of before me) me starts)) stuck n before me starts mode matched refl goes
 answer_is stuck n before me (Peek comm source tag wait) matched all goes =
     peek_is (choice before me (Peek comm source tag wait)) stuck n before me comm source tag wait all refl goes
-answer_is stuck n before me (Send comm dest tag ints) matched all goes = refl
+answer_is stuck n before me (Send comm dest tag ints sync) matched all goes = refl
 answer_is stuck n before me (Post comm source tag room) matched all goes = refl
 answer_is stuck n before me (Enter comm kind root op count ints) matched all goes = refl
 answer_is stuck n before me (Abort code) matched all goes = refl

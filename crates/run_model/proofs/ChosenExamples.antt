@@ -35,8 +35,8 @@ took index got = Took ((record { index = index; got = got }) ∷ [])
 
 -- two senders, and two receives from any: rank 1 sends first, and rank 2 gets its message first
 abbrev wildcards : Script
-wildcards zero = Send 0 2 9 (pos 0 ∷ []) ∷ End ∷ []
-wildcards (suc zero) = Send 0 2 9 (pos 1 ∷ []) ∷ End ∷ []
+wildcards zero = Send 0 2 9 (pos 0 ∷ []) false ∷ End ∷ []
+wildcards (suc zero) = Send 0 2 9 (pos 1 ∷ []) false ∷ End ∷ []
 wildcards rank =
     Post 0 Any (Is 9) 1 ∷ Take (0 ∷ []) All ∷ Post 0 Any (Is 9) 1 ∷ Take (1 ∷ []) All ∷ End ∷ []
 
@@ -64,7 +64,7 @@ stuck_replies = refl
 
 -- a receive that is tested until it is complete
 abbrev tests : Script
-tests zero = Send 0 1 5 (pos 0 ∷ []) ∷ End ∷ []
+tests zero = Send 0 1 5 (pos 0 ∷ []) false ∷ End ∷ []
 tests rank =
     Post 0 (From 0) (Is 5) 1 ∷ Take (0 ∷ []) TestAll ∷ Take (0 ∷ []) TestAll ∷ Take (0 ∷ []) TestAll ∷ Take (0 ∷ []) TestAll ∷ End ∷ []
 
@@ -74,7 +74,7 @@ tested = refl
 
 -- two complete receives: the one with the least index first
 abbrev waits : Script
-waits zero = Send 0 1 5 [] ∷ Send 0 1 6 [] ∷ End ∷ []
+waits zero = Send 0 1 5 [] false ∷ Send 0 1 6 [] false ∷ End ∷ []
 waits rank =
     Post 0 (From 0) (Is 5) 1 ∷ Post 0 (From 0) (Is 6) 1 ∷ Take (0 ∷ 1 ∷ []) AnyOne ∷ Take (1 ∷ []) AnyOne ∷ End ∷ []
 
@@ -84,7 +84,7 @@ least_first = refl
 
 -- a probe, and the receive of what it found
 abbrev probes : Script
-probes zero = Send 0 1 3 (pos 0 ∷ []) ∷ End ∷ []
+probes zero = Send 0 1 3 (pos 0 ∷ []) false ∷ End ∷ []
 probes rank = Peek 0 Any AnyTag false ∷ Post 0 (From 0) (Is 3) 1 ∷ Take (0 ∷ []) All ∷ End ∷ []
 
 probed : replies_to 1 (serial probes 2 (0 ∷ []) 4)
@@ -118,8 +118,8 @@ rising_by_colour = refl
 -- rank 0 receives from 2; rank 1 sends to 2; rank 2 receives from 1 and then sends to 0
 abbrev chain : Script
 chain zero = Post 0 (From 2) AnyTag 1 ∷ Take (0 ∷ []) All ∷ End ∷ []
-chain (suc zero) = Send 0 2 5 [] ∷ End ∷ []
-chain rank = Post 0 (From 1) AnyTag 1 ∷ Take (0 ∷ []) All ∷ Send 0 0 5 [] ∷ End ∷ []
+chain (suc zero) = Send 0 2 5 [] false ∷ End ∷ []
+chain rank = Post 0 (From 1) AnyTag 1 ∷ Take (0 ∷ []) All ∷ Send 0 0 5 [] false ∷ End ∷ []
 
 chain_order : order_of (serial chain 3 [] 5) ≡ 0 ∷ 1 ∷ 2 ∷ 1 ∷ 2 ∷ 2 ∷ 0 ∷ 2 ∷ 0 ∷ []
 chain_order = refl

@@ -30,10 +30,10 @@ pub record IsSend (call : Call) : Type 0 where
   pub dest : ℕ
   pub tag : ℕ
   pub ints : List ℤ
-  pub is : call ≡ Send comm dest tag ints
+  pub is : call ≡ Send comm dest tag ints sync
 
 pub accepted_send : (me comm : ℕ) (source : Source) (tag : Tag) (sender : ℕ) (call : Call) → accepts me comm source tag sender call ≡ true → IsSend call
-accepted_send me comm source tag sender (Send c dest t ints) h = record { comm = c; dest = dest; tag = t; ints = ints; is = refl }
+accepted_send me comm source tag sender (Send c dest t ints sync) h = record { comm = c; dest = dest; tag = t; ints = ints; is = refl }
 accepted_send me comm source tag sender call h = absurd (cc)
 
 -- and no receive is
@@ -55,7 +55,7 @@ paired_message before me k comm source tag room matched at h =
                 let post : takes.post_call ≡ Post comm source tag room = cc in
                 let accepted : post_accepts me (Post comm source tag room) send.0 takes.send_call ≡ true = rw post at takes.accepted in
                 let s = accepted_send me comm source tag send.0 takes.send_call accepted in
-                let there : named before send ≡ Some (Send s.comm s.dest s.tag s.ints) = takes.send_is ∙ ap (λ (c : Call). Some c) s.is in
+                let there : named before send ≡ Some (Send s.comm s.dest s.tag s.ints s.sync) = takes.send_is ∙ ap (λ (c : Call). Some c) s.is in
                 rw there (record { send = send; comm = s.comm; dest = s.dest; tag = s.tag; ints = s.ints; paired = some.1; sent = there; got_is = refl })
             | inr takes ↦
                 let calls : Some takes.send_call ≡ Some (Post comm source tag room) = sym takes.send_is ∙ at in
@@ -89,7 +89,7 @@ pub got_is : (n : ℕ) (before : List Event) (me k : ℕ) (start : Option Call) 
     → is_ready n before (view_of before me) me k start ≡ true
     → IsGot n before (view_of before me) me k start (got_of n before (view_of before me) me k start)
 got_is n before me k None matched at h = absurd (cc)
-got_is n before me k (Some (Send comm dest tag ints)) matched at h = refl
+got_is n before me k (Some (Send comm dest tag ints sync)) matched at h = refl
 got_is n before me k (Some (Post comm Null tag room)) matched at h = refl
 got_is n before me k (Some (Post comm Any tag room)) matched at h = paired_message before me k comm Any tag room matched at h
 got_is n before me k (Some (Post comm (From source) tag room)) matched at h = paired_message before me k comm (From source) tag room matched at h

@@ -55,7 +55,7 @@ answer_stuck stuck n before own me (Peek comm source tag wait) reply h is =
     let parts = or_parts (not wait) H h in
     let F : Bool → Type 0 = λ b. IsPeekAnswer b stuck before me comm source tag wait reply in
     held_stuck (not wait) stuck reply parts.0 (subst F parts.1 is)
-answer_stuck stuck n before own me (Send comm dest tag ints) reply h is = absurd (cc)
+answer_stuck stuck n before own me (Send comm dest tag ints sync) reply h is = absurd (cc)
 answer_stuck stuck n before own me (Post comm source tag room) reply h is = absurd (cc)
 answer_stuck stuck n before own me (Enter comm kind root op count ints) reply h is = absurd (cc)
 answer_stuck stuck n before own me (Abort code) reply h is = absurd (cc)

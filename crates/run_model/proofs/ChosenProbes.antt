@@ -26,7 +26,7 @@ peek_found before me comm source tag wait at h =
     let c = choice_some before me (Peek comm source tag wait) at h in
     let o = c.chosen in
     let s = accepted_send me comm source tag o.name.0 o.start o.suited in
-    let sent : named before o.name ≡ Some (Send s.comm s.dest s.tag s.ints) = o.made ∙ ap (λ (c : Call). Some c) s.is in
+    let sent : named before o.name ≡ Some (Send s.comm s.dest s.tag s.ints s.sync) = o.made ∙ ap (λ (c : Call). Some c) s.is in
     let F : Call → Type 0 = λ c. accepts me comm source tag o.name.0 c ≡ true in
     record {
       send = o.name;

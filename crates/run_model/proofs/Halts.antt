@@ -66,7 +66,7 @@ answer_own : (stuck : Type 0) (n : ℕ) (before : List Event) (own : View) (me :
     → IsAnswer stuck n before own me call reply → reply ≡ Stopped halt → OwnHalt me halt
 answer_own stuck n before own me (Take starts mode) reply halt is h = take_own (holds mode (flags_of n before own me starts)) stuck n before own me starts mode reply halt is h
 answer_own stuck n before own me (Peek comm source tag wait) reply halt is h = peek_own (has_open n before me comm source tag) stuck before me comm source tag wait reply halt is h
-answer_own stuck n before own me (Send comm dest tag ints) reply halt is h = done_own reply halt me is h
+answer_own stuck n before own me (Send comm dest tag ints sync) reply halt is h = done_own reply halt me is h
 answer_own stuck n before own me (Post comm source tag room) reply halt is h = done_own reply halt me is h
 answer_own stuck n before own me (Enter comm kind root op count ints) reply halt is h = done_own reply halt me is h
 answer_own stuck n before own me (Abort code) reply halt is h = done_own reply halt me is h
@@ -87,7 +87,7 @@ halt_at-own n before own me (Take starts mode) halt h =
       | inl bad ↦ (let some : Some (BadRequest me bad.0) ≡ Some halt = rw bad.1 at h in let e : BadRequest me bad.0 ≡ halt = cc in subst (OwnHalt me) e (record { own = λ rank u. eqb-true me rank u }))
       | inr good ↦ (let no : None ≡ Some halt = rw good at h in absurd (cc))
     ]
-halt_at-own n before own me (Send comm dest tag ints) halt h = absurd (cc)
+halt_at-own n before own me (Send comm dest tag ints sync) halt h = absurd (cc)
 halt_at-own n before own me (Post comm source tag room) halt h = absurd (cc)
 halt_at-own n before own me (Peek comm source tag wait) halt h = absurd (cc)
 halt_at-own n before own me End halt h = absurd (cc)

@@ -26,7 +26,7 @@ pub record Agrees (source : Source) (tag : Tag) (sender sent : ℕ) : Type 0 whe
   pub tag_is : tag_agrees tag sent ≡ true
 
 pub accepts-parts : (me comm : ℕ) (source : Source) (tag : Tag) (sender c dest t : ℕ) (ints : List ℤ)
-    → accepts me comm source tag sender (Send c dest t ints) ≡ true → Agrees source tag sender t
+    → accepts me comm source tag sender (Send c dest t ints sync) ≡ true → Agrees source tag sender t
 accepts-parts me comm source tag sender c dest t ints h =
     let one = and_parts (c == comm) ((dest == me) && (source_agrees source sender && tag_agrees tag t)) h in
     let two = and_parts (dest == me) (source_agrees source sender && tag_agrees tag t) one.1 in
@@ -36,17 +36,17 @@ accepts-parts me comm source tag sender c dest t ints h =
 -- a partner's Send is accepted
 pub taken_pair : (before : List Event) (post send : Name) (comm : ℕ) (source : Source) (tag : Tag) (room c dest t : ℕ) (ints : List ℤ)
     → IsMatched before → partner_of (pairs_of before) post ≡ Some send → named before post ≡ Some (Post comm source tag room)
-    → named before send ≡ Some (Send c dest t ints) → accepts post.0 comm source tag send.0 (Send c dest t ints) ≡ true
+    → named before send ≡ Some (Send c dest t ints sync) → accepts post.0 comm source tag send.0 (Send c dest t ints sync) ≡ true
 taken_pair before post send comm source tag room c dest t ints matched paired post_is send_is =
     elim (matched.pair post send paired) [
       | inl takes ↦
           let p : Some takes.post_call ≡ Some (Post comm source tag room) = sym takes.post_is ∙ post_is in
-          let q : Some takes.send_call ≡ Some (Send c dest t ints) = sym takes.send_is ∙ send_is in
+          let q : Some takes.send_call ≡ Some (Send c dest t ints sync) = sym takes.send_is ∙ send_is in
           let p2 : takes.post_call ≡ Post comm source tag room = cc in
-          let q2 : takes.send_call ≡ Send c dest t ints = cc in
+          let q2 : takes.send_call ≡ Send c dest t ints sync = cc in
           rw (p2, q2) at takes.accepted
       | inr takes ↦
-          let p : Some takes.post_call ≡ Some (Send c dest t ints) = sym takes.post_is ∙ send_is in
-          let p2 : takes.post_call ≡ Send c dest t ints = cc in
+          let p : Some takes.post_call ≡ Some (Send c dest t ints sync) = sym takes.post_is ∙ send_is in
+          let p2 : takes.post_call ≡ Send c dest t ints sync = cc in
           absurd (let no : false ≡ true = rw p2 at takes.accepted in cc)
     ]

@@ -123,7 +123,7 @@ gathered_fresh n before me k enter (Ok inputs) new at g there real =
     collected_fresh (makes enter) (is_uncoloured enter) n before me k enter inputs new at refl refl g there real
 
 message_in-none : (k : ℕ) (send : Name) (call : Option Call) → number_in k (message_in send call) ≡ []
-message_in-none k send (Some (Send comm dest tag ints)) = refl
+message_in-none k send (Some (Send comm dest tag ints sync)) = refl
 message_in-none k send other = refl
 
 message_none : (k : ℕ) (before : List Event) (partner : Option Name) → number_in k (message_of before partner) ≡ []
@@ -165,7 +165,7 @@ held_none call true = refl
 held_none call false = refl
 
 peeked_in-none : (call : Call) (send : Name) (found : Option Call) → numbers_in_reply call (peeked_in send found) ≡ []
-peeked_in-none call send (Some (Send comm dest tag ints)) = refl
+peeked_in-none call send (Some (Send comm dest tag ints sync)) = refl
 peeked_in-none call send other = refl
 
 peeked_none : (call : Call) (before : List Event) (found : Option Name) → numbers_in_reply call (peeked_at before found) ≡ []
@@ -203,7 +203,7 @@ answer_fresh n before me (Take starts mode) new there real =
 answer_fresh n before me (Peek comm source tag wait) new there real =
     let F : List Name → Type 0 = λ l. IsIn new l in
     absurd (subst F (peek_none (Peek comm source tag wait) before wait (choice before me (Peek comm source tag wait))) there)
-answer_fresh n before me (Send comm dest tag ints) new there real = absurd there
+answer_fresh n before me (Send comm dest tag ints sync) new there real = absurd there
 answer_fresh n before me (Post comm source tag room) new there real = absurd there
 answer_fresh n before me (Enter comm kind root op count ints) new there real = absurd there
 answer_fresh n before me (Abort code) new there real = absurd there

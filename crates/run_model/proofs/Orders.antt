@@ -198,18 +198,18 @@ in_order next n me view law rank came =
 -- its messages are in bounds
 record Short (next : Next) (n me : ℕ) (view : View) : Type 0 where
   pub came : IsViewOf next n me view
-  pub sends : (k comm dest tag : ℕ) (ints : List ℤ) → start_at view k ≡ Some (Send comm dest tag ints) → length ints ≤ 65536
+  pub sends : (k comm dest tag : ℕ) (ints : List ℤ) (sync : Bool) → start_at view k ≡ Some (Send comm dest tag ints sync) → length ints ≤ 65536
 
 short_more : (next : Next) (n me : ℕ) → AsksInBounds next → IsRankOf n me → (view : View) (seen : Call × Reply) → Short next n me view → IsSeen next n me view seen → Short next n me (view ++ seen ∷ [])
 short_more next n me law rank view seen so_far is =
     record {
       came = Along-snoc (IsSeen next n me) [] view seen so_far.came is;
-      sends = λ k comm dest tag ints p. elim (start_back view seen.0 seen.1 k (Send comm dest tag ints) p) [
+      sends = λ k comm dest tag ints sync p. elim (start_back view seen.0 seen.1 k (Send comm dest tag ints sync) p) [
         | inl was ↦ so_far.sends k comm dest tag ints was
-        | inr new ↦ (law n me view (Send comm dest tag ints) rank so_far.came (rw new at is.asked)).2
+        | inr new ↦ (law n me view (Send comm dest tag ints sync) rank so_far.came (rw new at is.asked)).2
       ];
     }
 
-pub short_sends : (next : Next) (n me : ℕ) (view : View) → AsksInBounds next → IsRankOf n me → IsViewOf next n me view → (k comm dest tag : ℕ) (ints : List ℤ) → start_at view k ≡ Some (Send comm dest tag ints) → length ints ≤ 65536
+pub short_sends : (next : Next) (n me : ℕ) (view : View) → AsksInBounds next → IsRankOf n me → IsViewOf next n me view → (k comm dest tag : ℕ) (ints : List ℤ) (sync : Bool) → start_at view k ≡ Some (Send comm dest tag ints sync) → length ints ≤ 65536
 short_sends next n me view law rank came =
     (Along-keeps (IsSeen next n me) (Short next n me) (short_more next n me law rank) [] view (record { came = tt; sends = λ k comm dest tag ints p. absurd (cc) }) came).sends

@@ -63,7 +63,7 @@ from_got : (n : ℕ) (before : List Event) (own : View) (me k : ℕ) (start : Op
     → (c == 0) ≡ false → start_at own k ≡ start → IsGot n before own me k start (Made c members)
     → IsIn (c, k) (numbers_in starts items) → FromItems n before own me c starts items members
 from_got n before own me k None c members starts items real at is number = absurd is
-from_got n before own me k (Some (Send comm dest tag ints)) c members starts items real at is number = absurd (let e : Made c members ≡ Sent = is in cc)
+from_got n before own me k (Some (Send comm dest tag ints sync)) c members starts items real at is number = absurd (let e : Made c members ≡ Sent = is in cc)
 from_got n before own me k (Some (Post comm Null tag room)) c members starts items real at is number = absurd (let e : Made c members ≡ Nothing = is in cc)
 from_got n before own me k (Some (Post comm Any tag room)) c members starts items real at is number = absurd (let e : Made c members ≡ Message is.send.0 is.send.1 is.tag is.ints = is.got_is in cc)
 from_got n before own me k (Some (Post comm (From source) tag room)) c members starts items real at is number = absurd (let e : Made c members ≡ Message is.send.0 is.send.1 is.tag is.ints = is.got_is in cc)
@@ -150,7 +150,7 @@ world_any f (suc n) low m h above below =
 accepted_enter : (next : Next) (n : ℕ) (before : List Event) (me : ℕ) (call : Call) (reply : Reply) (comm : ℕ)
     → IsAllowed next n before me call reply → is_start (call, reply) ≡ true → is_on comm call ≡ true
     → (is_mismatched n before (view_of before me) call ≡ false) × (comm_of call ≡ comm)
-accepted_enter next n before me (Send c dest tag ints) reply comm is start on = absurd (cc)
+accepted_enter next n before me (Send c dest tag ints sync) reply comm is start on = absurd (cc)
 accepted_enter next n before me (Post c source tag room) reply comm is start on = absurd (cc)
 accepted_enter next n before me (Take starts mode) reply comm is start on = absurd (cc)
 accepted_enter next n before me (Peek c source tag wait) reply comm is start on = absurd (cc)
@@ -212,7 +212,7 @@ enters_from : (n : ℕ) (view : View) (me comm : ℕ) (call : Call) → IsInForm
 enters_from n view me comm (Enter c kind root op count ints) form on =
     let F : ℕ → Type 0 = λ x. known_in n view x ≡ Some form.0 in
     record { members = form.0; known = subst F (eqb-true c comm on) form.1; form = form.2 }
-enters_from n view me comm (Send c dest tag ints) form on = absurd (cc)
+enters_from n view me comm (Send c dest tag ints sync) form on = absurd (cc)
 enters_from n view me comm (Post c source tag room) form on = absurd (cc)
 enters_from n view me comm (Take starts mode) form on = absurd (cc)
 enters_from n view me comm (Peek c source tag wait) form on = absurd (cc)

@@ -53,7 +53,7 @@ room_fits room ints h = le-leb (length ints) room (ltb-false room (length ints) 
 -- a message is accepted, and within the room
 pub record Receives (before : List Event) (me k comm : ℕ) (source : Source) (tag : Tag) (room : ℕ) (got : Got) : Type 0 where
   pub is : IsMessage before me k got
-  pub accepted : accepts me comm source tag is.send.0 (Send is.comm is.dest is.tag is.ints) ≡ true
+  pub accepted : accepts me comm source tag is.send.0 (Send is.comm is.dest is.tag is.ints is.sync) ≡ true
   pub source_is : source_agrees source is.send.0 ≡ true
   pub tag_is : tag_agrees tag is.tag ≡ true
   pub within : nat_le (length is.ints) room ≡ true
@@ -86,7 +86,7 @@ dup_same (Enter comm Scatter root op count ints) members inputs me = refl
 dup_same (Enter comm Alltoall root op count ints) members inputs me = refl
 dup_same (Enter comm Scan root op count ints) members inputs me = refl
 dup_same (Enter comm Split root op count ints) members inputs me = refl
-dup_same (Send comm dest tag ints) members inputs me = refl
+dup_same (Send comm dest tag ints sync) members inputs me = refl
 dup_same (Post comm source tag room) members inputs me = refl
 dup_same (Take starts mode) members inputs me = refl
 dup_same (Peek comm source tag wait) members inputs me = refl
@@ -139,7 +139,7 @@ got_shaped : (n : ℕ) (before : List Event) (me k : ℕ) (start : Option Call) 
     → start_at (view_of before me) k ≡ start → IsGot n before (view_of before me) me k start got → is_long start got ≡ false
     → got_fits n (view_of before me) me start got ≡ true
 got_shaped n before me k None got matched of at is short = absurd is
-got_shaped n before me k (Some (Send comm dest tag ints)) got matched of at is short = rw is
+got_shaped n before me k (Some (Send comm dest tag ints sync)) got matched of at is short = rw is
 got_shaped n before me k (Some (Post comm Null tag room)) got matched of at is short = rw is
 got_shaped n before me k (Some (Post comm Any tag room)) got matched of at is short = message_shaped n (view_of before me) before me k comm Any tag room got (receives before me k comm Any tag room got matched at is short)
 got_shaped n before me k (Some (Post comm (From source) tag room)) got matched of at is short = message_shaped n (view_of before me) before me k comm (From source) tag room got (receives before me k comm (From source) tag room got matched at is short)
@@ -225,8 +225,8 @@ peek_shaped n before own me comm source tag wait false stuck reply is = held_pee
 answer_shaped : (n : ℕ) (before : List Event) (me : ℕ) (call : Call) (halt : Option Halt) (stuck : Type 0) (reply : Reply)
     → IsMatched before → Collects n before me → halt_at n before (view_of before me) me call ≡ halt
     → IsAllowedBy halt stuck n before (view_of before me) me call reply → has_shape n me (view_of before me) call reply ≡ true
-answer_shaped n before me (Send comm dest tag ints) halt stuck reply matched of h is =
-    let F : Option Halt → Type 0 = λ x. IsAllowedBy x stuck n before (view_of before me) me (Send comm dest tag ints) reply in
+answer_shaped n before me (Send comm dest tag ints sync) halt stuck reply matched of h is =
+    let F : Option Halt → Type 0 = λ x. IsAllowedBy x stuck n before (view_of before me) me (Send comm dest tag ints sync) reply in
     let none : None ≡ halt = h in
     let done : reply ≡ Done = subst F (sym none) is in
     rw done

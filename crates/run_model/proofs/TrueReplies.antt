@@ -27,9 +27,9 @@ pub record IsPeekedSend (before : List Event) (me : ℕ) (call : Call) (source s
   pub comm : ℕ
   pub dest : ℕ
   pub ints : List ℤ
-  pub sent : start_at (view_of before source) start ≡ Some (Send comm dest tag ints)
+  pub sent : start_at (view_of before source) start ≡ Some (Send comm dest tag ints sync)
   pub counted : count ≡ length ints
-  pub accepted : probe_accepts me call source (Send comm dest tag ints) ≡ true
+  pub accepted : probe_accepts me call source (Send comm dest tag ints sync) ≡ true
 
 abbrev pub IsTrueReply : ℕ → List Event → View → ℕ → Call → Reply → Type 0
 IsTrueReply n before own me call Done = Unit {0}
@@ -67,7 +67,7 @@ answer_true : (stuck : Type 0) (n : ℕ) (before : List Event) (own : View) (me 
     → IsAnswer stuck n before own me call reply → IsTrueReply n before own me call reply
 answer_true stuck n before own me (Take starts mode) reply is = take_true n before own me starts mode (holds mode (flags_of n before own me starts)) stuck reply is
 answer_true stuck n before own me (Peek comm source tag wait) reply is = peek_true n before own me comm source tag wait (has_open n before me comm source tag) stuck reply is
-answer_true stuck n before own me (Send comm dest tag ints) reply is = rw is tt
+answer_true stuck n before own me (Send comm dest tag ints sync) reply is = rw is tt
 answer_true stuck n before own me (Post comm source tag room) reply is = rw is tt
 answer_true stuck n before own me (Enter comm kind root op count ints) reply is = rw is tt
 answer_true stuck n before own me (Abort code) reply is = rw is tt

@@ -78,8 +78,8 @@ pub record IsPeeked (before : List Event) (me comm : ℕ) (source : Source) (tag
   pub dest : ℕ
   pub t : ℕ
   pub ints : List ℤ
-  pub sent : named before send ≡ Some (Send c dest t ints)
-  pub accepted : accepts me comm source tag send.0 (Send c dest t ints) ≡ true
+  pub sent : named before send ≡ Some (Send c dest t ints sync)
+  pub accepted : accepts me comm source tag send.0 (Send c dest t ints sync) ≡ true
   pub unpaired : partner_of (pairs_of before) send ≡ None
   pub first : (start : ℕ) (call : Call) → start < send.1 → named before (send.0, start) ≡ Some call → accepts me comm source tag send.0 call ≡ true → IsTrue (is_some (partner_of (pairs_of before) (send.0, start)))
   pub reply_is : reply ≡ Peeked send.0 send.1 t (length ints)

@@ -14,7 +14,7 @@ use Rattle.run_model.specs.Allowed.{true_places}
 
 -- a call of `rank` suits a start of `owner`: a Send a Post that accepts it, a Post or Peek a Send that it accepts
 abbrev pub suits : ℕ → Call → ℕ → Call → Bool
-suits rank (Send comm dest tag ints) owner start = post_accepts owner start rank (Send comm dest tag ints)
+suits rank (Send comm dest tag ints sync) owner start = post_accepts owner start rank (Send comm dest tag ints sync)
 suits rank (Peek comm source tag wait) owner start = accepts rank comm source tag owner start
 suits rank call owner start = post_accepts rank call owner start
 

@@ -28,7 +28,7 @@ use Rattle.run_model.specs.Numbers.{communicators_of, number_among, origin_of}
 
 -- the message of the Send that a receive is paired with
 abbrev pub message_in : Name → Option Call → Got
-message_in send (Some (Send comm dest tag ints)) = Message send.0 send.1 tag ints
+message_in send (Some (Send comm dest tag ints sync)) = Message send.0 send.1 tag ints
 message_in send other = Nothing
 
 abbrev pub message_of : List Event → Option Name → Got
@@ -49,7 +49,7 @@ collected n before own me k enter (Ok inputs) = collected_by (makes enter) (is_u
 
 -- what the ready start k of rank `me` gives
 abbrev pub got_of : ℕ → List Event → View → ℕ → ℕ → Option Call → Got
-got_of n before own me k (Some (Send comm dest tag ints)) = Sent
+got_of n before own me k (Some (Send comm dest tag ints sync)) = Sent
 got_of n before own me k (Some (Post comm Null tag room)) = Nothing
 got_of n before own me k (Some (Post comm source tag room)) = message_of before (partner_of (pairs_of before) (me, k))
 got_of n before own me k (Some (Enter comm kind root op count ints)) =
@@ -72,7 +72,7 @@ held_reply true = NotYet
 held_reply false = Stopped Stuck
 
 abbrev pub peeked_in : Name → Option Call → Reply
-peeked_in send (Some (Send comm dest tag ints)) = Peeked send.0 send.1 tag (length ints)
+peeked_in send (Some (Send comm dest tag ints sync)) = Peeked send.0 send.1 tag (length ints)
 peeked_in send other = NotYet
 
 abbrev pub peeked_at : List Event → Option Name → Reply

@@ -34,4 +34,4 @@ pub record IsInOrder (n me : ℕ) (own : View) : Type 0 where
 -- each rank's view is in order, and no message is too long
 pub record AreInOrder (n : ℕ) (events : List Event) : Type 0 where
   pub ranks : (rank : ℕ) → rank < n → IsInOrder n rank (view_of events rank)
-  pub sends : (rank k comm dest tag : ℕ) (ints : List ℤ) → start_at (view_of events rank) k ≡ Some (Send comm dest tag ints) → length ints ≤ 65536
+  pub sends : (rank k comm dest tag : ℕ) (ints : List ℤ) (sync : Bool) → start_at (view_of events rank) k ≡ Some (Send comm dest tag ints sync) → length ints ≤ 65536

@@ -60,7 +60,7 @@ IsTagInBounds tag = Unit {0}
 -- ranks are below n, tags at most 2147483647, a message at most 65,536 ints; a Take lists 1 to 1,000,000 starts, each
 -- below 1,000,000 while the rank got fewer than 1,000,000 replies
 abbrev pub IsInBounds : ℕ → ℕ → Call → Type 0
-IsInBounds n got (Send comm dest tag ints) = (dest < n) × (tag < 2 ^ 31) × (length ints ≤ 65536)
+IsInBounds n got (Send comm dest tag ints sync) = (dest < n) × (tag < 2 ^ 31) × (length ints ≤ 65536)
 IsInBounds n got (Post comm source tag room) = IsSourceBelow n source × IsTagInBounds tag
 IsInBounds n got (Enter comm kind root op count ints) = IfSome root (λ rank. rank < n)
 IsInBounds n got (Take starts mode) =

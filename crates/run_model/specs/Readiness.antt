@@ -19,7 +19,7 @@ use Rattle.run_model.specs.Pairs.{Name, named, pairs_of, partner_of}
 -- a collective when each member that it needs has entered
 abbrev pub is_ready : ℕ → List Event → View → ℕ → ℕ → Option Call → Bool
 is_ready n before own me k None = false
-is_ready n before own me k (Some (Send comm dest tag ints)) = true
+is_ready n before own me k (Some (Send comm dest tag ints sync)) = true
 is_ready n before own me k (Some (Post comm Null tag room)) = true
 is_ready n before own me k (Some (Post comm source tag room)) = is_some (partner_of (pairs_of before) (me, k))
 is_ready n before own me k (Some (Enter comm kind root op count ints)) =
@@ -34,7 +34,7 @@ pub record IsMessage (before : List Event) (me k : ℕ) (got : Got) : Type 0 whe
   pub tag : ℕ
   pub ints : List ℤ
   pub paired : partner_of (pairs_of before) (me, k) ≡ Some send
-  pub sent : named before send ≡ Some (Send comm dest tag ints)
+  pub sent : named before send ≡ Some (Send comm dest tag ints sync)
   pub got_is : got ≡ Message send.0 send.1 tag ints
 
 -- a new communicator: some number above 0, with the members of the table
@@ -58,7 +58,7 @@ pub record IsCollected (n : ℕ) (before : List Event) (own : View) (me k : ℕ)
 -- what the ready start k of rank `me` gives
 abbrev pub IsGot : ℕ → List Event → View → ℕ → ℕ → Option Call → Got → Type 0
 IsGot n before own me k None got = ⊥
-IsGot n before own me k (Some (Send comm dest tag ints)) got = got ≡ Sent
+IsGot n before own me k (Some (Send comm dest tag ints sync)) got = got ≡ Sent
 IsGot n before own me k (Some (Post comm Null tag room)) got = got ≡ Nothing
 IsGot n before own me k (Some (Post comm source tag room)) got = IsMessage before me k got
 IsGot n before own me k (Some (Enter comm kind root op count ints)) got =

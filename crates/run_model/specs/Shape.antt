@@ -85,7 +85,7 @@ halt_fits me call halt = true
 -- what the completion of a start gives has the start's shape
 abbrev pub got_fits : ℕ → View → ℕ → Option Call → Got → Bool
 got_fits n own me None got = false
-got_fits n own me (Some (Send comm dest tag ints)) Sent = true
+got_fits n own me (Some (Send comm dest tag ints sync)) Sent = true
 got_fits n own me (Some (Post comm Null tag room)) Nothing = true
 got_fits n own me (Some (Post comm from tag room)) (Message source start t ints) =
     source_agrees from source && (tag_agrees tag t && nat_le (length ints) room)
@@ -106,7 +106,7 @@ gots_fit n own me starts (item ∷ items) =
 -- the reply has the shape of rank `me`'s call, after what it has seen
 abbrev pub has_shape : ℕ → ℕ → View → Call → Reply → Bool
 has_shape n me own call (Stopped halt) = halt_fits me call halt
-has_shape n me own (Send comm dest tag ints) Done = true
+has_shape n me own (Send comm dest tag ints sync) Done = true
 has_shape n me own (Post comm source tag room) Done = true
 has_shape n me own (Enter comm kind root op count ints) Done = true
 has_shape n me own End Done = true

@@ -97,7 +97,7 @@ same_for old was now rank below at same =
 
 -- what one more event adds to the Enters of a view
 tail_none : (comm number : ℕ) (known : Option (List ℕ)) (call : Call) (reply : Reply) → entered_by call reply ≡ None → entered_from comm number known ((call, reply) ∷ []) ≡ []
-tail_none comm number known (Send on dest tag ints) reply e = elim (test_cases (is_done reply)) [ inl h ↦ rw h refl | inr h ↦ rw h refl ]
+tail_none comm number known (Send on dest tag ints sync) reply e = elim (test_cases (is_done reply)) [ inl h ↦ rw h refl | inr h ↦ rw h refl ]
 tail_none comm number known (Post on source tag room) reply e = elim (test_cases (is_done reply)) [ inl h ↦ rw h refl | inr h ↦ rw h refl ]
 tail_none comm number known (Enter on kind root op count ints) Done e = absurd (cc)
 tail_none comm number known (Enter on kind root op count ints) (Took items) e = refl
@@ -119,7 +119,7 @@ tail_some comm number on known (Enter c kind root op count ints) (Took items) e 
 tail_some comm number on known (Enter c kind root op count ints) NotYet e = absurd (cc)
 tail_some comm number on known (Enter c kind root op count ints) (Peeked source start tag length) e = absurd (cc)
 tail_some comm number on known (Enter c kind root op count ints) (Stopped halt) e = absurd (cc)
-tail_some comm number on known (Send c dest tag ints) reply e = absurd (cc)
+tail_some comm number on known (Send c dest tag ints sync) reply e = absurd (cc)
 tail_some comm number on known (Post c source tag room) reply e = absurd (cc)
 tail_some comm number on known (Take starts mode) reply e = absurd (cc)
 tail_some comm number on known (Peek c source tag wait) reply e = absurd (cc)
@@ -202,7 +202,7 @@ record IsAmong (own : View) (from : ℕ) (one : Entered) : Type 0 where
 
 on_enter : (comm : ℕ) (call : Call) → is_on comm call ≡ true → is_enter call ≡ true
 on_enter comm (Enter c kind root op count ints) h = refl
-on_enter comm (Send on dest tag ints) h = absurd (cc)
+on_enter comm (Send on dest tag ints sync) h = absurd (cc)
 on_enter comm (Post on source tag room) h = absurd (cc)
 on_enter comm (Take starts mode) h = absurd (cc)
 on_enter comm (Peek on source tag wait) h = absurd (cc)

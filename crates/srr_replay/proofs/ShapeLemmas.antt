@@ -54,15 +54,15 @@ use Rattle.srr_replay.proofs.MissingMarks.{enter_for-made}
 use Rattle.replay_model.proofs.ShapedFits.{not_true, uncoloured_inner}
 
 -- a Send that a receive accepts within its room gives what has the receive's shape
-message_shaped : (n : ℕ) (group : List ℕ) (own : View) (me source start : ℕ) (taker : Option Call) (c dest tag : ℕ) (ints : List ℤ) → mark_fits n group me own taker (Inside source start) ≡ true → send_fits me source taker (Send c dest tag ints) ≡ true → got_fits n own me taker (Message source start tag ints) ≡ true
+message_shaped : (n : ℕ) (group : List ℕ) (own : View) (me source start : ℕ) (taker : Option Call) (c dest tag : ℕ) (ints : List ℤ) (sync : Bool) → mark_fits n group me own taker (Inside source start) ≡ true → send_fits me source taker (Send c dest tag ints sync) ≡ true → got_fits n own me taker (Message source start tag ints) ≡ true
 message_shaped n group own me source start None c dest tag ints marked sent = absurd (cc)
 message_shaped n group own me source start (Some (Post comm Any wanted room)) c dest tag ints marked sent =
-    let parts = both (accepts me comm Any wanted source (Send c dest tag ints)) (nat_le (length ints) room) sent in
+    let parts = both (accepts me comm Any wanted source (Send c dest tag ints sync)) (nat_le (length ints) room) sent in
     let on_comm = both (c == comm) ((dest == me) && (true && tag_agrees wanted tag)) parts.0 in
     let to_me = both (dest == me) (true && tag_agrees wanted tag) on_comm.1 in
     rw (to_me.1, parts.1) refl
 message_shaped n group own me source start (Some (Post comm (From rank) wanted room)) c dest tag ints marked sent =
-    let parts = both (accepts me comm (From rank) wanted source (Send c dest tag ints)) (nat_le (length ints) room) sent in
+    let parts = both (accepts me comm (From rank) wanted source (Send c dest tag ints sync)) (nat_le (length ints) room) sent in
     let on_comm = both (c == comm) ((dest == me) && ((rank == source) && tag_agrees wanted tag)) parts.0 in
     let to_me = both (dest == me) ((rank == source) && tag_agrees wanted tag) on_comm.1 in
     let agrees = both (rank == source) (tag_agrees wanted tag) to_me.1 in
@@ -71,16 +71,16 @@ message_shaped n group own me source start (Some (Post comm Null wanted room)) c
 message_shaped n group own me source start (Some call) c dest tag ints marked sent = absurd (cc)
 
 is_send : Call → Bool
-is_send (Send comm dest tag ints) = true
+is_send (Send comm dest tag ints sync) = true
 is_send call = false
 
 -- a start that is no Send fits no receive
 send_fits-other : (me source : ℕ) (taker : Option Call) (call : Call) → is_send call ≡ false → send_fits me source taker call ≡ false
 unfolding is_send
 send_fits-other me source None call h = refl
-send_fits-other me source (Some (Post comm from tag room)) (Send c dest t ints) h = absurd (cc)
+send_fits-other me source (Some (Post comm from tag room)) (Send c dest t ints sync) h = absurd (cc)
 send_fits-other me source (Some (Post comm from tag room)) call h = refl
-send_fits-other me source (Some (Peek comm from tag wait)) (Send c dest t ints) h = absurd (cc)
+send_fits-other me source (Some (Peek comm from tag wait)) (Send c dest t ints sync) h = absurd (cc)
 send_fits-other me source (Some (Peek comm from tag wait)) call h = refl
 send_fits-other me source (Some taker) call h = refl
 
@@ -103,8 +103,8 @@ TakeFits-fits n group me own starts mode marks h =
 sent_shaped : (n : ℕ) (group : List ℕ) (own : View) (me source start : ℕ) (taker sent : Option Call) (got : Got) → mark_fits n group me own taker (Inside source start) ≡ true → message_from source start sent ≡ Ok got → break_send me source start taker sent ≡ None → got_fits n own me taker got ≡ true
 unfolding is_send
 sent_shaped n group own me source start taker None got fit made h = absurd (cc)
-sent_shaped n group own me source start taker (Some (Send c dest tag ints)) got fit made h =
-    elim (test_cases (send_fits me source taker (Send c dest tag ints))) [
+sent_shaped n group own me source start taker (Some (Send c dest tag ints sync)) got fit made h =
+    elim (test_cases (send_fits me source taker (Send c dest tag ints sync))) [
       | inl t ↦ (
           let same : Message source start tag ints ≡ got = cc in
           rw (← same) (message_shaped n group own me source start taker c dest tag ints fit t))
@@ -239,7 +239,7 @@ outside_shape n group me own call comm members mine fit = absurd (cc)
 -- marks whose content stands in the entry
 sent_mark : (n : ℕ) (group : List ℕ) (own : View) (me : ℕ) (start : Option Call) → mark_fits n group me own start MarkSent ≡ true → got_fits n own me start Sent ≡ true
 sent_mark n group own me None fit = absurd (cc)
-sent_mark n group own me (Some (Send comm dest tag ints)) fit = refl
+sent_mark n group own me (Some (Send comm dest tag ints sync)) fit = refl
 sent_mark n group own me (Some (Post comm Any tag room)) fit = absurd (cc)
 sent_mark n group own me (Some (Post comm (From rank) tag room)) fit = absurd (cc)
 sent_mark n group own me (Some (Post comm Null tag room)) fit = absurd (cc)
@@ -363,8 +363,8 @@ took_shaped n group events me starts mode marks items below order mine fit made 
 probe_shaped : (n : ℕ) (own : View) (me comm : ℕ) (from : Source) (wanted : Tag) (wait : Bool) (source start : ℕ) (sent : Option Call) (reply : Reply) → peeked_from source start sent ≡ Ok reply → break_send me source start (Some (Peek comm from wanted wait)) sent ≡ None → has_shape n me own (Peek comm from wanted wait) reply ≡ true
 unfolding is_send
 probe_shaped n own me comm from wanted wait source start None reply peeked h = absurd (cc)
-probe_shaped n own me comm from wanted wait source start (Some (Send c dest tag ints)) reply peeked h =
-    elim (test_cases (send_fits me source (Some (Peek comm from wanted wait)) (Send c dest tag ints))) [
+probe_shaped n own me comm from wanted wait source start (Some (Send c dest tag ints sync)) reply peeked h =
+    elim (test_cases (send_fits me source (Some (Peek comm from wanted wait)) (Send c dest tag ints sync))) [
       | inl t ↦ (
           let same : Peeked source start tag (length ints) ≡ reply = cc in
           let on_comm = and_parts (c == comm) _ t in
@@ -382,7 +382,7 @@ as_took_ok (Err missing) reply h = absurd (cc)
 entry_shaped : (n : ℕ) (group : List ℕ) (events : List Event) (me : ℕ) (call : Call) (entry : Entry) (reply : Reply) → me < n → AreInOrder n events → is_member group me ≡ true → fits n group me (view_of events me) call entry ≡ true → filled n (view_of events) (view_of events me) me call entry ≡ Ok reply → broken n (view_of events) (view_of events me) me call entry ≡ None → has_shape n me (view_of events me) call reply ≡ true
 unfolding fits
 entry_shaped n group events me call (EntryStopped halt) reply below order mine fit made whole = (let same : Stopped halt ≡ reply = cc in rw (← same) fit)
-entry_shaped n group events me (Send comm dest tag ints) EntrySent reply below order mine fit made whole = (let same : Done ≡ reply = cc in rw (← same) refl)
+entry_shaped n group events me (Send comm dest tag ints sync) EntrySent reply below order mine fit made whole = (let same : Done ≡ reply = cc in rw (← same) refl)
 entry_shaped n group events me (Post comm source tag room) Posted reply below order mine fit made whole = (let same : Done ≡ reply = cc in rw (← same) refl)
 entry_shaped n group events me (Enter comm kind root op count ints) EntryEntered reply below order mine fit made whole = (let same : Done ≡ reply = cc in rw (← same) refl)
 entry_shaped n group events me End Ended reply below order mine fit made whole = (let same : Done ≡ reply = cc in rw (← same) refl)

@@ -112,7 +112,7 @@ at_start_text rank start = decimal_text rank ++ codes " start " ++ decimal_text 
 -- send comm=C to=D tag=T data=I,I · post comm=C from=S tag=T room=N · enter comm=C KIND root=R op=OP count=N data=I,I
 -- take MODE K,K · probe comm=C from=S tag=T, iprobe where it does not wait · abort CODE · trap FAULT · end
 abbrev pub call_text : Call → List ℕ
-call_text (Send comm dest tag ints) =
+call_text (Send comm dest tag ints sync) =
     codes "send comm=" ++ decimal_text comm ++ codes " to=" ++ decimal_text dest ++ codes " tag=" ++ decimal_text tag
     ++ codes " data=" ++ ints_text ints
 call_text (Post comm source tag room) =

@@ -217,7 +217,7 @@ pub fn push_call(out: &mut Bytes, call: &Call) -> Result<(), AllocError>
 }
 
 fn push_send(out: &mut Bytes, comm: u32, dest: u8, tag: u32, ints: &[i32]) -> Result<(), AllocError>
-    ensures { OnOk result (out.new ≡ out.old ++ call_text (Send comm dest tag ints.now)) }
+    ensures { OnOk result (out.new ≡ out.old ++ call_text (Send comm dest tag ints.now sync)) }
 {
     push_text(out, b"send comm=")?;
     push_decimal(out, comm as u64)?;

@@ -1,6 +1,6 @@
 use Rattle.std.proofs.Common.{sym}
 use Rattle.c_grammar.specs.StmtView.{parameter_view, parameters_view}
-use Rattle.c_scope.specs.Signatures.{parameters_listed}
+use Rattle.c_check_expr.specs.Signatures.{parameters_listed}
 use Rattle.c_check.proofs.Parameters.{prototype_next}
 use Rattle.c_check.proofs.program.check_prototype.Goals as goal
 

@@ -1,8 +1,8 @@
 use Rattle.std.proofs.Common.{◌≡◌, drop}
 use Rattle.c_grammar.specs.StmtView.{parameters_view}
-use Rattle.c_scope.specs.Least.{least_from}
+use Rattle.c_check_expr.specs.Least.{least_from}
 use Rattle.c_check.specs.Programs.{prototype_faults}
-use Rattle.c_scope.specs.Signatures.{parameters_listed}
+use Rattle.c_check_expr.specs.Signatures.{parameters_listed}
 use Rattle.c_check.proofs.program.check_prototype.Given as goal
 
 abbrev pub invariant-loop-place : goal.invariant-loop-place

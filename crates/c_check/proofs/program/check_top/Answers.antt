@@ -1,7 +1,7 @@
 use Rattle.std.proofs.Common.{◌∙◌, sym, ap, map}
 use Rattle.c_grammar.specs.Tree as t
 use Rattle.c_grammar.specs.StmtView.{head_view, parts_view, top_view, value_view}
-use Rattle.c_scope.specs.Least.{least_from}
+use Rattle.c_check_expr.specs.Least.{least_from}
 use Rattle.c_check.specs.Programs.{top_twice_faults}
 use Rattle.c_check.proofs.Tops.{define_top, function_top, prototype_top}
 use Rattle.c_check.proofs.Walks.{on_ok, on_ok_map}

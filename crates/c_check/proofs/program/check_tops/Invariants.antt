@@ -1,6 +1,6 @@
 use Rattle.std.proofs.Common.{◌≡◌, drop, map, []}
 use Rattle.c_grammar.specs.StmtView.{top_view}
-use Rattle.c_scope.specs.Least.{least_from}
+use Rattle.c_check_expr.specs.Least.{least_from}
 use Rattle.c_check.specs.Programs.{tops_faults}
 use Rattle.c_check.proofs.program.check_tops.Given as goal
 

@@ -2,9 +2,9 @@ use Rattle.std.proofs.Common.{◌∙◌, ◌++◌, ap, option_map, true}
 use Rattle.c_grammar.specs.StmtView.{parts_view, simple_view, start_view, stmt_view}
 use Rattle.c_grammar.specs.View.{view}
 use Rattle.c_grammar.proofs.StmtViewed.{view-block, view-break, view-continue, view-declare, view-do_while, view-empty, view-for, view-if_else, view-if_only, view-return, view-simple, view-stmt, view-while}
-use Rattle.c_scope.specs.Expressions.{int_faults}
-use Rattle.c_scope.specs.Least.{least_from}
-use Rattle.c_scope.proofs.Wanted.{both}
+use Rattle.c_check_expr.specs.Expressions.{int_faults}
+use Rattle.c_check_expr.specs.Least.{least_from}
+use Rattle.c_check_expr.proofs.Wanted.{both}
 use Rattle.c_check.specs.Statements.{after_parts, after_start, stmt_faults}
 use Rattle.c_check.proofs.Closed.{closed_parts, closed_start, closing}
 use Rattle.c_check.proofs.More.{after_parts_next, parts_next}

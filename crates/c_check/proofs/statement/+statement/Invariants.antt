@@ -3,7 +3,7 @@ use denote.Param.Weighed.{most}
 use Rattle.c_grammar.specs.declared.statement.Part.{size-Part}
 use Rattle.c_grammar.specs.declared.statement.Stmt.{size-Stmt}
 use Rattle.c_grammar.specs.StmtView.{parts_view}
-use Rattle.c_scope.specs.Least.{least_from}
+use Rattle.c_check_expr.specs.Least.{least_from}
 use Rattle.c_check.specs.Statements.{after_parts, parts_faults}
 use Rattle.c_check.proofs.statement.+statement.Given as goal
 

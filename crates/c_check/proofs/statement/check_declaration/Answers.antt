@@ -1,5 +1,5 @@
 use Rattle.c_grammar.specs.StmtView.{item_view}
-use Rattle.c_scope.specs.Kinds.{kind_of_word}
+use Rattle.c_check_expr.specs.Kinds.{kind_of_word}
 use Rattle.c_check.proofs.More.{after_items_next, declaration_end, items_next}
 use Rattle.c_check.proofs.Walks.{declaration_after}
 use Rattle.c_check.proofs.statement.check_declaration.Goals as goal

@@ -1,8 +1,8 @@
 use Rattle.std.proofs.Common.{◌≡◌, drop}
 use Rattle.c_grammar.specs.StmtView.{item_view}
-use Rattle.c_scope.specs.Least.{least_from}
+use Rattle.c_check_expr.specs.Least.{least_from}
 use Rattle.c_check.specs.Statements.{after_items, items_faults}
-use Rattle.c_scope.proofs.Rows.{behind_viewed}
+use Rattle.c_check_expr.proofs.Rows.{behind_viewed}
 use Rattle.c_check.proofs.statement.check_declaration.Given as goal
 
 abbrev pub invariant-loop-behind : goal.invariant-loop-behind

@@ -1,6 +1,6 @@
 use Rattle.std.proofs.Common.{◌∙◌, ap}
 use Rattle.c_grammar.proofs.Viewed.{view-cell, view-whole}
-use Rattle.c_scope.specs.Kinds.{cell_kind, target_kind}
+use Rattle.c_check_expr.specs.Kinds.{cell_kind, target_kind}
 use Rattle.c_check.proofs.statement.goal_kind.Goals as goal
 
 pub returns-in-Whole : goal.returns-in-Whole

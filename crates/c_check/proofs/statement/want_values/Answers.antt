@@ -1,8 +1,8 @@
 use Rattle.std.proofs.Common.{refl}
 use Rattle.c_grammar.specs.View.{view}
-use Rattle.c_scope.specs.Expressions.{int_faults}
+use Rattle.c_check_expr.specs.Expressions.{int_faults}
 use Rattle.c_check.specs.Statements.{values_faults}
-use Rattle.c_scope.proofs.Rows.{behind_viewed}
+use Rattle.c_check_expr.proofs.Rows.{behind_viewed}
 use Rattle.c_check.proofs.More.{all_of, values_next}
 use Rattle.c_check.proofs.statement.want_values.Goals as goal
 

@@ -11,14 +11,14 @@ use Rattle.c_program.specs.State.{State, leave, mark_of, put}
 use Rattle.c_program.specs.Values.{cell_of}
 use Rattle.c_eval.specs.Leaving.{exit}
 use Rattle.c_eval.specs.Parts.{blocked, calls_of, for_of}
-use Rattle.c_parts.specs.Parts.{assigned}
+use Rattle.c_run_parts.specs.Parts.{assigned}
 use Rattle.c_eval.specs.Statements.{assigns, chosen, otherwise}
 use Rattle.c_eval.proofs.Depths.{deepest, deepest-at, fewer-calls, weight}
 use Rattle.c_eval.proofs.Evaluations.{fails-stops, from, lifted, stops-from}
 use Rattle.c_eval.specs.declared.flow.Flow.TheVariants.{Next, Broke, Back}
-use Rattle.c_parts.proofs.PartLaws.{entering}
+use Rattle.c_run_parts.proofs.PartLaws.{entering}
 use Rattle.c_eval.proofs.Exits.{block-closes, call-closes, exit-other}
-use Rattle.c_parts.proofs.Lists.{at, behind_all}
+use Rattle.c_run_parts.proofs.Lists.{at, behind_all}
 use Rattle.c_eval.proofs.Loops.{turn-goes_on, turn-leaves, turn-stops, turning-ends, turning-fails, turning-leaves, turning-on, turning-stops, update-stops}
 use Rattle.c_eval.proofs.evaluate.+statements.Goals as goal
 

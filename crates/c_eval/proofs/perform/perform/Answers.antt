@@ -1,6 +1,6 @@
 use Rattle.std.proofs.Common.{◌∙◌, ap, refl}
 use Rattle.c_program.specs.Courses.{Over, after}
-use Rattle.c_questions.proofs.MoreReplies.{after-over}
+use Rattle.c_run_replies.proofs.MoreReplies.{after-over}
 use Rattle.c_eval.proofs.perform.perform.Goals as goal
 
 pub returns-in-Over : goal.returns-in-Over

@@ -1,7 +1,7 @@
 use Rattle.std.proofs.Common.{◌≡◌, ◌≤◌, length}
 use Rattle.c_program.specs.Courses.{after}
 use Rattle.c_program.specs.Performing.{Onward}
-use Rattle.c_questions.specs.Questions.{reached}
+use Rattle.c_run_replies.specs.Questions.{reached}
 use Rattle.c_eval.proofs.perform.perform.Given as goal
 
 abbrev pub invariant-loop-found : goal.invariant-loop-found

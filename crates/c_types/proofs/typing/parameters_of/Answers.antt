@@ -1,6 +1,6 @@
 use Rattle.std.proofs.Common.{sym}
 use Rattle.c_grammar.specs.StmtView.{parameter_view, parameters_view}
-use Rattle.c_scope.specs.Signatures.{parameters_listed}
+use Rattle.c_check_expr.specs.Signatures.{parameters_listed}
 use Rattle.c_types.proofs.ProgramRules.{each_named, parameter_text, parameters_after, parameters_end, parameters_more}
 use Rattle.c_types.proofs.typing.parameters_of.Goals as goal
 

@@ -2,7 +2,7 @@ use Rattle.std.proofs.Common.{◌≡◌, ◌++◌, List, drop}
 use Rattle.c_grammar.specs.StmtView.{parameters_view}
 use Rattle.c_program.specs.declared.program.Parameter.{Parameter}
 use Rattle.c_check.specs.Programs.{after_parameters}
-use Rattle.c_scope.specs.Signatures.{parameters_listed}
+use Rattle.c_check_expr.specs.Signatures.{parameters_listed}
 use Rattle.c_types.specs.Programs.{AreParameters}
 use Rattle.c_types.proofs.typing.parameters_of.Given as goal
 

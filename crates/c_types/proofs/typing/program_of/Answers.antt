@@ -1,7 +1,7 @@
 use Rattle.c_grammar.specs.StmtView.{tree_view}
 use Rattle.std.proofs.Common.{[]}
 use Rattle.c_check.specs.Programs.{text_env, tops_faults}
-use Rattle.c_blocks.proofs.Growing.{none_left}
+use Rattle.c_type_stmt.proofs.Growing.{none_left}
 use Rattle.c_types.proofs.ProgramRules.{has_main}
 use Rattle.c_types.proofs.typing.program_of.Goals as goal
 

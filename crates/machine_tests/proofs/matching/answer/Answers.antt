@@ -13,7 +13,7 @@ on_ok at rank call old new (Ok mate) below is =
 on_ok at rank call old new (Err error) below is = tt
 
 pub returns-in-Send : goal.returns-in-Send
-returns-in-Send c = on_ok c.args.at c.args.rank (Send 0 c.in-Send.dest c.in-Send.tag c.new-ints.result) c.args.matcher.now c.send.new.self c.send.result c.requires c.send.ensures.ok
+returns-in-Send c = on_ok c.args.at c.args.rank (Send 0 c.in-Send.dest c.in-Send.tag c.new-ints.result false) c.args.matcher.now c.send.new.self c.send.result c.requires c.send.ensures.ok
 
 pub returns-in-Post : goal.returns-in-Post
 returns-in-Post c = on_ok c.args.at c.args.rank (Post 0 c.in-Post.source c.in-Post.tag 1) c.args.matcher.now c.post.new.self c.post.result c.requires c.post.ensures.ok

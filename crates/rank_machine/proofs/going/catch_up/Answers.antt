@@ -1,6 +1,6 @@
 use Rattle.std.proofs.Common.{◌∙◌, refl, drop}
 use Rattle.c_program.specs.Courses.{Over}
-use Rattle.c_questions.proofs.MoreReplies.{after-over}
+use Rattle.c_run_replies.proofs.MoreReplies.{after-over}
 use Rattle.rank_machine.proofs.going.catch_up.Goals as goal
 
 pub returns-in-Over : goal.returns-in-Over

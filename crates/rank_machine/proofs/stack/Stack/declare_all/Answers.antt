@@ -1,7 +1,7 @@
 use Rattle.std.proofs.Common.{◌≡◌, ◌∙◌, ◌+◌, ◌≤◌, Some, None, Vec, Global, sym, ap, arith, drop, rules}
 use Rattle.std.proofs.lemmas.Result.{err_from_is_err_and}
 use Rattle.c_program.specs.Meaning.{declare_all}
-use Rattle.c_parts.proofs.Lists.{behind_all}
+use Rattle.c_run_parts.proofs.Lists.{behind_all}
 use Rattle.rank_machine.specs.declared.frame.Frame.{Frame}
 use Rattle.rank_machine.specs.Frames.{Open, call_in, calls_in, within}
 use Rattle.rank_machine.proofs.Items.{begins, item-at, then-calling, then-plainly}

@@ -1,0 +1,11 @@
+use Rattle.std.proofs.Common.{◌≡◌, drop}
+use Rattle.c_grammar.specs.StmtView.{call_view}
+use Rattle.c_check_call.specs.Calls.{arguments_faults, arguments_of}
+use Rattle.c_check_call.specs.CallView.{takes_view}
+use Rattle.c_check_expr.specs.Least.{least_from}
+use Rattle.c_check_call.proofs.call.check_arguments.Given as goal
+
+abbrev pub invariant-loop-place : goal.invariant-loop-place
+invariant-loop-place l =
+    least_from l.best (arguments_faults l.scope (drop l.place (takes_view l.kinds)) (drop l.place (arguments_of (call_view l.call))))
+    ≡ least_from l.initial.best (arguments_faults l.scope (takes_view l.kinds) (arguments_of (call_view l.call)))

@@ -1,0 +1,11 @@
+use Rattle.std.proofs.Common.{sym}
+use Rattle.c_grammar.specs.StmtView.{argument_view, call_view}
+use Rattle.c_check_call.specs.Calls.{arguments_of}
+use Rattle.c_check_call.proofs.Arguments.{numbers_next}
+use Rattle.c_check_call.proofs.call.check_print.Goals as goal
+
+pub loop-place-preserved : goal.loop-place-preserved
+loop-place-preserved c =
+    let e = numbers_next c.args.scope.now c.loop-place.best (arguments_of (call_view c.args.call.now)) c.loop-place.place (argument_view c.in-Some-argument_at.argument.now) (sym c.in-Some-argument_at.ensures) in
+    let i = c.loop-place.invariant in
+    cc c.want_value.ensures

@@ -1,0 +1,10 @@
+use Rattle.std.proofs.Common.{◌≡◌, drop}
+use Rattle.c_grammar.specs.StmtView.{call_view}
+use Rattle.c_check_call.specs.Calls.{arguments_of, numbers_faults}
+use Rattle.c_check_expr.specs.Least.{least_from}
+use Rattle.c_check_call.proofs.call.check_print.Given as goal
+
+abbrev pub invariant-loop-place : goal.invariant-loop-place
+invariant-loop-place l =
+    least_from l.best (numbers_faults l.scope (drop l.place (arguments_of (call_view l.call))))
+    ≡ least_from l.initial.best (numbers_faults l.scope (drop 1 (arguments_of (call_view l.call))))

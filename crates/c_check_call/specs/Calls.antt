@@ -1,0 +1,236 @@
+-- The faults of calls and of what stands on the right of an assignment. (ISO C, "Function calls"; MPI 3.1, the C bindings.)
+use Rattle.std.specs.Prelude.{◌++◌, ◌||◌, ◌==◌, ℕ, Bool, true, false, List, [], ◌∷◌, length, if◌then◌else◌, Option, Some, None, slice_get, take, drop, ◌-◌}
+use Rattle.std.specs.Option.{option_map}
+use Rattle.c_lex.specs.declared.fault.Why.TheVariants.{Unknown, WrongType, WrongCount, BadFormat, LeftOut}
+use Rattle.c_grammar.specs.declared.word.Spot.{Spot}
+use Rattle.c_grammar.specs.declared.word.Word.{Word}
+use Rattle.c_grammar.specs.declared.word.Word.TheVariants as w
+use Rattle.c_grammar.specs.Tree as t
+use Rattle.c_names.specs.Formats.{ints_in, pieces_of}
+use Rattle.c_names.specs.Functions.{accepts, arguments}
+use Rattle.c_names.specs.declared.function.ArgumentKind.{ArgumentKind}
+use Rattle.c_names.specs.declared.function.ArgumentKind.TheVariants as a
+use Rattle.c_names.specs.declared.function.MpiFunction.{MpiFunction}
+use Rattle.c_names.specs.declared.function.MpiFunction.TheVariants as f
+use Rattle.c_names.specs.declared.predefined.Predefined.{Predefined}
+use Rattle.c_names.specs.declared.predefined.Predefined.TheVariants as p
+use Rattle.c_names.specs.declared.kind.Kind.{Kind}
+use Rattle.c_names.specs.declared.kind.Kind.TheVariants.{Int, Status, Request, Communicator}
+use Rattle.c_check_expr.specs.Least.{fault, unless}
+use Rattle.c_check_expr.specs.Kinds.{is_same_kind, kind_faults, start_of}
+use Rattle.c_check_expr.specs.Signatures.{listed}
+use Rattle.c_check_expr.specs.Scopes.{Env, Signature, cut, meaning, name_faults}
+use Rattle.c_check_expr.specs.Expressions.{int_faults, wanted_faults}
+use Rattle.c_check_expr.specs.declared.fault.Fault.{Fault}
+use Rattle.c_check_expr.specs.declared.thing.ExprKind.{ExprKind}
+use Rattle.c_check_expr.specs.declared.thing.ExprKind.TheVariants.{Of, Other}
+use Rattle.c_check_expr.specs.declared.thing.Meaning.{Meaning}
+use Rattle.c_check_expr.specs.declared.thing.Meaning.TheVariants as m
+use Rattle.c_check_expr.specs.declared.thing.Thing.TheVariants as d
+
+abbrev pub arguments_listed : Option (t.Row t.Argument) → List t.Argument
+arguments_listed None = []
+arguments_listed (Some arguments) = listed arguments
+
+abbrev pub arguments_of : t.Call → List t.Argument
+arguments_of call = arguments_listed call.arguments
+
+abbrev pub argument_start : t.Argument → Spot
+argument_start (t.text at) = at
+argument_start (t.address mark place) = mark
+argument_start (t.value e) = start_of e
+
+-- ---- one argument
+
+-- the predefined name that an argument is
+abbrev pub word_meant : Meaning → Option Predefined
+word_meant (m.Known known) = Some known
+word_meant _ = None
+
+abbrev pub name_alone : t.Expr → Option Spot
+name_alone (t.read (t.whole name)) = Some name
+name_alone _ = None
+
+abbrev pub name_word : Env → Option Spot → Option Predefined
+name_word env None = None
+name_word env (Some name) = word_meant (meaning env name)
+
+abbrev pub word_of : Env → t.Argument → Option Predefined
+word_of env (t.value e) = name_word env (name_alone e)
+word_of env _ = None
+
+abbrev pub accepts_word : ArgumentKind → Option Predefined → Bool
+accepts_word kind None = false
+accepts_word kind (Some known) = accepts kind known
+
+-- main's own parameter
+abbrev pub is_own : ArgumentKind → Meaning → Bool
+is_own a.ArgumentCount (m.Declared d.ArgumentCount) = true
+is_own a.ArgumentTexts (m.Declared d.ArgumentTexts) = true
+is_own _ _ = false
+
+abbrev pub accepts_own : Env → ArgumentKind → t.Argument → Bool
+accepts_own env kind (t.address mark (t.whole name)) = is_own kind (meaning env name)
+accepts_own env kind _ = false
+
+-- an argument that is not what is wanted, at its first token; nothing follows from a name without a meaning
+abbrev pub misfit_faults : Env → t.Argument → List Fault
+misfit_faults env (t.text at) = fault at WrongType
+misfit_faults env (t.address mark place) = fault mark WrongType
+misfit_faults env (t.value e) = wanted_faults env Other e
+
+-- where an expression of a kind is wanted
+abbrev pub value_faults : Env → ExprKind → t.Argument → List Fault
+value_faults env wanted (t.value e) = wanted_faults env wanted e
+value_faults env wanted argument = misfit_faults env argument
+
+-- what a name may be before `+` or alone, and behind `&`
+abbrev pub is_array_of : Kind → Meaning → Bool
+is_array_of wanted (m.Declared (d.Array kind length)) = is_same_kind wanted kind
+is_array_of wanted (m.Declared d.ArrayParameter) = is_same_kind wanted Int
+is_array_of wanted _ = false
+
+abbrev pub is_place_of : Kind → Meaning → Bool
+is_place_of wanted (m.Declared (d.Variable kind)) = is_same_kind wanted kind
+is_place_of wanted (m.Declared d.ArgumentCount) = is_same_kind wanted Int
+is_place_of wanted other = is_array_of wanted other
+
+abbrev pub is_nameless : Meaning → Bool
+is_nameless m.LeftOut = true
+is_nameless m.Unknown = true
+is_nameless _ = false
+
+-- a name and what is added to it: the name of an array stands on the whole left side
+abbrev pub is_plus : Word → Bool
+is_plus w.Plus = true
+is_plus _ = false
+
+abbrev pub sum_base : Option Spot → t.Links → Option (Spot × t.Expr)
+sum_base (Some name) (t.link operator at operand t.no_link) = if is_plus operator then Some (name, operand) else None
+sum_base _ _ = None
+
+abbrev pub array_sum : t.Expr → Option (Spot × t.Expr)
+array_sum (t.chain level first links) = sum_base (name_alone first) links
+array_sum _ = None
+
+abbrev pub is_array_name : Env → Kind → Option Spot → Bool
+is_array_name env wanted None = false
+is_array_name env wanted (Some name) = is_array_of wanted (meaning env name)
+
+abbrev pub sum_faults : Env → Kind → t.Expr → Option (Spot × t.Expr) → List Fault
+sum_faults env wanted e None = wanted_faults env Other e
+sum_faults env wanted e (Some sum) = if is_array_of wanted (meaning env sum.0) then int_faults env sum.1 else wanted_faults env Other e
+
+abbrev pub array_faults : Env → Kind → t.Expr → List Fault
+array_faults env wanted e = if is_array_name env wanted (name_alone e) then [] else sum_faults env wanted e (array_sum e)
+
+abbrev pub address_faults : Env → Kind → Spot → t.Place → List Fault
+address_faults env wanted mark (t.whole name) =
+    name_faults (meaning env name) name ++ unless (is_nameless (meaning env name) || is_place_of wanted (meaning env name)) mark WrongType
+address_faults env wanted mark (t.cell name opening index closing) =
+    (name_faults (meaning env name) name ++ unless (is_nameless (meaning env name) || is_array_of wanted (meaning env name)) mark WrongType)
+    ++ int_faults env index
+
+-- a reference to cells of one kind: `&NAME`, `&NAME[e]`, the name of an array, or such a name `+` an expression
+abbrev pub reference_faults : Env → Kind → t.Argument → List Fault
+reference_faults env wanted (t.text at) = fault at WrongType
+reference_faults env wanted (t.address mark place) = address_faults env wanted mark place
+reference_faults env wanted (t.value e) = array_faults env wanted e
+
+abbrev pub unaccepted_faults : Env → ArgumentKind → t.Argument → List Fault
+unaccepted_faults env a.Number argument = value_faults env (Of Int) argument
+unaccepted_faults env a.Communicator argument = value_faults env (Of Communicator) argument
+unaccepted_faults env a.Buffer argument = reference_faults env Int argument
+unaccepted_faults env a.Ints argument = reference_faults env Int argument
+unaccepted_faults env a.NewCommunicator argument = reference_faults env Communicator argument
+unaccepted_faults env a.Requests argument = reference_faults env Request argument
+unaccepted_faults env a.Status argument = reference_faults env Status argument
+unaccepted_faults env a.Statuses argument = reference_faults env Status argument
+unaccepted_faults env _ argument = misfit_faults env argument
+
+-- an argument, by what it has to be
+abbrev pub argument_faults : Env → ArgumentKind → t.Argument → List Fault
+argument_faults env kind argument =
+    if accepts_word kind (word_of env argument) || accepts_own env kind argument then [] else unaccepted_faults env kind argument
+
+abbrev pub arguments_faults : Env → List ArgumentKind → List t.Argument → List Fault
+arguments_faults env (kind ∷ kinds) (argument ∷ arguments) = argument_faults env kind argument ++ arguments_faults env kinds arguments
+arguments_faults env _ _ = []
+
+-- ---- calls
+
+abbrev pub signature_takes : Option Signature → List ArgumentKind
+signature_takes None = []
+signature_takes (Some signature) = signature.takes
+
+-- `NULL` for both arguments, or main's own parameters
+abbrev pub first_is_null : Env → List t.Argument → Bool
+first_is_null env [] = false
+first_is_null env (argument ∷ arguments) = accepts_word a.NoReference (word_of env argument)
+
+abbrev pub mpi_takes : Env → MpiFunction → List t.Argument → List ArgumentKind
+mpi_takes env f.Init arguments_given = if first_is_null env arguments_given then a.NoReference ∷ a.NoReference ∷ [] else arguments f.Init
+mpi_takes env function _ = arguments function
+
+-- what the name of a call takes, or nothing where it is no function
+abbrev pub takes : Env → Meaning → List t.Argument → Option (List ArgumentKind)
+takes env (m.Declared (d.Function number)) given = Some (signature_takes (slice_get env.functions number))
+takes env (m.Known (p.Mpi function)) given = Some (mpi_takes env function given)
+takes env (m.Known p.Fflush) given = Some (a.Output ∷ [])
+takes env _ given = None
+
+abbrev pub inside : List ℕ → List ℕ
+inside quoted = drop 1 (take (length quoted - 1) quoted)
+
+abbrev pub is_format : ℕ → Option ℕ → Bool
+is_format count None = false
+is_format count (Some ints) = ints == count
+
+-- a text that is no format, or one for another number of ints
+abbrev pub format_faults : Env → Spot → ℕ → List Fault
+format_faults env at count = unless (is_format count (option_map ints_in (pieces_of (inside (cut env.text at))))) at BadFormat
+
+abbrev pub numbers_faults : Env → List t.Argument → List Fault
+numbers_faults env [] = []
+numbers_faults env (argument ∷ arguments) = value_faults env (Of Int) argument ++ numbers_faults env arguments
+
+abbrev pub print_faults : Env → Spot → List t.Argument → List Fault
+print_faults env name [] = fault name WrongCount
+print_faults env name (t.text at ∷ others) = format_faults env at (length others) ++ numbers_faults env others
+print_faults env name (argument ∷ others) = misfit_faults env argument
+
+abbrev pub counted_faults : Env → Spot → Option (List ArgumentKind) → List t.Argument → List Fault
+counted_faults env name None given = fault name WrongType
+counted_faults env name (Some kinds) given = if length given == length kinds then arguments_faults env kinds given else fault name WrongCount
+
+abbrev pub meant_faults : Env → Spot → Meaning → List t.Argument → List Fault
+meant_faults env name m.LeftOut given = fault name LeftOut
+meant_faults env name m.Unknown given = fault name Unknown
+meant_faults env name (m.Known p.Printf) given = print_faults env name given
+meant_faults env name other given = counted_faults env name (takes env other given) given
+
+abbrev pub call_faults : Env → t.Call → List Fault
+call_faults env call = meant_faults env call.name (meaning env call.name) (arguments_of call)
+
+-- ---- right sides
+
+abbrev pub gives_int : Option Signature → Bool
+gives_int None = false
+gives_int (Some signature) = signature.gives
+
+-- what a call gives where a kind is wanted: an int function of the text gives an int, and nothing else may stand there
+abbrev pub result_faults : Env → ExprKind → Meaning → Spot → List Fault
+result_faults env wanted (m.Declared (d.Function number)) name =
+    if gives_int (slice_get env.functions number) then kind_faults wanted (Of Int) name else fault name WrongType
+result_faults env wanted (m.Known (p.Mpi function)) name = fault name LeftOut
+result_faults env wanted (m.Known p.Printf) name = fault name LeftOut
+result_faults env wanted (m.Known p.Fflush) name = fault name WrongType
+result_faults env wanted _ name = []
+
+abbrev pub right_faults : Env → ExprKind → t.Right → List Fault
+right_faults env wanted (t.called call) = call_faults env call ++ result_faults env wanted (meaning env call.name) call.name
+right_faults env wanted (t.valued e) = wanted_faults env wanted e
+
+abbrev pub right_start : t.Right → Spot
+right_start (t.called call) = call.name
+right_start (t.valued e) = start_of e

@@ -1,0 +1,109 @@
+-- The kinds of expressions. (ISO C, "Expressions".)
+use Rattle.std.specs.Prelude.{Bool, true, false, List}
+use Rattle.c_lex.specs.declared.fault.Why.TheVariants.{WrongType}
+use Rattle.c_grammar.specs.declared.word.Spot.{Spot}
+use Rattle.c_grammar.specs.declared.word.Word.{Word}
+use Rattle.c_grammar.specs.declared.word.Word.TheVariants as w
+use Rattle.c_grammar.specs.Tree as t
+use Rattle.c_names.specs.declared.predefined.Predefined.TheVariants as p
+use Rattle.c_names.specs.declared.kind.Kind.{Kind}
+use Rattle.c_names.specs.declared.kind.Kind.TheVariants.{Int, Status, Request, Communicator}
+use Rattle.c_check_expr.specs.Least.{unless}
+use Rattle.c_check_expr.specs.Scopes.{Env, meaning}
+use Rattle.c_check_expr.specs.declared.fault.Fault.{Fault}
+use Rattle.c_check_expr.specs.declared.thing.ExprKind.{ExprKind}
+use Rattle.c_check_expr.specs.declared.thing.ExprKind.TheVariants.{Of, NullRequest, Other, Nothing}
+use Rattle.c_check_expr.specs.declared.thing.Meaning.{Meaning}
+use Rattle.c_check_expr.specs.declared.thing.Meaning.TheVariants as m
+use Rattle.c_check_expr.specs.declared.thing.Thing.TheVariants as d
+
+abbrev pub kind_of_word : Word → Kind
+kind_of_word w.Status = Status
+kind_of_word w.Request = Request
+kind_of_word w.Communicator = Communicator
+kind_of_word _ = Int
+
+abbrev pub is_same_kind : Kind → Kind → Bool
+is_same_kind Int Int = true
+is_same_kind Status Status = true
+is_same_kind Request Request = true
+is_same_kind Communicator Communicator = true
+is_same_kind _ _ = false
+
+-- a name alone
+abbrev pub whole_kind : Meaning → ExprKind
+whole_kind (m.Known (p.Number value)) = Of Int
+whole_kind (m.Known (p.Communicator number)) = Of Communicator
+whole_kind (m.Known p.NullRequest) = NullRequest
+whole_kind (m.Known _) = Other
+whole_kind (m.Declared (d.Define value)) = Of Int
+whole_kind (m.Declared (d.Variable kind)) = Of kind
+whole_kind (m.Declared d.ArgumentCount) = Of Int
+whole_kind (m.Declared _) = Other
+whole_kind m.LeftOut = Nothing
+whole_kind m.Unknown = Nothing
+
+-- a name with an index; nothing where it is no array
+abbrev pub cell_kind : Meaning → ExprKind
+cell_kind (m.Declared (d.Array kind length)) = Of kind
+cell_kind (m.Declared d.ArrayParameter) = Of Int
+cell_kind _ = Nothing
+
+-- where something can be assigned: a define is an int, but no place
+abbrev pub target_kind : Meaning → ExprKind
+target_kind (m.Declared (d.Variable kind)) = Of kind
+target_kind (m.Declared d.ArgumentCount) = Of Int
+target_kind m.LeftOut = Nothing
+target_kind m.Unknown = Nothing
+target_kind _ = Other
+
+abbrev pub place_kind : Env → t.Place → ExprKind
+place_kind env (t.whole name) = whole_kind (meaning env name)
+place_kind env (t.cell name opening index closing) = cell_kind (meaning env name)
+
+abbrev pub kind_of : Env → t.Expr → ExprKind
+kind_of env (t.read place) = place_kind env place
+kind_of env _ = Of Int
+
+-- the first token
+abbrev pub place_start : t.Place → Spot
+place_start (t.whole name) = name
+place_start (t.cell name opening index closing) = name
+
+abbrev pub start_of : t.Expr → Spot
+start_of (t.number at) = at
+start_of (t.read place) = place_start place
+start_of (t.field place dot name) = place_start place
+start_of (t.paren opening inner closing) = opening
+start_of (t.unary sign at operand) = at
+start_of (t.chain level first links) = start_of first
+start_of (t.choice test question taken colon spared) = start_of test
+
+-- whether something of one kind may stand where one is wanted; anything may stand where nothing is
+abbrev pub fits : ExprKind → ExprKind → Bool
+fits Nothing given = true
+fits wanted Nothing = true
+fits (Of Int) (Of Int) = true
+fits (Of Status) (Of Status) = true
+fits (Of Communicator) (Of Communicator) = true
+-- requests are not copied
+fits (Of Request) NullRequest = true
+fits wanted given = false
+
+-- something else than what is wanted, at its first token
+abbrev pub kind_faults : ExprKind → ExprKind → Spot → List Fault
+kind_faults wanted given at = unless (fits wanted given) at WrongType
+
+-- the two sides of `==` and `!=` that may be handles
+abbrev pub compares : ExprKind → ExprKind → Bool
+compares (Of Communicator) (Of Communicator) = true
+compares (Of Communicator) Nothing = true
+compares Nothing (Of Communicator) = true
+compares (Of Request) NullRequest = true
+compares (Of Request) Nothing = true
+compares Nothing (Of Request) = true
+compares NullRequest (Of Request) = true
+compares NullRequest NullRequest = true
+compares NullRequest Nothing = true
+compares Nothing NullRequest = true
+compares _ _ = false

@@ -1,0 +1,17 @@
+-- The numbers of a text.
+use Rattle.std.specs.Prelude.{ℕ, ◌&&◌, Bool, true, List, [], ◌∷◌, length, if◌then◌else◌, nat_lt, nat_le}
+use Rattle.std.specs.Char.{digit_value}
+use Rattle.c_lex.specs.Literals.{base, digits_of, literal_value}
+use Rattle.c_grammar.specs.declared.word.Spot.{Spot}
+use Rattle.c_check_expr.specs.Scopes.{cut}
+
+abbrev pub all_digits : ℕ → List ℕ → Bool
+all_digits radix [] = true
+all_digits radix (c ∷ cs) = nat_lt (digit_value c) radix && all_digits radix cs
+
+abbrev pub is_literal : List ℕ → Bool
+is_literal word = (nat_lt 0 (length (digits_of word)) && all_digits (base word) (digits_of word)) && nat_le (literal_value word) 2147483647
+
+-- the number of a token; 0 for what is no literal, as no token is
+abbrev pub number_at : List ℕ → Spot → ℕ
+number_at text spot = if is_literal (cut text spot) then literal_value (cut text spot) else 0

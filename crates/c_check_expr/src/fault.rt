@@ -1,0 +1,77 @@
+//! Faults, ordered by place and then by reason.
+ghost use Rattle.std.specs.Prelude.{◌≡◌};
+ghost use Rattle.c_check_expr.specs.Least.{fault, is_less, least_from, rank, take_less, unless};
+
+use c_grammar::word::Spot;
+use c_lex::Why;
+
+/// A fault and its place, which counts from 0.
+#[derive(Clone, Copy)]
+pub struct Fault {
+    pub at: u32,
+    pub why: Why,
+}
+
+/// The place of a reason in the list of reasons.
+fn rank(why: Why) -> u8
+    ensures { result ≡ rank why }
+{
+    match why {
+        Why::BadByte => 1,
+        Why::OpenComment => 2,
+        Why::OpenText => 3,
+        Why::BadLiteral => 4,
+        Why::Unexpected => 5,
+        Why::TooDeep => 6,
+        Why::Unknown => 7,
+        Why::Twice => 8,
+        Why::WrongType => 9,
+        Why::WrongCount => 10,
+        Why::NoMain => 11,
+        Why::BadFormat => 12,
+        Why::LeftOut => 13,
+        Why::NoMemory => 14,
+    }
+}
+
+fn is_less(a: Fault, b: Fault) -> bool
+    ensures { result ≡ is_less a b }
+{
+    a.at < b.at || (a.at == b.at && rank(a.why) < rank(b.why))
+}
+
+/// Keeps the first of what was found so far and this fault.
+pub fn note(best: &mut Option<Fault>, found: Fault)
+    ensures { best.new ≡ take_less best.old found }
+{
+    match *best {
+        None => *best = Some(found),
+        Some(other) => {
+            if is_less(found, other) {
+                *best = Some(found);
+            }
+        }
+    }
+}
+
+/// A fault at a token.
+pub fn note_at(best: &mut Option<Fault>, spot: Spot, why: Why)
+    ensures { best.new ≡ least_from best.old (fault spot why) }
+{
+    note(
+        best,
+        Fault {
+            at: spot.start,
+            why,
+        },
+    );
+}
+
+/// A fault at a token, unless all is well.
+pub fn note_unless(best: &mut Option<Fault>, well: bool, spot: Spot, why: Why)
+    ensures { best.new ≡ least_from best.old (unless well spot why) }
+{
+    if !well {
+        note_at(best, spot, why);
+    }
+}

@@ -1,0 +1,240 @@
+//! Scopes: what names stand for at a place of a program.
+ghost use Rattle.std.specs.Prelude.{◌≡◌, IfOk, OnOk, length, map, option_map, slice_get};
+ghost use Rattle.std.specs.Str.{bytes_eq};
+ghost use Rattle.c_grammar.specs.StmtView.{head_view};
+ghost use Rattle.c_check_expr.specs.Least.{least_from};
+ghost use Rattle.c_check_expr.specs.Literals.{number_at};
+ghost use Rattle.c_check_expr.specs.Signatures.{function_entries, signature_of};
+ghost use Rattle.c_check_expr.specs.Variables.{is_variable, variable};
+ghost use Rattle.c_check_expr.specs.Scopes.{closed, cut, declare, declared_meaning, found, is_in_block, is_taken, meaning, meaning_of, name_faults, opened, twice_faults};
+
+use crate::fault::{Fault, note_at, note_unless};
+use crate::thing::{Meaning, Thing};
+use c_grammar::statement::Head;
+use c_grammar::word::Spot;
+use c_lex::{Why, literal_value};
+use c_names::predefined::meaning_of;
+use std::alloc::{AllocError, Global};
+use std::marker::Model;
+
+/// The bytes of a token.
+pub fn cut(text: &[u8], spot: Spot) -> &[u8]
+    ensures { result.now ≡ cut text.now spot }
+{
+    let from = text.len().min(spot.start as usize);
+    let rest = &text[from..];
+    let len = rest.len().min(spot.len as usize);
+    &rest[..len]
+}
+
+pub fn is_same(name: &[u8], other: &[u8]) -> bool
+    ensures { result ≡ bytes_eq name.now other.now }
+{
+    name == other
+}
+
+/// The number of a token; 0 for what is no literal.
+pub fn number_at(text: &[u8], spot: Spot) -> u32
+    ensures { result ≡ number_at text.now spot }
+{
+    literal_value(cut(text, spot)).unwrap_or(0)
+}
+
+/// The begin of a block, or a declaration.
+#[derive(Clone, Copy)]
+pub enum Placed<'a> {
+    Opening,
+    Named { name: &'a [u8], thing: Thing },
+}
+
+/// The text, the heads of its functions, and what is declared, the outermost first. Contracts see an `Env`.
+#[derive(Drop)]
+pub struct Scope<'a> {
+    text: &'a [u8],
+    heads: Vec<&'a Head>,
+    placed: Vec<Placed<'a>>,
+}
+
+impl<'a> Model for Scope<'a> {
+    ghost use Rattle.std.specs.Prelude.{map};
+    ghost use Rattle.c_grammar.specs.StmtView.{head_view};
+    ghost use Rattle.c_check_expr.specs.Scopes.{Env};
+    ghost use Rattle.c_check_expr.specs.Signatures.{signature_of};
+    ghost use Rattle.c_check_expr.specs.ScopeView.{entries_view};
+
+    ghost Value = { Env };
+
+    ghost view = { λ s. record { text = s.text.now; functions = map (λ head. signature_of (head_view head.now)) s.heads.items; entries = entries_view s.placed.items } };
+}
+
+impl<'a> Scope<'a> {
+    /// The functions are declared, from the last one on, so that of two of one name the first is found.
+    #[tactic(auto, using(crate::proofs::Entries::function_more))]
+    pub fn of_functions(
+        alloc: Global,
+        text: &'a [u8],
+        heads: Vec<&'a Head>,
+    ) -> Result<Self, AllocError>
+        ensures { IfOk result (λ scope. scope ≡ record { text = text.now; functions = map (λ head. signature_of (head_view head.now)) heads.entry.items; entries = function_entries text.now 0 (map (λ head. head_view head.now) heads.entry.items) }) }
+    {
+        let mut placed = Vec::new(alloc);
+        let mut number = heads.len();
+        while number > 0 {
+            number -= 1;
+            placed.push(Placed::Named {
+                name: cut(text, heads[number].name),
+                thing: Thing::Function(number),
+            })?;
+        }
+        Ok(Scope {
+            text,
+            heads,
+            placed,
+        })
+    }
+
+    pub fn text(&self) -> &'a [u8]
+        ensures { result.now ≡ self.now.text }
+    {
+        self.text
+    }
+
+    /// The head of a function by its number.
+    pub fn head(&self, number: usize) -> Option<&'a Head>
+        ensures { option_map (λ head. signature_of (head_view head.now)) result ≡ slice_get self.now.functions number }
+    {
+        self.heads.get(number).copied()
+    }
+
+    pub fn declare(&mut self, name: Spot, thing: Thing) -> Result<(), AllocError>
+        ensures { OnOk result (self.new ≡ declare self.old name thing) }
+    {
+        let name = cut(self.text, name);
+        self.placed.push(Placed::Named { name, thing })?;
+        Ok(())
+    }
+
+    /// Begins a block.
+    pub fn open(&mut self) -> Result<(), AllocError>
+        ensures { OnOk result (self.new ≡ opened self.old) }
+    {
+        self.placed.push(Placed::Opening)?;
+        Ok(())
+    }
+
+    #[tactic(auto, using(crate::proofs::Entries::entries_push))]
+    /// Ends the innermost block.
+    pub fn close(&mut self)
+        ensures { self.new ≡ record self.old { entries = closed self.old.entries } }
+    {
+        while let Some(placed) = self.placed.pop() {
+            if let Placed::Opening = placed {
+                return;
+            }
+        }
+    }
+
+    #[tactic(auto, using(crate::proofs::Entries::entries_more))]
+    fn find(&self, name: &[u8]) -> Option<Thing>
+        ensures { result ≡ found self.now.entries name.now }
+    {
+        let mut found = None;
+        for placed in &self.placed {
+            if let Placed::Named { name: other, thing } = placed {
+                if is_same(other, name) {
+                    found = Some(*thing);
+                }
+            }
+        }
+        found
+    }
+
+    /// What a name means.
+    pub fn meaning(&self, spot: Spot) -> Meaning
+        ensures { result ≡ meaning self.now spot }
+    {
+        let name = cut(self.text, spot);
+        match meaning_of(name) {
+            Some(known) => Meaning::Known(known),
+            None => declared_meaning(name, self.find(name)),
+        }
+    }
+
+    #[tactic(auto, using(crate::proofs::Entries::entries_more))]
+    /// How many variables of the function stand before this one.
+    pub fn variable(&self, spot: Spot) -> usize
+        ensures { result ≡ variable self.now spot }
+    {
+        let name = cut(self.text, spot);
+        let mut number = 0;
+        let mut found = 0;
+        for placed in &self.placed {
+            if let Placed::Named { name: other, thing } = placed {
+                if is_same(other, name) {
+                    found = number;
+                }
+                number += is_variable(*thing);
+            }
+        }
+        found
+    }
+
+    #[tactic(auto, using(crate::proofs::Entries::entries_more))]
+    fn is_in_block(&self, name: &[u8]) -> bool
+        ensures { result ≡ is_in_block self.now.entries name.now }
+    {
+        let mut found = false;
+        for placed in &self.placed {
+            match placed {
+                Placed::Opening => found = false,
+                Placed::Named { name: other, .. } => found = is_same(other, name) || found,
+            }
+        }
+        found
+    }
+
+    /// A name that may not be declared here.
+    pub fn want_free(&self, best: &mut Option<Fault>, spot: Spot)
+        ensures { best.new ≡ least_from best.old (twice_faults self.now spot) }
+    {
+        let name = cut(self.text, spot);
+        let taken = meaning_of(name).is_some() || self.is_in_block(name);
+        note_unless(best, !taken, spot, Why::Twice);
+    }
+}
+
+/// A name that is not predefined, and its declaration.
+fn declared_meaning(name: &[u8], found: Option<Thing>) -> Meaning
+    ensures { result ≡ declared_meaning name.now found }
+{
+    match found {
+        Some(thing) => Meaning::Declared(thing),
+        None => {
+            if name.starts_with(b"MPI_") {
+                Meaning::LeftOut
+            } else {
+                Meaning::Unknown
+            }
+        }
+    }
+}
+
+fn is_variable(thing: Thing) -> usize
+    ensures { result ≡ is_variable thing }
+{
+    match thing {
+        Thing::Function(_) | Thing::Define(_) => 0,
+        _ => 1,
+    }
+}
+
+/// A name without a meaning.
+pub fn want_meaning(best: &mut Option<Fault>, meaning: Meaning, spot: Spot)
+    ensures { best.new ≡ least_from best.old (name_faults meaning spot) }
+{
+    match meaning {
+        Meaning::Unknown => note_at(best, spot, Why::Unknown),
+        Meaning::LeftOut => note_at(best, spot, Why::LeftOut),
+        _ => {}
+    }
+}

@@ -1,0 +1,58 @@
+//! What names stand for.
+ghost use Rattle.std.specs.Prelude.{◌≡◌};
+ghost use Rattle.c_check_expr.specs.Kinds.{kind_of_word};
+
+use c_grammar::word::Word;
+use c_names::kind::Kind;
+use c_names::predefined::Predefined;
+
+/// What a program declares.
+#[derive(Clone, Copy)]
+pub enum Thing {
+    /// By its number among the text's functions.
+    Function(usize),
+    Define(i32),
+    /// A variable that is no array, or such a parameter.
+    Variable(Kind),
+    /// An array; 0 stands for a length that is none.
+    Array(Kind, u32),
+    /// A parameter that is an array.
+    ArrayParameter,
+    /// The two parameters of main.
+    ArgumentCount,
+    ArgumentTexts,
+}
+
+/// What a name means.
+#[derive(Clone, Copy)]
+pub enum Meaning {
+    Known(Predefined),
+    Declared(Thing),
+    /// A name of MPI that this language leaves out.
+    LeftOut,
+    Unknown,
+}
+
+/// What an expression is.
+#[derive(Clone, Copy)]
+pub enum ExprKind {
+    Of(Kind),
+    /// `MPI_REQUEST_NULL`.
+    NullRequest,
+    /// None of these, as the name of an array.
+    Other,
+    /// Nothing is known, and nothing follows.
+    Nothing,
+}
+
+/// The word of a declaration.
+pub fn kind_of_word(word: Word) -> Kind
+    ensures { result ≡ kind_of_word word }
+{
+    match word {
+        Word::Status => Kind::Status,
+        Word::Request => Kind::Request,
+        Word::Communicator => Kind::Communicator,
+        _ => Kind::Int,
+    }
+}

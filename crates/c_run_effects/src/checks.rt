@@ -1,0 +1,170 @@
+//! The checks of an MPI call's counts, colours, tags and elements.
+ghost use Rattle.std.specs.Prelude.{◌≡◌, ◌≤◌, IfOk, IfSome};
+ghost use Rattle.c_program.specs.Effects.{cell, colour, count_in, count_of, enters, first, gets, handles_of, optional, same_count, status, tag_of, wanted_tag};
+
+use c_run_cells::store::Store;
+use c_program::effect::{Entered, Into};
+use c_program::expr::Reference;
+use c_program::range::Range;
+use mpi_call::call::{Fault, Tag};
+
+/// `MPI_PROC_NULL`, `MPI_ANY_TAG` and null handles.
+pub const NULL: i32 = -1;
+
+/// `MPI_UNDEFINED`.
+pub const UNDEFINED: i32 = -32766;
+
+/// The most ints of a message.
+const LONGEST: i32 = 65536;
+
+// ---- counts and colours
+
+/// A count of ints, at most 65,536.
+pub fn count_of(count: i32) -> Result<u32, Fault>
+    ensures { result ≡ count_of count }
+{
+    if count < 0 {
+        return Err(Fault::BadCount);
+    }
+    if count <= LONGEST {
+        Ok(count as u32)
+    } else {
+        Err(Fault::BadCount)
+    }
+}
+
+/// How many handles.
+pub fn handles_of(count: i32) -> Result<u32, Fault>
+    ensures { result ≡ handles_of count }
+{
+    if count < 0 {
+        Err(Fault::BadCount)
+    } else {
+        Ok(count as u32)
+    }
+}
+
+/// A second count, which has to be the first one.
+pub fn same_count(count: u32, other: i32) -> Result<u32, Fault>
+    ensures { result ≡ same_count count other }
+{
+    let other = count_of(other)?;
+    if count == other {
+        Ok(count)
+    } else {
+        Err(Fault::BadCount)
+    }
+}
+
+/// From 0 on, or `MPI_UNDEFINED`.
+pub fn colour(number: i32) -> Result<i32, Fault>
+    ensures { result ≡ colour number }
+{
+    if number >= 0 {
+        return Ok(number);
+    }
+    if number == UNDEFINED {
+        Ok(number)
+    } else {
+        Err(Fault::BadCount)
+    }
+}
+
+// ---- tags
+
+/// BadTag below 0.
+pub fn tag_of(tag: i32) -> Result<u32, Fault>
+    ensures { result ≡ tag_of tag }
+{
+    if tag < 0 {
+        Err(Fault::BadTag)
+    } else {
+        Ok(tag as u32)
+    }
+}
+
+/// The same, or `MPI_ANY_TAG`.
+pub fn wanted_tag(tag: i32) -> Result<Tag, Fault>
+    ensures { result ≡ wanted_tag tag }
+{
+    if tag == NULL {
+        return Ok(Tag::Any);
+    }
+    Ok(Tag::Is(tag_of(tag)?))
+}
+
+// ---- elements
+
+/// The first elements of a range; OutOfBounds where it has fewer.
+pub fn first(n: usize, cells: Range) -> Result<Range, Fault>
+    ensures { result ≡ first n cells }
+{
+    if n <= cells.length() as usize {
+        cells.first(n as u32)
+    } else {
+        Err(Fault::OutOfBounds)
+    }
+}
+
+/// The cell of a single answer.
+pub fn cell(cells: Range) -> Result<u32, Fault>
+    ensures cell { result ≡ cell cells }
+    ensures bound { IfOk result (λ cell. cell ≤ 262144) }
+{
+    let one = first(1, cells)?;
+    Ok(one.from())
+}
+
+/// The cells of statuses; `None` where they are ignored.
+pub fn status(given: &Option<Reference>, store: &Store) -> Result<Option<Range>, Fault>
+    ensures { result ≡ status given.now store.now }
+{
+    match given {
+        Some(reference) => Ok(Some(store.range(reference)?)),
+        None => Ok(None),
+    }
+}
+
+pub fn optional_cell(cells: Option<Range>) -> Result<Option<u32>, Fault>
+    ensures cell { result ≡ optional cell cells }
+    ensures bound { IfOk result (λ found. IfSome found (λ cell. cell ≤ 262144)) }
+{
+    match cells {
+        Some(cells) => Ok(Some(cell(cells)?)),
+        None => Ok(None),
+    }
+}
+
+pub fn optional_first(n: u32, cells: Option<Range>) -> Result<Option<Range>, Fault>
+    ensures { result ≡ optional (first n) cells }
+{
+    match cells {
+        Some(cells) => Ok(Some(cells.first(n)?)),
+        None => Ok(None),
+    }
+}
+
+/// The count of a status, 0 where it was ignored.
+pub fn count_in(status: Option<u32>, store: &Store) -> i32
+    requires { IfSome status (λ cell. cell ≤ 262144) }
+    ensures { result ≡ count_in status store.now }
+{
+    match status {
+        Some(cell) => store.cell(cell + 2),
+        None => 0,
+    }
+}
+
+/// What a member enters.
+pub fn enters(n: usize, cells: Range) -> Result<Entered, Fault>
+    ensures { result ≡ enters n cells }
+{
+    Ok(Entered::Cells(first(n, cells)?))
+}
+
+/// Where what it gets goes.
+pub fn gets(n: usize, cells: Range) -> Result<Into, Fault>
+    ensures { result ≡ gets n cells }
+{
+    Ok(Into::Cells(first(n, cells)?))
+}

@@ -1,0 +1,297 @@
+//! Collectives.
+ghost use Rattle.std.specs.Prelude.{◌≡◌, ◌≤◌, ℤ, IfErr, IfOk, Err, None, Ok};
+ghost use Rattle.c_program.specs.declared.effect.Entered.TheVariants.{Nothing as EntersNothing};
+ghost use Rattle.c_program.specs.declared.effect.Into.TheVariants.{Nowhere};
+ghost use Rattle.c_program.specs.declared.mpi.CollectiveCall.TheVariants as calls;
+ghost use Rattle.c_program.specs.Effects.{at_root, collective_effect, communicator, count_of, enters, gets, reduces_for_all, same_count};
+ghost use Rattle.c_program.specs.Values.{value};
+ghost use Rattle.c_run_effects.specs.Faults.{HasFault};
+
+use crate::arguments::{buffers_of, ints_of, operands_of};
+use crate::checks::{count_of, enters, gets, same_count};
+use crate::comm::{Comm, communicator, is_me};
+use c_run_cells::store::Store;
+use c_program::effect::{Collective, Effect, Entered, Into, Rank};
+use c_program::expr::Expr;
+use c_program::mpi::{Buffer, CollectiveCall, Reduction};
+use c_program::range::Range;
+use mpi_call::call::{Fault, Kind};
+
+/// A collective with no root and no operation.
+pub fn joined(comm: &Comm, kind: Kind, count: u32, entered: Entered, into: Into) -> Collective
+    ensures { result ≡ record { comm = comm.now.number; kind = kind; root = None; op = None; count = count; entered = entered; into = into } }
+{
+    Collective {
+        comm: comm.number(),
+        kind,
+        root: None,
+        op: None,
+        count,
+        entered,
+        into,
+    }
+}
+
+/// The communicator of an expression.
+fn comm_of<'a>(rank: Rank, comm: &Expr, store: &'a Store) -> Result<Comm<'a>, Fault>
+    requires { rank.ranks ≤ 64 }
+    ensures comm { IfOk result (λ found. (number : ℤ) × (value comm.now store.now ≡ Ok number) × (communicator rank store.now number ≡ Ok found)) }
+    ensures fault { IfErr result (λ fault. HasFault fault (value comm.now store.now) (λ number. communicator rank store.now number ≡ Err fault)) }
+{
+    let number = store.value(comm)?;
+    communicator(rank, store, number)
+}
+
+// ---- what only the root enters, gets or checks
+
+/// A count, and where it is asked for a second one that has to be the same.
+fn count_for_both(checks: bool, count: i32, other: i32) -> Result<u32, Fault>
+    ensures count { IfOk result (λ n. count_of count ≡ Ok n) }
+    ensures other { IfOk result (λ n. at_root checks n (same_count n other) ≡ Ok n) }
+    ensures fault { IfErr result (λ fault. HasFault fault (count_of count) (λ n. at_root checks n (same_count n other) ≡ Err fault)) }
+{
+    let count = count_of(count)?;
+    if checks {
+        same_count(count, other)
+    } else {
+        Ok(count)
+    }
+}
+
+fn enters_at_root(is_root: bool, n: usize, cells: Range) -> Result<Entered, Fault>
+    ensures { result ≡ at_root is_root EntersNothing (enters n cells) }
+{
+    if is_root {
+        enters(n, cells)
+    } else {
+        Ok(Entered::Nothing)
+    }
+}
+
+fn gets_at_root(is_root: bool, n: usize, cells: Range) -> Result<Into, Fault>
+    ensures { result ≡ at_root is_root Nowhere (gets n cells) }
+{
+    if is_root {
+        gets(n, cells)
+    } else {
+        Ok(Into::Nowhere)
+    }
+}
+
+// ---- collectives
+
+/// `MPI_Barrier`.
+fn barrier(rank: Rank, comm: &Expr, store: &Store) -> Result<Effect, Fault>
+    requires { rank.ranks ≤ 64 }
+    ensures { result ≡ collective_effect rank (calls.Barrier comm.now) store.now }
+{
+    let comm = comm_of(rank, comm, store)?;
+    Ok(Effect::Joins(joined(&comm, Kind::Barrier, 0, Entered::Nothing, Into::Nowhere)))
+}
+
+/// `MPI_Bcast`.
+fn bcast(
+    rank: Rank,
+    buffer: &Buffer,
+    root: &Expr,
+    comm: &Expr,
+    store: &Store,
+) -> Result<Effect, Fault>
+    requires { rank.ranks ≤ 64 }
+    ensures { result ≡ collective_effect rank (calls.Bcast buffer.now root.now comm.now) store.now }
+{
+    let ints = ints_of(buffer, store)?;
+    let root = store.value(root)?;
+    let comm = comm_of(rank, comm, store)?;
+    let count = count_of(ints.count)?;
+    let root = comm.member(root)?;
+    let cells = ints.cells.first(count)?;
+    let entered = if is_me(rank, root) {
+        Entered::Cells(cells)
+    } else {
+        Entered::Nothing
+    };
+    Ok(Effect::Joins(Collective {
+        root: Some(root),
+        ..joined(&comm, Kind::Bcast, count, entered, Into::Cells(cells))
+    }))
+}
+
+/// `MPI_Gather`.
+fn gather(
+    rank: Rank,
+    out: &Buffer,
+    buffer: &Buffer,
+    root: &Expr,
+    comm: &Expr,
+    store: &Store,
+) -> Result<Effect, Fault>
+    requires { rank.ranks ≤ 64 }
+    ensures { result ≡ collective_effect rank (calls.Gather out.now buffer.now root.now comm.now) store.now }
+{
+    let buffers = buffers_of(out, buffer, store)?;
+    let root = store.value(root)?;
+    let comm = comm_of(rank, comm, store)?;
+    let count = count_for_both(comm.is_root(rank, root), buffers.out_count, buffers.count)?;
+    let root = comm.member(root)?;
+    let entered = enters(count as usize, buffers.out_cells)?;
+    let into = gets_at_root(is_me(rank, root), comm.pieces(count), buffers.cells)?;
+    Ok(Effect::Joins(Collective {
+        root: Some(root),
+        ..joined(&comm, Kind::Gather, count, entered, into)
+    }))
+}
+
+/// `MPI_Scatter`.
+fn scatter(
+    rank: Rank,
+    out: &Buffer,
+    buffer: &Buffer,
+    root: &Expr,
+    comm: &Expr,
+    store: &Store,
+) -> Result<Effect, Fault>
+    requires { rank.ranks ≤ 64 }
+    ensures { result ≡ collective_effect rank (calls.Scatter out.now buffer.now root.now comm.now) store.now }
+{
+    let buffers = buffers_of(out, buffer, store)?;
+    let root = store.value(root)?;
+    let comm = comm_of(rank, comm, store)?;
+    let count = count_for_both(comm.is_root(rank, root), buffers.count, buffers.out_count)?;
+    let root = comm.member(root)?;
+    let entered = enters_at_root(is_me(rank, root), comm.pieces(count), buffers.out_cells)?;
+    let into = gets(count as usize, buffers.cells)?;
+    Ok(Effect::Joins(Collective {
+        root: Some(root),
+        ..joined(&comm, Kind::Scatter, count, entered, into)
+    }))
+}
+
+/// `MPI_Allgather`.
+fn allgather(
+    rank: Rank,
+    out: &Buffer,
+    buffer: &Buffer,
+    comm: &Expr,
+    store: &Store,
+) -> Result<Effect, Fault>
+    requires { rank.ranks ≤ 64 }
+    ensures { result ≡ collective_effect rank (calls.Allgather out.now buffer.now comm.now) store.now }
+{
+    let buffers = buffers_of(out, buffer, store)?;
+    let comm = comm_of(rank, comm, store)?;
+    let count = count_for_both(true, buffers.out_count, buffers.count)?;
+    let entered = enters(count as usize, buffers.out_cells)?;
+    let into = gets(comm.pieces(count), buffers.cells)?;
+    Ok(Effect::Joins(joined(&comm, Kind::Allgather, count, entered, into)))
+}
+
+/// `MPI_Alltoall`.
+fn alltoall(
+    rank: Rank,
+    out: &Buffer,
+    buffer: &Buffer,
+    comm: &Expr,
+    store: &Store,
+) -> Result<Effect, Fault>
+    requires { rank.ranks ≤ 64 }
+    ensures { result ≡ collective_effect rank (calls.Alltoall out.now buffer.now comm.now) store.now }
+{
+    let buffers = buffers_of(out, buffer, store)?;
+    let comm = comm_of(rank, comm, store)?;
+    let count = count_for_both(true, buffers.out_count, buffers.count)?;
+    let entered = enters(comm.pieces(count), buffers.out_cells)?;
+    let into = gets(comm.pieces(count), buffers.cells)?;
+    Ok(Effect::Joins(joined(&comm, Kind::Alltoall, count, entered, into)))
+}
+
+/// `MPI_Reduce`.
+fn reduce(
+    rank: Rank,
+    reduction: &Reduction,
+    root: &Expr,
+    comm: &Expr,
+    store: &Store,
+) -> Result<Effect, Fault>
+    requires { rank.ranks ≤ 64 }
+    ensures { result ≡ collective_effect rank (calls.Reduce reduction.now root.now comm.now) store.now }
+{
+    let operands = operands_of(reduction, store)?;
+    let root = store.value(root)?;
+    let comm = comm_of(rank, comm, store)?;
+    let count = count_of(operands.count)?;
+    let root = comm.member(root)?;
+    let entered = enters(count as usize, operands.send)?;
+    let into = gets_at_root(is_me(rank, root), count as usize, operands.receive)?;
+    Ok(Effect::Joins(Collective {
+        root: Some(root),
+        op: Some(reduction.op),
+        ..joined(&comm, Kind::Reduce, count, entered, into)
+    }))
+}
+
+/// `MPI_Allreduce` and `MPI_Scan`.
+fn reduces_for_all(
+    rank: Rank,
+    kind: Kind,
+    reduction: &Reduction,
+    comm: &Expr,
+    store: &Store,
+) -> Result<Effect, Fault>
+    requires { rank.ranks ≤ 64 }
+    ensures { result ≡ reduces_for_all rank kind reduction.now comm.now store.now }
+{
+    let operands = operands_of(reduction, store)?;
+    let comm = comm_of(rank, comm, store)?;
+    let count = count_of(operands.count)?;
+    let entered = enters(count as usize, operands.send)?;
+    let into = gets(count as usize, operands.receive)?;
+    Ok(Effect::Joins(Collective {
+        op: Some(reduction.op),
+        ..joined(&comm, kind, count, entered, into)
+    }))
+}
+
+/// The effect of a collective, or its fault.
+pub fn collective_effect(rank: Rank, call: &CollectiveCall, store: &Store) -> Result<Effect, Fault>
+    requires { rank.ranks ≤ 64 }
+    ensures { result ≡ collective_effect rank call.now store.now }
+{
+    match call {
+        CollectiveCall::Barrier { comm } => barrier(rank, comm, store),
+        CollectiveCall::Bcast { buffer, root, comm } => bcast(rank, buffer, root, comm, store),
+        CollectiveCall::Gather {
+            send,
+            receive,
+            root,
+            comm,
+        } => gather(rank, send, receive, root, comm, store),
+        CollectiveCall::Scatter {
+            send,
+            receive,
+            root,
+            comm,
+        } => scatter(rank, send, receive, root, comm, store),
+        CollectiveCall::Allgather {
+            send,
+            receive,
+            comm,
+        } => allgather(rank, send, receive, comm, store),
+        CollectiveCall::Alltoall {
+            send,
+            receive,
+            comm,
+        } => alltoall(rank, send, receive, comm, store),
+        CollectiveCall::Reduce {
+            reduction,
+            root,
+            comm,
+        } => reduce(rank, reduction, root, comm, store),
+        CollectiveCall::Allreduce { reduction, comm } => {
+            reduces_for_all(rank, Kind::Allreduce, reduction, comm, store)
+        }
+        CollectiveCall::Scan { reduction, comm } => {
+            reduces_for_all(rank, Kind::Scan, reduction, comm, store)
+        }
+    }
+}

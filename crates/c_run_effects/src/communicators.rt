@@ -1,0 +1,119 @@
+//! Communicators: their members, and what makes and frees them.
+ghost use Rattle.std.specs.Prelude.{◌≡◌, ◌≤◌};
+ghost use Rattle.c_program.specs.declared.effect.Rank as effect;
+ghost use Rattle.c_program.specs.declared.mpi.CommunicatorCall.TheVariants as calls;
+ghost use Rattle.c_program.specs.Effects.{communicator_effect};
+
+use crate::checks::{NULL, cell, colour};
+use crate::collectives::joined;
+use crate::comm::communicator;
+use c_run_cells::store::Store;
+use c_program::effect::{Effect, Entered, Into, Rank};
+use c_program::expr::{Expr, Reference};
+use c_program::mpi::CommunicatorCall;
+use mpi_call::call::{Fault, Kind};
+
+/// `MPI_Comm_size`.
+fn comm_size(rank: Rank, comm: &Expr, into: &Reference, store: &Store) -> Result<Effect, Fault>
+    requires { rank.ranks ≤ 64 }
+    ensures { result ≡ communicator_effect rank (calls.Size comm.now into.now) store.now }
+{
+    let comm = store.value(comm)?;
+    let into = store.range(into)?;
+    let comm = communicator(rank, store, comm)?;
+    let into = cell(into)?;
+    Ok(Effect::Sets {
+        cell: into,
+        value: comm.size(),
+    })
+}
+
+/// `MPI_Comm_rank`.
+fn comm_rank(rank: Rank, comm: &Expr, into: &Reference, store: &Store) -> Result<Effect, Fault>
+    requires { rank.ranks ≤ 64 }
+    ensures { result ≡ communicator_effect rank (calls.Rank comm.now into.now) store.now }
+{
+    let comm = store.value(comm)?;
+    let into = store.range(into)?;
+    let comm = communicator(rank, store, comm)?;
+    let into = cell(into)?;
+    Ok(Effect::Sets {
+        cell: into,
+        value: comm.rank_of(rank.number),
+    })
+}
+
+/// `MPI_Comm_dup`.
+fn comm_dup(rank: Rank, comm: &Expr, into: &Reference, store: &Store) -> Result<Effect, Fault>
+    requires { rank.ranks ≤ 64 }
+    ensures { result ≡ communicator_effect rank (calls.Dup comm.now into.now) store.now }
+{
+    let comm = store.value(comm)?;
+    let into = store.range(into)?;
+    let comm = communicator(rank, store, comm)?;
+    let into = cell(into)?;
+    Ok(Effect::Joins(joined(&comm, Kind::Dup, 0, Entered::Nothing, Into::Handle(into))))
+}
+
+/// `MPI_Comm_split`.
+fn comm_split(
+    rank: Rank,
+    comm: &Expr,
+    color: &Expr,
+    key: &Expr,
+    into: &Reference,
+    store: &Store,
+) -> Result<Effect, Fault>
+    requires { rank.ranks ≤ 64 }
+    ensures { result ≡ communicator_effect rank (calls.Split comm.now color.now key.now into.now) store.now }
+{
+    let comm = store.value(comm)?;
+    let color = store.value(color)?;
+    let key = store.value(key)?;
+    let into = store.range(into)?;
+    let comm = communicator(rank, store, comm)?;
+    let color = colour(color)?;
+    let into = cell(into)?;
+    Ok(Effect::Joins(joined(
+        &comm,
+        Kind::Split,
+        0,
+        Entered::Pair(color, key),
+        Into::Handle(into),
+    )))
+}
+
+/// `MPI_Comm_free`: the handle is null afterwards.
+fn comm_free(into: &Reference, store: &Store) -> Result<Effect, Fault>
+    ensures { (rank : effect.Rank) → result ≡ communicator_effect rank (calls.Free into.now) store.now }
+{
+    let into = store.range(into)?;
+    let into = cell(into)?;
+    Ok(Effect::Sets {
+        cell: into,
+        value: NULL,
+    })
+}
+
+/// The effect of a call about communicators, or its fault.
+pub fn communicator_effect(
+    rank: Rank,
+    call: &CommunicatorCall,
+    store: &Store,
+) -> Result<Effect, Fault>
+    requires { rank.ranks ≤ 64 }
+    ensures { result ≡ communicator_effect rank call.now store.now }
+{
+    match call {
+        CommunicatorCall::Size { comm, size } => comm_size(rank, comm, size, store),
+        CommunicatorCall::Rank { comm, rank: into } => comm_rank(rank, comm, into, store),
+        CommunicatorCall::Dup { comm, made } => comm_dup(rank, comm, made, store),
+        CommunicatorCall::Split {
+            comm,
+            color,
+            key,
+            made,
+        } => comm_split(rank, comm, color, key, made, store),
+        CommunicatorCall::Free { comm } => comm_free(comm, store),
+    }
+}

@@ -1,0 +1,240 @@
+//! The completion of requests.
+ghost use Rattle.std.specs.Prelude.{◌≡◌};
+ghost use Rattle.c_program.specs.declared.mpi.CompletionCall.TheVariants as calls;
+ghost use Rattle.c_program.specs.Effects.{answers, completes_some, completion_effect};
+
+use crate::checks::{cell, handles_of, optional_first, status};
+use c_run_cells::store::Store;
+use c_program::effect::{Answer, Effect};
+use c_program::expr::{Expr, Reference};
+use c_program::mpi::{CompletionCall, SomeRequests};
+use c_program::range::Range;
+use mpi_call::call::{Fault, TakeMode};
+
+/// Nothing but statuses.
+fn answers(statuses: Option<Range>) -> Answer
+    ensures { result ≡ record answers { statuses = statuses } }
+{
+    Answer {
+        flag: None,
+        index: None,
+        outcount: None,
+        indices: None,
+        statuses,
+    }
+}
+
+/// `MPI_Wait`.
+fn wait(requests: &Reference, kept: &Option<Reference>, store: &Store) -> Result<Effect, Fault>
+    ensures { result ≡ completion_effect (calls.Wait requests.now kept.now) store.now }
+{
+    let requests = store.range(requests)?;
+    let kept = status(kept, store)?;
+    let requests = requests.first(1)?;
+    let statuses = optional_first(1, kept)?;
+    Ok(Effect::Completes {
+        requests,
+        mode: TakeMode::All,
+        answer: answers(statuses),
+    })
+}
+
+/// `MPI_Test`.
+fn test(
+    requests: &Reference,
+    flag: &Reference,
+    kept: &Option<Reference>,
+    store: &Store,
+) -> Result<Effect, Fault>
+    ensures { result ≡ completion_effect (calls.Test requests.now flag.now kept.now) store.now }
+{
+    let requests = store.range(requests)?;
+    let flag = store.range(flag)?;
+    let kept = status(kept, store)?;
+    let requests = requests.first(1)?;
+    let flag = cell(flag)?;
+    let statuses = optional_first(1, kept)?;
+    Ok(Effect::Completes {
+        requests,
+        mode: TakeMode::TestAll,
+        answer: Answer {
+            flag: Some(flag),
+            ..answers(statuses)
+        },
+    })
+}
+
+/// `MPI_Waitany`.
+fn waitany(
+    count: &Expr,
+    requests: &Reference,
+    index: &Reference,
+    kept: &Option<Reference>,
+    store: &Store,
+) -> Result<Effect, Fault>
+    ensures { result ≡ completion_effect (calls.Waitany count.now requests.now index.now kept.now) store.now }
+{
+    let count = store.value(count)?;
+    let requests = store.range(requests)?;
+    let index = store.range(index)?;
+    let kept = status(kept, store)?;
+    let count = handles_of(count)?;
+    let requests = requests.first(count)?;
+    let index = cell(index)?;
+    let statuses = optional_first(1, kept)?;
+    Ok(Effect::Completes {
+        requests,
+        mode: TakeMode::Any,
+        answer: Answer {
+            index: Some(index),
+            ..answers(statuses)
+        },
+    })
+}
+
+/// `MPI_Testany`.
+fn testany(
+    count: &Expr,
+    requests: &Reference,
+    index: &Reference,
+    flag: &Reference,
+    kept: &Option<Reference>,
+    store: &Store,
+) -> Result<Effect, Fault>
+    ensures { result ≡ completion_effect (calls.Testany count.now requests.now index.now flag.now kept.now) store.now }
+{
+    let count = store.value(count)?;
+    let requests = store.range(requests)?;
+    let index = store.range(index)?;
+    let flag = store.range(flag)?;
+    let kept = status(kept, store)?;
+    let count = handles_of(count)?;
+    let requests = requests.first(count)?;
+    let index = cell(index)?;
+    let flag = cell(flag)?;
+    let statuses = optional_first(1, kept)?;
+    Ok(Effect::Completes {
+        requests,
+        mode: TakeMode::TestAny,
+        answer: Answer {
+            index: Some(index),
+            flag: Some(flag),
+            ..answers(statuses)
+        },
+    })
+}
+
+/// `MPI_Waitall`.
+fn waitall(
+    count: &Expr,
+    requests: &Reference,
+    kept: &Option<Reference>,
+    store: &Store,
+) -> Result<Effect, Fault>
+    ensures { result ≡ completion_effect (calls.Waitall count.now requests.now kept.now) store.now }
+{
+    let count = store.value(count)?;
+    let requests = store.range(requests)?;
+    let kept = status(kept, store)?;
+    let count = handles_of(count)?;
+    let requests = requests.first(count)?;
+    let statuses = optional_first(count, kept)?;
+    Ok(Effect::Completes {
+        requests,
+        mode: TakeMode::All,
+        answer: answers(statuses),
+    })
+}
+
+/// `MPI_Testall`.
+fn testall(
+    count: &Expr,
+    requests: &Reference,
+    flag: &Reference,
+    kept: &Option<Reference>,
+    store: &Store,
+) -> Result<Effect, Fault>
+    ensures { result ≡ completion_effect (calls.Testall count.now requests.now flag.now kept.now) store.now }
+{
+    let count = store.value(count)?;
+    let requests = store.range(requests)?;
+    let flag = store.range(flag)?;
+    let kept = status(kept, store)?;
+    let count = handles_of(count)?;
+    let requests = requests.first(count)?;
+    let flag = cell(flag)?;
+    let statuses = optional_first(count, kept)?;
+    Ok(Effect::Completes {
+        requests,
+        mode: TakeMode::TestAll,
+        answer: Answer {
+            flag: Some(flag),
+            ..answers(statuses)
+        },
+    })
+}
+
+/// `MPI_Waitsome` and `MPI_Testsome`.
+fn completes_some(mode: TakeMode, several: &SomeRequests, store: &Store) -> Result<Effect, Fault>
+    ensures { result ≡ completes_some mode several.now store.now }
+{
+    let count = store.value(&several.count)?;
+    let requests = store.range(&several.requests)?;
+    let outcount = store.range(&several.outcount)?;
+    let indices = store.range(&several.indices)?;
+    let kept = status(&several.statuses, store)?;
+    let count = handles_of(count)?;
+    let requests = requests.first(count)?;
+    let outcount = cell(outcount)?;
+    let indices = indices.first(count)?;
+    let statuses = optional_first(count, kept)?;
+    Ok(Effect::Completes {
+        requests,
+        mode,
+        answer: Answer {
+            outcount: Some(outcount),
+            indices: Some(indices),
+            ..answers(statuses)
+        },
+    })
+}
+
+/// The effect of a completion of requests, or its fault.
+pub fn completion_effect(call: &CompletionCall, store: &Store) -> Result<Effect, Fault>
+    ensures { result ≡ completion_effect call.now store.now }
+{
+    match call {
+        CompletionCall::Wait { request, status } => wait(request, status, store),
+        CompletionCall::Test {
+            request,
+            flag,
+            status,
+        } => test(request, flag, status, store),
+        CompletionCall::Waitany {
+            count,
+            requests,
+            index,
+            status,
+        } => waitany(count, requests, index, status, store),
+        CompletionCall::Testany {
+            count,
+            requests,
+            index,
+            flag,
+            status,
+        } => testany(count, requests, index, flag, status, store),
+        CompletionCall::Waitall {
+            count,
+            requests,
+            statuses,
+        } => waitall(count, requests, statuses, store),
+        CompletionCall::Testall {
+            count,
+            requests,
+            flag,
+            statuses,
+        } => testall(count, requests, flag, statuses, store),
+        CompletionCall::Waitsome(several) => completes_some(TakeMode::Several, several, store),
+        CompletionCall::Testsome(several) => completes_some(TakeMode::TestSeveral, several, store),
+    }
+}

@@ -1,0 +1,114 @@
+//! Probes, and what a status tells.
+ghost use Rattle.std.specs.Prelude.{◌≡◌, ◌≤◌};
+ghost use Rattle.c_program.specs.declared.effect.Rank as effect;
+ghost use Rattle.c_program.specs.declared.mpi.ProbeCall.TheVariants as calls;
+ghost use Rattle.c_program.specs.Effects.{probe_effect};
+
+use crate::arguments::envelope_of;
+use crate::checks::{cell, count_in, optional_cell, status, wanted_tag};
+use crate::comm::communicator;
+use c_run_cells::store::Store;
+use c_program::effect::{Effect, Rank};
+use c_program::expr::{Expr, Reference};
+use c_program::mpi::ProbeCall;
+use mpi_call::call::Fault;
+
+/// The envelope of the messages that a probe looks for (MPI 3.1, 3.2.3).
+#[derive(Drop)]
+struct Wanted<'a> {
+    source: &'a Expr,
+    tag: &'a Expr,
+    comm: &'a Expr,
+}
+
+/// `MPI_Probe`.
+fn probe(
+    rank: Rank,
+    wanted: &Wanted,
+    kept: &Option<Reference>,
+    store: &Store,
+) -> Result<Effect, Fault>
+    requires { rank.ranks ≤ 64 }
+    ensures { result ≡ probe_effect rank (calls.Probe wanted.now.source.now wanted.now.tag.now wanted.now.comm.now kept.now) store.now }
+{
+    let envelope = envelope_of(wanted.source, wanted.tag, wanted.comm, store)?;
+    let kept = status(kept, store)?;
+    let comm = communicator(rank, store, envelope.comm)?;
+    let source = comm.source(envelope.rank)?;
+    let tag = wanted_tag(envelope.tag)?;
+    let kept = optional_cell(kept)?;
+    Ok(Effect::Probes {
+        comm: comm.number(),
+        source,
+        tag,
+        waits: true,
+        flag: None,
+        status: kept,
+    })
+}
+
+/// `MPI_Iprobe`.
+fn iprobe(
+    rank: Rank,
+    wanted: &Wanted,
+    flag: &Reference,
+    kept: &Option<Reference>,
+    store: &Store,
+) -> Result<Effect, Fault>
+    requires { rank.ranks ≤ 64 }
+    ensures { result ≡ probe_effect rank (calls.Iprobe wanted.now.source.now wanted.now.tag.now wanted.now.comm.now flag.now kept.now) store.now }
+{
+    let envelope = envelope_of(wanted.source, wanted.tag, wanted.comm, store)?;
+    let flag = store.range(flag)?;
+    let kept = status(kept, store)?;
+    let comm = communicator(rank, store, envelope.comm)?;
+    let source = comm.source(envelope.rank)?;
+    let tag = wanted_tag(envelope.tag)?;
+    let flag = cell(flag)?;
+    let kept = optional_cell(kept)?;
+    Ok(Effect::Probes {
+        comm: comm.number(),
+        source,
+        tag,
+        waits: false,
+        flag: Some(flag),
+        status: kept,
+    })
+}
+
+/// `MPI_Get_count`.
+fn get_count(kept: &Option<Reference>, into: &Reference, store: &Store) -> Result<Effect, Fault>
+    ensures { (rank : effect.Rank) → result ≡ probe_effect rank (calls.GetCount kept.now into.now) store.now }
+{
+    let kept = status(kept, store)?;
+    let into = store.range(into)?;
+    let kept = optional_cell(kept)?;
+    let into = cell(into)?;
+    Ok(Effect::Sets {
+        cell: into,
+        value: count_in(kept, store),
+    })
+}
+
+/// The effect of a probe or of a look into a status, or its fault.
+pub fn probe_effect(rank: Rank, call: &ProbeCall, store: &Store) -> Result<Effect, Fault>
+    requires { rank.ranks ≤ 64 }
+    ensures { result ≡ probe_effect rank call.now store.now }
+{
+    match call {
+        ProbeCall::Probe {
+            source,
+            tag,
+            comm,
+            status,
+        } => probe(rank, &Wanted { source, tag, comm }, status, store),
+        ProbeCall::Iprobe {
+            source,
+            tag,
+            comm,
+            flag,
+            status,
+        } => iprobe(rank, &Wanted { source, tag, comm }, flag, status, store),
+        ProbeCall::GetCount { status, count } => get_count(status, count, store),
+    }
+}

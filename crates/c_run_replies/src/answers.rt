@@ -1,0 +1,241 @@
+//! What the replies to an effect's calls change.
+ghost use Rattle.std.specs.Prelude.{◌≡◌, ◌≤◌, ◌==◌, IfOk, OnOk, Some, if◌then◌else◌, option_map, pos};
+ghost use Rattle.std.specs.List.{position};
+ghost use Rattle.c_program.specs.Performing.{completed, probed, put_empty, put_nothing, put_result, put_status, source_in, stands};
+ghost use Rattle.c_program.specs.State.{null, put, put_all, put_some};
+ghost use Rattle.c_program.specs.declared.effect.Into.TheVariants.{Cells as IntoCells, Handle};
+ghost use Rattle.c_run_replies.specs.Left.{IsLeft};
+
+use c_run_cells::store::Store;
+use c_program::effect::{Into, Rank};
+use c_program::range::Range;
+use c_program::state::Begun;
+use mpi_call::reply::{Got, Reply};
+use std::alloc::AllocError;
+
+/// `MPI_ANY_SOURCE`.
+const ANY_SOURCE: i32 = -2;
+
+/// `MPI_UNDEFINED`.
+pub const UNDEFINED: i32 = -32766;
+
+/// -1: `MPI_PROC_NULL`, `MPI_ANY_TAG`, null handles.
+pub const NULL: i32 = -1;
+
+/// A number as an int. The want of memory comes also where it is beyond 2^31, as none of a run is.
+pub fn int_of(number: usize) -> Result<i32, AllocError>
+    ensures { IfOk result (λ int. int ≡ pos number) }
+{
+    if number < 2147483648 {
+        Ok(number as i32)
+    } else {
+        Err(AllocError)
+    }
+}
+
+/// Puts a value where there is such a cell.
+pub fn put(store: &mut Store, cell: usize, value: i32)
+    ensures { store.new ≡ put cell value store.old }
+{
+    if cell < store.height() {
+        store.put(cell as u32, value);
+    }
+}
+
+/// Puts ints from a cell on, as far as there are cells.
+pub fn put_all(store: &mut Store, cell: usize, values: &[i32])
+    ensures { store.new ≡ put_all cell values.now store.old }
+{
+    if cell < store.height() {
+        store.put_all(cell as u32, values);
+    }
+}
+
+/// Puts a value where it is asked for.
+pub fn put_some(store: &mut Store, cell: Option<u32>, value: i32)
+    ensures { store.new ≡ put_some cell value store.old }
+{
+    if let Some(cell) = cell {
+        store.put(cell, value);
+    }
+}
+
+/// Puts a status from a cell on, where it is asked for.
+fn put_status(store: &mut Store, at: Option<usize>, source: i32, tag: i32, count: i32)
+    ensures { store.new ≡ put_status at source tag count store.old }
+{
+    if let Some(at) = at {
+        put_all(store, at, &[source, tag, count]);
+    }
+}
+
+/// Puts the status of a completed send and of a null handle.
+pub fn put_empty(store: &mut Store, at: Option<usize>)
+    ensures { store.new ≡ put_empty at store.old }
+{
+    put_status(store, at, ANY_SOURCE, NULL, 0);
+}
+
+/// Puts the status of a receive or a probe of `MPI_PROC_NULL`.
+pub fn put_nothing(store: &mut Store, at: Option<usize>)
+    ensures { store.new ≡ put_nothing at store.old }
+{
+    put_status(store, at, NULL, NULL, 0);
+}
+
+/// The cell of a status as an index.
+pub fn status_cell(at: Option<u32>) -> Option<usize>
+    ensures { result ≡ at }
+{
+    match at {
+        None => None,
+        Some(at) => Some(at as usize),
+    }
+}
+
+/// The first place of a rank among members.
+fn place_of(members: &[u8], rank: u8) -> Option<usize>
+    ensures { result ≡ position (λ member. member == rank) members.now }
+{
+    members.iter().position(|member| *member == rank)
+}
+
+/// A sender as a rank of the communicator.
+fn source_in(rank: Rank, comm: u32, source: u8, store: &Store) -> Result<i32, AllocError>
+    requires { rank.ranks ≤ 64 }
+    ensures { IfOk result (λ found. found ≡ source_in rank.ranks comm source store.now) }
+{
+    let members = match store.members(rank, comm) {
+        None => &[],
+        Some(members) => members,
+    };
+    match place_of(members, source) {
+        None => Ok(UNDEFINED),
+        Some(place) => int_of(place),
+    }
+}
+
+/// Whether the cells that the ints of a message go to stand.
+fn stands(buffer: Range, ints: &[i32], store: &Store) -> bool
+    ensures { result ≡ stands buffer ints.now store.now }
+{
+    ints.is_empty() || buffer.from() as usize + ints.len() <= store.height()
+}
+
+/// Puts the message and the status of a completed start; answers whether the cells of the message stand. The want of
+/// memory comes also where a number of the message is beyond 2^31.
+pub fn completed(
+    rank: Rank,
+    start: Begun,
+    status: Option<usize>,
+    got: &Got,
+    store: &mut Store,
+) -> Result<bool, AllocError>
+    requires { rank.ranks ≤ 64 }
+    ensures { IfOk result (λ done. IsLeft (completed rank.ranks start status got.now store.old) store.old store.new done) }
+{
+    match got {
+        Got::Message {
+            source,
+            start: _,
+            tag,
+            ints,
+        } => {
+            let ints = ints.as_slice();
+            if !stands(start.buffer, ints, store) {
+                return Ok(false);
+            }
+            let source = source_in(rank, start.comm, *source, store)?;
+            let tag = int_of(*tag as usize)?;
+            let count = int_of(ints.len())?;
+            store.put_all(start.buffer.from(), ints);
+            put_status(store, status, source, tag, count);
+            Ok(true)
+        }
+        Got::Nothing => {
+            put_nothing(store, status);
+            Ok(true)
+        }
+        _ => {
+            put_empty(store, status);
+            Ok(true)
+        }
+    }
+}
+
+/// Puts the result of a collective.
+pub fn put_result(into: Into, got: Option<&Got>, store: &mut Store) -> Result<(), AllocError>
+    ensures { OnOk result (store.new ≡ put_result into (option_map (λ got. got.now) got.entry) store.old) }
+{
+    let Some(got) = got else {
+        return Ok(());
+    };
+    match into {
+        Into::Nowhere => Ok(()),
+        Into::Cells(cells) => {
+            put_joined(cells, got, store);
+            Ok(())
+        }
+        Into::Handle(at) => put_made(at, got, store),
+    }
+}
+
+/// Puts the ints of a result.
+fn put_joined(cells: Range, got: &Got, store: &mut Store)
+    ensures { store.new ≡ put_result (IntoCells cells) (Some got.now) store.old }
+{
+    if let Got::Joined { ints } = got {
+        store.put_all(cells.from(), ints.as_slice());
+    }
+}
+
+/// Puts the handle of a communicator that was made.
+fn put_made(at: u32, got: &Got, store: &mut Store) -> Result<(), AllocError>
+    ensures { OnOk result (store.new ≡ put_result (Handle at) (Some got.now) store.old) }
+{
+    if let Got::Made { comm, members: _ } = got {
+        let handle = handle_of(*comm)?;
+        store.put(at, handle);
+    }
+    Ok(())
+}
+
+/// The handle of a communicator; that of 0 is null.
+fn handle_of(comm: u32) -> Result<i32, AllocError>
+    ensures { IfOk result (λ handle. handle ≡ (if comm == 0 then null else pos comm)) }
+{
+    if comm == 0 {
+        return Ok(NULL);
+    }
+    int_of(comm as usize)
+}
+
+/// Puts what a probe found, or that it found nothing.
+pub fn probed(
+    rank: Rank,
+    comm: u32,
+    flag: Option<u32>,
+    status: Option<u32>,
+    reply: &Reply,
+    store: &mut Store,
+) -> Result<(), AllocError>
+    requires { rank.ranks ≤ 64 }
+    ensures { OnOk result (store.new ≡ probed rank.ranks comm flag status reply.now store.old) }
+{
+    let Reply::Peeked {
+        source,
+        start: _,
+        tag,
+        count,
+    } = reply
+    else {
+        put_some(store, flag, 0);
+        return Ok(());
+    };
+    let source = source_in(rank, comm, *source, store)?;
+    let tag = int_of(*tag as usize)?;
+    let count = int_of(*count as usize)?;
+    put_status(store, status_cell(status), source, tag, count);
+    put_some(store, flag, 1);
+    Ok(())
+}

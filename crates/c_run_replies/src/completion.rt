@@ -1,0 +1,376 @@
+//! Completion calls: the starts that handles name, and what their completion changes.
+ghost use Rattle.std.specs.Prelude.{◌≡◌, ◌≤◌, ◌<◌, ◌^◌, ◌*◌, [], IfOk, List, OnOk, length, negsuc, pos};
+ghost use Rattle.std.specs.Option.{option_to_list};
+ghost use Rattle.c_program.specs.Performing.{active_at, active_from, active_in, active_or_none, after_take, answered, empties, first_place, learned, none_active, places_of, put_empties, put_items, put_only_empty, put_places, starts_in, status_at, status_place, takes_all};
+ghost use Rattle.mpi_call.specs.declared.reply.Reply.TheVariants.{Took};
+ghost use Rattle.c_program.specs.State.{ints_in};
+ghost use Rattle.c_run_replies.specs.Left.{IsLeft, if_stood, is_more, item_put};
+ghost use Rattle.c_program.specs.Performing.{Onward};
+ghost use Rattle.c_run_replies.specs.Questions.{reached};
+ghost use Rattle.mpi_call.specs.declared.call.Call.TheVariants.{Take};
+
+use crate::answers::{NULL, UNDEFINED, completed, int_of, put, put_empty, put_some};
+use crate::question::{Question, Reached};
+use c_run_cells::store::Store;
+use c_program::effect::{Answer, Rank};
+use c_program::range::Range;
+use mpi_call::call::{Call, Fault, TakeMode};
+use mpi_call::lists::{Ints, Starts};
+use mpi_call::reply::{Got, Item, Reply};
+use std::alloc::{AllocError, Global};
+use std::marker::Model;
+
+/// A handle that names a start: its place among the handles, and the start's number. Contracts see a record of the two.
+#[derive(Clone, Copy)]
+pub struct Active {
+    place: u32,
+    start: u32,
+}
+
+impl Model for Active {
+    ghost use Rattle.c_program.specs.Performing as kept;
+
+    ghost Value = { kept.Active };
+
+    ghost view = { λ a. record { place = a.place; start = a.start } };
+
+    ghost inverse = { λ d. record { place = d.place; start = d.start } };
+}
+
+/// A completion call, and the rank that makes it.
+#[derive(Clone, Copy)]
+pub struct Completion {
+    pub rank: Rank,
+    pub requests: Range,
+    pub mode: TakeMode,
+    pub answer: Answer,
+}
+
+// ---- handles
+
+/// The start of a handle, by how many there are.
+fn active_at(starts: u32, place: u32, handle: i32) -> Option<Active>
+    ensures { option_to_list result ≡ active_at starts place handle }
+{
+    if handle < 0 {
+        return None;
+    }
+    let start = handle as u32;
+    if start < starts {
+        Some(Active { place, start })
+    } else {
+        None
+    }
+}
+
+/// The handles that name starts.
+fn active_in(alloc: Global, requests: Range, store: &Store) -> Result<Vec<Active>, AllocError>
+    ensures { IfOk result (λ active. active.items ≡ active_in requests store.now) }
+{
+    let handles = handles_in(alloc, requests, store)?;
+    active_among(alloc, store.start_count(), handles.as_slice())
+}
+
+/// Those of some handles, by how many starts there are.
+fn active_among(alloc: Global, starts: u32, handles: &[i32]) -> Result<Vec<Active>, AllocError>
+    requires { length handles.now < 2 ^ 32 }
+    ensures { IfOk result (λ active. active.items ≡ active_from starts 0 handles.now) }
+{
+    let mut active = Vec::new(alloc);
+    for (place, handle) in handles.iter().enumerate() {
+        if let Some(one) = active_at(starts, place as u32, *handle) {
+            active.push(one)?;
+        }
+    }
+    Ok(active)
+}
+
+/// The handles of a call.
+fn handles_in(alloc: Global, requests: Range, store: &Store) -> Result<Ints, AllocError>
+    ensures handles { IfOk result (λ handles. handles ≡ ints_in requests store.now) }
+    ensures few { IfOk result (λ handles. length handles < 2 ^ 32) }
+{
+    let _few = requests.length();
+    let handles = store.ints_in(alloc, requests)?;
+    Ok(handles)
+}
+
+/// The numbers of their starts.
+fn starts_in(alloc: Global, active: &[Active]) -> Result<Starts, AllocError>
+    ensures { IfOk result (λ starts. starts ≡ starts_in active.now) }
+{
+    let starts: Vec<u32> = active.iter().map(|one| one.start).collect(alloc)?;
+    Starts::from_slice(alloc, &starts)
+}
+
+/// The handle that an item's index means.
+fn active_or_none(active: &[Active], index: u32) -> Active
+    ensures { result ≡ active_or_none active.now index }
+{
+    match active.get(index as usize) {
+        None => Active { place: 0, start: 0 },
+        Some(one) => *one,
+    }
+}
+
+// ---- statuses
+
+/// The cell of a status among those that are asked for.
+fn status_at(statuses: Option<Range>, place: u32) -> Option<usize>
+    ensures { result ≡ status_at statuses place }
+{
+    match statuses {
+        None => None,
+        Some(statuses) => {
+            Some(statuses.from() as usize + place as usize * statuses.width() as usize)
+        }
+    }
+}
+
+/// The place of the status of a handle and an item.
+fn status_place(mode: TakeMode, place: u32, number: u32) -> u32
+    ensures { result ≡ status_place mode place number }
+{
+    match mode {
+        TakeMode::All | TakeMode::TestAll => place,
+        TakeMode::Any | TakeMode::TestAny => 0,
+        TakeMode::Several | TakeMode::TestSeveral => number,
+    }
+}
+
+/// Whether each handle has a status.
+fn takes_all(mode: TakeMode) -> bool
+    ensures { result ≡ takes_all mode }
+{
+    matches!(mode, TakeMode::All | TakeMode::TestAll)
+}
+
+/// The empty status for each handle that names no start.
+fn put_empties(answer: &Answer, starts: u32, handles: &[i32], store: &mut Store)
+    requires { length handles.now < 2 ^ 32 }
+    ensures { store.new ≡ put_empties answer.now.statuses starts 0 handles.now store.old }
+{
+    for (index, handle) in handles.iter().enumerate() {
+        let place = index as u32;
+        if active_at(starts, place, *handle).is_none() {
+            put_empty(store, status_at(answer.statuses, place));
+        }
+    }
+}
+
+/// The same for the handles of a call, where it has a status for each.
+fn empties(alloc: Global, call: &Completion, store: &mut Store) -> Result<(), AllocError>
+    ensures { OnOk result (store.new ≡ empties call.now.requests call.now.mode call.now.answer store.old) }
+{
+    if !takes_all(call.mode) {
+        return Ok(());
+    }
+    let starts = store.start_count();
+    let handles = handles_in(alloc, call.requests, store)?;
+    put_empties(&call.answer, starts, handles.as_slice(), store);
+    Ok(())
+}
+
+/// The empty status, where a call that asks for one of the starts finds no handle of one.
+fn put_only_empty(call: &Completion, store: &mut Store)
+    ensures { store.new ≡ put_only_empty call.now.mode call.now.answer store.old }
+{
+    if matches!(call.mode, TakeMode::Any | TakeMode::TestAny) {
+        put_empty(store, status_at(call.answer.statuses, 0));
+    }
+}
+
+// ---- items
+
+/// Puts the message and the status of an item, and null into its handle; answers whether the cells of the message stand.
+fn put_item(
+    call: &Completion,
+    one: Active,
+    number: u32,
+    got: &Got,
+    store: &mut Store,
+) -> Result<bool, AllocError>
+    requires { call.now.rank.ranks ≤ 64 }
+    ensures { IfOk result (λ done. IsLeft (item_put call.now.rank.ranks call.now.requests call.now.mode call.now.answer one number got.now store.old) store.old store.new done) }
+{
+    let start = store.start_at(one.start);
+    let place = status_place(call.mode, one.place, number);
+    let status = status_at(call.answer.statuses, place);
+    if !completed(call.rank, start, status, got, store)? {
+        return Ok(false);
+    }
+    let handle = call.requests.from() as usize + one.place as usize;
+    put(store, handle, NULL);
+    Ok(true)
+}
+
+/// Puts the items in order, as far as the cells of their messages stand; answers whether all do.
+fn put_items(
+    call: &Completion,
+    active: &[Active],
+    items: &[Item],
+    store: &mut Store,
+) -> Result<bool, AllocError>
+    requires ranks { call.now.rank.ranks ≤ 64 }
+    requires few { length items.now < 2 ^ 31 }
+    ensures comes { IfOk result (λ all. (go : Onward) → put_items call.now.rank.ranks call.now.requests call.now.mode call.now.answer active.now 0 items.now store.old go ≡ if_stood all store.new go) }
+    ensures left { OnOk result (store.new.left ≤ store.old.left) }
+{
+    for (number, item) in items.iter().enumerate() {
+        let one = active_or_none(active, item.index);
+        if !put_item(call, one, number as u32, &item.got, store)? {
+            return Ok(false);
+        }
+    }
+    Ok(true)
+}
+
+/// The places of the items' handles.
+fn places_of(alloc: Global, active: &[Active], items: &[Item]) -> Result<Vec<i32>, AllocError>
+    ensures { IfOk result (λ places. places.items ≡ places_of active.now items.now) }
+{
+    let mut places = Vec::new(alloc);
+    for item in items {
+        let one = active_or_none(active, item.index);
+        let place = int_of(one.place as usize)?;
+        places.push(place)?;
+    }
+    Ok(places)
+}
+
+fn first_place(places: &[i32]) -> i32
+    ensures { result ≡ first_place places.now }
+{
+    match places {
+        [] => UNDEFINED,
+        [place, ..] => *place,
+    }
+}
+
+// ---- answers
+
+/// Puts what a call asks for besides messages, statuses and handles.
+fn answered(
+    answer: &Answer,
+    flag: i32,
+    index: i32,
+    outcount: i32,
+    places: &[i32],
+    store: &mut Store,
+)
+    ensures { store.new ≡ answered answer.now flag index outcount places.now store.old }
+{
+    put_some(store, answer.flag, flag);
+    put_some(store, answer.index, index);
+    put_some(store, answer.outcount, outcount);
+    if let Some(indices) = answer.indices {
+        store.put_all(indices.from(), places);
+    }
+}
+
+/// What a call changes that finds no handle of a start.
+pub fn none_active(alloc: Global, call: &Completion, store: &mut Store) -> Result<(), AllocError>
+    ensures { OnOk result (store.new ≡ none_active call.now.requests call.now.mode call.now.answer store.old) }
+{
+    empties(alloc, call, store)?;
+    put_only_empty(call, store);
+    answered(&call.answer, 1, UNDEFINED, UNDEFINED, &[], store);
+    Ok(())
+}
+
+/// Puts what a call asks for besides, once starts are complete. The want of memory comes also where they are 2^31, as none
+/// of a run are.
+fn answered_took(
+    answer: &Answer,
+    items: &[Item],
+    places: &[i32],
+    store: &mut Store,
+) -> Result<(), AllocError>
+    ensures { OnOk result (store.new ≡ answered answer.now (pos 1) (first_place places.now) (pos (length items.now)) places.now store.old) }
+{
+    let count = int_of(items.len())?;
+    answered(answer, 1, first_place(places), count, places, store);
+    Ok(())
+}
+
+/// Notes communicators that items made, and puts the statuses of handles that name no start.
+fn noted(
+    alloc: Global,
+    call: &Completion,
+    items: &[Item],
+    store: &mut Store,
+) -> Result<(), AllocError>
+    ensures { OnOk result (store.new ≡ empties call.now.requests call.now.mode call.now.answer (learned items.now store.old)) }
+{
+    store.learn(items)?;
+    empties(alloc, call, store)
+}
+
+/// What follows on items; answers whether the cells of all their messages stand. The want of memory comes also where they
+/// are 2^31, as none of a run are.
+fn took(
+    alloc: Global,
+    call: &Completion,
+    active: &[Active],
+    items: &[Item],
+    store: &mut Store,
+) -> Result<bool, AllocError>
+    requires { call.now.rank.ranks ≤ 64 }
+    ensures comes { IfOk result (λ all. (go : Onward) → after_take call.now.rank.ranks call.now.requests call.now.mode call.now.answer active.now (Took items.now) store.old go ≡ if_stood all store.new go) }
+    ensures left { OnOk result (store.new.left ≤ store.old.left) }
+{
+    if items.len() >= 2147483648 {
+        return Err(AllocError);
+    }
+    let places = places_of(alloc, active, items)?;
+    noted(alloc, call, items, store)?;
+    if !put_items(call, active, items, store)? {
+        return Ok(false);
+    }
+    answered_took(&call.answer, items, &places, store)?;
+    Ok(true)
+}
+
+/// What follows on the reply.
+pub fn after_take(
+    alloc: Global,
+    call: &Completion,
+    reply: &Reply,
+    store: &mut Store,
+) -> Result<Reached, AllocError>
+    requires { call.now.rank.ranks ≤ 64 }
+    ensures comes { IfOk result (λ found. (go : Onward) → after_take call.now.rank.ranks call.now.requests call.now.mode call.now.answer (active_in call.now.requests store.old) reply.now store.old go ≡ reached call.now.rank found store.new go) }
+    ensures left { OnOk result (store.new.left ≤ store.old.left) }
+{
+    let Reply::Took(items) = reply else {
+        answered(&call.answer, 0, UNDEFINED, 0, &[], store);
+        return Ok(Reached::Done);
+    };
+    let active = active_in(alloc, call.requests, store)?;
+    if took(alloc, call, &active, items.as_slice(), store)? {
+        return Ok(Reached::Done);
+    }
+    Ok(Reached::Asks(Question::Trap(Fault::OutOfBounds)))
+}
+
+/// Whether handles name starts.
+pub fn are_active(alloc: Global, requests: Range, store: &Store) -> Result<bool, AllocError>
+    ensures { IfOk result (λ are. are ≡ is_more (active_in requests store.now)) }
+{
+    let active = active_in(alloc, requests, store)?;
+    Ok(!active.is_empty())
+}
+
+/// The call that completes the starts that handles name.
+pub fn take_call(
+    alloc: Global,
+    requests: Range,
+    mode: TakeMode,
+    store: &Store,
+) -> Result<Call, AllocError>
+    ensures { IfOk result (λ call. call ≡ Take (starts_in (active_in requests store.now)) mode) }
+{
+    let active = active_in(alloc, requests, store)?;
+    let starts = starts_in(alloc, &active)?;
+    Ok(Call::Take { starts, mode })
+}

@@ -1,0 +1,90 @@
+-- Each rule of typed expressions at the variants of the tree.
+use Rattle.std.proofs.Common.{◌≡◌, ℕ, ℤ, pos, List, [], ◌∷◌, ◌++◌, ◌+◌, ◌<◌, length, drop, get_or, map, ◌≤◌, Some, None, sym, subst, ap, ◌∙◌, append_assoc}
+use Rattle.std.proofs.lemmas.List.{append-nil}
+use Rattle.c_check_expr.proofs.Lists.{drop_at, drop_past}
+use Rattle.std.specs.declared.alloc.Global.{Global}
+use Rattle.std.specs.declared.boxed.Box.{Box}
+use Rattle.std.specs.declared.vec.Vec.{Vec}
+use Rattle.c_grammar.specs.declared.word.Spot.{Spot}
+use Rattle.c_grammar.specs.declared.word.Word.{Word}
+use Rattle.c_grammar.specs.declared.tree.Expr.TheVariants as te
+use Rattle.c_grammar.specs.declared.tree.Place.TheVariants as tp
+use Rattle.c_grammar.specs.View.{links_from, piece, place_view, view}
+use Rattle.c_grammar.proofs.Viewed.{view-number, view-read, view-field, view-paren, view-unary, view-chain, view-choice, view-whole, view-cell}
+use Rattle.c_check_expr.specs.Constants.{operator_of, sign_of}
+use Rattle.c_check_expr.specs.Literals.{number_at}
+use Rattle.c_check_expr.specs.Scopes.{Env, cut}
+use Rattle.c_check_expr.specs.Variables.{variable}
+use Rattle.c_type_expr.specs.Exprs as x
+use Rattle.c_type_expr.specs.Exprs.{IsExpr, IsPlace, AreLinks, field_of, value_of_place}
+use Rattle.c_grammar.specs.declared.tree.Expr as source
+use Rattle.c_grammar.specs.declared.tree.Place as source_place
+use Rattle.c_grammar.specs.declared.tree.Link as source_link
+use Rattle.c_names.specs.declared.operator.Sign.{Sign}
+use Rattle.c_program.specs.declared.expr.Expr.{Expr}
+use Rattle.c_program.specs.declared.expr.Expr.TheVariants as v
+use Rattle.c_program.specs.declared.expr.Field.{Field}
+use Rattle.c_program.specs.declared.expr.Link.{Link, out-Link}
+use Rattle.c_program.specs.declared.expr.Place.{Place}
+use Rattle.c_program.specs.declared.expr.Place.TheVariants as q
+
+pub number_rule : (env : Env) (e : source.Expr) (at : Spot) (value : ℤ) → e ≡ te.Number at → value ≡ pos (number_at env.text at) → IsExpr env (view e) (v.Number value)
+number_rule env e at value s n = rw (s, view-number, n) x.number
+
+pub value_rule : (env : Env) (e : source.Expr) (place : source_place.Place) (value meant : ℤ) → e ≡ te.Read place → value ≡ meant
+    → Some meant ≡ value_of_place env (place_view place) → IsExpr env (view e) (v.Number value)
+value_rule env e place value meant s n h = rw (s, view-read, n) (x.value (sym h))
+
+pub read_rule : (env : Env) (e : source.Expr) (place : source_place.Place) (typed : Place) → e ≡ te.Read place
+    → None ≡ value_of_place env (place_view place) → IsPlace env (place_view place) typed → IsExpr env (view e) (v.Read typed)
+read_rule env e place typed s h p = rw (s, view-read) (x.read (sym h) p)
+
+pub field_rule : (env : Env) (e : source.Expr) (place : source_place.Place) (dot name : Spot) (typed : Place) (field : Field) → e ≡ te.Field place dot name
+    → field ≡ field_of (cut env.text name) → IsPlace env (place_view place) typed → IsExpr env (view e) (v.Field typed field)
+field_rule env e place dot name typed field s f p = rw (s, view-field, f) (x.field p)
+
+pub paren_rule : (env : Env) (e : source.Expr) (opening : Spot) (inner : Box source.Expr Global) (closing : Spot) (typed : Expr)
+    → e ≡ te.Paren opening inner closing → IsExpr env (view inner.value) typed → IsExpr env (view e) typed
+paren_rule env e opening inner closing typed s h = rw (s, view-paren) (x.paren h)
+
+pub signed_rule : (env : Env) (e : source.Expr) (sign : Word) (at : Spot) (operand : Box source.Expr Global) (meant : Sign) (typed : Box Expr Global)
+    → e ≡ te.Unary sign at operand → meant ≡ sign_of sign → IsExpr env (view operand.value) typed.value → IsExpr env (view e) (v.Signed meant typed)
+signed_rule env e sign at operand meant typed s m h = rw (s, view-unary, m) (x.signed h)
+
+pub chain_rule : (env : Env) (e : source.Expr) (level : ℕ) (first : Box source.Expr Global) (links : Vec source_link.Link Global) (typed : Box Expr Global) (others : Vec Link Global)
+    → e ≡ te.Chain level first links → IsExpr env (view first.value) typed.value → AreLinks env (links_from (map piece links.items)) others.items
+    → IsExpr env (view e) (v.Chain typed others)
+chain_rule env e level first links typed others s h l = rw (s, view-chain) (x.chain others h l)
+
+pub choice_rule : (env : Env) (e : source.Expr) (test : Box source.Expr Global) (question : Spot) (then : Box source.Expr Global) (colon : Spot) (other : Box source.Expr Global)
+    (a b c : Box Expr Global) → e ≡ te.Choice test question then colon other
+    → IsExpr env (view test.value) a.value → IsExpr env (view then.value) b.value → IsExpr env (view other.value) c.value → IsExpr env (view e) (v.Choice a b c)
+choice_rule env e test question then colon other a b c s f g h = rw (s, view-choice) (x.choice f g h)
+
+pub whole_rule : (env : Env) (place : source_place.Place) (name : Spot) (number : ℕ) → place ≡ tp.Whole name → number ≡ variable env name
+    → IsPlace env (place_view place) (q.Whole number)
+whole_rule env place name number s n = rw (s, view-whole, n) x.whole
+
+pub element_rule : (env : Env) (place : source_place.Place) (name opening : Spot) (index : Box source.Expr Global) (closing : Spot) (number : ℕ) (typed : Box Expr Global)
+    → place ≡ tp.Cell name opening index closing → number ≡ variable env name → IsExpr env (view index.value) typed.value
+    → IsPlace env (place_view place) (q.Element number typed)
+element_rule env place name opening index closing number typed s n h = rw (s, view-cell, n) (x.element h)
+
+pub links_more : (env : Env) (links : List source_link.Link) (i : ℕ) (link : source_link.Link) (before after : List Link) (one : Link)
+    → after ≡ before ++ one ∷ [] → i < length links → link ≡ get_or links i link
+    → (out-Link one).operator ≡ operator_of link.operator → IsExpr env (view link.operand) (out-Link one).operand
+    → ((more : List Link) → AreLinks env (links_from (map piece (drop i links))) more → AreLinks env (links_from (map piece links)) (before ++ more))
+    → (more : List Link) → AreLinks env (links_from (map piece (drop (i + 1) links))) more → AreLinks env (links_from (map piece links)) (after ++ more)
+links_more env links i link before after one e lt is o h inv more rest =
+    let P : List Link → Type 0 = λ all. AreLinks env (links_from (map piece links)) all in
+    let Q : List source_link.Link → Type 0 = λ left. AreLinks env (links_from (map piece left)) (one ∷ more) in
+    let joined : before ++ one ∷ more ≡ after ++ more = sym (append_assoc before (one ∷ []) more) ∙ ap (λ all. all ++ more) (sym e) in
+    subst P joined (inv (one ∷ more) (subst Q (sym (drop_at links i link lt is)) (x.link o h rest)))
+
+pub links_end : (env : Env) (links : List source_link.Link) (i : ℕ) (typed : List Link) → length links ≤ i
+    → ((more : List Link) → AreLinks env (links_from (map piece (drop i links))) more → AreLinks env (links_from (map piece links)) (typed ++ more))
+    → AreLinks env (links_from (map piece links)) typed
+links_end env links i typed past inv =
+    let P : List Link → Type 0 = λ all. AreLinks env (links_from (map piece links)) all in
+    let Q : List source_link.Link → Type 0 = λ left. AreLinks env (links_from (map piece left)) [] in
+    subst P (append-nil typed) (inv [] (subst Q (sym (drop_past links i past)) x.no_link))

@@ -1,0 +1,55 @@
+-- Which typed calls are those of the tree.
+use Rattle.std.specs.Prelude.{◌≡◌, ℕ, Bool, true, List, [], ◌∷◌, Option, Some, None}
+use Rattle.c_grammar.specs.declared.word.Spot.{Spot}
+use Rattle.c_grammar.specs.declared.word.Word.{Word}
+use Rattle.c_grammar.specs.Tree as t
+use Rattle.c_names.specs.declared.function.ArgumentKind.{ArgumentKind}
+use Rattle.c_names.specs.declared.function.ArgumentKind.TheVariants as k
+use Rattle.c_names.specs.declared.predefined.Predefined.TheVariants as p
+use Rattle.c_check_call.specs.Calls.{arguments_of, is_plus, signature_takes, word_of}
+use Rattle.c_check_expr.specs.Scopes.{Env, meaning}
+use Rattle.c_check_expr.specs.declared.thing.Meaning.TheVariants as m
+use Rattle.c_check_expr.specs.declared.thing.Thing.TheVariants as d
+use Rattle.std.specs.Prelude.{slice_get}
+use Rattle.c_program.specs.declared.expr.Argument.{Argument}
+use Rattle.c_program.specs.declared.expr.Argument.TheVariants as a
+use Rattle.c_program.specs.declared.expr.Call.{Call}
+use Rattle.c_program.specs.declared.expr.Expr.{Expr}
+use Rattle.c_program.specs.declared.expr.Reference.{Reference}
+use Rattle.c_program.specs.declared.expr.Reference.TheVariants as r
+use Rattle.c_program.specs.declared.expr.Right.{Right}
+use Rattle.c_program.specs.declared.expr.Right.TheVariants as g
+use Rattle.c_type_expr.specs.Exprs.{IsExpr}
+use Rattle.c_check_expr.specs.Variables.{variable}
+
+pub data IsValue (env : Env) : t.Argument → Expr → Type 0 where
+  value : {e : t.Expr} {typed : Expr} → IsExpr env e typed → IsValue env (t.value e) typed
+
+pub data IsReference (env : Env) : t.Argument → Reference → Type 0 where
+  null : {argument : t.Argument} → word_of env argument ≡ Some p.NoReference → IsReference env argument r.Nothing
+  address : {mark name : Spot} → IsReference env (t.address mark (t.whole name)) (r.Whole (variable env name))
+  address_from : {mark name opening closing : Spot} {index : t.Expr} {typed : Expr} → IsExpr env index typed
+      → IsReference env (t.address mark (t.cell name opening index closing)) (r.From (variable env name) typed)
+  array : {name : Spot} → word_of env (t.value (t.read (t.whole name))) ≡ None
+      → IsReference env (t.value (t.read (t.whole name))) (r.Whole (variable env name))
+  sum : {level : ℕ} {name at : Spot} {operator : Word} {operand : t.Expr} {typed : Expr} → is_plus operator ≡ true → IsExpr env operand typed
+      → IsReference env (t.value (t.chain level (t.read (t.whole name)) (t.link operator at operand t.no_link))) (r.From (variable env name) typed)
+
+-- an argument of a function of the text, by what it takes
+pub data IsArgument (env : Env) : ArgumentKind → t.Argument → Argument → Type 0 where
+  number : {given : t.Argument} {typed : Expr} → IsValue env given typed → IsArgument env k.Number given (a.Value typed)
+  communicator : {given : t.Argument} {typed : Expr} → IsValue env given typed → IsArgument env k.Communicator given (a.Value typed)
+  ints : {given : t.Argument} {typed : Reference} → IsReference env given typed → IsArgument env k.Buffer given (a.Reference typed)
+
+pub data AreArguments (env : Env) : List ArgumentKind → List t.Argument → List Argument → Type 0 where
+  no_argument : AreArguments env [] [] []
+  argument : {kind : ArgumentKind} {kinds : List ArgumentKind} {given : t.Argument} {more : List t.Argument} {typed : Argument} {others : List Argument}
+      → IsArgument env kind given typed → AreArguments env kinds more others → AreArguments env (kind ∷ kinds) (given ∷ more) (typed ∷ others)
+
+pub record IsCall (env : Env) (call : t.Call) (typed : Call) : Type 0 where
+  pub function : meaning env call.name ≡ m.Declared (d.Function typed.function)
+  pub arguments : AreArguments env (signature_takes (slice_get env.functions typed.function)) (arguments_of call) typed.arguments.items
+
+pub data IsRight (env : Env) : t.Right → Right → Type 0 where
+  value : {e : t.Expr} {typed : Expr} → IsExpr env e typed → IsRight env (t.valued e) (g.Value typed)
+  call : {call : t.Call} {typed : Call} → IsCall env call typed → IsRight env (t.called call) (g.Call typed)

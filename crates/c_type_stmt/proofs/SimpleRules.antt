@@ -1,0 +1,185 @@
+-- Each rule of typed assignments and calls at the variants of the tree, and what having no faults tells of them.
+use Rattle.std.proofs.Common.{◌≡◌, ◌++◌, ◌+◌, ◌≤◌, ℕ, if◌then◌else◌, Bool, true, false, List, [], ◌∷◌, length, drop, slice_get, Option, Some, None, refl, sym, subst, ◌∙◌}
+use Rattle.std.specs.Option.{is_some, option_map}
+use Rattle.c_lex.specs.declared.fault.Why.TheVariants.{BadFormat, WrongType}
+use Rattle.std.specs.declared.alloc.Global.{Global}
+use Rattle.std.specs.declared.vec.Vec.{Vec}
+use Rattle.c_grammar.specs.declared.word.Spot.{Spot}
+use Rattle.c_grammar.specs.declared.word.Word.{Word}
+use Rattle.c_grammar.specs.Tree as t
+use Rattle.c_names.specs.Formats.{ints_in, pieces_of}
+use Rattle.c_names.specs.declared.format.Piece.{Piece}
+use Rattle.c_names.specs.declared.operator.Operator.{Operator}
+use Rattle.c_names.specs.declared.predefined.Predefined.TheVariants as p
+use Rattle.c_names.specs.declared.kind.Kind.TheVariants.{Int}
+use Rattle.c_program.specs.declared.expr.Expr.{Expr}
+use Rattle.c_program.specs.declared.expr.Place.{Place}
+use Rattle.c_program.specs.declared.statement.Simple.TheVariants as l
+use Rattle.c_check_call.specs.Calls.{arguments_of, call_faults, format_faults, inside, is_format, misfit_faults, numbers_faults, print_faults, right_faults, value_faults}
+use Rattle.c_check_expr.specs.Expressions.{expr_faults, int_faults, place_faults, takes_index, wanted_faults}
+use Rattle.c_check_expr.specs.Kinds.{cell_kind, kind_faults, place_start, whole_kind}
+use Rattle.c_check_expr.specs.Least.{unless}
+use Rattle.c_check_expr.specs.Scopes.{Env, cut, meaning, name_faults}
+use Rattle.c_check.specs.Statements.{goal_kind, goal_takes, int_goal_faults, is_assign, is_goal, simple_faults}
+use Rattle.c_check_expr.specs.declared.fault.Fault.{Fault}
+use Rattle.c_check_expr.specs.declared.thing.ExprKind.{ExprKind}
+use Rattle.c_check_expr.specs.declared.thing.ExprKind.TheVariants.{Of, Other}
+use Rattle.c_check_expr.specs.declared.thing.Meaning.{Meaning}
+use Rattle.c_check_expr.specs.declared.thing.Meaning.TheVariants as m
+use Rattle.c_check_expr.specs.declared.thing.Thing.TheVariants as d
+use Rattle.c_check_expr.proofs.Lists.{drop_got, drop_past}
+use Rattle.c_type_expr.specs.Calls.{IsValue}
+use Rattle.c_type_expr.specs.Exprs.{IsPlace}
+use Rattle.c_type_expr.specs.Shapes.{is_value}
+use Rattle.c_type_stmt.specs.Statements as x
+use Rattle.c_type_stmt.specs.Statements.{AreValues, IsSimple, one, update_of}
+use Rattle.c_type_stmt.proofs.Growing.{ended, grown, none_left, none_right}
+
+-- ---- `++` and `--`
+
+pub after_rule : (env : Env) (place : t.Place) (operator : Word) (meant : Operator) (goal : Place) → meant ≡ update_of operator → IsPlace env place goal
+    → (at : Spot) → IsSimple env (t.after place operator at) (l.Update goal meant one)
+after_rule env place operator meant goal e h at = rw e (x.after h)
+
+pub before_rule : (env : Env) (place : t.Place) (operator : Word) (meant : Operator) (goal : Place) → meant ≡ update_of operator → IsPlace env place goal
+    → (at : Spot) → IsSimple env (t.before operator at place) (l.Update goal meant one)
+before_rule env place operator meant goal e h at = rw e (x.before h)
+
+-- ---- `printf`
+
+-- an argument where an int is wanted is an expression
+pub value_shape : (env : Env) (wanted : ExprKind) (argument : t.Argument) → value_faults env wanted argument ≡ [] → is_value argument ≡ true
+value_shape env wanted (t.text at) e = absurd (cc)
+value_shape env wanted (t.address mark place) e = absurd (cc)
+value_shape env wanted (t.value inner) e = refl
+
+-- no expression is of no kind
+misfit_whole : (meant : Meaning) (name at : Spot) → name_faults meant name ++ kind_faults Other (whole_kind meant) at ≡ [] → ⊥
+misfit_whole m.LeftOut name at e = cc
+misfit_whole m.Unknown name at e = cc
+misfit_whole (m.Known (p.Number value)) name at e = cc
+misfit_whole (m.Known (p.Communicator number)) name at e = cc
+misfit_whole (m.Known p.NullRequest) name at e = cc
+misfit_whole (m.Known p.NoReference) name at e = cc
+misfit_whole (m.Known p.Datatype) name at e = cc
+misfit_whole (m.Known (p.Operation op)) name at e = cc
+misfit_whole (m.Known p.IgnoredStatus) name at e = cc
+misfit_whole (m.Known p.IgnoredStatuses) name at e = cc
+misfit_whole (m.Known p.Output) name at e = cc
+misfit_whole (m.Known (p.Mpi function)) name at e = cc
+misfit_whole (m.Known p.Printf) name at e = cc
+misfit_whole (m.Known p.Fflush) name at e = cc
+misfit_whole (m.Declared (d.Function number)) name at e = cc
+misfit_whole (m.Declared (d.Define value)) name at e = cc
+misfit_whole (m.Declared (d.Variable kind)) name at e = cc
+misfit_whole (m.Declared (d.Array kind length)) name at e = cc
+misfit_whole (m.Declared d.ArrayParameter) name at e = cc
+misfit_whole (m.Declared d.ArgumentCount) name at e = cc
+misfit_whole (m.Declared d.ArgumentTexts) name at e = cc
+
+misfit_cell : (meant : Meaning) (name at : Spot) (others : List Fault)
+    → ((name_faults meant name ++ unless (takes_index meant) name WrongType) ++ others) ++ kind_faults Other (cell_kind meant) at ≡ [] → ⊥
+misfit_cell meant name at others e =
+    by_meaning meant (none_left _ _ (none_left _ _ e)) (none_right ((name_faults meant name ++ unless (takes_index meant) name WrongType) ++ others) _ e)
+  where
+    by_meaning : (meant : Meaning) → name_faults meant name ++ unless (takes_index meant) name WrongType ≡ [] → kind_faults Other (cell_kind meant) at ≡ [] → ⊥
+    by_meaning m.LeftOut f k = cc
+    by_meaning m.Unknown f k = cc
+    by_meaning (m.Known known) f k = cc
+    by_meaning (m.Declared (d.Function number)) f k = cc
+    by_meaning (m.Declared (d.Define value)) f k = cc
+    by_meaning (m.Declared (d.Variable kind)) f k = cc
+    by_meaning (m.Declared (d.Array kind length)) f k = cc
+    by_meaning (m.Declared d.ArrayParameter) f k = cc
+    by_meaning (m.Declared d.ArgumentCount) f k = cc
+    by_meaning (m.Declared d.ArgumentTexts) f k = cc
+
+no_misfit : (env : Env) (e : t.Expr) → wanted_faults env Other e ≡ [] → ⊥
+no_misfit env (t.read (t.whole name)) h = misfit_whole (meaning env name) name name h
+no_misfit env (t.read (t.cell name opening index closing)) h = misfit_cell (meaning env name) name name (int_faults env index) h
+no_misfit env (t.number at) h = cc
+no_misfit env (t.field place dot name) h = let k = none_right (expr_faults env (t.field place dot name)) _ h in cc
+no_misfit env (t.paren opening inner closing) h = let k = none_right (expr_faults env (t.paren opening inner closing)) _ h in cc
+no_misfit env (t.unary sign at operand) h = let k = none_right (expr_faults env (t.unary sign at operand)) _ h in cc
+no_misfit env (t.chain level first links) h = let k = none_right (expr_faults env (t.chain level first links)) _ h in cc
+no_misfit env (t.choice test question taken colon spared) h = let k = none_right (expr_faults env (t.choice test question taken colon spared)) _ h in cc
+
+-- `printf` without faults
+pub record IsPrint (env : Env) (given : List t.Argument) : Type 0 where
+  pub at : Spot
+  pub first : slice_get given 0 ≡ Some (t.text at)
+  pub format : is_some (pieces_of (inside (cut env.text at))) ≡ true
+  pub numbers : numbers_faults env (drop 1 given) ≡ []
+
+format_shape : (env : Env) (at : Spot) (count : ℕ) → format_faults env at count ≡ [] → is_some (pieces_of (inside (cut env.text at))) ≡ true
+format_shape env at count e = by_pieces (pieces_of (inside (cut env.text at))) e
+  where
+    by_pieces : (found : Option (List Piece)) → unless (is_format count (option_map ints_in found)) at BadFormat ≡ [] → is_some found ≡ true
+    by_pieces None e = absurd (cc)
+    by_pieces (Some found) e = refl
+
+print_shape : (env : Env) (name : Spot) (given : List t.Argument) → print_faults env name given ≡ [] → IsPrint env given
+print_shape env name [] e = absurd (cc)
+print_shape env name (t.text at ∷ others) e = record {
+  at = at;
+  first = refl;
+  format = format_shape env at (length others) (none_left _ _ e);
+  numbers = none_right (format_faults env at (length others)) _ e;
+}
+print_shape env name (t.address mark place ∷ others) e = absurd (cc)
+print_shape env name (t.value inner ∷ others) e = absurd (no_misfit env inner e)
+
+pub print_tells : (env : Env) (call : t.Call) → meaning env call.name ≡ m.Known p.Printf → call_faults env call ≡ [] → IsPrint env (arguments_of call)
+print_tells env call h e = print_shape env call.name (arguments_of call) (rw h at e)
+
+pub format_tells : (env : Env) (given : List t.Argument) (at : Spot) → IsPrint env given → slice_get given 0 ≡ Some (t.text at)
+    → is_some (pieces_of (inside (cut env.text at))) ≡ true
+format_tells env given at h first =
+    let same : Some (t.text h.at) ≡ Some (t.text at) = sym h.first ∙ first in
+    let one : h.at ≡ at = cc in
+    subst (λ z. is_some (pieces_of (inside (cut env.text z))) ≡ true) one h.format
+
+pub print_rule : (env : Env) (call : t.Call) (at : Spot) (format : Vec Piece Global) (typed : Vec Expr Global)
+    → meaning env call.name ≡ m.Known p.Printf → slice_get (arguments_of call) 0 ≡ Some (t.text at)
+    → pieces_of (inside (cut env.text at)) ≡ Some format.items → AreValues env (drop 1 (arguments_of call)) typed.items
+    → IsSimple env (t.invoke call) (l.Print format typed)
+print_rule env call at format typed h first f v = x.print h (drop_got (arguments_of call) 0 (t.text at) first) f v
+
+pub numbers_rest : (env : Env) (given : List t.Argument) (i : ℕ) (argument : t.Argument) → slice_get given i ≡ Some argument → numbers_faults env (drop i given) ≡ []
+    → numbers_faults env (drop (i + 1) given) ≡ []
+numbers_rest env given i argument g e =
+    let all : numbers_faults env (argument ∷ drop (i + 1) given) ≡ [] = rw (drop_got given i argument g) at e in
+    none_right (value_faults env (Of Int) argument) _ all
+
+pub number_shape : (env : Env) (given : List t.Argument) (i : ℕ) (argument : t.Argument) → slice_get given i ≡ Some argument → numbers_faults env (drop i given) ≡ []
+    → is_value argument ≡ true
+number_shape env given i argument g e =
+    let all : numbers_faults env (argument ∷ drop (i + 1) given) ≡ [] = rw (drop_got given i argument g) at e in
+    value_shape env (Of Int) argument (none_left _ _ all)
+
+pub numbers_more : (env : Env) (given : List t.Argument) (i : ℕ) (argument : t.Argument) (before after : List Expr) (typed : Expr)
+    → after ≡ before ++ typed ∷ [] → slice_get given i ≡ Some argument → IsValue env argument typed
+    → ((more : List Expr) → AreValues env (drop i given) more → AreValues env (drop 1 given) (before ++ more))
+    → (more : List Expr) → AreValues env (drop (i + 1) given) more → AreValues env (drop 1 given) (after ++ more)
+numbers_more env given i argument before after typed e g h =
+    let P : List t.Argument → List Expr → Type 0 = λ left all. AreValues env left all in
+    grown (P (drop i given)) (P (drop (i + 1) given)) (P (drop 1 given)) before after typed e
+    (λ more rest. subst (λ left. P left (typed ∷ more)) (sym (drop_got given i argument g)) (x.value h rest))
+
+pub numbers_end : (env : Env) (given : List t.Argument) (i : ℕ) (typed : List Expr) → length given ≤ i
+    → ((more : List Expr) → AreValues env (drop i given) more → AreValues env (drop 1 given) (typed ++ more)) → AreValues env (drop 1 given) typed
+numbers_end env given i typed past so_far =
+    let P : List t.Argument → List Expr → Type 0 = λ left all. AreValues env left all in
+    ended (P (drop i given)) (P (drop 1 given)) typed (subst (λ left. P left []) (sym (drop_past given i past)) x.no_value) so_far
+
+-- ---- assignments
+
+pub assign_right : (env : Env) (place : t.Place) (operator : Word) (at : Spot) (right : t.Right) → simple_faults env (t.assign place operator at right) ≡ []
+    → (wanted : ExprKind) × (right_faults env wanted right ≡ [])
+assign_right env place operator at right e = by_test (is_assign operator) e
+  where
+    by_test : (b : Bool) → (if b then (place_faults env place ++ unless (is_goal (goal_kind env place)) (place_start place) WrongType)
+        ++ right_faults env (goal_takes (goal_kind env place)) right else int_goal_faults env place ++ right_faults env (Of Int) right) ≡ []
+        → (wanted : ExprKind) × (right_faults env wanted right ≡ [])
+    by_test true e = (goal_takes (goal_kind env place), none_right (place_faults env place ++ unless (is_goal (goal_kind env place)) (place_start place) WrongType) _ e)
+    by_test false e = (Of Int, none_right (int_goal_faults env place) _ e)

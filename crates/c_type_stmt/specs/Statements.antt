@@ -1,0 +1,177 @@
+-- Which typed statements are those of the tree.
+use Rattle.std.specs.Prelude.{◌≡◌, ℕ, ℤ, pos, Bool, true, false, List, [], ◌∷◌, Option, Some, None}
+use Rattle.std.specs.declared.alloc.Global.{Global}
+use Rattle.std.specs.declared.boxed.Box.{Box}
+use Rattle.std.specs.declared.vec.Vec.{Vec}
+use Rattle.c_grammar.specs.declared.word.Spot.{Spot}
+use Rattle.c_grammar.specs.declared.word.Word.{Word}
+use Rattle.c_grammar.specs.declared.word.Word.TheVariants as w
+use Rattle.c_grammar.specs.Tree as t
+use Rattle.c_names.specs.Formats.{pieces_of}
+use Rattle.c_names.specs.declared.format.Piece.{Piece}
+use Rattle.c_names.specs.declared.function.MpiFunction.{MpiFunction}
+use Rattle.c_names.specs.declared.operator.Operator.{Operator}
+use Rattle.c_names.specs.declared.operator.Operator.TheVariants as o
+use Rattle.c_names.specs.declared.predefined.Predefined.TheVariants as p
+use Rattle.c_names.specs.declared.kind.Kind.{Kind}
+use Rattle.c_program.specs.declared.expr.Call.{Call}
+use Rattle.c_program.specs.declared.expr.Expr.{Expr}
+use Rattle.c_program.specs.declared.expr.Expr.TheVariants as v
+use Rattle.c_program.specs.declared.expr.Place.{Place}
+use Rattle.c_program.specs.declared.expr.Right.{Right}
+use Rattle.c_program.specs.declared.expr.Right.TheVariants as g
+use Rattle.c_program.specs.declared.mpi.MpiCall.{MpiCall}
+use Rattle.c_program.specs.declared.statement.Declaration.{Declaration}
+use Rattle.c_program.specs.declared.statement.ForStart.{ForStart}
+use Rattle.c_program.specs.declared.statement.ForStart.TheVariants as b
+use Rattle.c_program.specs.declared.statement.Initial.{Initial}
+use Rattle.c_program.specs.declared.statement.Initial.TheVariants as i
+use Rattle.c_program.specs.declared.statement.Item.{Item}
+use Rattle.c_program.specs.declared.statement.Part.{Part}
+use Rattle.c_program.specs.declared.statement.Part.TheVariants as q
+use Rattle.c_program.specs.declared.statement.Simple.{Simple}
+use Rattle.c_program.specs.declared.statement.Simple.TheVariants as l
+use Rattle.c_program.specs.declared.statement.Stmt.{Stmt}
+use Rattle.c_program.specs.declared.statement.Stmt.TheVariants as s
+use Rattle.c_check_call.specs.Calls.{arguments_of, inside}
+use Rattle.c_check_expr.specs.Constants.{length_of}
+use Rattle.c_check_expr.specs.Kinds.{kind_of_word, place_start}
+use Rattle.c_check_expr.specs.Scopes.{Env, cut, meaning, opened}
+use Rattle.c_check_expr.specs.Signatures.{listed}
+use Rattle.c_check.specs.Statements.{after_item, after_part, after_start, is_assign}
+use Rattle.c_check_expr.specs.declared.thing.Meaning.TheVariants as m
+use Rattle.c_type_expr.specs.Calls.{IsCall, IsRight, IsValue}
+use Rattle.c_type_expr.specs.Exprs.{IsExpr, IsPlace}
+use Rattle.c_type_mpi.specs.MpiCalls.{IsMpiCall}
+
+-- ---- assignments and calls
+
+-- the operator of `operator=`, `++` or `--`; no other word stands there
+abbrev pub update_of : Word → Operator
+update_of w.PlusAssign = o.Plus
+update_of w.Increment = o.Plus
+update_of w.MinusAssign = o.Minus
+update_of w.Decrement = o.Minus
+update_of w.TimesAssign = o.Times
+update_of w.DivideAssign = o.Divide
+update_of w.RemainderAssign = o.Remainder
+update_of w.AndAssign = o.And
+update_of w.OrAssign = o.Or
+update_of w.XorAssign = o.Xor
+update_of w.ShiftLeftAssign = o.ShiftLeft
+update_of _ = o.ShiftRight
+
+abbrev pub one : Right
+one = g.Value (v.Number (pos 1))
+
+pub data AreValues (env : Env) : List t.Argument → List Expr → Type 0 where
+  no_value : AreValues env [] []
+  value : {given : t.Argument} {more : List t.Argument} {typed : Expr} {others : List Expr}
+      → IsValue env given typed → AreValues env more others → AreValues env (given ∷ more) (typed ∷ others)
+
+pub data IsSimple (env : Env) : t.Simple → Simple → Type 0 where
+  set : {place : t.Place} {operator : Word} {at : Spot} {right : t.Right} {goal : Place} {typed : Right}
+      → is_assign operator ≡ true → IsPlace env place goal → IsRight env right typed
+      → IsSimple env (t.assign place operator at right) (l.Set goal typed)
+  update : {place : t.Place} {operator : Word} {at : Spot} {right : t.Right} {goal : Place} {typed : Right}
+      → is_assign operator ≡ false → IsPlace env place goal → IsRight env right typed
+      → IsSimple env (t.assign place operator at right) (l.Update goal (update_of operator) typed)
+  after : {place : t.Place} {operator : Word} {at : Spot} {goal : Place} → IsPlace env place goal
+      → IsSimple env (t.after place operator at) (l.Update goal (update_of operator) one)
+  before : {place : t.Place} {operator : Word} {at : Spot} {goal : Place} → IsPlace env place goal
+      → IsSimple env (t.before operator at place) (l.Update goal (update_of operator) one)
+  call : {call : t.Call} {typed : Call} → IsCall env call typed → IsSimple env (t.invoke call) (l.Call typed)
+  mpi : {call : t.Call} {function : MpiFunction} {typed : Box MpiCall Global} → meaning env call.name ≡ m.Known (p.Mpi function)
+      → IsMpiCall env function (arguments_of call) typed.value → IsSimple env (t.invoke call) (l.Mpi typed)
+  print : {call : t.Call} {at : Spot} {more : List t.Argument} {format : Vec Piece Global} {typed : Vec Expr Global}
+      → meaning env call.name ≡ m.Known p.Printf → arguments_of call ≡ t.text at ∷ more
+      → pieces_of (inside (cut env.text at)) ≡ Some format.items → AreValues env more typed.items
+      → IsSimple env (t.invoke call) (l.Print format typed)
+  flush : {call : t.Call} → meaning env call.name ≡ m.Known p.Fflush → IsSimple env (t.invoke call) l.Flush
+
+-- ---- declarations
+
+pub data AreExprs (env : Env) : List t.Expr → List Expr → Type 0 where
+  no_expr : AreExprs env [] []
+  expr : {e : t.Expr} {es : List t.Expr} {typed : Expr} {others : List Expr} → IsExpr env e typed → AreExprs env es others
+      → AreExprs env (e ∷ es) (typed ∷ others)
+
+pub data IsInitial (env : Env) : Option t.Initial → Initial → Type 0 where
+  nothing : IsInitial env None i.Nothing
+  begun : {mark : Spot} {right : t.Right} {typed : Right} → IsRight env right typed → IsInitial env (Some (t.begun mark right)) (i.Right typed)
+  braced : {mark opening closing : Spot} {values : t.Row t.Expr} {typed : Vec Expr Global} → AreExprs env (listed values) typed.items
+      → IsInitial env (Some (t.braced mark opening values closing)) (i.Values typed)
+
+abbrev pub length_in : Env → t.Place → Option ℕ
+length_in env (t.whole name) = None
+length_in env (t.cell name opening length closing) = Some (length_of env length)
+
+-- a name stands in its own initializer
+pub record IsItem (env : Env) (kind : Kind) (item : t.Item) (typed : Item) : Type 0 where
+  pub name : typed.name ≡ cut env.text (place_start item.place)
+  pub kind_is : typed.kind ≡ kind
+  pub length : typed.length ≡ length_in env item.place
+  pub initial : IsInitial (after_item env kind item) item.initial typed.initial
+
+pub data AreItems (kind : Kind) : Env → List t.Item → List Item → Type 0 where
+  no_item : {env : Env} → AreItems kind env [] []
+  item : {env : Env} {item : t.Item} {more : List t.Item} {typed : Item} {others : List Item}
+      → IsItem env kind item typed → AreItems kind (after_item env kind item) more others → AreItems kind env (item ∷ more) (typed ∷ others)
+
+abbrev pub IsDeclaration : Env → t.Declaration → Declaration → Type 0
+IsDeclaration env declaration typed = AreItems (kind_of_word declaration.kind) env (listed declaration.items) typed.items.items
+
+-- ---- statements
+
+pub data IsReturn (env : Env) : Option t.Right → Option Right → Type 0 where
+  bare : IsReturn env None None
+  given : {right : t.Right} {typed : Right} → IsRight env right typed → IsReturn env (Some right) (Some typed)
+
+pub data IsStart (env : Env) : t.ForStart → ForStart → Type 0 where
+  no_start : IsStart env t.no_start b.Nothing
+  declared_start : {declaration : t.Declaration} {typed : Declaration} → IsDeclaration env declaration typed
+      → IsStart env (t.declared_start declaration) (b.Declaration typed)
+  simple_start : {simple : t.Simple} {typed : Simple} → IsSimple env simple typed → IsStart env (t.simple_start simple) (b.Simple typed)
+
+pub data IsTest (env : Env) : Option t.Expr → Option Expr → Type 0 where
+  no_test : IsTest env None None
+  test : {e : t.Expr} {typed : Expr} → IsExpr env e typed → IsTest env (Some e) (Some typed)
+
+pub data IsStep (env : Env) : Option t.Simple → Option Simple → Type 0 where
+  no_step : IsStep env None None
+  step : {simple : t.Simple} {typed : Simple} → IsSimple env simple typed → IsStep env (Some simple) (Some typed)
+
+mutual
+  pub data IsStmt : Env → t.Stmt → Stmt → Type 0 where
+    block : {env : Env} {opening closing : Spot} {parts : t.Parts} (typed : Vec Part Global) → AreParts (opened env) parts typed.items
+        → IsStmt env (t.block opening parts closing) (s.Block typed)
+    empty : {env : Env} {at : Spot} → IsStmt env (t.empty at) s.Empty
+    simple : {env : Env} {simple : t.Simple} {end : Spot} {typed : Simple} → IsSimple env simple typed → IsStmt env (t.simple simple end) (s.Simple typed)
+    break : {env : Env} {word end : Spot} → IsStmt env (t.break word end) s.Break
+    continue : {env : Env} {word end : Spot} → IsStmt env (t.continue word end) s.Continue
+    return : {env : Env} {word end : Spot} {value : Option t.Right} {typed : Option Right} → IsReturn env value typed
+        → IsStmt env (t.return word value end) (s.Return typed)
+    if_only : {env : Env} {word opening closing : Spot} {test : t.Expr} {taken : t.Stmt} {e : Expr} {a : Box Stmt Global}
+        → IsExpr env test e → IsStmt env taken a.value → IsStmt env (t.if_only word opening test closing taken) (s.If e a)
+    if_else : {env : Env} {word opening closing other_word : Spot} {test : t.Expr} {taken spared : t.Stmt} {e : Expr} {a c : Box Stmt Global}
+        → IsExpr env test e → IsStmt env taken a.value → IsStmt env spared c.value
+        → IsStmt env (t.if_else word opening test closing taken other_word spared) (s.IfElse e a c)
+    while : {env : Env} {word opening closing : Spot} {test : t.Expr} {body : t.Stmt} {e : Expr} {a : Box Stmt Global}
+        → IsExpr env test e → IsStmt env body a.value → IsStmt env (t.while word opening test closing body) (s.While e a)
+    do_while : {env : Env} {word while_word opening closing end : Spot} {test : t.Expr} {body : t.Stmt} {e : Expr} {a : Box Stmt Global}
+        → IsStmt env body a.value → IsExpr env test e → IsStmt env (t.do_while word body while_word opening test closing end) (s.Do a e)
+    for : {env : Env} {word opening start_end test_end closing : Spot} {start : t.ForStart} {test : Option t.Expr} {step : Option t.Simple} {body : t.Stmt}
+        {typed_start : ForStart} {typed_test : Option Expr} {typed_step : Option Simple} {a : Box Stmt Global}
+        → IsStart (opened env) start typed_start → IsTest (after_start (opened env) start) test typed_test
+        → IsStep (after_start (opened env) start) step typed_step → IsStmt (after_start (opened env) start) body a.value
+        → IsStmt env (t.for word opening start start_end test test_end step closing body) (s.For typed_start typed_test typed_step a)
+
+  pub data IsPart : Env → t.Part → Part → Type 0 where
+    declare : {env : Env} {declaration : t.Declaration} {end : Spot} {typed : Declaration} → IsDeclaration env declaration typed
+        → IsPart env (t.declare declaration end) (q.Declaration typed)
+    stmt : {env : Env} {inner : t.Stmt} {typed : Stmt} → IsStmt env inner typed → IsPart env (t.stmt inner) (q.Stmt typed)
+
+  pub data AreParts : Env → t.Parts → List Part → Type 0 where
+    no_part : {env : Env} → AreParts env t.no_part []
+    part : {env : Env} {one : t.Part} {others : t.Parts} {typed : Part} {more : List Part} → IsPart env one typed → AreParts (after_part env one) others more
+        → AreParts env (t.part one others) (typed ∷ more)

@@ -1,0 +1,537 @@
+//! Typed statements and declarations.
+ghost use Rattle.std.specs.Prelude.{◌≡◌, ◌++◌, ◌∷◌, Bool, [], IfOk, Ok, OnOk, Some, drop, map, option_map, slice_get, true};
+ghost use Rattle.std.specs.Option.{is_some};
+ghost use Rattle.c_grammar.specs.declared.word.Spot.{Spot};
+ghost use Rattle.c_grammar.specs.StmtView.{argument_view, call_view, declaration_view, initial_view, item_view, part_view, parts_view, right_view, row_view, simple_view, start_view, stmt_view};
+ghost use Rattle.c_grammar.specs.Tree as t;
+ghost use Rattle.c_grammar.specs.View.{place_view, view};
+ghost use Rattle.c_names.specs.Formats.{pieces_of};
+ghost use Rattle.c_names.specs.declared.predefined.Predefined.TheVariants as p;
+ghost use Rattle.c_check_call.specs.Calls.{arguments_of, call_faults, numbers_faults};
+ghost use Rattle.c_check_call.specs.Calls as checked;
+ghost use Rattle.c_check_expr.specs.Scopes.{meaning, opened};
+ghost use Rattle.c_check_expr.specs.Scopes as scopes;
+ghost use Rattle.c_check_expr.specs.Signatures.{listed};
+ghost use Rattle.c_check.specs.Statements.{after_declaration, after_item, after_part, after_parts, after_start, declaration_faults, initial_faults, item_faults, part_faults, parts_faults, return_faults, simple_faults, start_faults, step_faults, stmt_faults, test_faults};
+ghost use Rattle.c_check_expr.specs.declared.thing.Meaning.TheVariants as m;
+ghost use Rattle.c_check_expr.specs.declared.thing.Thing.{Thing};
+ghost use Rattle.c_type_expr.specs.Exprs.{IsExpr};
+ghost use Rattle.c_type_stmt.specs.Statements.{AreExprs, AreParts, AreValues, IsDeclaration, IsInitial, IsItem, IsPart, IsReturn, IsSimple, IsStart, IsStep, IsStmt, IsTest, length_in, update_of};
+
+use c_type_expr::call_of::{call_of, right_of, value_of};
+use c_type_expr::expr_of::{expr_of, place_of};
+use c_type_expr::results::{both, boxed, held, three};
+use c_check_call::call::{argument_at, argument_count, inside};
+use c_type_mpi::mpi_of::mpi_call_of;
+use c_check::statement::{declared_thing, is_assign};
+use c_grammar::word::{Spot, Word};
+use c_grammar::{statement, tree};
+use c_names::format::{Piece, pieces};
+use c_names::kind::Kind;
+use c_names::operator::Operator;
+use c_names::predefined::Predefined;
+use c_program::expr::{Expr, Right};
+use c_program::statement::{Declaration, ForStart, Initial, Item, Part, Simple, Stmt};
+use c_check_expr::constant::length_of;
+use c_check_expr::kind::place_start;
+use c_check_expr::scope::{Scope, cut};
+use c_check_expr::thing::{Meaning, Thing, kind_of_word};
+use std::alloc::{AllocError, Global};
+use wiz_base::Bytes;
+
+/// The operator of `operator=`, `++` or `--`.
+fn update_of(word: Word) -> Operator
+    ensures { result ≡ update_of word }
+{
+    match word {
+        Word::PlusAssign | Word::Increment => Operator::Plus,
+        Word::MinusAssign | Word::Decrement => Operator::Minus,
+        Word::TimesAssign => Operator::Times,
+        Word::DivideAssign => Operator::Divide,
+        Word::RemainderAssign => Operator::Remainder,
+        Word::AndAssign => Operator::And,
+        Word::OrAssign => Operator::Or,
+        Word::XorAssign => Operator::Xor,
+        Word::ShiftLeftAssign => Operator::ShiftLeft,
+        _ => Operator::ShiftRight,
+    }
+}
+
+/// `++` or `--`.
+fn step_of(
+    alloc: Global,
+    scope: &Scope,
+    place: &tree::Place,
+    operator: Word,
+) -> Result<Simple, AllocError>
+    ensures after { IfOk result (λ typed. (at : Spot) → IsSimple scope.now (t.after (place_view place.now) operator at) typed) }
+    ensures before { IfOk result (λ typed. (at : Spot) → IsSimple scope.now (t.before operator at (place_view place.now)) typed) }
+{
+    Ok(Simple::Update {
+        place: place_of(alloc, scope, place)?,
+        operator: update_of(operator),
+        right: Right::Value(Expr::Number(1)),
+    })
+}
+
+/// The text that an argument is.
+fn text_at(argument: &statement::Argument) -> Spot
+    requires { argument_view argument.now ≡ t.text (checked.argument_start (argument_view argument.now)) }
+    ensures { argument_view argument.now ≡ t.text result }
+{
+    match argument {
+        statement::Argument::Text(at) => *at,
+        statement::Argument::Address { .. } => unreachable!(),
+        statement::Argument::Value(_) => unreachable!(),
+    }
+}
+
+/// The text that stands first in a call.
+fn first_text(call: &statement::Call) -> Spot
+    requires { (at : Spot) × (slice_get (arguments_of (call_view call.now)) 0 ≡ Some (t.text at)) }
+    ensures { slice_get (arguments_of (call_view call.now)) 0 ≡ Some (t.text result) }
+{
+    match argument_at(call, 0) {
+        Some(argument) => text_at(argument),
+        None => unreachable!(),
+    }
+}
+
+/// The pieces of a text that is a format.
+fn format_of(alloc: Global, scope: &Scope, at: Spot) -> Result<Vec<Piece>, AllocError>
+    requires { is_some (pieces_of (checked.inside (scopes.cut scope.now.text at))) ≡ true }
+    ensures { IfOk result (λ format. pieces_of (checked.inside (scopes.cut scope.now.text at)) ≡ Some format.items) }
+{
+    match pieces(alloc, inside(cut(scope.text(), at)))? {
+        Some(format) => Ok(format),
+        None => unreachable!(),
+    }
+}
+
+/// The ints behind a format.
+fn numbers_of(alloc: Global, scope: &Scope, call: &statement::Call) -> Result<Vec<Expr>, AllocError>
+    requires { numbers_faults scope.now (drop 1 (arguments_of (call_view call.now))) ≡ [] }
+    ensures { IfOk result (λ typed. AreValues scope.now (drop 1 (arguments_of (call_view call.now))) typed.items) }
+{
+    let mut typed = Vec::new(alloc);
+    for place in 1..argument_count(call) {
+        let Some(argument) = argument_at(call, place) else {
+            unreachable!()
+        };
+        typed.push(value_of(alloc, scope, argument)?)?;
+    }
+    Ok(typed)
+}
+
+fn print_of(alloc: Global, scope: &Scope, call: &statement::Call) -> Result<Simple, AllocError>
+    requires meaning { meaning scope.now call.now.name ≡ m.Known p.Printf }
+    requires faults { call_faults scope.now (call_view call.now) ≡ [] }
+    ensures { IfOk result (λ typed. IsSimple scope.now (t.invoke (call_view call.now)) typed) }
+{
+    let format = format_of(alloc, scope, first_text(call))?;
+    let arguments = numbers_of(alloc, scope, call)?;
+    Ok(Simple::Print { format, arguments })
+}
+
+/// A call that is a statement.
+fn call_statement(
+    alloc: Global,
+    scope: &Scope,
+    call: &statement::Call,
+) -> Result<Simple, AllocError>
+    requires { call_faults scope.now (call_view call.now) ≡ [] }
+    ensures { IfOk result (λ typed. IsSimple scope.now (t.invoke (call_view call.now)) typed) }
+{
+    match scope.meaning(call.name) {
+        Meaning::Declared(Thing::Function(number)) => {
+            Ok(Simple::Call(call_of(alloc, scope, number, call)?))
+        }
+        Meaning::Known(Predefined::Mpi(function)) => {
+            let typed = mpi_call_of(alloc, scope, function, call);
+            Ok(Simple::Mpi(held(alloc, typed)?))
+        }
+        Meaning::Known(Predefined::Printf) => print_of(alloc, scope, call),
+        Meaning::Known(Predefined::Fflush) => Ok(Simple::Flush),
+        _ => unreachable!(),
+    }
+}
+
+/// The typed assignment or call of one without faults.
+fn simple_of(alloc: Global, scope: &Scope, simple: &statement::Simple) -> Result<Simple, AllocError>
+    requires { simple_faults scope.now (simple_view simple.now) ≡ [] }
+    ensures { IfOk result (λ typed. IsSimple scope.now (simple_view simple.now) typed) }
+{
+    match simple {
+        statement::Simple::Assign {
+            place,
+            operator,
+            right,
+            ..
+        } => {
+            let place = place_of(alloc, scope, place)?;
+            let right = right_of(alloc, scope, right)?;
+            if is_assign(*operator) {
+                Ok(Simple::Set { place, right })
+            } else {
+                Ok(Simple::Update {
+                    place,
+                    operator: update_of(*operator),
+                    right,
+                })
+            }
+        }
+        statement::Simple::After {
+            place,
+            operator,
+            ..
+        } => step_of(alloc, scope, place, *operator),
+        statement::Simple::Before {
+            place,
+            operator,
+            ..
+        } => step_of(alloc, scope, place, *operator),
+        statement::Simple::Call(call) => call_statement(alloc, scope, call),
+    }
+}
+
+fn values_of(
+    alloc: Global,
+    scope: &Scope,
+    values: &statement::Listed<tree::Expr>,
+) -> Result<Vec<Expr>, AllocError>
+    ensures { IfOk result (λ typed. AreExprs scope.now (listed (row_view view values.now)) typed.items) }
+{
+    let mut typed = Vec::new(alloc);
+    typed.push(expr_of(alloc, scope, &values.first)?)?;
+    for behind in &values.more {
+        typed.push(expr_of(alloc, scope, &behind.item)?)?;
+    }
+    Ok(typed)
+}
+
+fn begun_of(
+    alloc: Global,
+    scope: &Scope,
+    initial: &statement::Initial,
+) -> Result<Initial, AllocError>
+    requires { (name : Spot) × (thing : Thing) × (initial_faults scope.now name thing (Some (initial_view initial.now)) ≡ []) }
+    ensures { IfOk result (λ typed. IsInitial scope.now (Some (initial_view initial.now)) typed) }
+{
+    match initial {
+        statement::Initial::Right { right, .. } => {
+            Ok(Initial::Right(right_of(alloc, scope, right)?))
+        }
+        statement::Initial::Braced { values, .. } => {
+            Ok(Initial::Values(values_of(alloc, scope, values)?))
+        }
+    }
+}
+
+fn initial_of(
+    alloc: Global,
+    scope: &Scope,
+    initial: &Option<statement::Initial>,
+) -> Result<Initial, AllocError>
+    requires { (name : Spot) × (thing : Thing) × (initial_faults scope.now name thing (option_map initial_view initial.now) ≡ []) }
+    ensures { IfOk result (λ typed. IsInitial scope.now (option_map initial_view initial.now) typed) }
+{
+    match initial {
+        None => Ok(Initial::Nothing),
+        Some(initial) => {
+            let typed = begun_of(alloc, scope, initial)?;
+            Ok(typed)
+        }
+    }
+}
+
+#[tactic(auto, using(c_grammar::proofs::Viewed::views))]
+fn length_in(scope: &Scope, place: &tree::Place) -> Option<u32>
+    ensures { result ≡ length_in scope.now (place_view place.now) }
+{
+    match place {
+        tree::Place::Whole(_) => None,
+        tree::Place::Cell { index, .. } => Some(length_of(scope, index)),
+    }
+}
+
+/// A declared name, which is then declared.
+fn item_of(
+    alloc: Global,
+    scope: &mut Scope,
+    kind: Kind,
+    item: &statement::Item,
+) -> Result<Item, AllocError>
+    requires { item_faults scope.old kind (item_view item.now) ≡ [] }
+    ensures typed { IfOk result (λ typed. IsItem scope.old kind (item_view item.now) typed) }
+    ensures scope { OnOk result (scope.new ≡ after_item scope.old kind (item_view item.now)) }
+{
+    let spot = place_start(&item.place);
+    let name = Bytes::from_slice(alloc, cut(scope.text(), spot))?;
+    let length = length_in(scope, &item.place);
+    let thing = declared_thing(scope, kind, &item.place);
+    scope.declare(spot, thing)?;
+    let initial = initial_of(alloc, scope, &item.initial)?;
+    Ok(Item {
+        name,
+        kind,
+        length,
+        initial,
+    })
+}
+
+fn declaration_of(
+    alloc: Global,
+    scope: &mut Scope,
+    declaration: &statement::Declaration,
+) -> Result<Declaration, AllocError>
+    requires { declaration_faults scope.old (declaration_view declaration.now) ≡ [] }
+    ensures typed { IfOk result (λ typed. IsDeclaration scope.old (declaration_view declaration.now) typed) }
+    ensures scope { OnOk result (scope.new ≡ after_declaration scope.old (declaration_view declaration.now)) }
+{
+    let kind = kind_of_word(declaration.kind);
+    let mut items = Vec::new(alloc);
+    items.push(item_of(alloc, scope, kind, &declaration.items.first)?)?;
+    for behind in &declaration.items.more {
+        items.push(item_of(alloc, scope, kind, &behind.item)?)?;
+    }
+    Ok(Declaration { items })
+}
+
+fn start_of(
+    alloc: Global,
+    scope: &mut Scope,
+    start: &statement::ForStart,
+) -> Result<ForStart, AllocError>
+    requires { start_faults scope.old (start_view start.now) ≡ [] }
+    ensures typed { IfOk result (λ typed. IsStart scope.old (start_view start.now) typed) }
+    ensures scope { OnOk result (scope.new ≡ after_start scope.old (start_view start.now)) }
+{
+    match start {
+        statement::ForStart::Nothing => Ok(ForStart::Nothing),
+        statement::ForStart::Declaration(declaration) => Ok(ForStart::Declaration(declaration_of(
+            alloc,
+            scope,
+            declaration,
+        )?)),
+        statement::ForStart::Simple(simple) => {
+            Ok(ForStart::Simple(simple_of(alloc, scope, simple)?))
+        }
+    }
+}
+
+/// The value that a function gives back.
+fn returned_of(
+    alloc: Global,
+    scope: &Scope,
+    value: &Option<statement::Right>,
+) -> Result<Option<Right>, AllocError>
+    requires { (gives : Bool) × (return_faults scope.now gives (option_map right_view value.now) ≡ []) }
+    ensures { IfOk result (λ typed. IsReturn scope.now (option_map right_view value.now) typed) }
+{
+    match value {
+        Some(right) => Ok(Some(right_of(alloc, scope, right)?)),
+        None => Ok(None),
+    }
+}
+
+fn test_of(
+    alloc: Global,
+    scope: &Scope,
+    test: &Option<tree::Expr>,
+) -> Result<Option<Expr>, AllocError>
+    ensures { IfOk result (λ typed. IsTest scope.now (option_map view test.now) typed) }
+{
+    match test {
+        Some(e) => Ok(Some(expr_of(alloc, scope, e)?)),
+        None => Ok(None),
+    }
+}
+
+fn turn_of(
+    alloc: Global,
+    scope: &Scope,
+    step: &Option<statement::Simple>,
+) -> Result<Option<Simple>, AllocError>
+    requires { step_faults scope.now (option_map simple_view step.now) ≡ [] }
+    ensures { IfOk result (λ typed. IsStep scope.now (option_map simple_view step.now) typed) }
+{
+    match step {
+        Some(simple) => Ok(Some(simple_of(alloc, scope, simple)?)),
+        None => Ok(None),
+    }
+}
+
+fn push(typed: &mut Vec<Part>, part: Part) -> Result<(), AllocError>
+    ensures { OnOk result (typed.new.items ≡ typed.old.items ++ part ∷ []) }
+{
+    typed.push(part)?;
+    Ok(())
+}
+
+/// The typed statement of a statement without faults.
+#[cycle(statements)]
+fn stmt_of(alloc: Global, scope: &mut Scope, stmt: &statement::Stmt) -> Result<Stmt, AllocError>
+    requires { (gives : Bool) × (loops : Bool) × (stmt_faults scope.old gives loops (stmt_view stmt.now) ≡ []) }
+    ensures typed { IfOk result (λ typed. IsStmt scope.old (stmt_view stmt.now) typed) }
+    ensures scope { OnOk result (scope.new ≡ scope.old) }
+{
+    match stmt {
+        statement::Stmt::Block { parts, .. } => Ok(Stmt::Block(block_of(alloc, scope, parts)?)),
+        statement::Stmt::Empty(_) => Ok(Stmt::Empty),
+        statement::Stmt::Simple { simple, .. } => Ok(Stmt::Simple(simple_of(
+            alloc, scope, simple,
+        )?)),
+        statement::Stmt::Break { .. } => Ok(Stmt::Break),
+        statement::Stmt::Continue { .. } => Ok(Stmt::Continue),
+        statement::Stmt::Return { value, .. } => {
+            Ok(Stmt::Return(returned_of(alloc, scope, value)?))
+        }
+        statement::Stmt::If { test, then, .. } => {
+            let (then, test) = tested_of(alloc, scope, then, test)?;
+            Ok(Stmt::If { test, then })
+        }
+        statement::Stmt::IfElse {
+            test,
+            then,
+            other,
+            ..
+        } => {
+            let tested = tested_of(alloc, scope, then, test)?;
+            let other = boxed_of(alloc, scope, other);
+            let ((then, test), other) = both(Ok(tested), other)?;
+            Ok(Stmt::IfElse { test, then, other })
+        }
+        statement::Stmt::While { test, body, .. } => {
+            let (body, test) = tested_of(alloc, scope, body, test)?;
+            Ok(Stmt::While { test, body })
+        }
+        statement::Stmt::Do { test, body, .. } => {
+            let (body, test) = tested_of(alloc, scope, body, test)?;
+            Ok(Stmt::Do { body, test })
+        }
+        statement::Stmt::For {
+            start,
+            test,
+            step,
+            body,
+            ..
+        } => {
+            let typed = for_of(alloc, scope, start, test, step, body)?;
+            Ok(typed)
+        }
+    }
+}
+
+/// The parts of a block, in a scope of their own.
+#[cycle(statements)]
+fn block_of(
+    alloc: Global,
+    scope: &mut Scope,
+    parts: &[statement::Part],
+) -> Result<Vec<Part>, AllocError>
+    requires { (gives : Bool) × (loops : Bool) × (parts_faults (opened scope.old) gives loops (parts_view parts.now) ≡ []) }
+    ensures typed { IfOk result (λ typed. AreParts (opened scope.old) (parts_view parts.now) typed.items) }
+    ensures scope { OnOk result (scope.new ≡ scope.old) }
+{
+    scope.open()?;
+    let typed = parts_of(alloc, scope, parts)?;
+    scope.close();
+    Ok(typed)
+}
+
+/// A `for`, in a scope of its own.
+#[cycle(statements)]
+fn for_of(
+    alloc: Global,
+    scope: &mut Scope,
+    start: &statement::ForStart,
+    test: &Option<tree::Expr>,
+    step: &Option<statement::Simple>,
+    body: &statement::Stmt,
+) -> Result<Stmt, AllocError>
+    requires start { start_faults (opened scope.old) (start_view start.now) ≡ [] }
+    requires step { step_faults (after_start (opened scope.old) (start_view start.now)) (option_map simple_view step.now) ≡ [] }
+    requires body { (gives : Bool) × (loops : Bool) × (stmt_faults (after_start (opened scope.old) (start_view start.now)) gives loops (stmt_view body.now) ≡ []) }
+    ensures typed { IfOk result (λ typed. (word opening start_end test_end closing : Spot) → IsStmt scope.old (t.for word opening (start_view start.now) start_end (option_map view test.now) test_end (option_map simple_view step.now) closing (stmt_view body.now)) typed) }
+    ensures scope { OnOk result (scope.new ≡ scope.old) }
+{
+    scope.open()?;
+    let start = start_of(alloc, scope, start)?;
+    let test = test_of(alloc, scope, test);
+    let step = turn_of(alloc, scope, step);
+    let head = three(Ok(start), test, step);
+    let ((start, test, step), body) = both(head, boxed_of(alloc, scope, body))?;
+    scope.close();
+    Ok(Stmt::For {
+        start,
+        test,
+        step,
+        body,
+    })
+}
+
+#[cycle(statements)]
+fn boxed_of(
+    alloc: Global,
+    scope: &mut Scope,
+    stmt: &statement::Stmt,
+) -> Result<Box<Stmt>, AllocError>
+    requires { (gives : Bool) × (loops : Bool) × (stmt_faults scope.old gives loops (stmt_view stmt.now) ≡ []) }
+    ensures typed { IfOk result (λ typed. IsStmt scope.old (stmt_view stmt.now) typed.value) }
+    ensures scope { OnOk result (scope.new ≡ scope.old) }
+{
+    let typed = stmt_of(alloc, scope, stmt)?;
+    boxed(alloc, typed)
+}
+
+/// A statement and the test that decides on it.
+#[cycle(statements)]
+fn tested_of(
+    alloc: Global,
+    scope: &mut Scope,
+    stmt: &statement::Stmt,
+    test: &tree::Expr,
+) -> Result<(Box<Stmt>, Expr), AllocError>
+    requires { (gives : Bool) × (loops : Bool) × (stmt_faults scope.old gives loops (stmt_view stmt.now) ≡ []) }
+    ensures stmt { IfOk result (λ all. IsStmt scope.old (stmt_view stmt.now) all.0.value) }
+    ensures test { IfOk result (λ all. IsExpr scope.old (view test.now) all.1) }
+    ensures scope { OnOk result (scope.new ≡ scope.old) }
+{
+    let test = expr_of(alloc, scope, test);
+    let stmt = boxed_of(alloc, scope, stmt);
+    both(stmt, test)
+}
+
+#[cycle(statements)]
+fn part_of(alloc: Global, scope: &mut Scope, part: &statement::Part) -> Result<Part, AllocError>
+    requires { (gives : Bool) × (loops : Bool) × (part_faults scope.old gives loops (part_view part.now) ≡ []) }
+    ensures typed { IfOk result (λ typed. IsPart scope.old (part_view part.now) typed) }
+    ensures scope { OnOk result (scope.new ≡ after_part scope.old (part_view part.now)) }
+{
+    match part {
+        statement::Part::Declaration { declaration, .. } => {
+            Ok(Part::Declaration(declaration_of(alloc, scope, declaration)?))
+        }
+        statement::Part::Stmt(stmt) => Ok(Part::Stmt(stmt_of(alloc, scope, stmt)?)),
+    }
+}
+
+/// The typed parts of a block without faults, which stand in an open scope. What they declare stays in it. The one error is want of
+/// memory, and then the scope is to be given up.
+#[cycle(statements)]
+pub fn parts_of(
+    alloc: Global,
+    scope: &mut Scope,
+    parts: &[statement::Part],
+) -> Result<Vec<Part>, AllocError>
+    requires { (gives : Bool) × (loops : Bool) × (parts_faults scope.old gives loops (parts_view parts.now) ≡ []) }
+    ensures typed { IfOk result (λ typed. AreParts scope.old (parts_view parts.now) typed.items) }
+    ensures scope { OnOk result (scope.new ≡ after_parts scope.old (parts_view parts.now)) }
+{
+    let mut typed = Vec::new(alloc);
+    for part in parts {
+        let one = part_of(alloc, scope, part)?;
+        push(&mut typed, one)?;
+    }
+    Ok(typed)
+}
