@@ -29,7 +29,7 @@ pub enum Predefined {
 }
 
 /// The numbers behind the MPI names are this language's own.
-pub const NAMES: [(&str, Predefined); 59] = [
+pub const NAMES: [(&str, Predefined); 61] = [
     ("MPI_ANY_TAG", Predefined::Number(-1)),
     ("MPI_PROC_NULL", Predefined::Number(-1)),
     ("MPI_ANY_SOURCE", Predefined::Number(-2)),
@@ -63,9 +63,11 @@ pub const NAMES: [(&str, Predefined); 59] = [
     ("MPI_Get_count", Predefined::Mpi(MpiFunction::GetCount)),
     ("MPI_Comm_free", Predefined::Mpi(MpiFunction::CommFree)),
     ("MPI_Send", Predefined::Mpi(MpiFunction::Send)),
+    ("MPI_Ssend", Predefined::Mpi(MpiFunction::Ssend)),
     ("MPI_Recv", Predefined::Mpi(MpiFunction::Recv)),
     ("MPI_Sendrecv", Predefined::Mpi(MpiFunction::Sendrecv)),
     ("MPI_Isend", Predefined::Mpi(MpiFunction::Isend)),
+    ("MPI_Issend", Predefined::Mpi(MpiFunction::Issend)),
     ("MPI_Irecv", Predefined::Mpi(MpiFunction::Irecv)),
     ("MPI_Wait", Predefined::Mpi(MpiFunction::Wait)),
     ("MPI_Waitall", Predefined::Mpi(MpiFunction::Waitall)),
