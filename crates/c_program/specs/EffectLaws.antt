@@ -28,9 +28,9 @@ use Rattle.run_model.proofs.Views.{test_cases}
 use Rattle.c_program.specs.declared.effect.Answer.{Answer}
 use Rattle.c_program.specs.declared.effect.Collective.{Collective}
 use Rattle.c_program.specs.declared.effect.Effect.{Effect}
-use Rattle.c_program.specs.declared.effect.Effect.TheVariants.{Nothing, Sets, Starts, Receives, Completes, Probes, Joins, Aborts}
+use Rattle.c_program.specs.declared.effect.Effect.TheVariants.{Nothing, Sets, Starts, Sends, Receives, Completes, Probes, Joins, Aborts}
 use Rattle.c_program.specs.declared.effect.Into.{Into}
-use Rattle.c_program.specs.declared.effect.Into.TheVariants.{Cells as IntoCells, Handle}
+use Rattle.c_program.specs.declared.effect.Into.TheVariants.{Nowhere, Cells as IntoCells, Handle}
 use Rattle.c_program.specs.declared.effect.Message.{Message}
 use Rattle.c_program.specs.declared.effect.Receive.{Receive}
 use Rattle.c_program.specs.declared.effect.Start.{Start}
@@ -44,7 +44,7 @@ use Rattle.c_program.specs.Effects.{effect_of}
 use Rattle.c_program.specs.GoodLaws.{Alike, alike_put, alike_put_all, alike_put_some, alike_same, alike_trans, good_alike, keeps_aborted, keeps_alike, keeps_trapped}
 use Rattle.run_model.proofs.Prefixes.{prefix_refl}
 use Rattle.c_program.specs.Keeping.{Good, Keeps, KeepsOn}
-use Rattle.c_program.specs.Performing.{Active, Onward, active_from, active_in, active_or_none, after_take, answered, begun, completed, completing, empties, enter_call, first_got, first_place, item_completed, items_of, learned, made_by, made_by_all, none_active, number_of_next, or_trap, perform, places_of, post_call, probed, put_empties, put_empty, put_items, put_message, put_nothing, put_only_empty, put_places, put_result, put_status, receiving, send_call, sending, sent, source_in, stands, start_at, starts_in, status_at, status_place, take_one, taking_message}
+use Rattle.c_program.specs.Performing.{Active, Onward, active_from, active_in, active_or_none, after_take, answered, begun, completed, completing, empties, enter_call, first_got, first_place, item_completed, items_of, learned, made_by, made_by_all, none_active, number_of_next, or_trap, perform, places_of, post_call, probed, put_empties, put_empty, put_items, put_message, put_nothing, put_only_empty, put_places, put_result, put_status, receiving, send_call, sending, sent, source_in, stands, start_at, starts_in, status_at, status_place, take_one, taking_message, taking_result}
 use Rattle.c_program.specs.Program.{rank_of}
 use Rattle.c_program.specs.Proper.{IsMessage, IsProper, IsWanted, length-values_from}
 use Rattle.c_program.specs.ProperEffects.{effect_proper}
@@ -428,23 +428,32 @@ completes_keep requests mode answer n me own s go good is on =
     let few : length (active_in requests s) ≤ length (ints_in requests s) = are.few in
     completing_keeps n me own requests mode answer (active_in requests s) s go good (record { few = omega (arith, few, count, is); below = are.below }) on
 
-joins_keep : (j : Collective) → IsPerformed (Joins j)
-joins_keep j n me own s go good is on =
+-- a start of which at most a result is wanted, until it is complete
+completed_keeps : (call : Call) (comm : ℕ) (into : Into) (n me : ℕ) (own : View) (s : State) (go : Onward) → is_starting call ≡ true → IsInBounds n (length own) call → IsInForm n own me call → Good n me own s → KeepsOn n me go
+    → Keeps n me own s.printed (Asks s call (λ reply. taking_result into (number_of_next s) (begun (sent comm) s) go))
+completed_keeps call comm into n me own s go starting bounds form good on =
     let number : ℕ = number_of_next s in
-    let k : Onward = λ t. Asks t (take_one number) (λ reply. go (put_result j.into (first_got (items_of reply)) (learned (items_of reply) t))) in
-    starting_keeps n me own (enter_call j s) (sent j.comm) s k refl is.root (is.form s) good (λ later t good printed starts.
-    let grown : length (s.starts ++ sent j.comm ∷ []) ≡ length s.starts + length (sent j.comm ∷ []) = length-append s.starts (sent j.comm ∷ []) in
+    let k : Onward = λ t. taking_result into number t go in
+    starting_keeps n me own call (sent comm) s k starting bounds form good (λ later t good printed starts.
+    let grown : length (s.starts ++ sent comm ∷ []) ≡ length s.starts + length (sent comm ∷ []) = length-append s.starts (sent comm ∷ []) in
     let more : number < length t.starts = rw starts (omega (arith, grown)) in
     subst (λ printed. Keeps n me later printed (k t)) printed
     (taking_keeps n me later number t _ good more (λ reply next.
     let u : State = learned (items_of reply) t in
-    go_keeps n me (later ++ (take_one number, reply) ∷ []) u (put_result j.into (first_got (items_of reply)) u) go next (alike_put_result j.into (first_got (items_of reply)) u) on)))
+    go_keeps n me (later ++ (take_one number, reply) ∷ []) u (put_result into (first_got (items_of reply)) u) go next (alike_put_result into (first_got (items_of reply)) u) on)))
+
+sends_keep : (m : Message) → IsPerformed (Sends m)
+sends_keep m n me own s go good is on = completed_keeps (send_call m s) m.comm Nowhere n me own s go refl (send_bounds n own m s is) tt good on
+
+joins_keep : (j : Collective) → IsPerformed (Joins j)
+joins_keep j n me own s go good is on = completed_keeps (enter_call j s) j.comm j.into n me own s go refl is.root (is.form s) good on
 
 -- an effect that is proper keeps the laws
 proper_keeps : (effect : Effect) → IsPerformed effect
 proper_keeps Nothing n me own s go good is on = on own s good
 proper_keeps (Sets cell value) n me own s go good is on = go_keeps n me own s (put cell value s) go good (alike_put cell value s) on
 proper_keeps (Starts start request) n me own s go good is on = starts_keep start request n me own s go good is on
+proper_keeps (Sends m) n me own s go good is on = sends_keep m n me own s go good is on
 proper_keeps (Receives receive send status) n me own s go good is on = receives_keep receive send status n me own s go good is on
 proper_keeps (Completes requests mode answer) n me own s go good is on = completes_keep requests mode answer n me own s go good is on
 proper_keeps (Probes comm source tag waits flag status) n me own s go good is on = probes_keep comm source tag waits flag status n me own s go good is on

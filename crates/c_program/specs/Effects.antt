@@ -18,7 +18,7 @@ use Rattle.mpi_call.specs.declared.call.TakeMode.{TakeMode}
 use Rattle.mpi_call.specs.declared.call.TakeMode.TheVariants.{All, Any as AnyOne, Several, TestAll, TestAny, TestSeveral}
 use Rattle.c_program.specs.declared.effect.Answer.{Answer}
 use Rattle.c_program.specs.declared.effect.Effect.{Effect}
-use Rattle.c_program.specs.declared.effect.Effect.TheVariants.{Nothing, Sets, Starts, Receives, Completes, Probes, Joins, Aborts}
+use Rattle.c_program.specs.declared.effect.Effect.TheVariants.{Nothing, Sets, Starts, Sends, Receives, Completes, Probes, Joins, Aborts}
 use Rattle.c_program.specs.declared.effect.Entered.{Entered}
 use Rattle.c_program.specs.declared.effect.Entered.TheVariants.{Nothing as EntersNothing, Cells as EntersCells, Pair}
 use Rattle.c_program.specs.declared.effect.Into.{Into}
@@ -39,6 +39,7 @@ use Rattle.c_program.specs.declared.mpi.MessageCall.{MessageCall}
 use Rattle.c_program.specs.declared.mpi.MessageCall.TheVariants as messages
 use Rattle.c_program.specs.declared.mpi.MpiCall.{MpiCall}
 use Rattle.c_program.specs.declared.mpi.MpiCall.TheVariants as c
+use Rattle.c_program.specs.declared.mpi.Outgoing.{Outgoing}
 use Rattle.c_program.specs.declared.mpi.ProbeCall.{ProbeCall}
 use Rattle.c_program.specs.declared.mpi.ProbeCall.TheVariants as probes
 use Rattle.c_program.specs.declared.mpi.Reduction.{Reduction}
@@ -140,25 +141,28 @@ count_in (Some at) s = cell_at s (at + 2)
 
 -- ---- sends and receives
 
-abbrev pub message : Comm → ℕ → ℕ → Cells → Message
-message comm dest tag ints = record { comm = comm.number; dest = dest; tag = tag; ints = ints }
+abbrev pub message : Comm → ℕ → ℕ → Cells → Bool → Message
+message comm dest tag ints sync = record { comm = comm.number; dest = dest; tag = tag; ints = ints; sync = sync }
 
 abbrev pub receive : Comm → Source → Tag → Cells → Receive
 receive comm source tag buffer = record { comm = comm.number; source = source; tag = tag; buffer = buffer }
 
--- `MPI_Send`: none is made to `MPI_PROC_NULL`
-abbrev pub sends : Comm → Option ℕ → ℕ → Cells → Effect
-sends comm None tag ints = Nothing
-sends comm (Some dest) tag ints = Starts (StartSend (message comm dest tag ints)) None
+-- a send that returns once it is complete: a standard one is so at its start, for its message is buffered, a synchronous one
+-- (`sync`) once it is received; to `MPI_PROC_NULL` none is made (MPI 3.1, 3.4 and 3.11)
+abbrev pub sends : Comm → Option ℕ → ℕ → Cells → Bool → Effect
+sends comm None tag ints sync = Nothing
+sends comm (Some dest) tag ints false = Starts (StartSend (message comm dest tag ints false)) None
+sends comm (Some dest) tag ints true = Sends (message comm dest tag ints true)
 
--- `MPI_Isend`: to `MPI_PROC_NULL` it starts what is complete at once
-abbrev pub sends_from : Comm → Option ℕ → ℕ → Cells → ℕ → Effect
-sends_from comm None tag ints request = Starts (StartReceive (receive comm Null (Is tag) no_cells)) (Some request)
-sends_from comm (Some dest) tag ints request = Starts (StartSend (message comm dest tag ints)) (Some request)
+-- a nonblocking send, standard or synchronous: to `MPI_PROC_NULL` it starts what is complete at once (MPI 3.1, 3.7.2 and 3.11)
+abbrev pub sends_from : Comm → Option ℕ → ℕ → Cells → Bool → ℕ → Effect
+sends_from comm None tag ints sync request = Starts (StartReceive (receive comm Null (Is tag) no_cells)) (Some request)
+sends_from comm (Some dest) tag ints sync request = Starts (StartSend (message comm dest tag ints sync)) (Some request)
 
+-- the send of `MPI_Sendrecv`, which is a standard one
 abbrev pub send_after : Comm → Option ℕ → ℕ → Cells → Option Message
 send_after comm None tag ints = None
-send_after comm (Some dest) tag ints = Some (message comm dest tag ints)
+send_after comm (Some dest) tag ints = Some (message comm dest tag ints false)
 
 -- ---- completion
 
@@ -192,16 +196,33 @@ pieces comm count = length comm.members * count
 
 -- ---- the functions
 
--- sends and receives (MPI 3.1, 3.2, 3.7.2 and 3.10)
-abbrev pub message_effect : Rank → MessageCall → State → Result Effect Fault
-message_effect rank (messages.Send outgoing comm) s =
+-- `MPI_Send`, and `MPI_Ssend` with `sync` (MPI 3.1, 3.2 and 3.4)
+abbrev pub send_effect : Rank → Outgoing → Expr → Bool → State → Result Effect Fault
+send_effect rank outgoing comm sync s =
     given (range outgoing.buffer.cells s) (λ buffer_cells. given (value outgoing.buffer.count s) (λ buffer_count. given (value outgoing.dest s) (λ dest. given (value outgoing.tag s) (λ tag. given (value comm s) (λ comm.
     given (communicator rank s comm) (λ comm.
     given (count_of buffer_count) (λ buffer_count.
     given (destination comm dest) (λ dest.
     given (tag_of tag) (λ tag.
     given (first buffer_count buffer_cells) (λ buffer_cells.
-    Ok (sends comm dest tag buffer_cells)))))))))))
+    Ok (sends comm dest tag buffer_cells sync)))))))))))
+
+-- `MPI_Isend`, and `MPI_Issend` with `sync` (MPI 3.1, 3.7.2)
+abbrev pub isend_effect : Rank → Outgoing → Expr → Reference → Bool → State → Result Effect Fault
+isend_effect rank outgoing comm request sync s =
+    given (range outgoing.buffer.cells s) (λ buffer_cells. given (value outgoing.buffer.count s) (λ buffer_count. given (value outgoing.dest s) (λ dest. given (value outgoing.tag s) (λ tag. given (value comm s) (λ comm. given (range request s) (λ request.
+    given (communicator rank s comm) (λ comm.
+    given (count_of buffer_count) (λ buffer_count.
+    given (destination comm dest) (λ dest.
+    given (tag_of tag) (λ tag.
+    given (first buffer_count buffer_cells) (λ buffer_cells.
+    given (cell request) (λ request.
+    Ok (sends_from comm dest tag buffer_cells sync request)))))))))))))
+
+-- sends and receives (MPI 3.1, 3.2, 3.4, 3.7.2 and 3.10)
+abbrev pub message_effect : Rank → MessageCall → State → Result Effect Fault
+message_effect rank (messages.Send outgoing comm) s = send_effect rank outgoing comm false s
+message_effect rank (messages.Ssend outgoing comm) s = send_effect rank outgoing comm true s
 message_effect rank (messages.Recv incoming comm kept) s =
     given (range incoming.buffer.cells s) (λ buffer_cells. given (value incoming.buffer.count s) (λ buffer_count. given (value incoming.source s) (λ source. given (value incoming.tag s) (λ tag. given (value comm s) (λ comm. given (status kept s) (λ kept.
     given (communicator rank s comm) (λ comm.
@@ -211,15 +232,8 @@ message_effect rank (messages.Recv incoming comm kept) s =
     given (first buffer_count buffer_cells) (λ buffer_cells.
     given (optional cell kept) (λ kept.
     Ok (Receives (receive comm source tag buffer_cells) None kept)))))))))))))
-message_effect rank (messages.Isend outgoing comm request) s =
-    given (range outgoing.buffer.cells s) (λ buffer_cells. given (value outgoing.buffer.count s) (λ buffer_count. given (value outgoing.dest s) (λ dest. given (value outgoing.tag s) (λ tag. given (value comm s) (λ comm. given (range request s) (λ request.
-    given (communicator rank s comm) (λ comm.
-    given (count_of buffer_count) (λ buffer_count.
-    given (destination comm dest) (λ dest.
-    given (tag_of tag) (λ tag.
-    given (first buffer_count buffer_cells) (λ buffer_cells.
-    given (cell request) (λ request.
-    Ok (sends_from comm dest tag buffer_cells request)))))))))))))
+message_effect rank (messages.Isend outgoing comm request) s = isend_effect rank outgoing comm request false s
+message_effect rank (messages.Issend outgoing comm request) s = isend_effect rank outgoing comm request true s
 message_effect rank (messages.Irecv incoming comm request) s =
     given (range incoming.buffer.cells s) (λ buffer_cells. given (value incoming.buffer.count s) (λ buffer_count. given (value incoming.source s) (λ source. given (value incoming.tag s) (λ tag. given (value comm s) (λ comm. given (range request s) (λ request.
     given (communicator rank s comm) (λ comm.

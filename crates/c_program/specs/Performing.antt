@@ -15,11 +15,11 @@ use Rattle.mpi_call.specs.declared.reply.Reply.TheVariants.{Took, Peeked}
 use Rattle.c_program.specs.declared.effect.Answer.{Answer}
 use Rattle.c_program.specs.declared.effect.Collective.{Collective}
 use Rattle.c_program.specs.declared.effect.Effect.{Effect}
-use Rattle.c_program.specs.declared.effect.Effect.TheVariants.{Nothing, Sets, Starts, Receives, Completes, Probes, Joins, Aborts}
+use Rattle.c_program.specs.declared.effect.Effect.TheVariants.{Nothing, Sets, Starts, Sends, Receives, Completes, Probes, Joins, Aborts}
 use Rattle.c_program.specs.declared.effect.Entered.{Entered}
 use Rattle.c_program.specs.declared.effect.Entered.TheVariants.{Nothing as EntersNothing, Cells as EntersCells, Pair}
 use Rattle.c_program.specs.declared.effect.Into.{Into}
-use Rattle.c_program.specs.declared.effect.Into.TheVariants.{Cells as IntoCells, Handle}
+use Rattle.c_program.specs.declared.effect.Into.TheVariants.{Nowhere, Cells as IntoCells, Handle}
 use Rattle.c_program.specs.declared.effect.Message.{Message}
 use Rattle.c_program.specs.declared.effect.Rank.{Rank}
 use Rattle.c_program.specs.declared.effect.Receive.{Receive}
@@ -39,7 +39,7 @@ Onward = State → Course
 -- ---- starts
 
 abbrev pub send_call : Message → State → Call
-send_call m s = Send m.comm m.dest m.tag (ints_in m.ints s) sync
+send_call m s = Send m.comm m.dest m.tag (ints_in m.ints s) m.sync
 
 abbrev pub post_call : Receive → Call
 post_call r = Post r.comm r.source r.tag r.buffer.length
@@ -267,6 +267,11 @@ put_result (IntoCells cells) (Some (Joined ints)) s = put_all cells.from ints s
 put_result (Handle at) (Some (Made comm members)) s = put at (if comm == 0 then null else pos comm) s
 put_result into got s = s
 
+-- takes a start of which at most a result is wanted: a collective, or a send
+abbrev pub taking_result : Into → ℕ → State → Onward → Course
+taking_result into number s go =
+    Asks s (take_one number) (λ reply. go (put_result into (first_got (items_of reply)) (learned (items_of reply) s)))
+
 abbrev pub entered_ints : Entered → State → List ℤ
 entered_ints EntersNothing s = []
 entered_ints (EntersCells cells) s = ints_in cells s
@@ -289,6 +294,8 @@ perform rank Nothing s go = go s
 perform rank (Sets cell value) s go = go (put cell value s)
 perform rank (Starts start request) s go =
     Asks s (start_call start s) (λ reply. go (put_some request (pos (number_of_next s)) (begun (start_of start) s)))
+perform rank (Sends m) s go =
+    Asks s (send_call m s) (λ reply. taking_result Nowhere (number_of_next s) (begun (sent m.comm) s) go)
 perform rank (Receives receive send status) s go =
     Asks s (post_call receive) (λ reply.
     sending send (begun (receiving receive) s) (λ t.
@@ -298,10 +305,5 @@ perform rank (Probes comm Null tag waits flag status) s go = go (put_some flag (
 perform rank (Probes comm source tag waits flag status) s go =
     Asks s (Peek comm source tag waits) (λ reply. go (probed rank.ranks comm flag status reply s))
 perform rank (Joins j) s go =
-    Asks s (enter_call j s) (λ reply.
-    asks_result (begun (sent j.comm) s))
-  where
-    asks_result : State → Course
-    asks_result t =
-        Asks t (take_one (number_of_next s)) (λ reply. go (put_result j.into (first_got (items_of reply)) (learned (items_of reply) t)))
+    Asks s (enter_call j s) (λ reply. taking_result j.into (number_of_next s) (begun (sent j.comm) s) go)
 perform rank (Aborts code) s go = asks_last (Abort code) s

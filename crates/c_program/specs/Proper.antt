@@ -15,7 +15,7 @@ use Rattle.run_model.specs.Views.{View}
 use Rattle.run_model.proofs.MemberLists.{below_member}
 use Rattle.c_program.specs.declared.effect.Collective.{Collective}
 use Rattle.c_program.specs.declared.effect.Effect.{Effect}
-use Rattle.c_program.specs.declared.effect.Effect.TheVariants.{Starts, Receives, Completes, Probes, Joins}
+use Rattle.c_program.specs.declared.effect.Effect.TheVariants.{Starts, Sends, Receives, Completes, Probes, Joins}
 use Rattle.c_program.specs.declared.effect.Entered.{Entered}
 use Rattle.c_program.specs.declared.effect.Entered.TheVariants.{Nothing as EntersNothing, Cells as EntersCells, Pair}
 use Rattle.c_program.specs.declared.effect.Message.{Message}
@@ -66,6 +66,7 @@ length-entered (Pair colour key) s = refl
 abbrev pub IsProper : ℕ → ℕ → View → Effect → Type 0
 IsProper n me own (Starts (StartSend m) request) = IsMessage n m
 IsProper n me own (Starts (StartReceive r) request) = IsWanted n r.source r.tag
+IsProper n me own (Sends m) = IsMessage n m
 IsProper n me own (Receives r send status) = IsWanted n r.source r.tag × IfSome send (λ m. IsMessage n m)
 IsProper n me own (Completes requests mode answer) = requests.length ≤ 262144
 IsProper n me own (Probes comm source tag waits flag status) = IsWanted n source tag

@@ -43,7 +43,7 @@ use Rattle.c_program.specs.declared.mpi.ProbeCall.TheVariants as probes
 use Rattle.c_program.specs.declared.mpi.Reduction.{Reduction}
 use Rattle.c_program.specs.declared.mpi.SomeRequests.{SomeRequests}
 use Rattle.c_program.specs.Cells.{Cells}
-use Rattle.c_program.specs.Effects.{Comm, answers, at_root, cell, colour, completes_some, effect_of, enters, first, gets, handles_of, is_me, is_root, joins, optional, pieces, receive, same_count, send_after, sends, sends_from, status}
+use Rattle.c_program.specs.Effects.{Comm, answers, at_root, cell, colour, completes_some, effect_of, enters, first, gets, handles_of, is_me, is_root, isend_effect, joins, optional, pieces, receive, same_count, send_after, send_effect, sends, sends_from, status}
 use Rattle.c_program.specs.Keeping.{Good}
 use Rattle.c_program.specs.Performing.{entered_ints}
 use Rattle.c_program.specs.Program.{rank_of}
@@ -57,13 +57,14 @@ use Rattle.c_program.specs.Values.{given, range, value}
 abbrev IsKept : MpiCall → Type 0
 IsKept call = (n me : ℕ) (own : View) (s : State) → Good n me own s → Holds (IsProper n me own) (effect_of (rank_of n me) call s)
 
-sends_proper : (n me : ℕ) (own : View) (comm : Comm) (dest : Option ℕ) (tag : ℕ) (ints : Cells) → IfSome dest (λ rank. rank < n) → tag < 2 ^ 31 → ints.length ≤ 65536 → IsProper n me own (sends comm dest tag ints)
-sends_proper n me own comm None tag ints low small few = tt
-sends_proper n me own comm (Some dest) tag ints low small few = record { dest = low; tag = small; ints = few }
+sends_proper : (n me : ℕ) (own : View) (comm : Comm) (dest : Option ℕ) (tag : ℕ) (ints : Cells) (sync : Bool) → IfSome dest (λ rank. rank < n) → tag < 2 ^ 31 → ints.length ≤ 65536 → IsProper n me own (sends comm dest tag ints sync)
+sends_proper n me own comm None tag ints sync low small few = tt
+sends_proper n me own comm (Some dest) tag ints false low small few = record { dest = low; tag = small; ints = few }
+sends_proper n me own comm (Some dest) tag ints true low small few = record { dest = low; tag = small; ints = few }
 
-sends_from_proper : (n me : ℕ) (own : View) (comm : Comm) (dest : Option ℕ) (tag : ℕ) (ints : Cells) (request : ℕ) → IfSome dest (λ rank. rank < n) → tag < 2 ^ 31 → ints.length ≤ 65536 → IsProper n me own (sends_from comm dest tag ints request)
-sends_from_proper n me own comm None tag ints request low small few = record { source = tt; tag = small }
-sends_from_proper n me own comm (Some dest) tag ints request low small few = record { dest = low; tag = small; ints = few }
+sends_from_proper : (n me : ℕ) (own : View) (comm : Comm) (dest : Option ℕ) (tag : ℕ) (ints : Cells) (sync : Bool) (request : ℕ) → IfSome dest (λ rank. rank < n) → tag < 2 ^ 31 → ints.length ≤ 65536 → IsProper n me own (sends_from comm dest tag ints sync request)
+sends_from_proper n me own comm None tag ints sync request low small few = record { source = tt; tag = small }
+sends_from_proper n me own comm (Some dest) tag ints sync request low small few = record { dest = low; tag = small; ints = few }
 
 send_after_proper : (n : ℕ) (comm : Comm) (dest : Option ℕ) (tag : ℕ) (ints : Cells) → IfSome dest (λ rank. rank < n) → tag < 2 ^ 31 → ints.length ≤ 65536 → IfSome (send_after comm dest tag ints) (λ m. IsMessage n m)
 send_after_proper n comm None tag ints low small few = tt
@@ -78,8 +79,8 @@ starts_proper n me own comm source tag cells request low small = record { source
 probes_proper : (n me : ℕ) (own : View) (comm : Comm) (source : Source) (tag : Tag) (waits : Bool) (flag status : Option ℕ) → IsSourceBelow n source → IsTagInBounds tag → IsProper n me own (Probes comm.number source tag waits flag status)
 probes_proper n me own comm source tag waits flag status low small = record { source = low; tag = small }
 
-send_proper : (outgoing : Outgoing) (comm : Expr) → IsKept (c.Message (messages.Send outgoing comm))
-send_proper outgoing comm n me own s good =
+send_proper : (outgoing : Outgoing) (comm : Expr) (sync : Bool) (n me : ℕ) (own : View) (s : State) → Good n me own s → Holds (IsProper n me own) (send_effect (rank_of n me) outgoing comm sync s)
+send_proper outgoing comm sync n me own s good =
     let P : Effect → Type 0 = IsProper n me own in
     given_free P (range outgoing.buffer.cells s) _ (λ buffer_cells. given_free P (value outgoing.buffer.count s) _ (λ buffer_count. given_free P (value outgoing.dest s) _ (λ dest.
     given_free P (value outgoing.tag s) _ (λ tag. given_free P (value comm s) _ (λ comm.
@@ -88,7 +89,7 @@ send_proper outgoing comm n me own s good =
     on_destination P n me own comm known dest _ (λ dest dest_low.
     on_tag P tag _ (λ tag tag_small.
     on_first P buffer_count buffer_cells _ (λ buffer_cells buffer_cells_first.
-    sends_proper n me own comm dest tag buffer_cells dest_low tag_small (omega (arith, buffer_count_few, buffer_cells_first.length))))))))))))
+    sends_proper n me own comm dest tag buffer_cells sync dest_low tag_small (omega (arith, buffer_count_few, buffer_cells_first.length))))))))))))
 
 recv_proper : (incoming : Incoming) (comm : Expr) (kept : Option Reference) → IsKept (c.Message (messages.Recv incoming comm kept))
 recv_proper incoming comm kept n me own s good =
@@ -103,8 +104,8 @@ recv_proper incoming comm kept n me own s good =
     given_free P (optional cell kept) _ (λ kept.
     receives_proper n me own comm source tag buffer_cells None kept source_low tag_small tt))))))))))))
 
-isend_proper : (outgoing : Outgoing) (comm : Expr) (request : Reference) → IsKept (c.Message (messages.Isend outgoing comm request))
-isend_proper outgoing comm request n me own s good =
+isend_proper : (outgoing : Outgoing) (comm : Expr) (request : Reference) (sync : Bool) (n me : ℕ) (own : View) (s : State) → Good n me own s → Holds (IsProper n me own) (isend_effect (rank_of n me) outgoing comm request sync s)
+isend_proper outgoing comm request sync n me own s good =
     let P : Effect → Type 0 = IsProper n me own in
     given_free P (range outgoing.buffer.cells s) _ (λ buffer_cells. given_free P (value outgoing.buffer.count s) _ (λ buffer_count. given_free P (value outgoing.dest s) _ (λ dest.
     given_free P (value outgoing.tag s) _ (λ tag. given_free P (value comm s) _ (λ comm. given_free P (range request s) _ (λ request.
@@ -114,7 +115,7 @@ isend_proper outgoing comm request n me own s good =
     on_tag P tag _ (λ tag tag_small.
     on_first P buffer_count buffer_cells _ (λ buffer_cells buffer_cells_first.
     given_free P (cell request) _ (λ request.
-    sends_from_proper n me own comm dest tag buffer_cells request dest_low tag_small (omega (arith, buffer_count_few, buffer_cells_first.length))))))))))))))
+    sends_from_proper n me own comm dest tag buffer_cells sync request dest_low tag_small (omega (arith, buffer_count_few, buffer_cells_first.length))))))))))))))
 
 irecv_proper : (incoming : Incoming) (comm : Expr) (request : Reference) → IsKept (c.Message (messages.Irecv incoming comm request))
 irecv_proper incoming comm request n me own s good =
@@ -149,9 +150,11 @@ sendrecv_proper outgoing incoming comm kept n me own s good =
     (send_after_proper n comm dest send_tag out_cells dest_low send_tag_small (omega (arith, out_count_few, out_cells_first.length)))))))))))))))))))))))
 
 message_kept : (call : MessageCall) → IsKept (c.Message call)
-message_kept (messages.Send outgoing comm) n me own s good = send_proper outgoing comm n me own s good
+message_kept (messages.Send outgoing comm) n me own s good = send_proper outgoing comm false n me own s good
+message_kept (messages.Ssend outgoing comm) n me own s good = send_proper outgoing comm true n me own s good
 message_kept (messages.Recv incoming comm kept) n me own s good = recv_proper incoming comm kept n me own s good
-message_kept (messages.Isend outgoing comm request) n me own s good = isend_proper outgoing comm request n me own s good
+message_kept (messages.Isend outgoing comm request) n me own s good = isend_proper outgoing comm request false n me own s good
+message_kept (messages.Issend outgoing comm request) n me own s good = isend_proper outgoing comm request true n me own s good
 message_kept (messages.Irecv incoming comm request) n me own s good = irecv_proper incoming comm request n me own s good
 message_kept (messages.Sendrecv outgoing incoming comm kept) n me own s good = sendrecv_proper outgoing incoming comm kept n me own s good
 

@@ -17,6 +17,8 @@ pub struct Message {
     pub dest: u8,
     pub tag: u32,
     pub ints: Range,
+    /// Whether its send is complete only once it is received (MPI 3.1, 3.4).
+    pub sync: bool,
 }
 
 /// A receive, and the cells that its message goes to.
@@ -89,6 +91,8 @@ pub enum Effect {
         start: Start,
         request: Option<u32>,
     },
+    /// A send until it is complete.
+    Sends(Message),
     /// A receive until its message is there; a send starts after it where there is one.
     Receives {
         receive: Receive,

@@ -26,10 +26,14 @@ pub struct Incoming {
     pub tag: Expr,
 }
 
-/// Sends and receives (MPI 3.1, 3.2, 3.7.2 and 3.10).
+/// Sends and receives (MPI 3.1, 3.2, 3.4, 3.7.2 and 3.10). Those with an `S` are synchronous.
 #[derive(Drop)]
 pub enum MessageCall {
     Send {
+        message: Outgoing,
+        comm: Expr,
+    },
+    Ssend {
         message: Outgoing,
         comm: Expr,
     },
@@ -39,6 +43,11 @@ pub enum MessageCall {
         status: Option<Reference>,
     },
     Isend {
+        message: Outgoing,
+        comm: Expr,
+        request: Reference,
+    },
+    Issend {
         message: Outgoing,
         comm: Expr,
         request: Reference,
