@@ -18,6 +18,8 @@ mod rows;
 #[cfg(test)]
 mod serial;
 #[cfg(test)]
+mod synchronous;
+#[cfg(test)]
 mod threads;
 #[cfg(test)]
 mod words;

@@ -27,6 +27,14 @@ pub const SUM_PLAN: &[u8] = b"0-2\n3-5\n6 7 # rest\n";
 pub const SUM_CHECKED: &[u8] =
     b"rank 0 group 0 calls 15 output 8 same\nrank 1 group 0 calls 2 output 0 same\nrank 2 group 0 calls 2 output 0 same\nrank 3 group 1 calls 2 output 0 same\nrank 4 group 1 calls 2 output 0 same\nrank 5 group 1 calls 2 output 0 same\nrank 6 group 2 calls 2 output 0 same\nrank 7 group 2 calls 2 output 0 same\nfinished\n";
 
+/// Four ranks pass a sum round a ring by synchronous sends, and rank 0 prints it.
+pub const RING: &[u8] =
+    b"int main(void){int r,n,x=0;MPI_Comm_rank(MPI_COMM_WORLD,&r);MPI_Comm_size(MPI_COMM_WORLD,&n);if(r>0)MPI_Recv(&x,1,MPI_INT,r-1,5,MPI_COMM_WORLD,MPI_STATUS_IGNORE);x+=r;MPI_Ssend(&x,1,MPI_INT,(r+1)%n,5,MPI_COMM_WORLD);if(r==0){MPI_Recv(&x,1,MPI_INT,n-1,5,MPI_COMM_WORLD,MPI_STATUS_IGNORE);printf(\"%d\\n\",x);}return 0;}";
+
+/// What a check of it prints, where ranks 0 and 1 are a group, and ranks 2 and 3.
+pub const RING_CHECKED: &[u8] =
+    b"rank 0 group 0 calls 5 output 2 same\nrank 1 group 0 calls 5 output 0 same\nrank 2 group 1 calls 5 output 0 same\nrank 3 group 1 calls 5 output 0 same\nfinished\n";
+
 /// The first program, but rank 0 sends to itself.
 pub const SENT_TO_SELF: &[u8] =
     b"int main(void){int r,x=7;MPI_Comm_rank(MPI_COMM_WORLD,&r);if(r==0)MPI_Send(&x,1,MPI_INT,0,5,MPI_COMM_WORLD);if(r==1){x=0;MPI_Recv(&x,1,MPI_INT,0,5,MPI_COMM_WORLD,MPI_STATUS_IGNORE);printf(\"%d\\n\",x);}return 0;}";

@@ -1,5 +1,5 @@
 //! Programs recorded on threads, and the log of each group replayed on threads.
-use crate::programs::{FIRST, FIRST_CHECKED, SUM, SUM_CHECKED, SUM_PLAN};
+use crate::programs::{FIRST, FIRST_CHECKED, RING, RING_CHECKED, SUM, SUM_CHECKED, SUM_PLAN};
 use crate::serial::files;
 use rank_threads::OpenGate;
 use std::sync::Wait;
@@ -84,9 +84,10 @@ fn eight_ranks_recorded_on_threads_are_replayed_on_threads(rt: HostRuntime) {
 #[test]
 fn runs_are_checked_on_threads(rt: HostRuntime) {
     // The program, the plan, and what is printed.
-    let table: [(&[u8], &[u8], &[u8]); 2] = [
+    let table: [(&[u8], &[u8], &[u8]); 3] = [
         (FIRST, b"0\n1\n", FIRST_CHECKED),
         (SUM, SUM_PLAN, SUM_CHECKED),
+        (RING, b"0 1\n2 3\n", RING_CHECKED),
     ];
     for (program, plan, printed) in table {
         let mut store = inputs(&rt, program, plan).expect(&rt, "files");

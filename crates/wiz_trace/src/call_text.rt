@@ -3,7 +3,7 @@ ghost use Rattle.std.specs.Prelude.{◌≡◌, ◌++◌, OnOk, codes, true};
 ghost use Rattle.mpi_call.specs.Calls.{is_enter};
 ghost use Rattle.mpi_call.specs.declared.call.Call.TheVariants.{Post, Send};
 ghost use Rattle.wiz_base.specs.Decimals.{number_text};
-ghost use Rattle.wiz_trace.specs.CallTexts.{aborter_text, at_start_text, call_text, envelope_text, fault_text, got_text, halt_text, ints_text, item_text, joined, kind_text, mode_text, name_text, numbers_text, op_text, probe_text, reply_text, root_text, source_text, tag_text};
+ghost use Rattle.wiz_trace.specs.CallTexts.{aborter_text, at_start_text, call_text, envelope_text, fault_text, got_text, halt_text, ints_text, item_text, joined, kind_text, mode_text, name_text, numbers_text, op_text, probe_text, reply_text, root_text, send_text, source_text, tag_text};
 
 use mpi_call::call::{Call, Fault, Halt, Kind, Op, Source, Tag, TakeMode};
 use mpi_call::reply::{Got, Item, Reply};
@@ -180,7 +180,8 @@ pub fn push_call(out: &mut Bytes, call: &Call) -> Result<(), AllocError>
             dest,
             tag,
             ints,
-        } => push_send(out, *comm, *dest, *tag, ints.as_slice()),
+            sync,
+        } => push_send(out, *comm, *dest, *tag, ints.as_slice(), *sync),
         Call::Post {
             comm,
             source,
@@ -216,10 +217,18 @@ pub fn push_call(out: &mut Bytes, call: &Call) -> Result<(), AllocError>
     }
 }
 
-fn push_send(out: &mut Bytes, comm: u32, dest: u8, tag: u32, ints: &[i32]) -> Result<(), AllocError>
+fn push_send(
+    out: &mut Bytes,
+    comm: u32,
+    dest: u8,
+    tag: u32,
+    ints: &[i32],
+    sync: bool,
+) -> Result<(), AllocError>
     ensures { OnOk result (out.new ≡ out.old ++ call_text (Send comm dest tag ints.now sync)) }
 {
-    push_text(out, b"send comm=")?;
+    push_send_verb(out, sync)?;
+    push_text(out, b" comm=")?;
     push_decimal(out, comm as u64)?;
     push_text(out, b" to=")?;
     push_decimal(out, dest as u64)?;
@@ -227,6 +236,16 @@ fn push_send(out: &mut Bytes, comm: u32, dest: u8, tag: u32, ints: &[i32]) -> Re
     push_decimal(out, tag as u64)?;
     push_text(out, b" data=")?;
     push_ints(out, ints)
+}
+
+fn push_send_verb(out: &mut Bytes, sync: bool) -> Result<(), AllocError>
+    ensures { OnOk result (out.new ≡ out.old ++ send_text sync) }
+{
+    if sync {
+        push_text(out, b"ssend")
+    } else {
+        push_text(out, b"send")
+    }
 }
 
 fn push_post(
