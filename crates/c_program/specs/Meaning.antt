@@ -303,6 +303,7 @@ exits_to mark go = record {
   back = λ v s. go v (leave mark s);
 }
 
+-- each call of a typed program names one of its functions, so that no course comes to the answer for one that is not there
 abbrev pub run_function : Rank → Calls → Option Function → List Passed → State → (ℤ → Onward) → Course
 run_function rank calls None arguments s go = trapped Depth s
 run_function rank calls (Some f) arguments s go =

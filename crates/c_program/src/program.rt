@@ -21,12 +21,9 @@ pub struct Parameter {
     pub kind: ParameterKind,
 }
 
-/// A function. Its parameters are its first variables.
+/// A function: calls name it by its number. Its parameters are its first variables.
 #[derive(Drop)]
 pub struct Function {
-    pub name: Bytes,
-    /// Whether it gives an int; where it ends without a value, that is 0.
-    pub gives: bool,
     pub parameters: Vec<Parameter>,
     pub body: Vec<Part>,
 }
