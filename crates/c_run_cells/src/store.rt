@@ -18,7 +18,6 @@ use c_program::range::Range;
 use c_program::state::{Begun, Known, Mark, Passed};
 use mpi_call::call::Fault;
 use mpi_call::lists::{Ints, Ranks};
-use mpi_call::operations::append;
 use mpi_call::reply::{Got, Item};
 use run_model::lists::{Variable, Variables};
 use std::alloc::{AllocError, Global};
@@ -322,7 +321,7 @@ impl<'p> Store<'p> {
     {
         let mut found = Ints::new(alloc);
         for i in 0..count {
-            append(&mut found, self.at(from as usize + i as usize))?;
+            found.push(self.at(from as usize + i as usize))?;
         }
         Ok(found)
     }

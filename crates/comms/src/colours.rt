@@ -10,7 +10,7 @@ ghost use Rattle.comms.specs.Colours.{colours_of, number_for, place_among};
 use crate::numbers::Numbers;
 use mpi_call::call::Comm;
 use mpi_call::lists::Ints;
-use mpi_call::needs::{UNDEFINED_COLOUR, colour_in};
+use mpi_call::needs::{UNDEFINED, colour_in};
 use std::alloc::{AllocError, Global};
 
 /// The colours that were entered, in member order, without the undefined one.
@@ -28,7 +28,7 @@ fn defined_colours(alloc: Global, inputs: &[Ints]) -> Result<Vec<i32>, AllocErro
 fn add_defined(colours: &mut Vec<i32>, colour: i32) -> Result<(), AllocError>
     ensures { OnOk result (colours.new.items ≡ colours.old.items ++ filter (λ other. not (int_eq other undefined_colour)) (colour ∷ [])) }
 {
-    if colour != UNDEFINED_COLOUR {
+    if colour != UNDEFINED {
         colours.push(colour)?;
     }
     Ok(())

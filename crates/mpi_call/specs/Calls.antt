@@ -1,8 +1,7 @@
 -- What the parts of a call are, and which calls are starts.
 use Rattle.std.specs.Prelude.{ℕ, ℤ, List, [], Bool, true, false}
 use Rattle.mpi_call.specs.declared.call.Call.{Call}
-use Rattle.mpi_call.specs.declared.call.Call.TheVariants.{Send, Post, Enter, Take, Peek, Abort, Trap, End}
-use Rattle.mpi_call.specs.declared.call.Kind.{Kind}
+use Rattle.mpi_call.specs.declared.call.Call.TheVariants.{Send, Post, Enter, Take}
 use Rattle.mpi_call.specs.declared.call.Kind.TheVariants.{Split, Dup}
 
 -- the communicator of a collective

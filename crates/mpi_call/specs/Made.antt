@@ -18,7 +18,7 @@ abbrev pub by_key : {A : Type 0} → (A → ℤ) → List A → List A
 by_key key [] = []
 by_key key (x ∷ xs) = placed key x (by_key key xs)
 
--- the key that a member of a Split entered behind its colour
+-- the key that a member of a Split entered after its colour
 abbrev pub key_in : List ℤ → ℤ
 key_in ints = slice_index_or ints 1 (pos 0)
 

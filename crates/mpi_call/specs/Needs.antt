@@ -1,6 +1,6 @@
 -- Which members a rank's result of a collective needs, which Enters agree, and how many ints go in and come out.
 -- (MPI 3.1, Collective Communication.) `c` is the count, `m` the number of members.
-use Rattle.std.specs.Prelude.{◌≡◌, ℕ, ◌*◌, ℤ, negsuc, List, [], ◌∷◌, length, Bool, true, false, not, ◌&&◌, ◌||◌, ◌==◌, nat_le, if◌then◌else◌, Option, None, Some}
+use Rattle.std.specs.Prelude.{◌≡◌, ℕ, ◌*◌, ℤ, List, [], ◌∷◌, length, Bool, true, false, not, ◌&&◌, ◌||◌, ◌==◌, nat_le, if◌then◌else◌, Option, None, Some}
 use Rattle.std.specs.Ordering.{int_eq}
 use Rattle.mpi_call.specs.Calls.{ints_of}
 use Rattle.mpi_call.specs.Members.{is_member, place_of}
@@ -9,11 +9,12 @@ use Rattle.mpi_call.specs.declared.call.Call.TheVariants.{Enter}
 use Rattle.mpi_call.specs.declared.call.Kind.{Kind}
 use Rattle.mpi_call.specs.declared.call.Kind.TheVariants.{Barrier, Bcast, Reduce, Allreduce, Gather, Allgather, Scatter, Alltoall, Scan, Split, Dup}
 use Rattle.mpi_call.specs.declared.call.Op.{Op}
+use Rattle.mpi_call.specs.declared.needs.TheConstants.{UNDEFINED}
 use Rattle.mpi_call.specs.declared.call.Op.TheVariants.{Max, Min, Sum, Prod, Land, Band, Lor, Bor, Lxor, Bxor}
 
--- `MPI_UNDEFINED`, -32766: the colour of a member that gets no communicator
+-- `MPI_UNDEFINED`: the colour of a member that gets no communicator
 abbrev pub undefined_colour : ℤ
-undefined_colour = negsuc 32765
+undefined_colour = UNDEFINED
 
 -- the colour that was entered; none is the undefined one
 abbrev pub colour_in : List ℤ → ℤ

@@ -36,6 +36,7 @@ pub fn accepts(rank: u8, comm: Comm, source: &Source, tag: &Tag, sender: u8, sen
             dest,
             tag: sent,
             ints: _,
+            sync: _,
         } => *sent_on == comm
             && *dest == rank
             && is_source_of(source, sender)

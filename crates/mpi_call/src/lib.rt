@@ -6,6 +6,7 @@
 
 pub mod acceptance;
 pub mod call;
+pub mod limits;
 pub mod lists;
 pub mod members;
 pub mod needs;

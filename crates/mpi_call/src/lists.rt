@@ -6,7 +6,7 @@ ghost use Rattle.std.specs.Ordering.{int_eq};
 ghost use Rattle.std.specs.Prelude.{nat_eq};
 ghost use lib.Pointwise.{pointwise};
 
-use std::alloc::{AllocError, Global};
+use std::alloc::{AllocError, AllocFailed, Global};
 use std::marker::Model;
 
 /// Ints of 32 bits, which contracts see as a list.
@@ -42,16 +42,13 @@ impl Ints {
         })
     }
 
-    /// Adds an int at the end. For want of memory it comes back and nothing has changed.
-    pub fn push(&mut self, value: i32) -> Result<(), i32>
+    /// Adds an int at the end. When out of memory, the error gives it back and nothing has changed.
+    pub fn push(&mut self, value: i32) -> Result<(), AllocFailed<i32>>
         ensures ok { OnOk result (self.new ≡ self.old ++ value ∷ []) }
         ensures err { OnErr result (self.new ≡ self.old) }
-        ensures back { IfErr result (λ refused. refused ≡ value) }
+        ensures back { IfErr result (λ refused. refused.value ≡ value) }
     {
-        match self.values.push(value) {
-            Ok(()) => Ok(()),
-            Err(refused) => Err(refused.value),
-        }
+        self.values.push(value)
     }
 
     /// The elements in order.
@@ -105,16 +102,13 @@ impl Starts {
         })
     }
 
-    /// Adds a number at the end. For want of memory it comes back and nothing has changed.
-    pub fn push(&mut self, value: u32) -> Result<(), u32>
+    /// Adds a number at the end. When out of memory, the error gives it back and nothing has changed.
+    pub fn push(&mut self, value: u32) -> Result<(), AllocFailed<u32>>
         ensures ok { OnOk result (self.new ≡ self.old ++ value ∷ []) }
         ensures err { OnErr result (self.new ≡ self.old) }
-        ensures back { IfErr result (λ refused. refused ≡ value) }
+        ensures back { IfErr result (λ refused. refused.value ≡ value) }
     {
-        match self.values.push(value) {
-            Ok(()) => Ok(()),
-            Err(refused) => Err(refused.value),
-        }
+        self.values.push(value)
     }
 
     /// The elements in order.
@@ -168,16 +162,13 @@ impl Ranks {
         })
     }
 
-    /// Adds a rank at the end. For want of memory it comes back and nothing has changed.
-    pub fn push(&mut self, value: u8) -> Result<(), u8>
+    /// Adds a rank at the end. When out of memory, the error gives it back and nothing has changed.
+    pub fn push(&mut self, value: u8) -> Result<(), AllocFailed<u8>>
         ensures ok { OnOk result (self.new ≡ self.old ++ value ∷ []) }
         ensures err { OnErr result (self.new ≡ self.old) }
-        ensures back { IfErr result (λ refused. refused ≡ value) }
+        ensures back { IfErr result (λ refused. refused.value ≡ value) }
     {
-        match self.values.push(value) {
-            Ok(()) => Ok(()),
-            Err(refused) => Err(refused.value),
-        }
+        self.values.push(value)
     }
 
     /// The elements in order.
@@ -223,16 +214,13 @@ impl Inputs {
         }
     }
 
-    /// Adds the next member's ints. For want of memory they come back and nothing has changed.
-    pub fn push(&mut self, ints: Ints) -> Result<(), Ints>
+    /// Adds the next member's ints. When out of memory, the error gives them back and nothing has changed.
+    pub fn push(&mut self, ints: Ints) -> Result<(), AllocFailed<Ints>>
         ensures ok { OnOk result (self.new ≡ self.old ++ ints ∷ []) }
         ensures err { OnErr result (self.new ≡ self.old) }
-        ensures back { IfErr result (λ refused. refused ≡ ints) }
+        ensures back { IfErr result (λ refused. refused.value ≡ ints) }
     {
-        match self.values.push(ints) {
-            Ok(()) => Ok(()),
-            Err(refused) => Err(refused.value),
-        }
+        self.values.push(ints)
     }
 
     /// The members' ints in order.

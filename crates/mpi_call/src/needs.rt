@@ -4,19 +4,19 @@ ghost use Rattle.mpi_call.specs.Calls.{is_enter};
 ghost use Rattle.mpi_call.specs.Members.{is_member};
 ghost use Rattle.mpi_call.specs.Needs.{agree, colour_in, is_root, kind_number, needs, op_number, same_op, same_root, undefined_colour, IsEnterOf};
 
-use crate::call::{Call, Kind, Op};
+use crate::call::{Call, Kind};
 use crate::lists::{Ints, Ranks};
 use crate::members::place_of;
 
 /// `MPI_UNDEFINED`: a member of a Split that enters this colour gets no communicator.
-pub const UNDEFINED_COLOUR: i32 = -32766;
+pub const UNDEFINED: i32 = -32766;
 
 /// The colour that a member of a Split entered. Takes no memory.
 pub fn colour_in(ints: &Ints) -> i32
     ensures { result ≡ colour_in ints.now }
 {
     match ints.as_slice() {
-        [] => UNDEFINED_COLOUR,
+        [] => UNDEFINED,
         [colour, ..] => *colour,
     }
 }
@@ -54,64 +54,7 @@ pub fn needs(enter: &Call, members: &Ranks, me: u8, who: u8) -> bool
         Kind::Bcast | Kind::Scatter => is_root(root, who) || who == me,
         Kind::Reduce | Kind::Gather => is_root(root, me) || who == me,
         Kind::Scan => place_of(members.as_slice(), who) <= place_of(members.as_slice(), me),
-        Kind::Split => colour_in(ints) != UNDEFINED_COLOUR || who == me,
-    }
-}
-
-/// A kind's place in the list of kinds.
-fn kind_number(kind: Kind) -> u8
-    ensures { result ≡ kind_number kind }
-{
-    match kind {
-        Kind::Barrier => 0,
-        Kind::Bcast => 1,
-        Kind::Reduce => 2,
-        Kind::Allreduce => 3,
-        Kind::Gather => 4,
-        Kind::Allgather => 5,
-        Kind::Scatter => 6,
-        Kind::Alltoall => 7,
-        Kind::Scan => 8,
-        Kind::Split => 9,
-        Kind::Dup => 10,
-    }
-}
-
-/// An operation's place in the list of operations.
-fn op_number(op: Op) -> u8
-    ensures { result ≡ op_number op }
-{
-    match op {
-        Op::Max => 0,
-        Op::Min => 1,
-        Op::Sum => 2,
-        Op::Prod => 3,
-        Op::Land => 4,
-        Op::Band => 5,
-        Op::Lor => 6,
-        Op::Bor => 7,
-        Op::Lxor => 8,
-        Op::Bxor => 9,
-    }
-}
-
-fn same_root(a: Option<u8>, b: Option<u8>) -> bool
-    ensures { result ≡ same_root a b }
-{
-    match (a, b) {
-        (None, None) => true,
-        (Some(a), Some(b)) => a == b,
-        _ => false,
-    }
-}
-
-fn same_op(a: Option<Op>, b: Option<Op>) -> bool
-    ensures { result ≡ same_op a b }
-{
-    match (a, b) {
-        (None, None) => true,
-        (Some(a), Some(b)) => op_number(a) == op_number(b),
-        _ => false,
+        Kind::Split => colour_in(ints) != UNDEFINED || who == me,
     }
 }
 
@@ -121,30 +64,24 @@ pub fn agree(a: &Call, b: &Call) -> bool
     requires second { IsTrue (is_enter b.now) }
     ensures { result ≡ agree a.now b.now }
 {
-    match (a, b) {
-        (
-            Call::Enter {
-                comm: _,
-                kind,
-                root,
-                op,
-                count,
-                ints: _,
-            },
-            Call::Enter {
-                comm: _,
-                kind: other_kind,
-                root: other_root,
-                op: other_op,
-                count: other_count,
-                ints: _,
-            },
-        ) => {
-            kind_number(*kind) == kind_number(*other_kind)
-                && same_root(*root, *other_root)
-                && same_op(*op, *other_op)
-                && *count == *other_count
-        }
-        _ => false,
-    }
+    let (
+        Call::Enter {
+            kind,
+            root,
+            op,
+            count,
+            ..
+        },
+        Call::Enter {
+            kind: other_kind,
+            root: other_root,
+            op: other_op,
+            count: other_count,
+            ..
+        },
+    ) = (a, b)
+    else {
+        return false;
+    };
+    kind == other_kind && root == other_root && op == other_op && count == other_count
 }

@@ -1,5 +1,5 @@
 //! The predefined reduction operations, on ints of 32 bits.
-ghost use Rattle.std.specs.Prelude.{◌≡◌, ◌<◌, ◌++◌, ◌∷◌, [], IfOk, OnErr, OnOk, All, fold, length};
+ghost use Rattle.std.specs.Prelude.{◌≡◌, ◌<◌, IfOk, All, fold, length};
 ghost use Rattle.mpi_call.specs.Operations.{column_of, combined, fold_of, folds_of, int_of};
 
 use crate::call::Op;
@@ -54,17 +54,6 @@ fn fold_at(op: Op, lists: &[Ints], place: usize) -> i32
     }
 }
 
-/// Adds an int at the end. After the want of memory the list is as before.
-pub fn append(ints: &mut Ints, value: i32) -> Result<(), AllocError>
-    ensures ok { OnOk result (ints.new ≡ ints.old ++ value ∷ []) }
-    ensures err { OnErr result (ints.new ≡ ints.old) }
-{
-    match ints.push(value) {
-        Ok(()) => Ok(()),
-        Err(_) => Err(AllocError),
-    }
-}
-
 /// The fold of lists of `count` ints, place by place, from the first list on.
 pub fn fold_lists(alloc: Global, op: Op, count: u32, lists: &[Ints]) -> Result<Ints, AllocError>
     requires { All (λ ints. length ints ≡ count) lists.now }
@@ -72,7 +61,7 @@ pub fn fold_lists(alloc: Global, op: Op, count: u32, lists: &[Ints]) -> Result<I
 {
     let mut folds = Ints::new(alloc);
     for place in 0..count as usize {
-        append(&mut folds, fold_at(op, lists, place))?;
+        folds.push(fold_at(op, lists, place))?;
     }
     Ok(folds)
 }

@@ -3,7 +3,7 @@ ghost use Rattle.std.specs.Prelude.{◌≡◌, ◌++◌, ◌∷◌, [], OnOk, If
 
 use crate::call::{Comm, Halt};
 use crate::lists::{Ints, Ranks};
-use std::alloc::{AllocError, Global};
+use std::alloc::{AllocError, AllocFailed, Global};
 use std::marker::Model;
 
 /// What the completion of a start gives.
@@ -63,16 +63,13 @@ impl Items {
         }
     }
 
-    /// Adds an item at the end. For want of memory it comes back and nothing has changed.
-    pub fn push(&mut self, value: Item) -> Result<(), Item>
+    /// Adds an item at the end. When out of memory, the error gives it back and nothing has changed.
+    pub fn push(&mut self, value: Item) -> Result<(), AllocFailed<Item>>
         ensures ok { OnOk result (self.new ≡ self.old ++ value ∷ []) }
         ensures err { OnErr result (self.new ≡ self.old) }
-        ensures back { IfErr result (λ refused. refused ≡ value) }
+        ensures back { IfErr result (λ refused. refused.value ≡ value) }
     {
-        match self.values.push(value) {
-            Ok(()) => Ok(()),
-            Err(refused) => Err(refused.value),
-        }
+        self.values.push(value)
     }
 
     /// The items in order.

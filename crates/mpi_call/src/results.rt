@@ -9,7 +9,7 @@ use crate::call::{Call, Kind, Op};
 use crate::lists::{Inputs, Ints, Ranks};
 use crate::members::place_of;
 use crate::needs::is_root;
-use crate::operations::{append, fold_lists};
+use crate::operations::fold_lists;
 use std::alloc::{AllocError, Global};
 
 /// What the root entered.
@@ -34,12 +34,12 @@ fn piece_at(count: u32, place: usize, ints: &[i32]) -> &[i32]
     &ints[start..start + count as usize]
 }
 
-/// Adds ints at the end. After the want of memory some of them may be there.
+/// Adds ints at the end. When out of memory some of them may be there.
 fn append_all(ints: &mut Ints, values: &[i32]) -> Result<(), AllocError>
     ensures { OnOk result (ints.new ≡ ints.old ++ values.now) }
 {
     for value in values {
-        append(ints, *value)?;
+        ints.push(*value)?;
     }
     Ok(())
 }
@@ -93,12 +93,11 @@ pub fn result(
     ensures { IfOk result (λ ints. ints ≡ result_of enter.now members.now inputs.now me) }
 {
     let Call::Enter {
-        comm: _,
         kind,
         root,
         op,
         count,
-        ints: _,
+        ..
     } = enter
     else {
         return Ok(Ints::new(alloc));

@@ -9,7 +9,7 @@ ghost use Rattle.mpi_call.specs.Results.{AreInputsOf};
 
 use crate::call::{Call, Kind};
 use crate::lists::{Inputs, Ints, Ranks};
-use crate::needs::{UNDEFINED_COLOUR, colour_in};
+use crate::needs::{UNDEFINED, colour_in};
 use std::alloc::{AllocError, Global};
 
 /// A member of the new communicator, with the key that it entered.
@@ -69,15 +69,6 @@ fn sort(candidates: &mut Vec<Candidate>) -> Result<(), AllocError>
     candidates.sort_by_key(|candidate| candidate.key)
 }
 
-fn append(ranks: &mut Ranks, rank: u8) -> Result<(), AllocError>
-    ensures { OnOk result (ranks.new ≡ ranks.old ++ rank ∷ []) }
-{
-    match ranks.push(rank) {
-        Ok(()) => Ok(()),
-        Err(_) => Err(AllocError),
-    }
-}
-
 /// The members of one colour, by key and then by place.
 pub fn split_into(
     alloc: Global,
@@ -92,7 +83,7 @@ pub fn split_into(
     sort(&mut found)?;
     let mut ranks = Ranks::new(alloc);
     for candidate in found.as_slice() {
-        append(&mut ranks, candidate.rank)?;
+        ranks.push(candidate.rank)?;
     }
     Ok(ranks)
 }
@@ -127,7 +118,7 @@ pub fn made(
         Kind::Dup => Ranks::from_slice(alloc, members.as_slice()),
         Kind::Split => {
             let colour = colour_in(ints);
-            if colour == UNDEFINED_COLOUR {
+            if colour == UNDEFINED {
                 Ok(Ranks::new(alloc))
             } else {
                 split_into(alloc, colour, members.as_slice(), inputs.as_slice())

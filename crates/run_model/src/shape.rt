@@ -16,7 +16,7 @@ use crate::lists::View;
 use crate::starts::{find_start, is_taken};
 use mpi_call::acceptance::{is_source_of, is_tag_of};
 use mpi_call::call::{Call, Comm, Fault, Halt, Kind, Source, TakeMode};
-use mpi_call::needs::{UNDEFINED_COLOUR, colour_in, is_root};
+use mpi_call::needs::{UNDEFINED, colour_in, is_root};
 use mpi_call::reply::{Got, Item, Reply};
 
 /// Whether a reply has the shape of a call.
@@ -339,7 +339,7 @@ fn made_fits(
             ..
         } => match kind {
             Kind::Split => {
-                let uncoloured = colour_in(ints) == UNDEFINED_COLOUR;
+                let uncoloured = colour_in(ints) == UNDEFINED;
                 if members.is_empty() {
                     uncoloured && comm == 0
                 } else {

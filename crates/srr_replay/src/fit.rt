@@ -17,7 +17,7 @@ use crate::seen::Seen;
 use mpi_call::acceptance::{is_source_of, is_tag_of};
 use mpi_call::call::{Call, Comm, Kind, Source};
 use mpi_call::lists::Ranks;
-use mpi_call::needs::{UNDEFINED_COLOUR, colour_in, needs};
+use mpi_call::needs::{UNDEFINED, colour_in, needs};
 use run_model::communicators::{are_same, is_among};
 use run_model::shape;
 use srr_entry::entry::{Entry, Mark, Marked};
@@ -214,7 +214,7 @@ fn is_uncoloured(call: &Call) -> bool
 {
     match call {
         Call::Enter { kind, ints, .. } => match kind {
-            Kind::Split => colour_in(ints) == UNDEFINED_COLOUR,
+            Kind::Split => colour_in(ints) == UNDEFINED,
             _ => false,
         },
         _ => false,
