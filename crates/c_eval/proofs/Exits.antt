@@ -1,6 +1,6 @@
 use Rattle.std.proofs.Common.{◌≡◌, ◌≢◌, ℤ, ◌≤◌, List, refl, sym, ◌∙◌, ap, arith}
 use Rattle.mpi_call.specs.declared.reply.Reply.{Reply}
-use Rattle.c_program.specs.declared.state.Mark.{Mark}
+use Rattle.c_program.specs.declared.state.StackMark.{StackMark}
 use Rattle.c_program.specs.Courses.{Course, after}
 use Rattle.c_program.specs.Meaning.{Exits, Meaning, Passing, exits_to, leaving, turn_exits}
 use Rattle.c_program.specs.Performing.{Onward}
@@ -12,14 +12,14 @@ use Rattle.c_eval.specs.Leaving.{exit}
 use Rattle.c_eval.specs.Parts.{value_in}
 
 -- out of a block
-pub exit-leaving : (mark : Mark) (k : Exits) (flow : Flow) (s : State) → exit (leaving mark k) flow s ≡ exit k flow (leave mark s)
+pub exit-leaving : (mark : StackMark) (k : Exits) (flow : Flow) (s : State) → exit (leaving mark k) flow s ≡ exit k flow (leave mark s)
 exit-leaving mark k Next s = refl
 exit-leaving mark k Broke s = refl
 exit-leaving mark k Again s = refl
 exit-leaving mark k (Back v) s = refl
 
 -- out of a function
-pub exit-call : (mark : Mark) (go : ℤ → Onward) (flow : Flow) (s : State) → exit (exits_to mark go) flow s ≡ go (value_in flow) (leave mark s)
+pub exit-call : (mark : StackMark) (go : ℤ → Onward) (flow : Flow) (s : State) → exit (exits_to mark go) flow s ≡ go (value_in flow) (leave mark s)
 exit-call mark go Next s = refl
 exit-call mark go Broke s = refl
 exit-call mark go Again s = refl
@@ -40,16 +40,16 @@ exit-other k next Again s n = refl
 exit-other k next (Back v) s n = refl
 
 -- what a block left
-left-block : (mark : Mark) (k : Exits) (flow : Flow) (s t : State) (rest : List Reply) → t ≡ leave mark s → after (exit (leaving mark k) flow s) rest ≡ after (exit k flow t) rest
+left-block : (mark : StackMark) (k : Exits) (flow : Flow) (s t : State) (rest : List Reply) → t ≡ leave mark s → after (exit (leaving mark k) flow s) rest ≡ after (exit k flow t) rest
 left-block mark k flow s t rest is = ap (λ c. after c rest) (exit-leaving mark k flow s ∙ ap (exit k flow) (sym is))
 
-left-call : (mark : Mark) (go : ℤ → Onward) (flow : Flow) (s t : State) (rest : List Reply) → t ≡ leave mark s → after (exit (exits_to mark go) flow s) rest ≡ after (go (value_in flow) t) rest
+left-call : (mark : StackMark) (go : ℤ → Onward) (flow : Flow) (s t : State) (rest : List Reply) → t ≡ leave mark s → after (exit (exits_to mark go) flow s) rest ≡ after (go (value_in flow) t) rest
 left-call mark go flow s t rest is = ap (λ c. after c rest) (exit-call mark go flow s ∙ ap (go (value_in flow)) (sym is))
 
 -- ---- ends
 
 -- a block that comes to its end
-pub block-closes : (m body : Meaning) (mark : Mark) (flow : Flow) (s u v t : State) (r r' r'' : List Reply) → ((k : Exits) → after (m s k) r ≡ after (body u (leaving mark k)) r') → u.left ≤ s.left
+pub block-closes : (m body : Meaning) (mark : StackMark) (flow : Flow) (s u v t : State) (r r' r'' : List Reply) → ((k : Exits) → after (m s k) r ≡ after (body u (leaving mark k)) r') → u.left ≤ s.left
     → GoesOn exit body u r' flow v r'' → t ≡ leave mark v → GoesOn exit m s r flow t r''
 block-closes m body mark flow s u v t r r' r'' comes le g is =
     let ran : v.left ≤ u.left = g.left in let same : t.left ≡ v.left = ap (λ (x : State). x.left) is in record {
@@ -58,7 +58,7 @@ block-closes m body mark flow s u v t r r' r'' comes le g is =
     }
 
 -- a function that comes to its end
-pub call-closes : (m : State → (ℤ → Onward) → Course) (body : Meaning) (mark : Mark) (flow : Flow) (s u v t : State) (r r' r'' : List Reply) → ((go : ℤ → Onward) → after (m s go) r ≡ after (body u (exits_to mark go)) r') → u.left ≤ s.left
+pub call-closes : (m : State → (ℤ → Onward) → Course) (body : Meaning) (mark : StackMark) (flow : Flow) (s u v t : State) (r r' r'' : List Reply) → ((go : ℤ → Onward) → after (m s go) r ≡ after (body u (exits_to mark go)) r') → u.left ≤ s.left
     → GoesOn exit body u r' flow v r'' → t ≡ leave mark v → GoesOn {K = ℤ → Onward} {A = ℤ} (λ go x. go x) m s r (value_in flow) t r''
 call-closes m body mark flow s u v t r r' r'' comes le g is =
     let ran : v.left ≤ u.left = g.left in let same : t.left ≡ v.left = ap (λ (x : State). x.left) is in record {

@@ -8,7 +8,7 @@ use Rattle.c_program.specs.Courses.{Course}
 use Rattle.c_program.specs.Meaning as m
 use Rattle.c_program.specs.Meaning.{Exits, Meaning, Passing, call_at, choose, for_start, for_update, has_room, item_cells, leaving, length_or_one, loop, opened, parameter_cells, step, trying, turn_exits, with_parameters, with_slot}
 use Rattle.c_program.specs.Performing.{Onward}
-use Rattle.c_program.specs.State.{State, mark_of}
+use Rattle.c_program.specs.State.{State, stack_mark}
 use Rattle.c_eval.specs.declared.calls.Calls.{Calls}
 use Rattle.c_eval.specs.declared.flow.Flow.{Flow}
 use Rattle.c_eval.specs.declared.flow.Flow.TheVariants.{Back}
@@ -41,9 +41,9 @@ way ways (Some flow) = exit ways.out flow
 
 -- a block of its own
 abbrev pub blocked : Meaning → Meaning
-blocked body s k = body s (leaving (mark_of s) k)
+blocked body s k = body s (leaving (stack_mark s) k)
 
 -- a `for`
 abbrev pub for_of : Rank → m.Calls → ForStart → Option Expr → Option Simple → Meaning → Meaning
 for_of rank calls start e update body s k =
-    for_start rank calls start s (λ t. loop e (for_update rank calls update) body t (leaving (mark_of s) k))
+    for_start rank calls start s (λ t. loop e (for_update rank calls update) body t (leaving (stack_mark s) k))

@@ -15,7 +15,7 @@ use c_names::operator::Operator;
 use c_run_parts::parts::{
     add, arguments_of, enter, function_at, print, put_assigned, put_values_of, take_step,
 };
-use c_program::expr::{Call, Expr, Place, Right};
+use c_program::expr::{Expr, FunctionCall, Place, Right};
 use c_program::state::Passed;
 use c_program::statement::{ForStart, Initial, Item, Part, Simple, Stmt};
 use mpi_call::call::Fault;
@@ -26,7 +26,7 @@ use mpi_call::call::Fault;
 #[cycle(statements)]
 fn invoke<'p>(
     calls: &Calls<'p>,
-    call: &'p Call,
+    call: &'p FunctionCall,
     store: &mut Store<'p>,
     replies: &mut Replies,
 ) -> Result<i32, Stop>

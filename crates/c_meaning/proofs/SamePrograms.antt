@@ -8,7 +8,7 @@ use Rattle.c_program.specs.Meaning as m
 use Rattle.c_program.specs.Meaning.{Calls, call_at, course_of}
 use Rattle.c_program.specs.Performing.{Onward}
 use Rattle.c_program.specs.Program.{SameMeaning, rank_of}
-use Rattle.c_program.specs.State.{State, mark_of}
+use Rattle.c_program.specs.State.{State, stack_mark}
 use Rattle.c_program.specs.declared.effect.Rank.{Rank}
 use Rattle.c_program.specs.declared.program.CProgram.{CProgram}
 use Rattle.c_program.specs.declared.program.Function.{Function}
@@ -42,7 +42,7 @@ module _ (rank : Rank) where
   same_run a b one other calls arguments s go =
       let parameters : a.parameters.items ≡ b.parameters.items = same_parameters one.parameters other.parameters in
       λ i. m.choose (m.has_room (m.parameter_cells (parameters i)) s)
-      (same_parts rank calls one.body other.body (m.with_parameters (parameters i) arguments (m.opened s)) (m.exits_to (mark_of s) go) i)
+      (same_parts rank calls one.body other.body (m.with_parameters (parameters i) arguments (m.opened s)) (m.exits_to (stack_mark s) go) i)
       (trapped CellsFault s)
 
   same_found : {env : Env} {tops : List t.Top} {xs ys : List Function} → AreFunctions env tops xs → AreFunctions env tops ys

@@ -14,7 +14,7 @@ use Rattle.c_program.specs.Prints.{text_of}
 use Rattle.c_program.specs.State.{State, cell_at, first_cells, put, width_of}
 use Rattle.c_program.specs.Values.{given, operated, values}
 use Rattle.c_program.specs.declared.effect.Rank.{Rank}
-use Rattle.c_program.specs.declared.expr.Call.{Call}
+use Rattle.c_program.specs.declared.expr.FunctionCall.{FunctionCall}
 use Rattle.c_program.specs.declared.expr.Expr.{Expr}
 use Rattle.c_program.specs.declared.expr.Right.{Right}
 use Rattle.c_program.specs.declared.statement.Declaration.{Declaration}
@@ -33,7 +33,7 @@ use Rattle.c_type_stmt.specs.Statements.{AreExprs, AreItems, AreValues, IsDeclar
 module _ (rank : Rank) (calls : Calls) where
   -- ---- calls
 
-  same_invoke : {env : Env} {call : t.Call} {a b : Call} → IsCall env call a → IsCall env call b
+  same_invoke : {env : Env} {call : t.Call} {a b : FunctionCall} → IsCall env call a → IsCall env call b
       → (s : State) (go : ℤ → Onward) → m.invoke calls a s go ≡ m.invoke calls b s go
   same_invoke {env} one other s go =
       λ i. m.step s (λ s. m.trying (same_passed env one other s i) s (λ arguments. calls (same_function env one other i) arguments s go))

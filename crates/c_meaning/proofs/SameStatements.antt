@@ -7,7 +7,7 @@ use Rattle.c_program.specs.Equations.{act-block}
 use Rattle.c_program.specs.Meaning as m
 use Rattle.c_program.specs.Meaning.{Calls, Exits, Meaning, Passing, act, act_list, act_part, leaving}
 use Rattle.c_program.specs.Performing.{Onward}
-use Rattle.c_program.specs.State.{State, mark_of}
+use Rattle.c_program.specs.State.{State, stack_mark}
 use Rattle.c_program.specs.Values.{given}
 use Rattle.c_program.specs.declared.effect.Rank.{Rank}
 use Rattle.c_program.specs.declared.expr.Expr.{Expr}
@@ -41,7 +41,7 @@ module _ (rank : Rank) (calls : Calls) where
     same_stmt : {env : Env} {one : t.Stmt} {a b : Stmt} → IsStmt env one a → IsStmt env one b
         → (s : State) (k : Exits) → act rank calls a s k ≡ act rank calls b s k
     same_stmt (x.block a one) (x.block b other) s k =
-        act-block rank calls a s k ∙ same_parts one other s (leaving (mark_of s) k) ∙ sym (act-block rank calls b s k)
+        act-block rank calls a s k ∙ same_parts one other s (leaving (stack_mark s) k) ∙ sym (act-block rank calls b s k)
     same_stmt x.empty x.empty s k = refl
     same_stmt (x.simple one) (x.simple other) s k = same_simple rank calls one other s k.next
     same_stmt x.break x.break s k = refl
@@ -63,7 +63,7 @@ module _ (rank : Rank) (calls : Calls) where
     same_stmt (x.for {typed_test = e} {typed_step = u} {a = a} start first turn one) (x.for {typed_test = f} {typed_step = w} {a = b} begin second last other) s k =
         λ i. same_start rank calls start begin s (λ t. same_loop e f (m.for_update rank calls u) (m.for_update rank calls w)
         (m.started (act rank calls a.value)) (m.started (act rank calls b.value)) (same_test first second) (same_step rank calls turn last)
-        (λ s k i. m.started (λ s k. same_stmt one other s k i) s k) t (leaving (mark_of s) k) i) i
+        (λ s k i. m.started (λ s k. same_stmt one other s k i) s k) t (leaving (stack_mark s) k) i) i
 
     same_part : {env : Env} {one : t.Part} {a b : Part} → IsPart env one a → IsPart env one b
         → (s : State) (k : Exits) → act_part rank calls a s k ≡ act_part rank calls b s k

@@ -13,7 +13,7 @@ use Rattle.c_program.specs.Meaning.{passed, passed_all}
 use Rattle.c_program.specs.State.{State, cell_at}
 use Rattle.c_program.specs.Values.{cell_of, cells_of, element, elements_from, field_place, given, is_decided, operated, range, value}
 use Rattle.c_program.specs.declared.expr.Argument.{Argument}
-use Rattle.c_program.specs.declared.expr.Call.{Call}
+use Rattle.c_program.specs.declared.expr.FunctionCall.{FunctionCall}
 use Rattle.c_program.specs.declared.expr.Expr.{Expr}
 use Rattle.c_program.specs.declared.expr.Link.{Link}
 use Rattle.c_program.specs.declared.expr.Place.{Place}
@@ -91,10 +91,10 @@ module _ (env : Env) where
   same_arguments (c.argument one all) (c.argument other both) s =
       λ i. given (same_argument one other s i) (λ first. given (same_arguments all both s i) (λ others. Ok (first ∷ others)))
 
-  pub same_function : {call : t.Call} {a b : Call} → IsCall env call a → IsCall env call b → a.function ≡ b.function
+  pub same_function : {call : t.Call} {a b : FunctionCall} → IsCall env call a → IsCall env call b → a.function ≡ b.function
   same_function one other = let g = one.function in let h = other.function in cc
 
-  pub same_passed : {call : t.Call} {a b : Call} → IsCall env call a → IsCall env call b → (s : State) → passed_all a.arguments.items s ≡ passed_all b.arguments.items s
+  pub same_passed : {call : t.Call} {a b : FunctionCall} → IsCall env call a → IsCall env call b → (s : State) → passed_all a.arguments.items s ≡ passed_all b.arguments.items s
   same_passed {call} {a} {b} one other s =
       same_arguments one.arguments (subst (λ f. AreArguments env (signature_takes (slice_get env.functions f)) (arguments_of call) b.arguments.items)
       (sym (same_function one other)) other.arguments) s

@@ -10,7 +10,7 @@ use Rattle.c_names.proofs.operator.Operator.TheSendSync as operator
 use Rattle.c_names.proofs.kind.Kind.TheSendSync as kind
 use Rattle.c_names.proofs.format.Piece.TheSendSync as piece
 use Rattle.c_program.proofs.program.Parameter.TheSendSync as parameter
-use Rattle.c_program.specs.contracts.expr.Call as Call
+use Rattle.c_program.specs.contracts.expr.FunctionCall as FunctionCall
 use Rattle.c_program.specs.contracts.expr.Expr as Expr
 use Rattle.c_program.specs.contracts.expr.Place as Place
 use Rattle.c_program.specs.contracts.expr.Reference as Reference
@@ -44,7 +44,7 @@ place_field = search (sign.the_field_sync, operator.the_field_sync, status_field
 pub reference_field : IsSync (Reference.the_field).row
 reference_field = search (expr_field, sendable) depth 60
 
-pub call_field : IsSync (Call.the_field).row
+pub call_field : IsSync (FunctionCall.the_field).row
 call_field = search (expr_field, reference_field, crosses, sendable) depth 60
 
 pub right_field : IsSync (Right.the_field).row

@@ -14,7 +14,7 @@ use Rattle.c_program.specs.declared.statement.Part.TheBlock.{hidden-the_row-Part
 use Rattle.c_program.specs.declared.statement.Stmt.{Row_of-Part, end_of-Part, more_of-Part, items-the_row-Part, items_hidden-the_row-Part-0}
 use Rattle.c_program.specs.declared.statement.Stmt.TheVariants as t
 use Rattle.c_program.specs.Meaning.{Calls, Exits, act, act_list, act_part, act_row, leaving, started}
-use Rattle.c_program.specs.State.{State, mark_of}
+use Rattle.c_program.specs.State.{State, stack_mark}
 use Rattle.c_program.specs.Values.{chained, given, is_decided, operated, value}
 
 -- ---- chains of operators
@@ -42,6 +42,6 @@ act_row-list rank calls m end_of-Part s k = refl
 act_row-list rank calls m (more_of-Part part parts) s k =
     λ i. started (act_part rank calls part) s (record k { next = λ s. act_row-list rank calls _ parts s k i })
 
-pub act-block : (rank : Rank) (calls : Calls) (parts : Vec Part Global) (s : State) (k : Exits) → act rank calls (t.Block parts) s k ≡ act_list rank calls parts.items s (leaving (mark_of s) k)
+pub act-block : (rank : Rank) (calls : Calls) (parts : Vec Part Global) (s : State) (k : Exits) → act rank calls (t.Block parts) s k ≡ act_list rank calls parts.items s (leaving (stack_mark s) k)
 act-block rank calls parts s k =
-    act_row-list rank calls _ (hidden-the_row-Part-0 parts) s (leaving (mark_of s) k) ∙ (λ j. act_list rank calls (items_hidden-the_row-Part-0 parts j) s (leaving (mark_of s) k))
+    act_row-list rank calls _ (hidden-the_row-Part-0 parts) s (leaving (stack_mark s) k) ∙ (λ j. act_list rank calls (items_hidden-the_row-Part-0 parts j) s (leaving (stack_mark s) k))

@@ -6,7 +6,7 @@ use Rattle.mpi_call.specs.declared.call.Fault.TheVariants.{Budget, OutputFull, D
 use Rattle.c_program.specs.declared.effect.Rank.{Rank}
 use Rattle.c_program.specs.declared.expr.Argument.{Argument}
 use Rattle.c_program.specs.declared.expr.Argument.TheVariants.{Value as ValueArgument, Reference as ReferenceArgument}
-use Rattle.c_program.specs.declared.expr.Call.{Call as FunctionCall}
+use Rattle.c_program.specs.declared.expr.FunctionCall.{FunctionCall}
 use Rattle.c_program.specs.declared.expr.Expr.{Expr}
 use Rattle.c_program.specs.declared.expr.Right.{Right}
 use Rattle.c_program.specs.declared.expr.Right.TheVariants.{Value as ValueRight, Call as CallRight}
@@ -32,8 +32,8 @@ use Rattle.c_program.specs.Effects.{effect_of}
 use Rattle.c_program.specs.Performing.{Onward, perform}
 use Rattle.c_program.specs.Prints.{text_of}
 use Rattle.c_program.specs.Cells.{Cells}
-use Rattle.c_program.specs.declared.state.Mark.{Mark}
-use Rattle.c_program.specs.State.{Slot, State, cell_at, first_cells, leave, mark_of, no_cells, put, width_of}
+use Rattle.c_program.specs.declared.state.StackMark.{StackMark}
+use Rattle.c_program.specs.State.{Slot, State, cell_at, first_cells, leave, stack_mark, no_cells, put, width_of}
 use Rattle.c_program.specs.Values.{cell_of, given, operated, range, value, values}
 
 -- ---- ways out
@@ -62,7 +62,7 @@ abbrev pub Passing : Type 0
 Passing = State → Onward → Course
 
 -- each way out of a block takes away what was declared in it
-abbrev pub leaving : Mark → Exits → Exits
+abbrev pub leaving : StackMark → Exits → Exits
 leaving mark k = record {
   next = λ s. k.next (leave mark s);
   broke = λ s. k.broke (leave mark s);
@@ -226,7 +226,7 @@ return calls (Some given_right) s k = right calls given_right s (λ v s. k.back 
 abbrev mutual
   -- what a statement does once its step is taken
   pub act : Rank → Calls → Stmt → Meaning
-  act rank calls (Block' shape row) s k = act_row rank calls row s (leaving (mark_of s) k)
+  act rank calls (Block' shape row) s k = act_row rank calls row s (leaving (stack_mark s) k)
   act rank calls Empty s k = k.next s
   act rank calls (SimpleStmt one) s k = simple rank calls one s k.next
   act rank calls Break s k = k.broke s
@@ -238,7 +238,7 @@ abbrev mutual
   act rank calls (While' e p body) s k = loop (Some e) no_update (started (act rank calls body)) s k
   act rank calls (Do' p body e) s k = loop_after e (started (act rank calls body)) s k
   act rank calls (For' start e update p body) s k =
-      for_start rank calls start s (λ t. loop e (for_update rank calls update) (started (act rank calls body)) t (leaving (mark_of s) k))
+      for_start rank calls start s (λ t. loop e (for_update rank calls update) (started (act rank calls body)) t (leaving (stack_mark s) k))
 
   -- what stands in a block
   pub act_part : Rank → Calls → Part → Meaning
@@ -295,7 +295,7 @@ abbrev pub opened : State → State
 opened s = record s { base = length s.slots; opens = suc s.opens }
 
 -- a function that ends without a value gives 0
-abbrev pub exits_to : Mark → (ℤ → Onward) → Exits
+abbrev pub exits_to : StackMark → (ℤ → Onward) → Exits
 exits_to mark go = record {
   next = λ s. go (pos 0) (leave mark s);
   broke = λ s. go (pos 0) (leave mark s);
@@ -308,7 +308,7 @@ abbrev pub run_function : Rank → Calls → Option Function → List Passed →
 run_function rank calls None arguments s go = trapped Depth s
 run_function rank calls (Some f) arguments s go =
     choose (has_room (parameter_cells f.parameters.items) s)
-    (act_list rank calls f.body.items (with_parameters f.parameters.items arguments (opened s)) (exits_to (mark_of s) go))
+    (act_list rank calls f.body.items (with_parameters f.parameters.items arguments (opened s)) (exits_to (stack_mark s) go))
     (trapped CellsFault s)
 
 -- a call, where at most so many more may be open

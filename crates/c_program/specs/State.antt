@@ -4,7 +4,7 @@ use Rattle.run_model.specs.Lists.{world}
 use Rattle.c_program.specs.Cells.{Cells}
 use Rattle.c_program.specs.declared.state.Begun.{Begun}
 use Rattle.c_program.specs.declared.state.Known.{Known}
-use Rattle.c_program.specs.declared.state.Mark.{Mark}
+use Rattle.c_program.specs.declared.state.StackMark.{StackMark}
 use Rattle.c_names.specs.declared.kind.Kind.{Kind}
 use Rattle.c_names.specs.declared.kind.Kind.TheVariants.{Int, Status, Request, Communicator}
 
@@ -82,11 +82,11 @@ ints_in cells s = values_from cells.from cells.length s
 -- ---- scopes
 
 -- what stands
-abbrev pub mark_of : State → Mark
-mark_of s = record { cells = length s.cells; slots = length s.slots; base = s.base; opens = s.opens }
+abbrev pub stack_mark : State → StackMark
+stack_mark s = record { cells = length s.cells; slots = length s.slots; base = s.base; opens = s.opens }
 
 -- what was declared since then is gone
-abbrev pub leave : Mark → State → State
+abbrev pub leave : StackMark → State → State
 leave mark s = record s { cells = take mark.cells s.cells; slots = take mark.slots s.slots; base = mark.base; opens = mark.opens }
 
 -- ---- communicators

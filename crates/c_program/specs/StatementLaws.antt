@@ -9,7 +9,7 @@ use Rattle.c_names.specs.declared.kind.Kind.TheVariants.{Int, Status, Request, C
 use Rattle.run_model.specs.Program.{IsRankOf}
 use Rattle.run_model.specs.Views.{View}
 use Rattle.run_model.proofs.Orders.{in_order_first}
-use Rattle.c_program.specs.declared.expr.Call.{Call as FunctionCall}
+use Rattle.c_program.specs.declared.expr.FunctionCall.{FunctionCall}
 use Rattle.c_program.specs.declared.expr.Expr.{Expr}
 use Rattle.c_program.specs.declared.expr.Right.{Right}
 use Rattle.c_program.specs.declared.expr.Right.TheVariants.{Value as ValueRight, Call as CallRight}
@@ -28,7 +28,7 @@ use Rattle.c_program.specs.declared.statement.Simple.{Simple}
 use Rattle.c_program.specs.declared.statement.Simple.TheVariants.{Set, Update, Call as CallSimple, Mpi, Print, Flush}
 use Rattle.c_program.specs.declared.statement.Stmt.{Stmt, Block', Empty, Simple as SimpleStmt, Break, Continue, Return, If', IfElse', While', Do', For', Row_of-Part, end_of-Part, more_of-Part}
 use Rattle.c_program.specs.declared.statement.Part.{Part, Declaration as DeclarationPart, Stmt as StmtPart}
-use Rattle.c_program.specs.declared.state.Mark.{Mark}
+use Rattle.c_program.specs.declared.state.StackMark.{StackMark}
 use Rattle.c_program.specs.declared.state.Passed.{Passed}
 use Rattle.c_program.specs.declared.state.Passed.TheVariants.{Number, Cells as Lent}
 use Rattle.c_program.specs.Courses.{Course, ended, trapped}
@@ -43,7 +43,7 @@ use Rattle.c_program.specs.Performing.{Onward, perform}
 use Rattle.c_program.specs.Prints.{text_of}
 use Rattle.c_program.specs.Program.{rank_of}
 use Rattle.c_program.specs.RangeLaws.{passed_all_are_passable}
-use Rattle.c_program.specs.State.{Slot, State, cell_at, first_cells, leave, mark_of, no_cells, put, width_of}
+use Rattle.c_program.specs.State.{Slot, State, cell_at, first_cells, leave, stack_mark, no_cells, put, width_of}
 use Rattle.c_program.specs.Values.{cell_of, operated, value, values}
 
 -- what goes on one way, and what has four ways out
@@ -82,7 +82,7 @@ module _ (n me : ℕ) where
   good_printed : (own : View) (s : State) (printed : List ℕ) → Good n me own s → Good n me own (record s { printed = printed })
   good_printed own s printed good = record { order = good.order; starts = good.starts; known = good.known; slots = good.slots }
 
-  good_leave : (own : View) (mark : Mark) (s : State) → Good n me own s → Good n me own (leave mark s)
+  good_leave : (own : View) (mark : StackMark) (s : State) → Good n me own s → Good n me own (leave mark s)
   good_leave own mark s good = record { order = good.order; starts = good.starts; known = good.known; slots = All-take Fits mark.slots s.slots good.slots }
 
   good_opened : (own : View) (s : State) → Good n me own s → Good n me own (m.opened s)
@@ -127,7 +127,7 @@ module _ (n me : ℕ) where
   choose_keeps own true printed a b keeps other = keeps refl
   choose_keeps own false printed a b keeps other = other
 
-  leaving_keeps : (mark : Mark) (k : Exits) → KeepsExits n me k → KeepsExits n me (m.leaving mark k)
+  leaving_keeps : (mark : StackMark) (k : Exits) → KeepsExits n me k → KeepsExits n me (m.leaving mark k)
   leaving_keeps mark k keep = record {
     next = λ own s good. keep.next own (leave mark s) (good_leave own mark s good);
     broke = λ own s good. keep.broke own (leave mark s) (good_leave own mark s good);
@@ -276,7 +276,7 @@ module _ (n me : ℕ) where
 
     mutual
       act_keeps : (stmt : Stmt) → KeepMeaning n me (m.act (rank_of n me) calls stmt)
-      act_keeps (Block' shape row) own s k good exits = act_row_keeps row own s (m.leaving (mark_of s) k) good (leaving_keeps (mark_of s) k exits)
+      act_keeps (Block' shape row) own s k good exits = act_row_keeps row own s (m.leaving (stack_mark s) k) good (leaving_keeps (stack_mark s) k exits)
       act_keeps Empty own s k good exits = exits.next own s good
       act_keeps (SimpleStmt one) own s k good exits = simple_keeps one own s k.next good exits.next
       act_keeps Break own s k good exits = exits.broke own s good
@@ -297,8 +297,8 @@ module _ (n me : ℕ) where
       act_keeps (Do' p body e) own s k good exits =
           loop_after_keeps e (m.started (m.act (rank_of n me) calls body)) (started_keeps (m.act (rank_of n me) calls body) (act_keeps body)) own s k good exits
       act_keeps (For' start e update p body) own s k good exits =
-          for_start_keeps start own s (λ t. m.loop e (m.for_update (rank_of n me) calls update) (m.started (m.act (rank_of n me) calls body)) t (m.leaving (mark_of s) k)) good (λ own t good.
-          loop_keeps e (m.for_update (rank_of n me) calls update) (m.started (m.act (rank_of n me) calls body)) (for_update_keeps update) (started_keeps (m.act (rank_of n me) calls body) (act_keeps body)) own t (m.leaving (mark_of s) k) good (leaving_keeps (mark_of s) k exits))
+          for_start_keeps start own s (λ t. m.loop e (m.for_update (rank_of n me) calls update) (m.started (m.act (rank_of n me) calls body)) t (m.leaving (stack_mark s) k)) good (λ own t good.
+          loop_keeps e (m.for_update (rank_of n me) calls update) (m.started (m.act (rank_of n me) calls body)) (for_update_keeps update) (started_keeps (m.act (rank_of n me) calls body) (act_keeps body)) own t (m.leaving (stack_mark s) k) good (leaving_keeps (stack_mark s) k exits))
 
       act_part_keeps : (part : Part) → KeepMeaning n me (m.act_part (rank_of n me) calls part)
       act_part_keeps (DeclarationPart d) own s k good exits = declaration_keeps d own s k.next good exits.next
@@ -318,7 +318,7 @@ module _ (n me : ℕ) where
         started_keeps (m.act_part (rank_of n me) calls part) (act_part_keeps part) own s (record k { next = others }) good
         (record { next = λ own s good. act_list_keeps parts own s k good exits; broke = exits.broke; again = exits.again; back = exits.back })
 
-    exits_to_keep : (mark : Mark) (go : ℤ → Onward) → ((v : ℤ) → KeepsOn n me (go v)) → KeepsExits n me (m.exits_to mark go)
+    exits_to_keep : (mark : StackMark) (go : ℤ → Onward) → ((v : ℤ) → KeepsOn n me (go v)) → KeepsExits n me (m.exits_to mark go)
     exits_to_keep mark go keep = record {
       next = λ own s good. keep (pos 0) own (leave mark s) (good_leave own mark s good);
       broke = λ own s good. keep (pos 0) own (leave mark s) (good_leave own mark s good);
@@ -330,9 +330,9 @@ module _ (n me : ℕ) where
     run_function_keeps None arguments own s go fit good keep = keeps_trapped n me own Depth s
     run_function_keeps (Some f) arguments own s go fit good keep =
         let inside : State = m.with_parameters f.parameters.items arguments (m.opened s) in
-        let runs : Course = m.act_list (rank_of n me) calls f.body.items inside (m.exits_to (mark_of s) go) in
+        let runs : Course = m.act_list (rank_of n me) calls f.body.items inside (m.exits_to (stack_mark s) go) in
         let keeps : Keeps n me own inside.printed runs =
-        act_list_keeps f.body.items own inside (m.exits_to (mark_of s) go) (good_parameters own f.parameters.items arguments (m.opened s) fit (good_opened own s good)) (exits_to_keep (mark_of s) go keep) in
+        act_list_keeps f.body.items own inside (m.exits_to (stack_mark s) go) (good_parameters own f.parameters.items arguments (m.opened s) fit (good_opened own s good)) (exits_to_keep (stack_mark s) go keep) in
         choose_keeps own (m.has_room (m.parameter_cells f.parameters.items) s) s.printed runs (trapped CellsFault s)
         (λ room. subst (λ printed. Keeps n me own printed runs) (printed_parameters f.parameters.items arguments (m.opened s)) keeps)
         (keeps_trapped n me own CellsFault s)

@@ -72,7 +72,7 @@ pub enum Argument {
 
 /// A call of a function of the text, by its number.
 #[derive(Drop)]
-pub struct Call {
+pub struct FunctionCall {
     pub function: usize,
     pub arguments: Vec<Argument>,
 }
@@ -81,5 +81,5 @@ pub struct Call {
 #[derive(Drop)]
 pub enum Right {
     Value(Expr),
-    Call(Call),
+    Call(FunctionCall),
 }

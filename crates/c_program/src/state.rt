@@ -20,7 +20,7 @@ pub struct Known {
 /// What stands where a block begins, or a call: how many cells and variables, which of these is the function's first one,
 /// and how many calls are open.
 #[derive(Clone, Copy)]
-pub struct Mark {
+pub struct StackMark {
     pub cells: usize,
     pub slots: usize,
     pub base: usize,

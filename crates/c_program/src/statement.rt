@@ -1,6 +1,6 @@
 //! Typed statements.
 
-use crate::expr::{Call, Expr, Place, Right};
+use crate::expr::{Expr, FunctionCall, Place, Right};
 use crate::mpi::MpiCall;
 use c_names::format::Piece;
 use c_names::kind::Kind;
@@ -21,7 +21,7 @@ pub enum Simple {
         operator: Operator,
         right: Right,
     },
-    Call(Call),
+    Call(FunctionCall),
     Mpi(Box<MpiCall>),
     Print {
         format: Vec<Piece>,

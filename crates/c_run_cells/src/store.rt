@@ -5,7 +5,7 @@ ghost use Rattle.c_program.specs.Courses.{listed_of, variable_of};
 ghost use Rattle.c_program.specs.Meaning.{cells_in, has_room, number_in, opened, parameter_cells, repeated, start, with_parameter, with_slot};
 ghost use Rattle.c_program.specs.Performing.{begun, learned, made_by, made_by_all, start_at};
 ghost use Rattle.c_program.specs.Values.{cells_of};
-ghost use Rattle.c_program.specs.State.{cell_at, first_cells, ints_in, leave, mark_of, members_among, members_of, put, put_all, values_from, width_of};
+ghost use Rattle.c_program.specs.State.{cell_at, first_cells, ints_in, leave, stack_mark, members_among, members_of, put, put_all, values_from, width_of};
 ghost use Rattle.c_run_cells.specs.Sizes.{HaveIntSizes};
 ghost use Rattle.c_run_cells.specs.SlotView.{slot_view};
 ghost use Rattle.c_run_cells.specs.Slots.{with_cells};
@@ -15,7 +15,7 @@ use c_names::kind::Kind;
 use c_program::effect::Rank;
 use c_program::program::{Parameter, ParameterKind};
 use c_program::range::Range;
-use c_program::state::{Begun, Known, Mark, Passed};
+use c_program::state::{Begun, Known, StackMark, Passed};
 use mpi_call::call::Fault;
 use mpi_call::lists::{Ints, Ranks};
 use mpi_call::reply::{Got, Item};
@@ -151,10 +151,10 @@ impl<'p> Store<'p> {
         self.left
     }
 
-    pub fn mark(&self) -> Mark
-        ensures { result ≡ mark_of self.now }
+    pub fn mark(&self) -> StackMark
+        ensures { result ≡ stack_mark self.now }
     {
-        Mark {
+        StackMark {
             cells: self.cells.len(),
             slots: self.slots.len(),
             base: self.base,
@@ -164,7 +164,7 @@ impl<'p> Store<'p> {
 
     /// Takes away what was declared since then.
     #[tactic(auto, using(crate::proofs::StoreLaws::slots))]
-    pub fn leave(&mut self, mark: Mark)
+    pub fn leave(&mut self, mark: StackMark)
         ensures { self.new ≡ leave mark self.old }
     {
         self.cells.truncate(mark.cells);

@@ -12,7 +12,7 @@ use Rattle.c_program.specs.Courses.{trapped}
 use Rattle.c_program.specs.Meaning.{act_list, call_at, exits_to, has_room, opened, parameter_cells, print as print_of, with_parameter, with_parameters}
 use Rattle.c_program.specs.Performing.{Onward}
 use Rattle.c_program.specs.Prints.{text_of}
-use Rattle.c_program.specs.State.{State, mark_of}
+use Rattle.c_program.specs.State.{State, stack_mark}
 use Rattle.c_run_parts.specs.Comes.{Leads}
 use Rattle.c_run_parts.specs.Parts.{entered}
 
@@ -55,6 +55,6 @@ enters f arguments s t room is =
 
 -- a call, where one more may be open
 pub entering : (rank : Rank) (fs : List Function) (d number : ℕ) (f : Function) (arguments : List Passed) (s : State) (go : ℤ → Onward) → 0 < d → slice_get fs number ≡ Some f
-    → call_at rank fs d number arguments s go ≡ entered f arguments s (λ t. act_list rank (call_at rank fs (d - 1)) f.body.items t (exits_to (mark_of s) go))
+    → call_at rank fs d number arguments s go ≡ entered f arguments s (λ t. act_list rank (call_at rank fs (d - 1)) f.body.items t (exits_to (stack_mark s) go))
 entering rank fs zero number f arguments s go lt is = absurd (omega arith)
 entering rank fs (suc d) number f arguments s go lt is = let e : suc d - 1 ≡ d = omega arith in rw (e, is) refl

@@ -13,7 +13,7 @@ use Rattle.c_check_expr.specs.declared.thing.Thing.TheVariants as d
 use Rattle.std.specs.Prelude.{slice_get}
 use Rattle.c_program.specs.declared.expr.Argument.{Argument}
 use Rattle.c_program.specs.declared.expr.Argument.TheVariants as a
-use Rattle.c_program.specs.declared.expr.Call.{Call}
+use Rattle.c_program.specs.declared.expr.FunctionCall.{FunctionCall}
 use Rattle.c_program.specs.declared.expr.Expr.{Expr}
 use Rattle.c_program.specs.declared.expr.Reference.{Reference}
 use Rattle.c_program.specs.declared.expr.Reference.TheVariants as r
@@ -46,10 +46,10 @@ pub data AreArguments (env : Env) : List ArgumentKind → List t.Argument → Li
   argument : {kind : ArgumentKind} {kinds : List ArgumentKind} {given : t.Argument} {more : List t.Argument} {typed : Argument} {others : List Argument}
       → IsArgument env kind given typed → AreArguments env kinds more others → AreArguments env (kind ∷ kinds) (given ∷ more) (typed ∷ others)
 
-pub record IsCall (env : Env) (call : t.Call) (typed : Call) : Type 0 where
+pub record IsCall (env : Env) (call : t.Call) (typed : FunctionCall) : Type 0 where
   pub function : meaning env call.name ≡ m.Declared (d.Function typed.function)
   pub arguments : AreArguments env (signature_takes (slice_get env.functions typed.function)) (arguments_of call) typed.arguments.items
 
 pub data IsRight (env : Env) : t.Right → Right → Type 0 where
   value : {e : t.Expr} {typed : Expr} → IsExpr env e typed → IsRight env (t.valued e) (g.Value typed)
-  call : {call : t.Call} {typed : Call} → IsCall env call typed → IsRight env (t.called call) (g.Call typed)
+  call : {call : t.Call} {typed : FunctionCall} → IsCall env call typed → IsRight env (t.called call) (g.Call typed)

@@ -20,7 +20,7 @@ use c_check_call::call::{
 };
 use c_grammar::word::Spot;
 use c_grammar::{statement, tree};
-use c_program::expr::{Argument, Call, Expr, Reference, Right};
+use c_program::expr::{Argument, Expr, FunctionCall, Reference, Right};
 use c_check_expr::scope::Scope;
 use c_check_expr::thing::{Meaning, Thing};
 use std::alloc::{AllocError, Global};
@@ -178,7 +178,7 @@ pub fn call_of(
     scope: &Scope,
     number: usize,
     call: &statement::Call,
-) -> Result<Call, AllocError>
+) -> Result<FunctionCall, AllocError>
     requires function { meaning scope.now call.now.name ≡ m.Declared (d.Function number) }
     requires faults { call_faults scope.now (call_view call.now) ≡ [] }
     ensures { IfOk result (λ typed. IsCall scope.now (call_view call.now) typed) }
@@ -186,12 +186,12 @@ pub fn call_of(
     match scope.head(number) {
         Some(head) => {
             let arguments = arguments_of(alloc, scope, head, call)?;
-            Ok(Call {
+            Ok(FunctionCall {
                 function: number,
                 arguments,
             })
         }
-        None => Ok(Call {
+        None => Ok(FunctionCall {
             function: number,
             arguments: Vec::new(alloc),
         }),

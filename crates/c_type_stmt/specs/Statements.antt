@@ -14,7 +14,7 @@ use Rattle.c_names.specs.declared.operator.Operator.{Operator}
 use Rattle.c_names.specs.declared.operator.Operator.TheVariants as o
 use Rattle.c_names.specs.declared.predefined.Predefined.TheVariants as p
 use Rattle.c_names.specs.declared.kind.Kind.{Kind}
-use Rattle.c_program.specs.declared.expr.Call.{Call}
+use Rattle.c_program.specs.declared.expr.FunctionCall.{FunctionCall}
 use Rattle.c_program.specs.declared.expr.Expr.{Expr}
 use Rattle.c_program.specs.declared.expr.Expr.TheVariants as v
 use Rattle.c_program.specs.declared.expr.Place.{Place}
@@ -80,7 +80,7 @@ pub data IsSimple (env : Env) : t.Simple → Simple → Type 0 where
       → IsSimple env (t.after place operator at) (l.Update goal (update_of operator) one)
   before : {place : t.Place} {operator : Word} {at : Spot} {goal : Place} → IsPlace env place goal
       → IsSimple env (t.before operator at place) (l.Update goal (update_of operator) one)
-  call : {call : t.Call} {typed : Call} → IsCall env call typed → IsSimple env (t.invoke call) (l.Call typed)
+  call : {call : t.Call} {typed : FunctionCall} → IsCall env call typed → IsSimple env (t.invoke call) (l.Call typed)
   mpi : {call : t.Call} {function : MpiFunction} {typed : Box MpiCall Global} → meaning env call.name ≡ m.Known (p.Mpi function)
       → IsMpiCall env function (arguments_of call) typed.value → IsSimple env (t.invoke call) (l.Mpi typed)
   print : {call : t.Call} {at : Spot} {more : List t.Argument} {format : Vec Piece Global} {typed : Vec Expr Global}

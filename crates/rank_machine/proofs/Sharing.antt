@@ -8,7 +8,7 @@ use Rattle.std.proofs.Crossing.{crosses}
 use Rattle.c_names.proofs.kind.Kind.TheSendSync as kind
 use Rattle.c_program.proofs.Sharing.{expr_field, function_field, part_field, program_field, right_field, simple_field, stmt_field}
 use Rattle.c_program.specs.contracts.statement.Item as Item
-use Rattle.c_program.proofs.state.Mark.TheSendSync as mark
+use Rattle.c_program.proofs.state.StackMark.TheSendSync as mark
 use Rattle.rank_machine.proofs.frame.Called.TheSendSync as called
 use Rattle.mpi_call.proofs.reply.Reply.TheSendSync as reply
 use Rattle.std.proofs.option.Option.TheSendSync as option

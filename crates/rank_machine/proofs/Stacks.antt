@@ -3,18 +3,18 @@ use Rattle.std.proofs.Common.{◌≡◌, ◌≢◌, ◌∙◌, ◌+◌, ◌-◌,
 use Rattle.std.proofs.lemmas.List.{length-drop}
 use Rattle.mpi_call.specs.declared.call.Fault.{Fault}
 use Rattle.mpi_call.specs.declared.call.Fault.TheVariants.{Budget}
-use Rattle.c_program.specs.declared.expr.Call.{Call as FunctionCall}
+use Rattle.c_program.specs.declared.expr.FunctionCall.{FunctionCall}
 use Rattle.c_program.specs.declared.expr.Expr.{Expr}
 use Rattle.c_program.specs.declared.statement.Item.{Item}
 use Rattle.std.specs.Borrow.{Bor}
 use Rattle.c_program.specs.declared.program.Function.{Function}
-use Rattle.c_program.specs.declared.state.Mark.{Mark}
+use Rattle.c_program.specs.declared.state.StackMark.{StackMark}
 use Rattle.c_program.specs.declared.state.Passed.{Passed}
 use Rattle.c_program.specs.declared.statement.Part.{Part}
 use Rattle.c_program.specs.Courses.{Course, trapped}
 use Rattle.c_program.specs.Meaning.{Exits, Meaning, Passing, act, act_list, act_part, call_at, declare_all, exits_to, for_update, invoke, started, step, test, turn_exits, turns}
 use Rattle.c_program.specs.Performing.{Onward}
-use Rattle.c_program.specs.State.{State, mark_of, put}
+use Rattle.c_program.specs.State.{State, stack_mark, put}
 use Rattle.c_run_parts.specs.Comes.{Fails, Leads}
 use Rattle.c_run_parts.specs.Parts.{entered}
 use Rattle.c_run_parts.proofs.PartLaws.{entering}
@@ -67,13 +67,13 @@ fails-from course course' fail t e h = let P : Course → Type 0 = λ c. Fails c
 module _ (code : Code) (opens number : ℕ) (f : Function) (arguments : List Passed) (s : State) (few : opens < 100) (found : slice_get code.functions.now number ≡ Some f) where
   -- what stands behind the entry
   abbrev pub body_of : (ℤ → Onward) → Onward
-  body_of go t = act_list code.rank (call_at code.rank code.functions.now (100 - opens - 1)) f.body.items t (exits_to (mark_of s) go)
+  body_of go t = act_list code.rank (call_at code.rank code.functions.now (100 - opens - 1)) f.body.items t (exits_to (stack_mark s) go)
 
   pub entry : (go : ℤ → Onward) → calls_in code opens number arguments s go ≡ entered f arguments s (body_of go)
   entry go = entering code.rank code.functions.now (100 - opens) number f arguments s go (omega arith) found
 
   pub call-opens : (xs ys : List Frame) (target : Target) (body : Bor (List Part)) (stack : Stack) → Leads {K = Onward} {A = Unit {0}} (λ go done. go) (entered f arguments) s (tt {0}) stack.store
-      → body.now ≡ f.body.items → ys ≡ xs ++ Called (record { mark = mark_of s; target = target }) ∷ [] → stack.frames.items ≡ ys ++ Rest body ∷ []
+      → body.now ≡ f.body.items → ys ≡ xs ++ Called (record { mark = stack_mark s; target = target }) ∷ [] → stack.frames.items ≡ ys ++ Rest body ∷ []
       → opens ≡ (within code xs).opens → stack.opens ≡ opens + 1 → IsAt (calls_in code opens number arguments s (given_to target (within code xs).exits)) code Done stack
   call-opens xs ys target body stack leads b e e' o n =
       let less : 100 - opens - 1 ≡ 100 - suc opens = omega arith in
@@ -92,7 +92,7 @@ opens-pass code xs ys (Repeat around) e h = ap (λ (o : Open). o.opens) (pushed 
 opens-pass code xs ys (Turn update) e h = ap (λ (o : Open). o.opens) (pushed code xs ys (Turn update) e)
 opens-pass code xs ys (Called called) e h = absurd (h called refl)
 
-pub back-passes : (code : Code) (xs ys : List Frame) (f : Frame) → ys ≡ xs ++ f ∷ [] → ((called : CalledHere) → f ≢ Called called) → ((mark : Mark) → f ≢ Block mark) → (v : ℤ) (s : State)
+pub back-passes : (code : Code) (xs ys : List Frame) (f : Frame) → ys ≡ xs ++ f ∷ [] → ((called : CalledHere) → f ≢ Called called) → ((mark : StackMark) → f ≢ Block mark) → (v : ℤ) (s : State)
     → (within code ys).exits.back v s ≡ (within code xs).exits.back v s
 back-passes code xs ys (One stmt) e h h' v s = ap (λ (o : Open). o.exits.back v s) (pushed code xs ys (One stmt) e)
 back-passes code xs ys (Rest parts) e h h' v s = ap (λ (o : Open). o.exits.back v s) (pushed code xs ys (Rest parts) e)
@@ -102,7 +102,7 @@ back-passes code xs ys (Repeat around) e h h' v s = ap (λ (o : Open). o.exits.b
 back-passes code xs ys (Turn update) e h h' v s = ap (λ (o : Open). o.exits.back v s) (pushed code xs ys (Turn update) e)
 back-passes code xs ys (Called called) e h h' v s = absurd (h called refl)
 
-pub broke-passes : (code : Code) (xs ys : List Frame) (f : Frame) → ys ≡ xs ++ f ∷ [] → ((called : CalledHere) → f ≢ Called called) → ((mark : Mark) → f ≢ Block mark) → ((around : LoopHere) → f ≢ Repeat around) → (s : State)
+pub broke-passes : (code : Code) (xs ys : List Frame) (f : Frame) → ys ≡ xs ++ f ∷ [] → ((called : CalledHere) → f ≢ Called called) → ((mark : StackMark) → f ≢ Block mark) → ((around : LoopHere) → f ≢ Repeat around) → (s : State)
     → (within code ys).exits.broke s ≡ (within code xs).exits.broke s
 broke-passes code xs ys (One stmt) e h h' h'' s = ap (λ (o : Open). o.exits.broke s) (pushed code xs ys (One stmt) e)
 broke-passes code xs ys (Rest parts) e h h' h'' s = ap (λ (o : Open). o.exits.broke s) (pushed code xs ys (Rest parts) e)
@@ -112,7 +112,7 @@ broke-passes code xs ys (Repeat around) e h h' h'' s = absurd (h'' around refl)
 broke-passes code xs ys (Turn update) e h h' h'' s = ap (λ (o : Open). o.exits.broke s) (pushed code xs ys (Turn update) e)
 broke-passes code xs ys (Called called) e h h' h'' s = absurd (h called refl)
 
-pub again-passes : (code : Code) (xs ys : List Frame) (f : Frame) → ys ≡ xs ++ f ∷ [] → ((called : CalledHere) → f ≢ Called called) → ((mark : Mark) → f ≢ Block mark) → ((update : Option (Bor Simple)) → f ≢ Turn update) → (s : State)
+pub again-passes : (code : Code) (xs ys : List Frame) (f : Frame) → ys ≡ xs ++ f ∷ [] → ((called : CalledHere) → f ≢ Called called) → ((mark : StackMark) → f ≢ Block mark) → ((update : Option (Bor Simple)) → f ≢ Turn update) → (s : State)
     → (within code ys).exits.again s ≡ (within code xs).exits.again s
 again-passes code xs ys (One stmt) e h h' h'' s = ap (λ (o : Open). o.exits.again s) (pushed code xs ys (One stmt) e)
 again-passes code xs ys (Rest parts) e h h' h'' s = ap (λ (o : Open). o.exits.again s) (pushed code xs ys (Rest parts) e)

@@ -2,7 +2,7 @@
 use Rattle.std.specs.Prelude.{◌≡◌, ◌≤◌, ◌+◌, ◌-◌, ◌*◌, ℕ, ℤ, suc, List, [], ◌∷◌, Option, Some, None, Result, Ok, Err, length, ◌<◌, option_copied}
 use Rattle.c_program.specs.declared.effect.Rank.{Rank}
 use Rattle.c_program.specs.declared.expr.Expr.{Expr}
-use Rattle.c_program.specs.declared.expr.Call.{Call as FunctionCall}
+use Rattle.c_program.specs.declared.expr.FunctionCall.{FunctionCall}
 use Rattle.c_program.specs.declared.expr.Right.TheVariants.{Value as ValueRight, Call as CallRight}
 use Rattle.c_program.specs.declared.statement.Initial.{Initial}
 use Rattle.c_program.specs.declared.statement.Initial.TheVariants.{Nothing as NoInitial, Right as RightInitial, Values}
@@ -13,7 +13,7 @@ use Rattle.c_program.specs.declared.statement.Stmt.{Stmt}
 use Rattle.c_program.specs.Courses.{Course, ended}
 use Rattle.c_program.specs.Meaning.{Calls, Exits, Meaning, Passing, act, act_list, call_at, choose, declare_all, exits_to, for_start, for_update, leaving, put_values, started, test, trying, turns}
 use Rattle.c_program.specs.Performing.{Onward}
-use Rattle.c_program.specs.State.{State, leave, mark_of, put}
+use Rattle.c_program.specs.State.{State, leave, stack_mark, put}
 use Rattle.c_run_parts.specs.Comes.{Fails}
 use Rattle.c_run_parts.specs.Parts.{assigned}
 use Rattle.c_run_parts.specs.declared.fail.Fail.{Fail}
@@ -140,7 +140,7 @@ chosen rank calls e taken other s k = trying (test (Some e) s) s (λ holds. choo
 
 -- a `for`, which is a block of its own
 abbrev pub for_of : Code → ℕ → ForStart → Loop → Meaning
-for_of code opens start l s k = for_start code.rank (calls_in code opens) start s (λ t. looping code opens l t (leaving (mark_of s) k))
+for_of code opens start l s k = for_start code.rank (calls_in code opens) start s (λ t. looping code opens l t (leaving (stack_mark s) k))
 
 -- each step takes more from this than the places that it opens
 abbrev pub weight : Stack → ℕ

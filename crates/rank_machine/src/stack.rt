@@ -10,7 +10,7 @@ use c_run_cells::store::Store;
 use c_run_effects::effects::effect_of;
 use c_run_parts::fail::Fail;
 use c_run_parts::parts::{arguments_of, enter, function_at, put_assigned, take_step};
-use c_program::expr::{Call, Right};
+use c_program::expr::{FunctionCall, Right};
 use c_program::mpi::MpiCall;
 use c_program::state::Passed;
 use c_run_replies::ask::ask;
@@ -145,7 +145,7 @@ impl<'p> Stack<'p> {
     pub fn invoke(
         &mut self,
         code: &Code<'p>,
-        call: &'p Call,
+        call: &'p FunctionCall,
         target: Target,
     ) -> Result<Reached, Fail>
         requires { IsOpen code.now self.old }

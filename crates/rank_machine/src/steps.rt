@@ -10,7 +10,7 @@ use crate::stack::Stack;
 use c_run_cells::store::Store;
 use c_run_parts::fail::Fail;
 use c_run_parts::parts::{add, print, put_values_of, take_step};
-use c_program::expr::{Call, Expr, Right};
+use c_program::expr::{Expr, FunctionCall, Right};
 use c_program::statement::{ForStart, Initial, Item, Part, Simple, Stmt};
 use c_run_replies::question::{Question, Reached};
 use mpi_call::call::Fault;
@@ -342,7 +342,7 @@ fn turns_at(turns: Option<u64>, store: &Store) -> u64
 }
 
 /// The call whose value a variable begins with.
-fn call_in(initial: &Initial) -> Option<&Call>
+fn call_in(initial: &Initial) -> Option<&FunctionCall>
     ensures { option_copied result ≡ call_in initial.now }
 {
     match initial {

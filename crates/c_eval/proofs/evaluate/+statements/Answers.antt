@@ -7,7 +7,7 @@ use Rattle.c_program.specs.Courses.{after}
 use Rattle.c_program.specs.Equations.{act-block}
 use Rattle.c_program.specs.Meaning.{act, act_list, act_part, begin, call_at, declare_all, exits_to, for_start, for_update, invoke, leaving, loop, loop_after, no_update, passed_all, return, right, simple, started, test, trying, turn_exits}
 use Rattle.c_program.specs.Performing.{Onward}
-use Rattle.c_program.specs.State.{State, leave, mark_of, put}
+use Rattle.c_program.specs.State.{State, leave, stack_mark, put}
 use Rattle.c_program.specs.Values.{cell_of}
 use Rattle.c_eval.specs.Leaving.{exit}
 use Rattle.c_eval.specs.Parts.{blocked, calls_of, for_of}
@@ -82,7 +82,7 @@ act-returns-in-For t c =
 pub call_function-returns-in_err-enter : goal.call_function-returns-in_err-enter
 call_function-returns-in_err-enter t c =
     let p = err_from_is_err_and c.from_residual.result c.from_residual.ensures.1 in
-    rw (p.1, p.2) (λ k. stops-from _ _ _ _ _ (ap (λ x. after x c.args.replies.now) (entering c.args.calls.now.rank c.args.calls.now.functions.now c.args.calls.now.depth c.args.number c.in-Some.function.now c.args.arguments.now c.args.store.now k (omega arith) c.in-Some.ensures.some)) (fails-stops _ _ _ c.args.replies.now (c.in_err-enter.ensures (λ s. act_list c.args.calls.now.rank (call_at c.args.calls.now.rank c.args.calls.now.functions.now (c.args.calls.now.depth - 1)) c.in-Some.function.now.body.items s (exits_to (mark_of c.args.store.now) k)))))
+    rw (p.1, p.2) (λ k. stops-from _ _ _ _ _ (ap (λ x. after x c.args.replies.now) (entering c.args.calls.now.rank c.args.calls.now.functions.now c.args.calls.now.depth c.args.number c.in-Some.function.now c.args.arguments.now c.args.store.now k (omega arith) c.in-Some.ensures.some)) (fails-stops _ _ _ c.args.replies.now (c.in_err-enter.ensures (λ s. act_list c.args.calls.now.rank (call_at c.args.calls.now.rank c.args.calls.now.functions.now (c.args.calls.now.depth - 1)) c.in-Some.function.now.body.items s (exits_to (stack_mark c.args.store.now) k)))))
 
 pub call_function-run_list-requires : goal.call_function-run_list-requires
 call_function-run_list-requires t c =
@@ -94,14 +94,14 @@ call_function-run_list-requires t c =
 pub call_function-returns-in_err-flow : goal.call_function-returns-in_err-flow
 call_function-returns-in_err-flow t c =
     let p = err_from_is_err_and c.from_residual-in_err-flow.result c.from_residual-in_err-flow.ensures.1 in
-    rw (p.1, p.2) (λ k. stops-from _ _ _ _ _ (ap (λ x. after x c.args.replies.now) (entering c.args.calls.now.rank c.args.calls.now.functions.now c.args.calls.now.depth c.args.number c.in-Some.function.now c.args.arguments.now c.args.store.now k (omega arith) c.in-Some.ensures.some) ∙ (lifted c.in_ok-enter.ensures c.args.replies.now).at (λ s. act_list c.args.calls.now.rank (call_at c.args.calls.now.rank c.args.calls.now.functions.now (c.args.calls.now.depth - 1)) c.in-Some.function.now.body.items s (exits_to (mark_of c.args.store.now) k)) ∙ rw c.deref.ensures.value refl) (c.in_err-flow.ensures (exits_to (mark_of c.args.store.now) k)))
+    rw (p.1, p.2) (λ k. stops-from _ _ _ _ _ (ap (λ x. after x c.args.replies.now) (entering c.args.calls.now.rank c.args.calls.now.functions.now c.args.calls.now.depth c.args.number c.in-Some.function.now c.args.arguments.now c.args.store.now k (omega arith) c.in-Some.ensures.some) ∙ (lifted c.in_ok-enter.ensures c.args.replies.now).at (λ s. act_list c.args.calls.now.rank (call_at c.args.calls.now.rank c.args.calls.now.functions.now (c.args.calls.now.depth - 1)) c.in-Some.function.now.body.items s (exits_to (stack_mark c.args.store.now) k)) ∙ rw c.deref.ensures.value refl) (c.in_err-flow.ensures (exits_to (stack_mark c.args.store.now) k)))
 
 pub call_function-returns : goal.call_function-returns
 call_function-returns t c =
-    let is : c.leave.new.self ≡ leave (mark_of c.args.store.now) c.run_list.new.store = cc in
+    let is : c.leave.new.self ≡ leave (stack_mark c.args.store.now) c.run_list.new.store = cc in
     let fits : FitsSigned w32 c.value_in.result = search rules in
-    rw (to_z-of_z w32 c.value_in.result fits, c.value_in.ensures) (call-closes ((calls_of c.args.calls.now) c.args.number c.args.arguments.now) (act_list c.args.calls.now.rank (call_at c.args.calls.now.rank c.args.calls.now.functions.now (c.args.calls.now.depth - 1)) c.deref.result.now) (mark_of c.args.store.now) c.in_ok-flow.flow c.args.store.now c.enter.new.store c.run_list.new.store c.leave.new.self c.args.replies.now c.args.replies.now c.run_list.new.replies
-    (λ k. ap (λ x. after x c.args.replies.now) (entering c.args.calls.now.rank c.args.calls.now.functions.now c.args.calls.now.depth c.args.number c.in-Some.function.now c.args.arguments.now c.args.store.now k (omega arith) c.in-Some.ensures.some) ∙ (lifted c.in_ok-enter.ensures c.args.replies.now).at (λ s. act_list c.args.calls.now.rank (call_at c.args.calls.now.rank c.args.calls.now.functions.now (c.args.calls.now.depth - 1)) c.in-Some.function.now.body.items s (exits_to (mark_of c.args.store.now) k)) ∙ rw c.deref.ensures.value refl) ((lifted c.in_ok-enter.ensures c.args.replies.now).left) (c.in_ok-flow.ensures) is)
+    rw (to_z-of_z w32 c.value_in.result fits, c.value_in.ensures) (call-closes ((calls_of c.args.calls.now) c.args.number c.args.arguments.now) (act_list c.args.calls.now.rank (call_at c.args.calls.now.rank c.args.calls.now.functions.now (c.args.calls.now.depth - 1)) c.deref.result.now) (stack_mark c.args.store.now) c.in_ok-flow.flow c.args.store.now c.enter.new.store c.run_list.new.store c.leave.new.self c.args.replies.now c.args.replies.now c.run_list.new.replies
+    (λ k. ap (λ x. after x c.args.replies.now) (entering c.args.calls.now.rank c.args.calls.now.functions.now c.args.calls.now.depth c.args.number c.in-Some.function.now c.args.arguments.now c.args.store.now k (omega arith) c.in-Some.ensures.some) ∙ (lifted c.in_ok-enter.ensures c.args.replies.now).at (λ s. act_list c.args.calls.now.rank (call_at c.args.calls.now.rank c.args.calls.now.functions.now (c.args.calls.now.depth - 1)) c.in-Some.function.now.body.items s (exits_to (stack_mark c.args.store.now) k)) ∙ rw c.deref.ensures.value refl) ((lifted c.in_ok-enter.ensures c.args.replies.now).left) (c.in_ok-flow.ensures) is)
 
 pub declare-returns-in_err-cell : goal.declare-returns-in_err-cell
 declare-returns-in_err-cell t c =
@@ -220,29 +220,29 @@ run-returns t c =
 pub run_block-returns-in_err-flow : goal.run_block-returns-in_err-flow
 run_block-returns-in_err-flow t c =
     let p = err_from_is_err_and c.from_residual.result c.from_residual.ensures.1 in
-    rw (p.1, p.2) (λ k. c.in_err-flow.ensures (leaving (mark_of c.args.store.now) k))
+    rw (p.1, p.2) (λ k. c.in_err-flow.ensures (leaving (stack_mark c.args.store.now) k))
 
 pub run_block-returns : goal.run_block-returns
 run_block-returns t c =
-    let is : c.leave.new.self ≡ leave (mark_of c.args.store.now) c.run_list.new.store = cc in
-    block-closes (blocked (act_list c.args.calls.now.rank (calls_of c.args.calls.now) c.args.parts.now)) (act_list c.args.calls.now.rank (calls_of c.args.calls.now) c.args.parts.now) (mark_of c.args.store.now) c.in_ok-flow.flow c.args.store.now c.args.store.now c.run_list.new.store c.leave.new.self c.args.replies.now c.args.replies.now c.run_list.new.replies
+    let is : c.leave.new.self ≡ leave (stack_mark c.args.store.now) c.run_list.new.store = cc in
+    block-closes (blocked (act_list c.args.calls.now.rank (calls_of c.args.calls.now) c.args.parts.now)) (act_list c.args.calls.now.rank (calls_of c.args.calls.now) c.args.parts.now) (stack_mark c.args.store.now) c.in_ok-flow.flow c.args.store.now c.args.store.now c.run_list.new.store c.leave.new.self c.args.replies.now c.args.replies.now c.run_list.new.replies
     (λ k. refl) (omega arith) (c.in_ok-flow.ensures) is
 
 pub run_for-returns-in_err-start_for : goal.run_for-returns-in_err-start_for
 run_for-returns-in_err-start_for t c =
     let p = err_from_is_err_and c.from_residual.result c.from_residual.ensures.1 in
-    rw (p.1, p.2) (λ k. c.in_err-start_for.ensures (λ s. loop (option_copied c.args.test) (for_update c.args.calls.now.rank (calls_of c.args.calls.now) (option_copied c.args.update)) (started (act c.args.calls.now.rank (calls_of c.args.calls.now) c.args.body.now)) s (leaving (mark_of c.args.store.now) k)))
+    rw (p.1, p.2) (λ k. c.in_err-start_for.ensures (λ s. loop (option_copied c.args.test) (for_update c.args.calls.now.rank (calls_of c.args.calls.now) (option_copied c.args.update)) (started (act c.args.calls.now.rank (calls_of c.args.calls.now) c.args.body.now)) s (leaving (stack_mark c.args.store.now) k)))
 
 pub run_for-returns-in_err-flow : goal.run_for-returns-in_err-flow
 run_for-returns-in_err-flow t c =
     let p = err_from_is_err_and c.from_residual-in_err-flow.result c.from_residual-in_err-flow.ensures.1 in
-    rw (p.1, p.2) (λ k. stops-from _ _ _ _ _ (c.in_ok-start_for.ensures.at (λ s. loop (option_copied c.args.test) (for_update c.args.calls.now.rank (calls_of c.args.calls.now) (option_copied c.args.update)) (started (act c.args.calls.now.rank (calls_of c.args.calls.now) c.args.body.now)) s (leaving (mark_of c.args.store.now) k))) (c.in_err-flow.ensures (leaving (mark_of c.args.store.now) k)))
+    rw (p.1, p.2) (λ k. stops-from _ _ _ _ _ (c.in_ok-start_for.ensures.at (λ s. loop (option_copied c.args.test) (for_update c.args.calls.now.rank (calls_of c.args.calls.now) (option_copied c.args.update)) (started (act c.args.calls.now.rank (calls_of c.args.calls.now) c.args.body.now)) s (leaving (stack_mark c.args.store.now) k))) (c.in_err-flow.ensures (leaving (stack_mark c.args.store.now) k)))
 
 pub run_for-returns : goal.run_for-returns
 run_for-returns t c =
-    let is : c.leave.new.self ≡ leave (mark_of c.args.store.now) c.repeat.new.store = cc in
-    block-closes (for_of c.args.calls.now.rank (calls_of c.args.calls.now) c.args.start.now (option_copied c.args.test) (option_copied c.args.update) (started (act c.args.calls.now.rank (calls_of c.args.calls.now) c.args.body.now))) (loop (option_copied c.args.test) (for_update c.args.calls.now.rank (calls_of c.args.calls.now) (option_copied c.args.update)) (started (act c.args.calls.now.rank (calls_of c.args.calls.now) c.args.body.now))) (mark_of c.args.store.now) c.in_ok-flow.flow c.args.store.now c.start_for.new.store c.repeat.new.store c.leave.new.self c.args.replies.now c.start_for.new.replies c.repeat.new.replies
-    (λ k. c.in_ok-start_for.ensures.at (λ s. loop (option_copied c.args.test) (for_update c.args.calls.now.rank (calls_of c.args.calls.now) (option_copied c.args.update)) (started (act c.args.calls.now.rank (calls_of c.args.calls.now) c.args.body.now)) s (leaving (mark_of c.args.store.now) k))) (c.in_ok-start_for.ensures.left) (c.in_ok-flow.ensures) is
+    let is : c.leave.new.self ≡ leave (stack_mark c.args.store.now) c.repeat.new.store = cc in
+    block-closes (for_of c.args.calls.now.rank (calls_of c.args.calls.now) c.args.start.now (option_copied c.args.test) (option_copied c.args.update) (started (act c.args.calls.now.rank (calls_of c.args.calls.now) c.args.body.now))) (loop (option_copied c.args.test) (for_update c.args.calls.now.rank (calls_of c.args.calls.now) (option_copied c.args.update)) (started (act c.args.calls.now.rank (calls_of c.args.calls.now) c.args.body.now))) (stack_mark c.args.store.now) c.in_ok-flow.flow c.args.store.now c.start_for.new.store c.repeat.new.store c.leave.new.self c.args.replies.now c.start_for.new.replies c.repeat.new.replies
+    (λ k. c.in_ok-start_for.ensures.at (λ s. loop (option_copied c.args.test) (for_update c.args.calls.now.rank (calls_of c.args.calls.now) (option_copied c.args.update)) (started (act c.args.calls.now.rank (calls_of c.args.calls.now) c.args.body.now)) s (leaving (stack_mark c.args.store.now) k))) (c.in_ok-start_for.ensures.left) (c.in_ok-flow.ensures) is
 
 pub run_list-returns-in_err-flow : goal.run_list-returns-in_err-flow
 run_list-returns-in_err-flow t c =

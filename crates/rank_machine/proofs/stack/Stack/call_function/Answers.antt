@@ -1,7 +1,7 @@
 use Rattle.std.proofs.Common.{◌≡◌, ◌∙◌, ◌++◌, ◌∷◌, [], ap, arith, refl}
 use Rattle.std.proofs.lemmas.Result.{err_from_is_err_and}
-use Rattle.c_program.specs.declared.state.Mark.{Mark}
-use Rattle.c_program.specs.State.{mark_of}
+use Rattle.c_program.specs.declared.state.StackMark.{StackMark}
+use Rattle.c_program.specs.State.{stack_mark}
 use Rattle.rank_machine.specs.declared.frame.Frame.TheVariants.{Called}
 use Rattle.rank_machine.specs.Frames.{given_to, within}
 use Rattle.rank_machine.proofs.Stacks.{body_of, call-opens, entry, fails-from}
@@ -17,7 +17,7 @@ returns-in_err-enter-clause-stands c =
 
 pub returns-clause-stands : goal.returns-clause-stands
 returns-clause-stands c =
-    let called : c.push.new.self.items ≡ c.args.self.now.frames.items ++ Called (record { mark = mark_of c.args.self.now.store; target = c.args.target }) ∷ [] =
-    c.in_ok-push.ensures.items ∙ ap (λ (mark : Mark). c.args.self.now.frames.items ++ Called (record { mark = mark; target = c.args.target }) ∷ []) c.mark-mark.ensures in
+    let called : c.push.new.self.items ≡ c.args.self.now.frames.items ++ Called (record { mark = stack_mark c.args.self.now.store; target = c.args.target }) ∷ [] =
+    c.in_ok-push.ensures.items ∙ ap (λ (mark : StackMark). c.args.self.now.frames.items ++ Called (record { mark = mark; target = c.args.target }) ∷ []) c.mark-mark.ensures in
     call-opens c.args.code.now c.args.self.now.opens c.args.number c.in-Some.function.now c.args.arguments.now c.args.self.now.store (omega arith) c.in-Some.ensures.some
     c.args.self.now.frames.items c.push.new.self.items c.args.target c.deref.result _ c.in_ok-enter.ensures c.deref.ensures.value called c.in_ok-push-2.ensures.items c.requires refl
