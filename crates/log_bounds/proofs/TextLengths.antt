@@ -22,7 +22,7 @@ use Rattle.srr_entry.specs.declared.entry.Entry.{Entry}
 use Rattle.srr_entry.specs.declared.log.Log.{Log}
 use Rattle.srr_entry.specs.Entries.{entries_from, entry_of, entry_of_done, is_inner, log_of, mark_of, marks_of}
 use Rattle.srr_text.specs.Bounds.{AreEntries, IsInBounds, IsList}
-use Rattle.srr_text.specs.EntryText.{each_behind, entry_line}
+use Rattle.srr_text.specs.EntryText.{each_after, entry_line}
 use Rattle.srr_text.specs.LogText.{entries_text, group_text, line, list_head_text, lists_text, log_text, program_text}
 use Rattle.wiz_base.specs.Decimals.{decimal_text}
 use Rattle.log_bounds.proofs.FewRanks.{few_ranks}
@@ -89,7 +89,7 @@ text_short log many is =
     let b = line_length log.program lists in
     let c = line_length (codes "program " ++ decimal_text (length log.program)) (line log.program lists) in
     let ranks = ranks_behind 32 log.ranks log.group few below in
-    let d = line_length (codes "group" ++ each_behind 32 (map decimal_text log.group)) (program_text log.program lists) in
+    let d = line_length (codes "group" ++ each_after 32 (map decimal_text log.group)) (program_text log.program lists) in
     let number = two_digits log.ranks (omega (arith, few)) in
     let e = line_length (codes "ranks " ++ decimal_text log.ranks) (group_text log.group (program_text log.program lists)) in
     let f = line_length (codes "srr 1") (line (codes "ranks " ++ decimal_text log.ranks) (group_text log.group (program_text log.program lists))) in

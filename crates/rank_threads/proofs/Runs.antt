@@ -4,7 +4,7 @@ use Rattle.mpi_call.specs.Collectives.{is_distinct}
 use Rattle.run_model.specs.declared.event.Event.{Event}
 use Rattle.run_model.specs.Program.{Standing}
 use Rattle.srr_entry.specs.declared.log.Log.{Log}
-use Rattle.replay_model.specs.Replays.{Stop}
+use Rattle.replay_model.specs.Replays.{Breakpoint}
 use Rattle.srr_record.specs.Recordings.{AreRuns}
 use Rattle.srr_replay.specs.Rounds.{RunAll}
 use Rattle.srr_replay.proofs.RoundsLemmas.{member_of}
@@ -31,7 +31,7 @@ module _ {P R : Type 0} (standing : R → Standing P) where
       }
 
   -- of a replay
-  pub run_all : (program : P) (log : Log) (stop : Stop) (events : List Event) (runs : List R) → is_distinct log.group ≡ true
+  pub run_all : (program : P) (log : Log) (stop : Breakpoint) (events : List Event) (runs : List R) → is_distinct log.group ≡ true
       → AreRunsAfter replay_reading standing (program, log, stop) log.group (numbered (place_in log.group) events) runs → RunAll standing program log events runs
   run_all program log stop events runs distinct are =
       record {

@@ -3,7 +3,7 @@ use Rattle.std.specs.Prelude.{ℕ, nat_lt}
 use Rattle.mpi_call.specs.Collectives.{is_member}
 use Rattle.run_model.specs.declared.event.Event.{Event}
 use Rattle.srr_entry.specs.declared.log.Log.{Log}
-use Rattle.replay_model.specs.Replays.{Stop}
+use Rattle.replay_model.specs.Replays.{Breakpoint}
 use Rattle.rank_threads.specs.Reading.{Reading}
 use Rattle.rank_threads.specs.Numbered.{place_in}
 
@@ -18,7 +18,7 @@ machine_reading = record {
 }
 
 -- the ranks of the group run, and the seat of each has the number of its place
-abbrev pub replay_reading : {P : Type 0} → Reading P Event (P × Log × Stop)
+abbrev pub replay_reading : {P : Type 0} → Reading P Event (P × Log × Breakpoint)
 replay_reading = record {
   program = λ f. f.0;
   ranks = λ f. f.1.ranks;

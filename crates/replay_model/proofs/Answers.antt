@@ -15,7 +15,7 @@ use Rattle.replay_model.specs.declared.step.Step.TheVariants.{Diverged, Replied,
 use Rattle.replay_model.specs.Breaks.{broken}
 use Rattle.replay_model.specs.Filling.{filled}
 use Rattle.replay_model.specs.Fits.{fits}
-use Rattle.replay_model.specs.Replays.{Stop, answer_of, entry_answer, is_break, judged}
+use Rattle.replay_model.specs.Replays.{Breakpoint, answer_of, entry_answer, is_break, judged}
 use Rattle.replay_model.proofs.Filled.{filled-same}
 
 -- the answer is that one waits
@@ -42,7 +42,7 @@ entry_answer-same n group V W own me call (Some entry) begins =
     ]
 
 -- the answer, unless it is to wait, is the same over longer views of the others
-pub answer_of-same : (log : Log) (stop : Stop) (V W : ℕ → View) (own : View) (me : ℕ) (call : Call) → Begins V W
+pub answer_of-same : (log : Log) (stop : Breakpoint) (V W : ℕ → View) (own : View) (me : ℕ) (call : Call) → Begins V W
     → WaitsOr (answer_of log stop V own me call) (answer_of log stop W own me call ≡ answer_of log stop V own me call)
 answer_of-same log stop V W own me call begins =
     elim (test_cases (is_break stop me (length own))) [
@@ -55,7 +55,7 @@ replied step step2 reply (waits missing w) h = absurd (let e : Wait missing ≡ 
 replied step step2 reply (goes same) h = same ∙ h
 
 -- a reply stays the reply
-pub answer_of-replied : (log : Log) (stop : Stop) (V W : ℕ → View) (own : View) (me : ℕ) (call : Call) (reply : Reply)
+pub answer_of-replied : (log : Log) (stop : Breakpoint) (V W : ℕ → View) (own : View) (me : ℕ) (call : Call) (reply : Reply)
     → Begins V W → answer_of log stop V own me call ≡ Replied reply → answer_of log stop W own me call ≡ Replied reply
 answer_of-replied log stop V W own me call reply begins h = replied _ _ reply (answer_of-same log stop V W own me call begins) h
 
@@ -65,6 +65,6 @@ diverges step step2 divergence (waits missing w) h = absurd (let e : Wait missin
 diverges step step2 divergence (goes same) h = same ∙ h
 
 -- a divergence stays the divergence
-pub answer_of-diverged : (log : Log) (stop : Stop) (V W : ℕ → View) (own : View) (me : ℕ) (call : Call) (divergence : Divergence)
+pub answer_of-diverged : (log : Log) (stop : Breakpoint) (V W : ℕ → View) (own : View) (me : ℕ) (call : Call) (divergence : Divergence)
     → Begins V W → answer_of log stop V own me call ≡ Diverged divergence → answer_of log stop W own me call ≡ Diverged divergence
 answer_of-diverged log stop V W own me call divergence begins h = diverges _ _ divergence (answer_of-same log stop V W own me call begins) h

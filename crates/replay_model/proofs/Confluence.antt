@@ -14,20 +14,20 @@ use Rattle.run_model.proofs.Prefixes.{Begins, Begins-more, prefix-both}
 use Rattle.run_model.proofs.Views.{test_cases, view_of-mine, view_of-other}
 use Rattle.srr_entry.specs.declared.log.Log.{Log}
 use Rattle.replay_model.specs.declared.step.Step.TheVariants.{Replied}
-use Rattle.replay_model.specs.Replays.{IsExhausted, IsStep, IsWholeReplay, Replays, Stop, answer_of}
+use Rattle.replay_model.specs.Replays.{IsExhausted, IsStep, IsWholeReplay, Replays, Breakpoint, answer_of}
 use Rattle.replay_model.specs.Stands.{printed_of, stand_of, stand_where}
 use Rattle.replay_model.proofs.Answers.{answer_of-replied}
 use mathlib.Core.Path.{fun_ext}
 
 -- Any two replays that can go no further have the same views.
-step_at : (next : Next) (log : Log) (stop : Stop) (before : List Event) (event : Event) (rank : ℕ) (view : View) (call : Call) (reply : Reply)
+step_at : (next : Next) (log : Log) (stop : Breakpoint) (before : List Event) (event : Event) (rank : ℕ) (view : View) (call : Call) (reply : Reply)
     → IsStep next log stop before event → event.rank ≡ rank → view_of before rank ≡ view → event.call ≡ call → event.reply ≡ reply
     → (next log.ranks rank (replies_in view) ≡ Some call) × (answer_of log stop (view_of before) view rank call ≡ Replied reply) × (is_member log.group rank ≡ true)
 step_at next log stop before event rank view call reply step rank_is view_is call_is reply_is =
     (rw (← view_is, ← call_is, ← rank_is) step.call, rw (← view_is, ← call_is, ← reply_is, ← rank_is) step.reply, rw (← rank_is) step.member)
 
 -- the event at this place of a replay, as a step over the views of all of it
-pub step_in : (next : Next) (log : Log) (stop : Stop) (events : List Event) (rank : ℕ) (view : View) (call : Call) (reply : Reply) (rest : View)
+pub step_in : (next : Next) (log : Log) (stop : Breakpoint) (events : List Event) (rank : ℕ) (view : View) (call : Call) (reply : Reply) (rest : View)
     → Replays next log stop events → view_of events rank ≡ view ++ (call, reply) ∷ rest
     → (next log.ranks rank (replies_in view) ≡ Some call) × (answer_of log stop (view_of events) view rank call ≡ Replied reply) × (is_member log.group rank ≡ true)
 step_in next log stop events rank view call reply rest all e =
@@ -39,7 +39,7 @@ step_in next log stop events rank view call reply rest all e =
     (found.0, answer_of-replied log stop (view_of at.before) (view_of events) view rank call reply views found.1, found.2)
 
 -- the next event of a rank in one replay stands in the other too, where that has gone further or can go no further
-next_in : (next : Next) (log : Log) (stop : Stop) (before other : List Event) (event : Event) (rest : View)
+next_in : (next : Next) (log : Log) (stop : Breakpoint) (before other : List Event) (event : Event) (rest : View)
     → Replays next log stop other → IsExhausted next log stop other → Begins (view_of before) (view_of other)
     → IsStep next log stop before event → view_of before event.rank ++ rest ≡ view_of other event.rank
     → IsPrefixOf (view_of before event.rank ++ (event.call, event.reply) ∷ []) (view_of other event.rank)
@@ -61,7 +61,7 @@ next_in next log stop before other event ((call, reply) ∷ rest) all done begin
     let same_reply : reply ≡ event.reply = cc in
     (rest, rw (append_assoc, ← same_call, ← same_reply) e)
 
-keeps : (next : Next) (log : Log) (stop : Stop) (other : List Event) → Replays next log stop other
+keeps : (next : Next) (log : Log) (stop : Breakpoint) (other : List Event) → Replays next log stop other
     → IsExhausted next log stop other → (before : List Event) (event : Event) → Begins (view_of before) (view_of other)
     → IsStep next log stop before event → Begins (view_of (before ++ event ∷ [])) (view_of other)
 keeps next log stop other all done before event begins step rank =
@@ -75,30 +75,30 @@ keeps next log stop other all done before event begins step rank =
     ]
 
 -- a replay begins each that can go no further
-pub Begins-exhausted : (next : Next) (log : Log) (stop : Stop) (events other : List Event) → Replays next log stop events
+pub Begins-exhausted : (next : Next) (log : Log) (stop : Breakpoint) (events other : List Event) → Replays next log stop events
     → Replays next log stop other → IsExhausted next log stop other → Begins (view_of events) (view_of other)
 Begins-exhausted next log stop events other all all_other done =
     Along-keeps (IsStep next log stop) (λ before. Begins (view_of before) (view_of other)) (keeps next log stop other all_other done) [] events (λ rank. (view_of other rank, refl)) all
 
-pub confluence : (next : Next) (log : Log) (stop : Stop) (events other : List Event) → IsWholeReplay next log stop events
+pub confluence : (next : Next) (log : Log) (stop : Breakpoint) (events other : List Event) → IsWholeReplay next log stop events
     → IsWholeReplay next log stop other → (rank : ℕ) → view_of events rank ≡ view_of other rank
 confluence next log stop events other all all_other rank =
     prefix-both (view_of events rank) (view_of other rank)
     (Begins-exhausted next log stop events other all.replays all_other.replays all_other.exhausted rank)
     (Begins-exhausted next log stop other events all_other.replays all.replays all.exhausted rank)
 
-same_views : (next : Next) (log : Log) (stop : Stop) (events other : List Event) → IsWholeReplay next log stop events
+same_views : (next : Next) (log : Log) (stop : Breakpoint) (events other : List Event) → IsWholeReplay next log stop events
     → IsWholeReplay next log stop other → view_of events ≡ view_of other
 same_views next log stop events other all all_other = fun_ext (confluence next log stop events other all all_other)
 
 -- so the same outputs, and the same stands
-pub same_outputs : (next : Next) (output : ℕ → ℕ → List Reply → List ℕ) (log : Log) (stop : Stop) (events other : List Event)
+pub same_outputs : (next : Next) (output : ℕ → ℕ → List Reply → List ℕ) (log : Log) (stop : Breakpoint) (events other : List Event)
     → IsWholeReplay next log stop events → IsWholeReplay next log stop other → (rank : ℕ)
     → printed_of output log.ranks events rank ≡ printed_of output log.ranks other rank
 same_outputs next output log stop events other all all_other rank =
     ap (λ (V : ℕ → View). output log.ranks rank (replies_in (V rank))) (same_views next log stop events other all all_other)
 
-pub same_stands : (next : Next) (variables : ℕ → ℕ → List Reply → List Variable) (log : Log) (stop : Stop) (events other : List Event)
+pub same_stands : (next : Next) (variables : ℕ → ℕ → List Reply → List Variable) (log : Log) (stop : Breakpoint) (events other : List Event)
     → IsWholeReplay next log stop events → IsWholeReplay next log stop other → (rank : ℕ)
     → stand_of next variables log stop events rank ≡ stand_of next variables log stop other rank
 same_stands next variables log stop events other all all_other rank =

@@ -27,7 +27,7 @@ use Rattle.replay_model.specs.Breaks.{broken}
 use Rattle.replay_model.specs.Filling.{filled}
 use Rattle.replay_model.specs.Fits.{fits}
 use Rattle.replay_model.specs.Laws.{EachStand, HasAllOf, HasTheCut, IsDone, IsRunWith}
-use Rattle.replay_model.specs.Replays.{IsWholeReplay, Replays, Stop, answer_of, diverged, is_break, judged}
+use Rattle.replay_model.specs.Replays.{IsWholeReplay, Replays, Breakpoint, answer_of, diverged, is_break, judged}
 use Rattle.replay_model.specs.Rests.{Among, IsCutOff, follows, rank_of, rests, rests_on, stops}
 use Rattle.replay_model.specs.Stands.{stand_where}
 use Rattle.replay_model.proofs.Answers.{answer_of-same, goes, waits}
@@ -80,7 +80,7 @@ judged-waits me own call entry (Ok other) (Some found) missing h = absurd (cc)
 judged-waits me own call entry (Ok other) None missing h = absurd (cc)
 
 -- what stands at a place of a replay stands there in the run
-at_place : (next : Next) (log : Log) (stop : Stop) (run events : List Event) (rank : ℕ) (view rest : View) (call : Call) (reply : Reply)
+at_place : (next : Next) (log : Log) (stop : Breakpoint) (run events : List Event) (rank : ℕ) (view rest : View) (call : Call) (reply : Reply)
     → IsRunWith next log run → Replays next log stop events → view_of run rank ≡ view ++ (call, reply) ∷ rest
     → length view < length (view_of events rank) → answer_of log stop (view_of events) view rank call ≡ Replied reply
 at_place next log stop run events rank view rest call reply is all e below =
@@ -94,7 +94,7 @@ at_place next log stop run events rank view rest call reply is all e below =
     (step_in next log stop events rank view call reply cut.rest all here).1
 
 -- no place of a replay is cut off
-pub cut_off_not : (next : Next) (log : Log) (stop : Stop) (run events : List Event) (rank number : ℕ) → IsRunWith next log run
+pub cut_off_not : (next : Next) (log : Log) (stop : Breakpoint) (run events : List Event) (rank number : ℕ) → IsRunWith next log run
     → Replays next log stop events → IsCutOff log.ranks log.group (view_of run) stop rank number
     → number < length (view_of events rank) → ⊥
 cut_off_not next log stop run events _ _ is all (stops rank number t) below =
@@ -121,7 +121,7 @@ cut_off_not next log stop run events _ _ is all (rests_on rank view rest call re
     cut_off_not next log stop run events (rank_of missing) number is all off (subst F same place.2)
 
 -- an answer to wait names what is missing
-waits_for : (log : Log) (stop : Stop) (V : ℕ → View) (own : View) (me : ℕ) (call : Call) (entry : Entry) (missing : Missing)
+waits_for : (log : Log) (stop : Breakpoint) (V : ℕ → View) (own : View) (me : ℕ) (call : Call) (entry : Entry) (missing : Missing)
     → slice_get (entries_for log.group log.lists me) (length own) ≡ Some entry → answer_of log stop V own me call ≡ Wait missing
     → filled log.ranks V own me call entry ≡ Err missing
 waits_for log stop V own me call entry missing e h =
@@ -133,7 +133,7 @@ waits_for log stop V own me call entry missing e h =
       ]
     ]
 
-not_break : (n : ℕ) (group : List ℕ) (V : ℕ → View) (stop : Stop) (rank number : ℕ) → (IsCutOff n group V stop rank number → ⊥)
+not_break : (n : ℕ) (group : List ℕ) (V : ℕ → View) (stop : Breakpoint) (rank number : ℕ) → (IsCutOff n group V stop rank number → ⊥)
     → is_break stop rank number ≡ false
 not_break n group V stop rank number free =
     elim (test_cases (is_break stop rank number)) [
@@ -142,11 +142,11 @@ not_break n group V stop rank number free =
     ]
 
 -- all places so far that are not cut off are replayed
-abbrev HasFree : ℕ → List ℕ → (ℕ → View) → Stop → List Event → List Event → Type 0
+abbrev HasFree : ℕ → List ℕ → (ℕ → View) → Breakpoint → List Event → List Event → Type 0
 HasFree n group V stop events before =
     (rank number : ℕ) → is_member group rank ≡ true → number < length (view_of before rank) → (IsCutOff n group V stop rank number → ⊥) → number < length (view_of events rank)
 
-missing_there : (n : ℕ) (group : List ℕ) (stop : Stop) (run events before : List Event) (rank : ℕ) (view rest : View) (call : Call) (reply : Reply) (missing : Missing)
+missing_there : (n : ℕ) (group : List ℕ) (stop : Breakpoint) (run events before : List Event) (rank : ℕ) (view rest : View) (call : Call) (reply : Reply) (missing : Missing)
     → HasFree n group (view_of run) stop events before → Begins (view_of events) (view_of run)
     → Begins (view_of before) (view_of run) → is_member group rank ≡ true → view_of run rank ≡ view ++ (call, reply) ∷ rest
     → (IsCutOff n group (view_of run) stop rank (length view) → ⊥)
@@ -166,7 +166,7 @@ missing_there n group stop run events before rank view rest call reply missing h
     ]
 
 -- the next place, where it is not cut off, is a step
-next_free : (next : Next) (log : Log) (stop : Stop) (run events before after : List Event) (event : Event) → Lawful next
+next_free : (next : Next) (log : Log) (stop : Breakpoint) (run events before after : List Event) (event : Event) → Lawful next
     → IsRunWith next log run → IsWholeReplay next log stop events → run ≡ before ++ event ∷ after
     → HasFree log.ranks log.group (view_of run) stop events before → is_member log.group event.rank ≡ true
     → (IsCutOff log.ranks log.group (view_of run) stop event.rank (length (view_of before event.rank)) → ⊥)
@@ -203,7 +203,7 @@ next_free next log stop run events before after event lawful is all e has member
           cc)
     ]
 
-free_below : (n : ℕ) (group : List ℕ) (stop : Stop) (run events before : List Event) (rank number : ℕ)
+free_below : (n : ℕ) (group : List ℕ) (stop : Breakpoint) (run events before : List Event) (rank number : ℕ)
     → HasFree n group (view_of run) stop events before → is_member group rank ≡ true
     → (IsCutOff n group (view_of run) stop rank number → ⊥) → number ≤ length (view_of before rank)
     → number ≤ length (view_of events rank)
@@ -212,7 +212,7 @@ free_below n group stop run events before rank (suc number) has member free h =
     let below = has rank number member (omega arith) (λ b. free (follows rank number b)) in
     omega arith
 
-free_step : (next : Next) (log : Log) (stop : Stop) (run events : List Event) → Lawful next → IsRunWith next log run
+free_step : (next : Next) (log : Log) (stop : Breakpoint) (run events : List Event) → Lawful next → IsRunWith next log run
     → IsWholeReplay next log stop events → (before after : List Event) (event : Event) → run ≡ before ++ event ∷ after
     → HasFree log.ranks log.group (view_of run) stop events before
     → HasFree log.ranks log.group (view_of run) stop events (before ++ event ∷ [])
@@ -255,7 +255,7 @@ free_step next log stop run events lawful is all before after event e has rank n
     ]
 
 -- a replay that can go no further has each place of the group that is not cut off
-has_free : (next : Next) (log : Log) (stop : Stop) (run events : List Event) → Lawful next → IsRunWith next log run
+has_free : (next : Next) (log : Log) (stop : Breakpoint) (run events : List Event) → Lawful next → IsRunWith next log run
     → IsWholeReplay next log stop events → HasFree log.ranks log.group (view_of run) stop events run
 has_free next log stop run events lawful is all =
     walk run (HasFree log.ranks log.group (view_of run) stop events) (free_step next log stop run events lawful is all) [] run refl (λ rank number member below free. absurd (omega arith))
@@ -266,7 +266,7 @@ longer_of xs ys number prefix below =
     omega arith
 
 -- the exact cut
-pub cut_law : (next : Next) (log : Log) (stop : Stop) (run events : List Event) → Lawful next → IsRunWith next log run
+pub cut_law : (next : Next) (log : Log) (stop : Breakpoint) (run events : List Event) → Lawful next → IsRunWith next log run
     → IsWholeReplay next log stop events → HasTheCut log stop events run
 cut_law next log stop run events lawful is all rank number = (
   λ below. (
@@ -286,7 +286,7 @@ cut_law next log stop run events lawful is all rank number = (
 )
 
 -- without a breakpoint nothing is cut off
-none_cut_off : (n : ℕ) (group : List ℕ) (V : ℕ → View) (stop : Stop) (rank number : ℕ) → stop ≡ None
+none_cut_off : (n : ℕ) (group : List ℕ) (V : ℕ → View) (stop : Breakpoint) (rank number : ℕ) → stop ≡ None
     → IsCutOff n group V stop rank number → ⊥
 none_cut_off n group V stop _ _ stopless (stops rank number t) = (let e : is_break None rank number ≡ true = rw stopless at t in let bad : false ≡ true = e in cc)
 none_cut_off n group V stop _ _ stopless (follows rank number off) = none_cut_off n group V stop rank number stopless off
@@ -308,7 +308,7 @@ nothing_more xs ys prefix short =
     sym (append-nil xs) ∙ subst F (nothing_in prefix.0 none) prefix.1
 
 -- no starvation: each rank of the group has its whole view
-pub whole_views : (next : Next) (log : Log) (stop : Stop) (run events : List Event) (rank : ℕ) → stop ≡ None → Lawful next
+pub whole_views : (next : Next) (log : Log) (stop : Breakpoint) (run events : List Event) (rank : ℕ) → stop ≡ None → Lawful next
     → IsRunWith next log run → IsWholeReplay next log stop events → is_member log.group rank ≡ true
     → view_of events rank ≡ view_of run rank
 whole_views next log stop run events rank stopless lawful is all member =
@@ -316,7 +316,7 @@ whole_views next log stop run events rank stopless lawful is all member =
     has_free next log stop run events lawful is all rank number member below (none_cut_off log.ranks log.group (view_of run) stop rank number stopless) in
     nothing_more (view_of events rank) (view_of run rank) (begins_run next log stop run events is all.replays rank) (at_most (length (view_of run rank)) (length (view_of events rank)) all_there)
 
-pub HasAllOf-whole : (next : Next) (output : ℕ → ℕ → List Reply → List ℕ) (log : Log) (stop : Stop) (run events : List Event)
+pub HasAllOf-whole : (next : Next) (output : ℕ → ℕ → List Reply → List ℕ) (log : Log) (stop : Breakpoint) (run events : List Event)
     → stop ≡ None → Lawful next → IsRunWith next log run → IsWholeReplay next log stop events → HasAllOf output log events run
 HasAllOf-whole next output log stop run events stopless lawful is all =
     record {
@@ -333,7 +333,7 @@ stand_done (Some call) variables answer stand ended h =
     inr (sym same)
 
 -- and each stand is Ended or LogEnded
-pub stands_done : (next : Next) (variables : ℕ → ℕ → List Reply → List Variable) (log : Log) (stop : Stop) (run events : List Event)
+pub stands_done : (next : Next) (variables : ℕ → ℕ → List Reply → List Variable) (log : Log) (stop : Breakpoint) (run events : List Event)
     → stop ≡ None → Lawful next → IsRunWith next log run → IsWholeReplay next log stop events
     → EachStand IsDone next variables log stop events
 stands_done next variables log stop run events stopless lawful is all rank stand member h =

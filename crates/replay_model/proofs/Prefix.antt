@@ -26,7 +26,7 @@ use Rattle.replay_model.specs.Breaks.{broken}
 use Rattle.replay_model.specs.Filling.{filled}
 use Rattle.replay_model.specs.Fits.{fits}
 use Rattle.replay_model.specs.Laws.{BeginsRun, IsRunWith}
-use Rattle.replay_model.specs.Replays.{IsStep, Replays, Stop, answer_of, entry_answer, is_break, judged}
+use Rattle.replay_model.specs.Replays.{IsStep, Replays, Breakpoint, answer_of, entry_answer, is_break, judged}
 use Rattle.replay_model.proofs.Filled.{filled-same}
 use Rattle.replay_model.proofs.Fillings.{Begins-within, filled_allowed, within, within_begins}
 
@@ -82,7 +82,7 @@ entry-replied n group V own me call entry reply h =
       | inr t ↦ absurd (let no : Diverged (record { rank = me; call_number = length own; entry = entry; call = call; found = None }) ≡ Replied reply = rw t at h in cc)
     ]
 
-pub answer-replied : (log : Log) (stop : Stop) (V : ℕ → View) (own : View) (me : ℕ) (call : Call) (reply : Reply)
+pub answer-replied : (log : Log) (stop : Breakpoint) (V : ℕ → View) (own : View) (me : ℕ) (call : Call) (reply : Reply)
     → answer_of log stop V own me call ≡ Replied reply
     → entry_answer log.ranks log.group V own me call (slice_get (entries_for log.group log.lists me) (length own)) ≡ Replied reply
 answer-replied log stop V own me call reply h =
@@ -92,7 +92,7 @@ answer-replied log stop V own me call reply h =
     ]
 
 -- one more event keeps what was replayed a beginning of the run
-next_event : (next : Next) (log : Log) (stop : Stop) (run before : List Event) (event : Event) (rest : View)
+next_event : (next : Next) (log : Log) (stop : Breakpoint) (run before : List Event) (event : Event) (rest : View)
     → IsRunWith next log run → Begins (view_of before) (within log.group (view_of run)) → IsStep next log stop before event
     → view_of before event.rank ++ rest ≡ view_of run event.rank
     → IsPrefixOf (view_of before event.rank ++ (event.call, event.reply) ∷ []) (view_of run event.rank)
@@ -118,7 +118,7 @@ next_event next log stop run before event ((call, reply) ∷ rest) is begins ste
     let same_reply : event.reply ≡ reply = cc in
     (rest, rw (append_assoc, ← same_call, same_reply) e)
 
-keeps : (next : Next) (log : Log) (stop : Stop) (run : List Event) → IsRunWith next log run
+keeps : (next : Next) (log : Log) (stop : Breakpoint) (run : List Event) → IsRunWith next log run
     → (before : List Event) (event : Event) → Begins (view_of before) (within log.group (view_of run))
     → IsStep next log stop before event → Begins (view_of (before ++ event ∷ [])) (within log.group (view_of run))
 keeps next log stop run is before event begins step rank =
@@ -133,12 +133,12 @@ keeps next log stop run is before event begins step rank =
     ]
 
 -- each rank of the group has a beginning of its view in the run, and no other rank has any
-pub Begins-run : (next : Next) (log : Log) (stop : Stop) (run events : List Event) → IsRunWith next log run
+pub Begins-run : (next : Next) (log : Log) (stop : Breakpoint) (run events : List Event) → IsRunWith next log run
     → Replays next log stop events → Begins (view_of events) (within log.group (view_of run))
 Begins-run next log stop run events is all =
     Along-keeps (IsStep next log stop) (λ before. Begins (view_of before) (within log.group (view_of run))) (keeps next log stop run is) [] events (λ rank. (within log.group (view_of run) rank, refl)) all
 
-pub begins_run : (next : Next) (log : Log) (stop : Stop) (run events : List Event) → IsRunWith next log run
+pub begins_run : (next : Next) (log : Log) (stop : Breakpoint) (run events : List Event) → IsRunWith next log run
     → Replays next log stop events → Begins (view_of events) (view_of run)
 begins_run next log stop run events is all rank =
     prefix_trans (view_of events rank) (within log.group (view_of run) rank) (view_of run rank) (Begins-run next log stop run events is all rank) (within_begins log.group (view_of run) rank)
@@ -148,7 +148,7 @@ nothing_begun [] prefix = refl
 nothing_begun (x ∷ xs) prefix = absurd (let no : x ∷ (xs ++ prefix.0) ≡ [] = prefix.1 in cc)
 
 -- the law of beginnings, with the printed output
-pub BeginsRun-Replays : (next : Next) (output : ℕ → ℕ → List Reply → List ℕ) (log : Log) (stop : Stop) (run events : List Event)
+pub BeginsRun-Replays : (next : Next) (output : ℕ → ℕ → List Reply → List ℕ) (log : Log) (stop : Breakpoint) (run events : List Event)
     → Lawful next → PrintsOn next output → IsRunWith next log run → Replays next log stop events → BeginsRun output log events run
 BeginsRun-Replays next output log stop run events lawful prints is all =
     let n : ℕ = log.ranks in

@@ -28,7 +28,7 @@ use Rattle.replay_model.specs.Breaks.{broken}
 use Rattle.replay_model.specs.Filling.{filled}
 use Rattle.replay_model.specs.Fits.{fits}
 use Rattle.replay_model.specs.Laws.{EachStand, HasNotDiverged, IsRunWith}
-use Rattle.replay_model.specs.Replays.{Replays, Stop, answer_of, is_break}
+use Rattle.replay_model.specs.Replays.{Replays, Breakpoint, answer_of, is_break}
 use Rattle.replay_model.specs.Stands.{stand_by, stand_where}
 use Rattle.replay_model.proofs.Answers.{answer_of-diverged, answer_of-replied}
 use Rattle.replay_model.proofs.Fillings.{Begins-within, filled_allowed, within}
@@ -36,14 +36,14 @@ use Rattle.replay_model.proofs.Prefix.{Begins-run, asked_in_run, begins_run}
 use Rattle.replay_model.proofs.ShapedFits.{fits_shaped}
 use Rattle.replay_model.proofs.Unbroken.{unbroken}
 
-answer_from : (log : Log) (stop : Stop) (V : ℕ → View) (own : View) (me : ℕ) (call : Call) (entry : Entry) (reply : Reply)
+answer_from : (log : Log) (stop : Breakpoint) (V : ℕ → View) (own : View) (me : ℕ) (call : Call) (entry : Entry) (reply : Reply)
     → is_break stop me (length own) ≡ false → slice_get (entries_for log.group log.lists me) (length own) ≡ Some entry
     → fits log.ranks log.group me own call entry ≡ true → filled log.ranks V own me call entry ≡ Ok reply
     → broken log.ranks V own me call entry ≡ None → answer_of log stop V own me call ≡ Replied reply
 answer_from log stop V own me call entry reply b e f fill broke = rw (b, e, f, fill, broke)
 
 -- over the events before it
-answer_here : (next : Next) (log : Log) (stop : Stop) (run before after : List Event) (event : Event) → Lawful next
+answer_here : (next : Next) (log : Log) (stop : Breakpoint) (run before after : List Event) (event : Event) → Lawful next
     → IsRunWith next log run → run ≡ before ++ event ∷ after → is_member log.group event.rank ≡ true
     → is_break stop event.rank (length (view_of before event.rank)) ≡ false
     → answer_of log stop (within log.group (view_of before)) (view_of before event.rank) event.rank event.call ≡ Replied event.reply
@@ -62,14 +62,14 @@ answer_here next log stop run before after event lawful is e member free =
     let entry = entry_in_log log run event.rank own event.call event.reply (view_of after event.rank) is.same_log member (view_at run before after event e) in
     answer_from log stop (within group (view_of before)) own event.rank event.call (entry_of n group event.rank own event.call event.reply) event.reply free entry fit fill broke
 
-answer_at : (log : Log) (stop : Stop) (V : ℕ → View) (before : List Event) (event : Event) (rank : ℕ) (view : View) (call : Call) (reply : Reply)
+answer_at : (log : Log) (stop : Breakpoint) (V : ℕ → View) (before : List Event) (event : Event) (rank : ℕ) (view : View) (call : Call) (reply : Reply)
     → event.rank ≡ rank → view_of before rank ≡ view → event.call ≡ call → event.reply ≡ reply
     → answer_of log stop V (view_of before event.rank) event.rank event.call ≡ Replied event.reply
     → answer_of log stop V view rank call ≡ Replied reply
 answer_at log stop V before event rank view call reply rank_is view_is call_is reply_is h = rw (← view_is, ← call_is, ← reply_is, ← rank_is) h
 
 -- and so over the whole run
-pub answer_whole : (next : Next) (log : Log) (stop : Stop) (run : List Event) (rank : ℕ) (view : View) (call : Call) (reply : Reply) (rest : View)
+pub answer_whole : (next : Next) (log : Log) (stop : Breakpoint) (run : List Event) (rank : ℕ) (view : View) (call : Call) (reply : Reply) (rest : View)
     → Lawful next → IsRunWith next log run → is_member log.group rank ≡ true → view_of run rank ≡ view ++ (call, reply) ∷ rest
     → is_break stop rank (length view) ≡ false
     → answer_of log stop (within log.group (view_of run)) view rank call ≡ Replied reply
@@ -85,7 +85,7 @@ answer_whole next log stop run rank view call reply rest lawful is member e free
     answer_at log stop (within group (view_of run)) at.before at.event rank view call reply at.rank_is at.view_is at.call_is at.reply_is there
 
 -- no live rank of the group diverges
-diverges_not : (next : Next) (log : Log) (stop : Stop) (run events : List Event) (rank : ℕ) (call : Call) (divergence : Divergence) (rest : View)
+diverges_not : (next : Next) (log : Log) (stop : Breakpoint) (run events : List Event) (rank : ℕ) (call : Call) (divergence : Divergence) (rest : View)
     → Lawful next → IsRunWith next log run → Begins (view_of events) (within log.group (view_of run))
     → is_member log.group rank ≡ true → view_of events rank ++ rest ≡ view_of run rank
     → next log.ranks rank (replies_in (view_of events rank)) ≡ Some call
@@ -110,7 +110,7 @@ diverges_not next log stop run events rank call divergence ((c, reply) ∷ rest)
           let no : Replied reply ≡ Diverged divergence = sym good ∙ bad in cc)
     ]
 
-pub no_divergence : (next : Next) (log : Log) (stop : Stop) (run events : List Event) (rank : ℕ) (call : Call) (divergence : Divergence)
+pub no_divergence : (next : Next) (log : Log) (stop : Breakpoint) (run events : List Event) (rank : ℕ) (call : Call) (divergence : Divergence)
     → Lawful next → IsRunWith next log run → Replays next log stop events → is_member log.group rank ≡ true
     → next log.ranks rank (replies_in (view_of events rank)) ≡ Some call
     → answer_of log stop (view_of events) (view_of events rank) rank call ≡ Diverged divergence → ⊥
@@ -135,7 +135,7 @@ stand_not (Some call) variables answer stand never h divergence e =
     by_answer variables (answer call) stand divergence (h ∙ ap (λ x. Some x) e) (λ d is. never call d refl is)
 
 -- no stand is Diverged
-pub stands_agree : (next : Next) (variables : ℕ → ℕ → List Reply → List Variable) (log : Log) (stop : Stop) (run events : List Event)
+pub stands_agree : (next : Next) (variables : ℕ → ℕ → List Reply → List Variable) (log : Log) (stop : Breakpoint) (run events : List Event)
     → Lawful next → IsRunWith next log run → Replays next log stop events
     → EachStand HasNotDiverged next variables log stop events
 stands_agree next variables log stop run events lawful is all rank stand member h =

@@ -24,7 +24,7 @@ use Rattle.replay_model.specs.declared.step.Step.{Step}
 use Rattle.replay_model.specs.declared.step.Step.TheVariants.{AtBreak, Diverged, LogEnded, Replied, Wait}
 use Rattle.replay_model.specs.Filling.{filled}
 use Rattle.replay_model.specs.Laws.{IsRunWith, StarvesBehindABreak}
-use Rattle.replay_model.specs.Replays.{IsWholeReplay, Stop, answer_of, is_break}
+use Rattle.replay_model.specs.Replays.{IsWholeReplay, Breakpoint, answer_of, is_break}
 use Rattle.replay_model.specs.Rests.{Among, IsCutOff, follows, number_of, rank_of, rests, rests_on, stops}
 use Rattle.replay_model.specs.Stands.{stand_by, stand_of, stand_where}
 use Rattle.replay_model.proofs.Cut.{at_most, cut_law, cut_off_not, longer_of, nothing_more, same_front, same_length, split_at}
@@ -38,7 +38,7 @@ same_pair p q h =
     let pairs : p ≡ q = same_Some p q h in
     (ap (λ (x : ℕ × ℕ). x.0) pairs, ap (λ (x : ℕ × ℕ). x.1) pairs)
 
-is_break-at : (stop : Stop) (rank number : ℕ) → is_break stop rank number ≡ true → stop ≡ Some (rank, number)
+is_break-at : (stop : Breakpoint) (rank number : ℕ) → is_break stop rank number ≡ true → stop ≡ Some (rank, number)
 is_break-at None rank number h = absurd (cc)
 is_break-at (Some at) rank number h =
     let parts = and_parts (at.0 == rank) (at.1 == number) h in
@@ -48,7 +48,7 @@ is_break-at (Some at) rank number h =
     ap (λ x. Some (pair x at.1)) r ∙ ap (λ y. Some (pair rank y)) k
 
 -- the breakpoint is a place of the group in these views
-pub record IsPlace (group : List ℕ) (V : ℕ → View) (stop : Stop) : Type 0 where
+pub record IsPlace (group : List ℕ) (V : ℕ → View) (stop : Breakpoint) : Type 0 where
   pub rank : ℕ
   pub number : ℕ
   pub stop_is : stop ≡ Some (rank, number)
@@ -96,7 +96,7 @@ rests_before next log run before after rank view rest call reply missing number 
     (there_member n group (view_of at.before) missing there, subst H equal (longer_of (within group (view_of at.before) (rank_of missing)) (view_of before (rank_of missing)) place.0 (to_before (rank_of missing)) place.2))
 
 -- a place is cut off only where the breakpoint stands no later in the run
-cut_off_before : (next : Next) (log : Log) (stop : Stop) (run before after : List Event) (rank number : ℕ)
+cut_off_before : (next : Next) (log : Log) (stop : Breakpoint) (run before after : List Event) (rank number : ℕ)
     → IsRunWith next log run → run ≡ before ++ after → is_member log.group rank ≡ true → number < length (view_of before rank)
     → IsCutOff log.ranks log.group (view_of run) stop rank number → IsPlace log.group (view_of before) stop
 cut_off_before next log stop run before after _ _ is split member below (stops rank number t) =
@@ -108,7 +108,7 @@ cut_off_before next log stop run before after _ _ is split member below (rests_o
     cut_off_before next log stop run before after (rank_of missing) number is split earlier.0 earlier.1 off
 
 -- so the breakpoint's rank has all its calls before it
-free_before : (next : Next) (log : Log) (stop : Stop) (run : List Event) (rank k j : ℕ) → IsRunWith next log run
+free_before : (next : Next) (log : Log) (stop : Breakpoint) (run : List Event) (rank k j : ℕ) → IsRunWith next log run
     → stop ≡ Some (rank, k) → is_member log.group rank ≡ true → k < length (view_of run rank) → j < k
     → IsCutOff log.ranks log.group (view_of run) stop rank j → ⊥
 free_before next log stop run rank k j is stop_is member below low off =
@@ -127,7 +127,7 @@ stand_at_break : (next : Option Call) (variables : List Variable) (answer : Call
 stand_at_break next variables answer call live stopped = rw (live, stopped)
 
 -- and stands at it
-at_break : (next : Next) (variables : ℕ → ℕ → List Reply → List Variable) (log : Log) (stop : Stop) (run events : List Event)
+at_break : (next : Next) (variables : ℕ → ℕ → List Reply → List Variable) (log : Log) (stop : Breakpoint) (run events : List Event)
     → Lawful next → IsRunWith next log run → IsWholeReplay next log stop events → (at : IsPlace log.group (view_of run) stop)
     → stand_of next variables log stop events at.rank ≡ Some (StandAtBreak (variables log.ranks at.rank (replies_in (view_of events at.rank))))
 at_break next variables log stop run events lawful is all at =
@@ -167,7 +167,7 @@ waits_where None variables answer missing h = absurd (let no : Some StandEnded �
 waits_where (Some call) variables answer missing h = (call, waits_by variables (answer call) missing h)
 
 -- a rank that has its whole view does not wait
-not_starved : (log : Log) (stop : Stop) (run events : List Event) (rank : ℕ) (call : Call) (missing : Missing)
+not_starved : (log : Log) (stop : Breakpoint) (run events : List Event) (rank : ℕ) (call : Call) (missing : Missing)
     → log ≡ log_of log.program log.ranks run log.group → is_member log.group rank ≡ true → view_of events rank ≡ view_of run rank
     → answer_of log stop (view_of events) (view_of events rank) rank call ≡ Wait missing → ⊥
 not_starved log stop run events rank call missing same_log member same h =
@@ -178,7 +178,7 @@ not_starved log stop run events rank call missing same_log member same h =
       | inr t ↦ (let bad : LogEnded ≡ Wait missing = rw (t, past) at h in cc)
     ]
 
-place_cases : (group : List ℕ) (V : ℕ → View) (stop : Stop) → IsPlace group V stop ⊎ (IsPlace group V stop → ⊥)
+place_cases : (group : List ℕ) (V : ℕ → View) (stop : Breakpoint) → IsPlace group V stop ⊎ (IsPlace group V stop → ⊥)
 place_cases group V None = inr (λ at. (let bad : None ≡ Some (at.rank, at.number) = at.stop_is in cc))
 place_cases group V (Some (r, k)) =
     elim (test_cases (is_member group r)) [
@@ -199,7 +199,7 @@ place_cases group V (Some (r, k)) =
     ]
 
 -- where a rank is starved, another stands at the breakpoint
-pub starved_law : (next : Next) (variables : ℕ → ℕ → List Reply → List Variable) (log : Log) (stop : Stop) (run events : List Event)
+pub starved_law : (next : Next) (variables : ℕ → ℕ → List Reply → List Variable) (log : Log) (stop : Breakpoint) (run events : List Event)
     → Lawful next → IsRunWith next log run → IsWholeReplay next log stop events
     → StarvesBehindABreak next variables log stop events
 starved_law next variables log stop run events lawful is all rank missing member starved =

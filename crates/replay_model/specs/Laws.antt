@@ -15,7 +15,7 @@ use Rattle.replay_model.specs.declared.replayed.Stand.{Stand}
 use Rattle.replay_model.specs.declared.replayed.Stand.TheVariants.{Ended, LogEnded, AtBreak, Diverged, Starved}
 use Rattle.replay_model.specs.declared.step.Divergence.{Divergence}
 use Rattle.replay_model.specs.declared.step.Missing.{Missing}
-use Rattle.replay_model.specs.Replays.{IsWholeReplay, Replays, Stop}
+use Rattle.replay_model.specs.Replays.{IsWholeReplay, Replays, Breakpoint}
 use Rattle.replay_model.specs.Rests.{IsInCut}
 use Rattle.replay_model.specs.Stands.{printed_of, stand_of}
 
@@ -49,23 +49,23 @@ abbrev pub IsDone : Stand → Type 0
 IsDone stand = (stand ≡ Ended) ⊎ (stand ≡ LogEnded)
 
 -- the stand of each rank of the group, where it has one
-abbrev pub EachStand : (Stand → Type 0) → Next → (ℕ → ℕ → List Reply → List Variable) → Log → Stop → List Event → Type 0
+abbrev pub EachStand : (Stand → Type 0) → Next → (ℕ → ℕ → List Reply → List Variable) → Log → Breakpoint → List Event → Type 0
 EachStand P next variables log stop events =
     (rank : ℕ) (stand : Stand) → is_member log.group rank ≡ true → stand_of next variables log stop events rank ≡ Some stand → P stand
 
 -- where a rank of the group is starved, some rank of it stands at the breakpoint
-abbrev pub StarvesBehindABreak : Next → (ℕ → ℕ → List Reply → List Variable) → Log → Stop → List Event → Type 0
+abbrev pub StarvesBehindABreak : Next → (ℕ → ℕ → List Reply → List Variable) → Log → Breakpoint → List Event → Type 0
 StarvesBehindABreak next variables log stop events =
     (rank : ℕ) (missing : Missing) → is_member log.group rank ≡ true → stand_of next variables log stop events rank ≡ Some (Starved missing)
     → (at : ℕ) × (standing : List Variable) × (is_member log.group at ≡ true) × (stand_of next variables log stop events at ≡ Some (AtBreak standing))
 
 -- the places that were replayed are the cut of the breakpoint
-abbrev pub HasTheCut : Log → Stop → List Event → List Event → Type 0
+abbrev pub HasTheCut : Log → Breakpoint → List Event → List Event → Type 0
 HasTheCut log stop events run =
     (rank number : ℕ) → (number < length (view_of events rank)) ↔ IsInCut log.ranks log.group (view_of run) stop rank number
 
 -- a whole replay beside a run with its log
-pub record IsReplayOfRun (output : ℕ → ℕ → List Reply → List ℕ) (log : Log) (stop : Stop) (run : List Event) (replayed : Replayed) : Type 0 where
+pub record IsReplayOfRun (output : ℕ → ℕ → List Reply → List ℕ) (log : Log) (stop : Breakpoint) (run : List Event) (replayed : Replayed) : Type 0 where
   pub begins : BeginsRun output log replayed.events.events run
   pub cut : HasTheCut log stop replayed.events.events run
   pub agrees : All HasNotDiverged replayed.ends
@@ -75,5 +75,5 @@ pub record IsReplayOfRun (output : ℕ → ℕ → List Reply → List ℕ) (log
   pub ends : stop ≡ None → All IsDone replayed.ends
 
 -- beside every run with its log
-abbrev pub IsReplayOfEveryRun : Next → (ℕ → ℕ → List Reply → List ℕ) → Log → Stop → Replayed → Type 0
+abbrev pub IsReplayOfEveryRun : Next → (ℕ → ℕ → List Reply → List ℕ) → Log → Breakpoint → Replayed → Type 0
 IsReplayOfEveryRun next output log stop replayed = (run : List Event) → IsRunWith next log run → IsReplayOfRun output log stop run replayed

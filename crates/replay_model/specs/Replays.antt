@@ -18,10 +18,10 @@ use Rattle.replay_model.specs.Filling.{filled}
 use Rattle.replay_model.specs.Breaks.{broken}
 
 -- a rank and the number of the call that it stops before
-abbrev pub Stop : Type 0
-Stop = Option (ℕ × ℕ)
+abbrev pub Breakpoint : Type 0
+Breakpoint = Option (ℕ × ℕ)
 
-abbrev pub is_break : Stop → ℕ → ℕ → Bool
+abbrev pub is_break : Breakpoint → ℕ → ℕ → Bool
 is_break None rank number = false
 is_break (Some at) rank number = (at.0 == rank) && (at.1 == number)
 
@@ -43,7 +43,7 @@ entry_answer n group V own me call (Some entry) =
     else diverged me own call entry None
 
 -- the answer to rank `me`'s call: at its breakpoint, at its log's end, or by its next entry
-abbrev pub answer_of : Log → Stop → (ℕ → View) → View → ℕ → Call → Step
+abbrev pub answer_of : Log → Breakpoint → (ℕ → View) → View → ℕ → Call → Step
 answer_of log stop V own me call =
     if is_break stop me (length own) then AtBreak
     else entry_answer log.ranks log.group V own me call (slice_get (entries_for log.group log.lists me) (length own))
@@ -64,21 +64,21 @@ events_after events rank call (Replied reply) = events ++ event_of rank call rep
 events_after events rank call step = events
 
 -- an event of a rank of the group: its program's next call, answered by the log's next entry
-pub record IsStep (next : Next) (log : Log) (stop : Stop) (before : List Event) (event : Event) : Type 0 where
+pub record IsStep (next : Next) (log : Log) (stop : Breakpoint) (before : List Event) (event : Event) : Type 0 where
   pub member : is_member log.group event.rank ≡ true
   pub call : next log.ranks event.rank (replies_in (view_of before event.rank)) ≡ Some event.call
   pub reply : answer_of log stop (view_of before) (view_of before event.rank) event.rank event.call ≡ Replied event.reply
   pub mate : event.mate ≡ None
 
-abbrev pub Replays : Next → Log → Stop → List Event → Type 0
+abbrev pub Replays : Next → Log → Breakpoint → List Event → Type 0
 Replays next log stop events = Along (IsStep next log stop) [] events
 
 -- no rank of the group has a step
-abbrev pub IsExhausted : Next → Log → Stop → List Event → Type 0
+abbrev pub IsExhausted : Next → Log → Breakpoint → List Event → Type 0
 IsExhausted next log stop events = (event : Event) → IsStep next log stop events event → ⊥
 
 -- a replay that can go no further
-pub record IsWholeReplay (next : Next) (log : Log) (stop : Stop) (events : List Event) : Type 0 where
+pub record IsWholeReplay (next : Next) (log : Log) (stop : Breakpoint) (events : List Event) : Type 0 where
   pub replays : Replays next log stop events
   pub exhausted : IsExhausted next log stop events
 
@@ -86,5 +86,5 @@ pub record IsWholeReplay (next : Next) (log : Log) (stop : Stop) (events : List 
 pub record ReplayState (P : Type 0) : Type 0 where
   pub program : P
   pub log : Log
-  pub stop : Stop
+  pub stop : Breakpoint
   pub events : List Event

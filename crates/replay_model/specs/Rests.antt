@@ -14,7 +14,7 @@ use Rattle.srr_entry.specs.declared.entry.Marked.{Marked}
 use Rattle.srr_entry.specs.Entries.{entry_of}
 use Rattle.replay_model.specs.declared.step.Missing.{Missing}
 use Rattle.replay_model.specs.declared.step.Missing.TheVariants.{Start, Member}
-use Rattle.replay_model.specs.Replays.{Stop, is_break}
+use Rattle.replay_model.specs.Replays.{Breakpoint, is_break}
 
 -- the Enters of the needed members of one instance
 abbrev pub rests_members : ℕ → ℕ → (ℕ → Bool) → List ℕ → List Missing
@@ -76,13 +76,13 @@ Among x (y ∷ ys) = (y ≡ x) ⊎ Among x ys
 
 -- a call of a rank, by number, is the breakpoint, or comes after a call of the rank that is cut off, or is of the group and
 -- rests on one. V is what each rank has seen in the run.
-pub data IsCutOff (n : ℕ) (group : List ℕ) (V : ℕ → View) (stop : Stop) : ℕ → ℕ → Type 0 where
+pub data IsCutOff (n : ℕ) (group : List ℕ) (V : ℕ → View) (stop : Breakpoint) : ℕ → ℕ → Type 0 where
   stops : (rank number : ℕ) → is_break stop rank number ≡ true → IsCutOff n group V stop rank number
   follows : (rank number : ℕ) → IsCutOff n group V stop rank number → IsCutOff n group V stop rank (suc number)
   rests_on : (rank : ℕ) (view rest : View) (call : Call) (reply : Reply) (missing : Missing) (number : ℕ) → is_member group rank ≡ true → V rank ≡ view ++ (call, reply) ∷ rest → Among missing (rests n view rank call (entry_of n group rank view call reply)) → number_of V missing ≡ Some number → IsCutOff n group V stop (rank_of missing) number → IsCutOff n group V stop rank (length view)
 
 -- the cut of a breakpoint: the group's places that it does not cut off
-pub record IsInCut (n : ℕ) (group : List ℕ) (V : ℕ → View) (stop : Stop) (rank number : ℕ) : Type 0 where
+pub record IsInCut (n : ℕ) (group : List ℕ) (V : ℕ → View) (stop : Breakpoint) (rank number : ℕ) : Type 0 where
   pub member : is_member group rank ≡ true
   pub placed : number < length (V rank)
   pub free : IsCutOff n group V stop rank number → ⊥

@@ -11,7 +11,7 @@ use Rattle.replay_model.specs.declared.step.Step.TheVariants.{Replied, Wait, Log
 use Rattle.replay_model.specs.declared.replayed.Stand.{Stand}
 use Rattle.replay_model.specs.declared.replayed.Stand.TheVariants.{Ended, LogEnded as StandLogEnded, AtBreak as StandAtBreak, Diverged as StandDiverged, Starved}
 use Rattle.replay_model.specs.declared.replayed.Replayed.{Replayed}
-use Rattle.replay_model.specs.Replays.{Stop, Replays, IsExhausted, answer_of}
+use Rattle.replay_model.specs.Replays.{Breakpoint, Replays, IsExhausted, answer_of}
 
 -- the stand of a live rank by the answer to its next call; none where it has a step
 abbrev pub stand_by : List Variable → Step → Option Stand
@@ -26,7 +26,7 @@ stand_where None variables answer = Some Ended
 stand_where (Some call) variables answer = stand_by variables (answer call)
 
 -- a rank's stand after some events
-abbrev pub stand_of : Next → (ℕ → ℕ → List Reply → List Variable) → Log → Stop → List Event → ℕ → Option Stand
+abbrev pub stand_of : Next → (ℕ → ℕ → List Reply → List Variable) → Log → Breakpoint → List Event → ℕ → Option Stand
 stand_of next variables log stop events rank =
     stand_where (next log.ranks rank (replies_in (view_of events rank)))
     (variables log.ranks rank (replies_in (view_of events rank)))
@@ -37,7 +37,7 @@ abbrev pub printed_of : (ℕ → ℕ → List Reply → List ℕ) → ℕ → Li
 printed_of output n events rank = output n rank (replies_in (view_of events rank))
 
 -- a whole replay: its events replay the log in order and can go no further; each rank's output and stand are the program's
-pub record IsReplayed (next : Next) (output : ℕ → ℕ → List Reply → List ℕ) (variables : ℕ → ℕ → List Reply → List Variable) (log : Log) (stop : Stop) (replayed : Replayed) : Type 0 where
+pub record IsReplayed (next : Next) (output : ℕ → ℕ → List Reply → List ℕ) (variables : ℕ → ℕ → List Reply → List Variable) (log : Log) (stop : Breakpoint) (replayed : Replayed) : Type 0 where
   pub group : replayed.group ≡ log.group
   pub replays : Replays next log stop replayed.events.events
   pub exhausted : IsExhausted next log stop replayed.events.events

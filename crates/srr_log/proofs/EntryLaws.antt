@@ -15,7 +15,7 @@ use Rattle.srr_entry.specs.declared.entry.Entry.{Entry}
 use Rattle.srr_entry.specs.declared.entry.Entry.TheVariants.{Sent, Posted, Entered, Ended, Took, NotYet, PeekedInside, PeekedOutside, Stopped}
 use Rattle.wiz_base.specs.Decimals.{decimal_text, number_text}
 use Rattle.wiz_base.proofs.DecimalLaws.{decimal_text-excludes, decimal_text-digit}
-use Rattle.srr_text.specs.EntryText.{each_behind, name_text, mark_text, item_text, halt_number, halt_details, entry_line}
+use Rattle.srr_text.specs.EntryText.{each_after, name_text, mark_text, item_text, halt_number, halt_details, entry_line}
 use Rattle.srr_text.specs.Bounds.{RiseFrom, IsSmallNumber, IsSender, IsTag, IsMark, IsHalt, IsEntry}
 use Rattle.srr_log.specs.Pieces.{◌>>=◌, behind, cut, number_in, int_in, rank_in}
 use Rattle.srr_log.specs.EntryReading.{rises, indices, inside_in, outside_in, mark_in, item_in, all_items_in, items_in, peek_cut, peek_in, fault_of, detail_in, detailed_in, named_in, halt_in, long_entry, long_entry_in, entry_in}
@@ -50,7 +50,7 @@ item_said n group text item e =
     subst P same ((index.0, mark.0), cut_some 61 text a.0.0 a.0.1 a.1 ∙ ap (λ xs. xs ++ 61 ∷ a.0.1) index.1 ∙ ap (λ xs. decimal_text b.0 ++ 61 ∷ xs) mark.1)
 
 items_read : (n : ℕ) (group : List ℕ) → n ≤ 256 → (item : Marked) (items : List Marked) → RiseFrom 0 (indices (item ∷ items)) → All (IsItem n group) (item ∷ items)
-    → items_in n group (item_text item ++ each_behind 32 (map item_text items)) ≡ some (item ∷ items)
+    → items_in n group (item_text item ++ each_after 32 (map item_text items)) ≡ some (item ∷ items)
 unfolding items_in
 items_read n group few item items up good =
     rw (
@@ -69,7 +69,7 @@ items_said n group text items e =
     let l = listed_said (item_in n group) item_text (IsItem n group) (item_said n group) 32 text a.0 a.1 in
     let long : 0 < length a.0 = let many : length a.0 ≡ length (l.0 ∷ l.1) = ap length l.2 in omega arith in
     let P : List Marked → Type 0 = λ items. IsLineOf n group (116 ∷ 32 ∷ text) (Took items) in
-    subst P g.1 ((long, rises_rise 0 (indices a.0) g.0, All-from_recursion (IsItem n group) a.0 l.3), ap (λ xs. 116 ∷ 32 ∷ xs) l.4 ∙ ap (λ xs. 116 ∷ each_behind 32 (map item_text xs)) (sym l.2))
+    subst P g.1 ((long, rises_rise 0 (indices a.0) g.0, All-from_recursion (IsItem n group) a.0 l.3), ap (λ xs. 116 ∷ 32 ∷ xs) l.4 ∙ ap (λ xs. 116 ∷ each_after 32 (map item_text xs)) (sym l.2))
 
 -- probes
 peek_read : (n : ℕ) (group : List ℕ) → n ≤ 256 → (source start : ℕ) → IsSender n group true source → IsSmallNumber start → peek_in n group (name_text source start) ≡ some (PeekedInside source start)
@@ -289,7 +289,7 @@ entry_read n group few Entered good = (letters_read n group).2
 entry_read n group few Ended good = (letters_read n group).3
 entry_read n group few (Took []) good = absurd (let some' = good.0 in omega arith)
 entry_read n group few (Took (item ∷ items)) good =
-    (long_read n group (item_text item ++ each_behind 32 (map item_text items))).0 ∙ rw (items_read n group few item items good.1 good.2) refl
+    (long_read n group (item_text item ++ each_after 32 (map item_text items))).0 ∙ rw (items_read n group few item items good.1 good.2) refl
 entry_read n group few NotYet good = (letters_read n group).4
 entry_read n group few (PeekedInside source start) good = (long_read n group (name_text source start)).1 ∙ peek_read n group few source start good.0 good.1
 entry_read n group few (PeekedOutside source start tag count) good =

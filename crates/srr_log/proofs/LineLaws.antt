@@ -8,7 +8,7 @@ use Rattle.wiz_base.specs.Decimals.{decimal_text}
 use Rattle.wiz_base.specs.Readings.{IsDecimal}
 use Rattle.wiz_base.proofs.DecimalLaws.{decimal_text-digit}
 use Rattle.srr_log.specs.declared.fault.LogWhy.TheVariants.{BadHead, BadVersion}
-use Rattle.srr_text.specs.EntryText.{each_behind, entry_line}
+use Rattle.srr_text.specs.EntryText.{each_after, entry_line}
 use Rattle.srr_text.specs.Bounds.{IsGroup, IsEntry, is_last}
 use Rattle.srr_log.specs.Faults.{IsReason}
 use Rattle.srr_log.specs.Parts.{head_line}
@@ -36,13 +36,13 @@ ranks_line_said line ranks e =
     subst P g.1 (ltb-true 0 b.0 g.0, said.0, behind_some (codes "ranks ") line a.0 a.1 ∙ ap (λ xs. codes "ranks " ++ xs) said.1)
 
 -- the group
-pub group_line_read : (n : ℕ) (group : List ℕ) → n ≤ 256 → IsGroup n group → group_line_in n (codes "group" ++ each_behind 32 (map decimal_text group)) ≡ some group
+pub group_line_read : (n : ℕ) (group : List ℕ) → n ≤ 256 → IsGroup n group → group_line_in n (codes "group" ++ each_after 32 (map decimal_text group)) ≡ some group
 unfolding group_line_in
 group_line_read n [] few good = absurd (let some' = good.0 in omega arith)
 group_line_read n (rank ∷ group) few good =
-    rw (behind_word (codes "group ") (decimal_text rank ++ each_behind 32 (map decimal_text group)), ranks_read 32 n rank group (omega arith) few good.2, rise_rises 0 (rank ∷ group) good.1) refl
+    rw (behind_word (codes "group ") (decimal_text rank ++ each_after 32 (map decimal_text group)), ranks_read 32 n rank group (omega arith) few good.2, rise_rises 0 (rank ∷ group) good.1) refl
 
-pub group_line_said : (n : ℕ) (line group : List ℕ) → group_line_in n line ≡ some group → IsGroup n group × (line ≡ codes "group" ++ each_behind 32 (map decimal_text group))
+pub group_line_said : (n : ℕ) (line group : List ℕ) → group_line_in n line ≡ some group → IsGroup n group × (line ≡ codes "group" ++ each_after 32 (map decimal_text group))
 unfolding group_line_in
 group_line_said n line group e =
     let a = bind_some (behind (codes "group ") line) (λ text. ranks_in 32 n text >>= λ group. if rises 0 group then some group else None) group e in
@@ -50,8 +50,8 @@ group_line_said n line group e =
     let g = guard_some (rises 0 b.0) b.0 group b.2 in
     let said = ranks_said 32 n a.0 b.0 b.1 in
     let long : 0 < length b.0 = let many : length b.0 ≡ length (said.0 ∷ said.1) = ap length said.2 in omega arith in
-    let P : List ℕ → Type 0 = λ group. IsGroup n group × (line ≡ codes "group" ++ each_behind 32 (map decimal_text group)) in
-    subst P g.1 ((long, rises_rise 0 b.0 g.0, said.3), behind_some (codes "group ") line a.0 a.1 ∙ ap (λ xs. codes "group " ++ xs) said.4 ∙ ap (λ xs. codes "group" ++ each_behind 32 (map decimal_text xs)) (sym said.2))
+    let P : List ℕ → Type 0 = λ group. IsGroup n group × (line ≡ codes "group" ++ each_after 32 (map decimal_text group)) in
+    subst P g.1 ((long, rises_rise 0 b.0 g.0, said.3), behind_some (codes "group ") line a.0 a.1 ∙ ap (λ xs. codes "group " ++ xs) said.4 ∙ ap (λ xs. codes "group" ++ each_after 32 (map decimal_text xs)) (sym said.2))
 
 -- the program's size
 pub size_line_read : (size : ℕ) → size ≤ 65536 → size_line_in (codes "program " ++ decimal_text size) ≡ some size

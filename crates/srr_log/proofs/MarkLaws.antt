@@ -14,7 +14,7 @@ use Rattle.srr_entry.specs.declared.entry.Mark.{Mark}
 use Rattle.srr_entry.specs.declared.entry.Mark.TheVariants.{Sent as MarkSent, Nothing, Inside, Outside, Inner, Outer, Made, MadeOutside}
 use Rattle.wiz_base.specs.Decimals.{decimal_text, number_text}
 use Rattle.wiz_base.proofs.DecimalLaws.{decimal_text-bytes, decimal_text-nonempty, decimal_text-excludes, number_text-nonempty}
-use Rattle.srr_text.specs.EntryText.{each_behind, by_commas, ints_text, name_text, mark_text}
+use Rattle.srr_text.specs.EntryText.{each_after, by_commas, ints_text, name_text, mark_text}
 use Rattle.srr_text.specs.Bounds.{RiseFrom, IsSmallNumber, IsTag, AreInts, IsSender, IsMark}
 use Rattle.srr_log.specs.Pieces.{◌>>=◌, behind, cut, pieces, all_of, number_in, int_in, rank_in}
 use Rattle.srr_log.specs.EntryReading.{rises, ints_in, few_ints_in, ranks_in, inside_in, outside_in, message_cut, message_in, made_cut, made_in, long_mark, long_mark_in, mark_in}
@@ -24,7 +24,7 @@ use Rattle.srr_log.proofs.NoByteLaws.{NoByte, no_byte_append, no_byte_cons, no_b
 -- elements with such marks between
 module _ {A : Type 0} (said : List ℕ → Option A) (spelled : A → List ℕ) (Good : A → Type 0) where
   pub listed_read : ((value : A) → Good value → said (spelled value) ≡ some value) → (mark : ℕ) → ((value : A) → NoByte mark (spelled value)) → (value : A) (values : List A)
-      → AllByRecursion Good (value ∷ values) → all_of said (pieces mark (spelled value ++ each_behind mark (map spelled values))) ≡ some (value ∷ values)
+      → AllByRecursion Good (value ∷ values) → all_of said (pieces mark (spelled value ++ each_after mark (map spelled values))) ≡ some (value ∷ values)
   listed_read complete mark none value values good =
       ap (all_of said) (pieces_joined mark (spelled value) (map spelled values) (none value) (apart values)) ∙ all_of_map said spelled Good complete (value ∷ values) good
     where
@@ -33,11 +33,11 @@ module _ {A : Type 0} (said : List ℕ → Option A) (spelled : A → List ℕ) 
       apart (value ∷ values) = (none value, apart values)
 
   pub listed_said : ((text : List ℕ) (value : A) → said text ≡ some value → Good value × (text ≡ spelled value)) → (mark : ℕ) (text : List ℕ) (values : List A)
-      → all_of said (pieces mark text) ≡ some values → (first : A) × (others : List A) × (values ≡ first ∷ others) × AllByRecursion Good values × (text ≡ spelled first ++ each_behind mark (map spelled others))
+      → all_of said (pieces mark text) ≡ some values → (first : A) × (others : List A) × (values ≡ first ∷ others) × AllByRecursion Good values × (text ≡ spelled first ++ each_after mark (map spelled others))
   listed_said sound mark text values e = by values (map_all_of said spelled Good sound (pieces mark text) values e)
     where
       by : (values : List A) → AllByRecursion Good values × (pieces mark text ≡ map spelled values)
-          → (first : A) × (others : List A) × (values ≡ first ∷ others) × AllByRecursion Good values × (text ≡ spelled first ++ each_behind mark (map spelled others))
+          → (first : A) × (others : List A) × (values ≡ first ∷ others) × AllByRecursion Good values × (text ≡ spelled first ++ each_after mark (map spelled others))
       by [] (good, is) = absurd (some_pieces mark text is)
       by (first ∷ others) (good, is) = (first, others, refl, good, joined_pieces mark text (spelled first) (map spelled others) is)
 
@@ -50,7 +50,7 @@ unfolding few_ints_in
 few_ints_read most [] good = refl
 few_ints_read most (z ∷ zs) (few, good) =
     rw (
-      long_text (number_text z) (each_behind 44 (map number_text zs)) (number_text-nonempty z),
+      long_text (number_text z) (each_after 44 (map number_text zs)) (number_text-nonempty z),
       listed_read int_in number_text (λ int. FitsSigned w32 int) int_read 44 (λ z. no_byte_number 44 z (omega arith)) z zs (recursion_from_All (λ int. FitsSigned w32 int) (z ∷ zs) good),
       le-leb (length (z ∷ zs)) most few,
     ) refl
@@ -85,12 +85,12 @@ all_below n [] below = refl
 all_below n (rank ∷ ranks) (here, below) = and_from (nat_lt rank n) (are_below n ranks) (lt-ltb rank n here) (all_below n ranks below)
 
 pub ranks_read : (mark n rank : ℕ) (ranks : List ℕ) → mark < 48 → n ≤ 256 → are_below n (rank ∷ ranks) ≡ true
-    → ranks_in mark n (decimal_text rank ++ each_behind mark (map decimal_text ranks)) ≡ some (rank ∷ ranks)
+    → ranks_in mark n (decimal_text rank ++ each_after mark (map decimal_text ranks)) ≡ some (rank ∷ ranks)
 ranks_read mark n rank ranks low few below =
     listed_read (rank_in n) decimal_text (λ rank. rank < n) (λ rank below. rank_read n rank (omega arith) below) mark (λ rank. no_byte_decimal mark rank low) rank ranks (below_all n (rank ∷ ranks) below)
 
 pub ranks_said : (mark n : ℕ) (text ranks : List ℕ) → ranks_in mark n text ≡ some ranks
-    → (first : ℕ) × (others : List ℕ) × (ranks ≡ first ∷ others) × (are_below n ranks ≡ true) × (text ≡ decimal_text first ++ each_behind mark (map decimal_text others))
+    → (first : ℕ) × (others : List ℕ) × (ranks ≡ first ∷ others) × (are_below n ranks ≡ true) × (text ≡ decimal_text first ++ each_after mark (map decimal_text others))
 ranks_said mark n text ranks e =
     let l = listed_said (rank_in n) decimal_text (λ rank. rank < n) (λ text rank. rank_said n text rank) mark text ranks e in
     (l.0, l.1, l.2, all_below n ranks l.3, l.4)
@@ -231,7 +231,7 @@ unfolding made_in
 made_read_long n comm [] few above small many fits below = absurd (omega arith)
 made_read_long n comm (member ∷ members) few above small many fits below =
     rw (
-      cut_at 58 (decimal_text comm) (decimal_text member ++ each_behind 44 (map decimal_text members)) (no_colon comm),
+      cut_at 58 (decimal_text comm) (decimal_text member ++ each_after 44 (map decimal_text members)) (no_colon comm),
       number_read 999999 comm small,
       ranks_read 44 n member members (omega arith) few below,
       lt-ltb 0 comm above,

@@ -13,7 +13,7 @@ use Rattle.srr_entry.specs.declared.entry.Entry.{Entry}
 use Rattle.srr_entry.specs.declared.entry.Entry.TheVariants.{Sent, Posted, Entered, Ended, Took, NotYet, PeekedInside, PeekedOutside, Stopped}
 use Rattle.wiz_base.specs.Decimals.{decimal_text, number_text}
 use Rattle.wiz_base.proofs.DecimalLaws.{decimal_text-excludes, number_text-excludes}
-use Rattle.srr_text.specs.EntryText.{each_behind, by_commas, ints_text, name_text, mark_text, item_text, halt_number, halt_details, entry_line}
+use Rattle.srr_text.specs.EntryText.{each_after, by_commas, ints_text, name_text, mark_text, item_text, halt_number, halt_details, entry_line}
 
 abbrev pub NoByte : ℕ → List ℕ → Type 0
 NoByte byte text = All (λ b. b ≢ byte) text
@@ -34,15 +34,15 @@ no_byte_decimal byte n low = decimal_text-excludes n byte (λ digit. omega (arit
 pub no_byte_number : (byte : ℕ) (z : ℤ) → byte < 45 → NoByte byte (number_text z)
 no_byte_number byte z low = number_text-excludes z byte (λ e. omega arith) (λ digit. omega (arith, digit.0))
 
-pub no_byte_behind : (byte mark : ℕ) (pieces : List (List ℕ)) → mark ≢ byte → AllByRecursion (NoByte byte) pieces → NoByte byte (each_behind mark pieces)
+pub no_byte_behind : (byte mark : ℕ) (pieces : List (List ℕ)) → mark ≢ byte → AllByRecursion (NoByte byte) pieces → NoByte byte (each_after mark pieces)
 no_byte_behind byte mark [] apart none = no_byte_nil byte
 no_byte_behind byte mark (piece ∷ pieces) apart (here, others) =
-    no_byte_cons byte mark (piece ++ each_behind mark pieces) apart (no_byte_append byte piece (each_behind mark pieces) here (no_byte_behind byte mark pieces apart others))
+    no_byte_cons byte mark (piece ++ each_after mark pieces) apart (no_byte_append byte piece (each_after mark pieces) here (no_byte_behind byte mark pieces apart others))
 
 pub no_byte_commas : (byte : ℕ) (pieces : List (List ℕ)) → 44 ≢ byte → AllByRecursion (NoByte byte) pieces → NoByte byte (by_commas pieces)
 no_byte_commas byte [] apart none = no_byte_nil byte
 no_byte_commas byte (piece ∷ pieces) apart (here, others) =
-    no_byte_append byte piece (each_behind 44 pieces) here (no_byte_behind byte 44 pieces apart others)
+    no_byte_append byte piece (each_after 44 pieces) here (no_byte_behind byte 44 pieces apart others)
 
 pub no_byte_map : {A : Type 0} (byte : ℕ) (spelled : A → List ℕ) → ((value : A) → NoByte byte (spelled value)) → (values : List A) → AllByRecursion (NoByte byte) (map spelled values)
 no_byte_map byte spelled none [] = tt
@@ -105,7 +105,7 @@ no_line_entry Posted = no_line_letter 112 [] (omega arith) (no_byte_nil 10)
 no_line_entry Entered = no_line_letter 101 [] (omega arith) (no_byte_nil 10)
 no_line_entry Ended = no_line_letter 122 [] (omega arith) (no_byte_nil 10)
 no_line_entry (Took items) =
-    no_line_letter 116 (each_behind 32 (map item_text items)) (omega arith)
+    no_line_letter 116 (each_after 32 (map item_text items)) (omega arith)
     (no_byte_behind 10 32 (map item_text items) (λ e. omega (arith, e)) (no_byte_map 10 item_text (λ item. no_byte_item 10 item (omega arith)) items))
 no_line_entry NotYet = no_line_letter 110 [] (omega arith) (no_byte_nil 10)
 no_line_entry (PeekedInside source start) =

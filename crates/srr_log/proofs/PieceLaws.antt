@@ -21,7 +21,7 @@ use Rattle.wiz_base.specs.declared.fault.NumberFault.{NumberFault}
 use Rattle.wiz_base.specs.Readings.{IsDecimalUpTo, IsReading}
 use Rattle.wiz_base.proofs.ReadingLaws.{IsReading-unique}
 use Rattle.wiz_base.proofs.DecimalLaws.{decimal_text-is, decimal_text-bytes, decimal_text-nonempty, number_text_injective}
-use Rattle.srr_text.specs.EntryText.{each_behind}
+use Rattle.srr_text.specs.EntryText.{each_after}
 use Rattle.srr_log.specs.Pieces.{◌>>=◌, GivesText, GivesCut, behind, with_byte, cut, pieces, all_of, number_in, signed_value, is_int, int_in, rank_in}
 
 abbrev pub some : {A : Type 0} → A → Option A
@@ -122,17 +122,17 @@ cut_place mark at text none within here =
 
 -- a list with such marks between its pieces
 pub pieces_joined : (mark : ℕ) (piece : List ℕ) (others : List (List ℕ)) → All (λ byte. byte ≢ mark) piece → AllByRecursion (All (λ byte. byte ≢ mark)) others
-    → pieces mark (piece ++ each_behind mark others) ≡ piece ∷ others
+    → pieces mark (piece ++ each_after mark others) ≡ piece ∷ others
 pieces_joined mark piece [] none tt = rw (append-nil piece) (slice_split_none (λ byte. byte == mark) piece (All-weaker (λ byte. byte ≢ mark) (λ byte. (byte == mark) ≡ false) (λ byte apart. ne_eqb byte mark apart) piece none))
 pieces_joined mark piece (next ∷ others) none (here, all) =
-    slice_split_at (λ byte. byte == mark) piece mark (next ++ each_behind mark others) (All-weaker (λ byte. byte ≢ mark) (λ byte. (byte == mark) ≡ false) (λ byte apart. ne_eqb byte mark apart) piece none) (eq-eqb mark mark refl)
+    slice_split_at (λ byte. byte == mark) piece mark (next ++ each_after mark others) (All-weaker (λ byte. byte ≢ mark) (λ byte. (byte == mark) ≡ false) (λ byte apart. ne_eqb byte mark apart) piece none) (eq-eqb mark mark refl)
     ∙ ap (λ xs. piece ∷ xs) (pieces_joined mark next others here all)
 
-join_is : (mark : ℕ) (piece : List ℕ) (others : List (List ℕ)) → join_with_byte mark (piece ∷ others) ≡ piece ++ each_behind mark others
+join_is : (mark : ℕ) (piece : List ℕ) (others : List (List ℕ)) → join_with_byte mark (piece ∷ others) ≡ piece ++ each_after mark others
 join_is mark piece [] = sym (append-nil piece)
 join_is mark piece (next ∷ others) = ap (λ xs. piece ++ mark ∷ xs) (join_is mark next others)
 
-pub joined_pieces : (mark : ℕ) (text piece : List ℕ) (others : List (List ℕ)) → pieces mark text ≡ piece ∷ others → text ≡ piece ++ each_behind mark others
+pub joined_pieces : (mark : ℕ) (text piece : List ℕ) (others : List (List ℕ)) → pieces mark text ≡ piece ∷ others → text ≡ piece ++ each_after mark others
 joined_pieces mark text piece others e =
     sym (join_with_byte-slice_split mark text) ∙ ap (join_with_byte mark) e ∙ join_is mark piece others
 

@@ -14,7 +14,7 @@ use Rattle.srr_log.specs.declared.stop.Stop.{Stop}
 use Rattle.srr_log.specs.declared.stop.Stop.TheVariants.{NoMemory, Fault}
 use Rattle.srr_log.specs.declared.stop.Unread.{Unread}
 use Rattle.srr_log.specs.declared.stop.Unread.TheVariants.{NotAllowed, NoMemory as UnreadMemory}
-use Rattle.srr_text.specs.EntryText.{each_behind}
+use Rattle.srr_text.specs.EntryText.{each_after}
 use Rattle.srr_text.specs.LogText.{line}
 use Rattle.srr_log.specs.Parts.{Part, head_line, ranks_line, group_line, size_line, program_bytes, rank_line, entry_part, end_line, part_line, part_text, parts_text, lists_parts}
 use Rattle.srr_log.specs.Faults.{IsWhole, HasNoEnd, IsReason}
@@ -119,7 +119,7 @@ pub no_newline : (state : State) (part : Part) → IsLineState state → Allows 
 no_newline at_head head_line is ok = plain_word (codes "srr 1") [] refl (no_byte_nil 10)
 no_newline at_ranks (ranks_line ranks) is ok = plain_word (codes "ranks ") (decimal_text ranks) refl (no_byte_decimal 10 ranks (omega arith))
 no_newline (at_group n) (group_line group) is ok =
-    plain_word (codes "group") (each_behind 32 (map decimal_text group)) refl
+    plain_word (codes "group") (each_after 32 (map decimal_text group)) refl
     (no_byte_behind 10 32 (map decimal_text group) (λ e. omega (arith, e)) (no_byte_map 10 decimal_text (λ rank. no_byte_decimal 10 rank (omega arith)) group))
 no_newline (at_size n group) (size_line size) is ok = plain_word (codes "program ") (decimal_text size) refl (no_byte_decimal 10 size (omega arith))
 no_newline (at_list n group (rank ∷ ranks)) (rank_line named count) is ok =

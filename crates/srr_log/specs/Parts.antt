@@ -3,7 +3,7 @@ use Rattle.std.specs.Prelude.{ℕ, List, [], ◌∷◌, ◌++◌, map, codes, le
 use Rattle.srr_entry.specs.declared.entry.Entry.{Entry}
 use Rattle.srr_entry.specs.declared.log.Log.{Log}
 use Rattle.wiz_base.specs.Decimals.{decimal_text}
-use Rattle.srr_text.specs.EntryText.{each_behind, entry_line}
+use Rattle.srr_text.specs.EntryText.{each_after, entry_line}
 use Rattle.srr_text.specs.LogText.{line}
 
 pub data Part : Type 0 where
@@ -20,7 +20,7 @@ pub data Part : Type 0 where
 abbrev pub part_line : Part → List ℕ
 part_line head_line = codes "srr 1"
 part_line (ranks_line ranks) = codes "ranks " ++ decimal_text ranks
-part_line (group_line group) = codes "group" ++ each_behind 32 (map decimal_text group)
+part_line (group_line group) = codes "group" ++ each_after 32 (map decimal_text group)
 part_line (size_line size) = codes "program " ++ decimal_text size
 part_line (program_bytes program) = program
 part_line (rank_line rank count) = codes "rank " ++ decimal_text rank ++ (32 ∷ decimal_text count)

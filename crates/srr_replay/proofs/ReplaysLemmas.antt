@@ -13,7 +13,7 @@ use Rattle.run_model.proofs.Orders.{in_order, short_sends}
 use Rattle.run_model.proofs.Views.{test_cases, view_of-own, view_of-other}
 use Rattle.srr_entry.specs.declared.log.Log.{Log}
 use Rattle.replay_model.specs.declared.step.Step.TheVariants.{Replied}
-use Rattle.replay_model.specs.Replays.{Stop, IsStep, Replays, answer_of, event_of}
+use Rattle.replay_model.specs.Replays.{Breakpoint, IsStep, Replays, answer_of, event_of}
 use Rattle.srr_replay.specs.Rounds.{AreCounts, IsReplayable}
 use Rattle.srr_replay.specs.EnterTable.{AreEntersKnown}
 use Rattle.srr_replay.specs.StartTable.{TakesMade}
@@ -22,7 +22,7 @@ use Rattle.srr_replay.proofs.ShapeLemmas.{answer_shaped}
 use Rattle.srr_replay.proofs.StartTableLemmas.{takes_made}
 
 -- the event of a reply keeps it a replay
-pub Replays-after : (next : Next) (log : Log) (stop : Stop) (events : List Event) (rank : ℕ) (call : Call) (reply : Reply) → Replays next log stop events → is_member log.group rank ≡ true → next log.ranks rank (replies_in (view_of events rank)) ≡ Some call → answer_of log stop (view_of events) (view_of events rank) rank call ≡ Replied reply → Replays next log stop (events ++ event_of rank call reply ∷ [])
+pub Replays-after : (next : Next) (log : Log) (stop : Breakpoint) (events : List Event) (rank : ℕ) (call : Call) (reply : Reply) → Replays next log stop events → is_member log.group rank ≡ true → next log.ranks rank (replies_in (view_of events rank)) ≡ Some call → answer_of log stop (view_of events) (view_of events rank) rank call ≡ Replied reply → Replays next log stop (events ++ event_of rank call reply ∷ [])
 Replays-after next log stop events rank call reply all member asked answered =
     Along-snoc (IsStep next log stop) [] events _ all (record { member = member; call = asked; reply = answered; mate = refl })
 
@@ -48,7 +48,7 @@ Came-order next log events laws fine came =
       ];
     }
 
-came_more : (next : Next) (log : Log) (stop : Stop) → KeepsForm next → IsReplayable log → (before : List Event) (event : Event) → Came next log before → IsStep next log stop before event → Came next log (before ++ event ∷ [])
+came_more : (next : Next) (log : Log) (stop : Breakpoint) → KeepsForm next → IsReplayable log → (before : List Event) (event : Event) → Came next log before → IsStep next log stop before event → Came next log (before ++ event ∷ [])
 came_more next log stop laws fine before event came step =
     let below = below_at log.ranks log.group event.rank fine.below step.member in
     let shaped = answer_shaped log stop before event.rank event.call event.reply below (Came-order next log before laws fine came) step.member step.reply in
@@ -69,17 +69,17 @@ came_more next log stop laws fine before event came step =
       ];
     }
 
-pub Came-Replays : (next : Next) (log : Log) (stop : Stop) (events : List Event) → KeepsForm next → IsReplayable log → Replays next log stop events → Came next log events
+pub Came-Replays : (next : Next) (log : Log) (stop : Breakpoint) (events : List Event) → KeepsForm next → IsReplayable log → Replays next log stop events → Came next log events
 Came-Replays next log stop events laws fine all =
     Along-keeps (IsStep next log stop) (Came next log) (came_more next log stop laws fine) [] events
     (record { views = λ rank. tt; alone = λ rank other. refl }) all
 
 -- so each rank's view is in order
-pub AreInOrder-Replays : (next : Next) (log : Log) (stop : Stop) (events : List Event) → KeepsForm next → IsReplayable log → Replays next log stop events → AreInOrder log.ranks events
+pub AreInOrder-Replays : (next : Next) (log : Log) (stop : Breakpoint) (events : List Event) → KeepsForm next → IsReplayable log → Replays next log stop events → AreInOrder log.ranks events
 AreInOrder-Replays next log stop events laws fine all = Came-order next log events laws fine (Came-Replays next log stop events laws fine all)
 
 -- and the reply may be given
-pub MayGive-Replays : (next : Next) (log : Log) (stop : Stop) (events : List Event) (rank : ℕ) (call : Call) (reply : Reply) → KeepsForm next → IsReplayable log → Replays next log stop events → is_member log.group rank ≡ true → next log.ranks rank (replies_in (view_of events rank)) ≡ Some call → answer_of log stop (view_of events) (view_of events rank) rank call ≡ Replied reply → MayGive next log.ranks rank (replies_in (view_of events rank)) reply
+pub MayGive-Replays : (next : Next) (log : Log) (stop : Breakpoint) (events : List Event) (rank : ℕ) (call : Call) (reply : Reply) → KeepsForm next → IsReplayable log → Replays next log stop events → is_member log.group rank ≡ true → next log.ranks rank (replies_in (view_of events rank)) ≡ Some call → answer_of log stop (view_of events) (view_of events rank) rank call ≡ Replied reply → MayGive next log.ranks rank (replies_in (view_of events rank)) reply
 MayGive-Replays next log stop events rank call reply laws fine all mine asked answered =
     let came = Came-Replays next log stop events laws fine all in
     record {
@@ -92,14 +92,14 @@ MayGive-Replays next log stop events rank call reply laws fine all mine asked an
     }
 
 -- so it completes starts that were made alone
-pub TakesMade-Replays : (next : Next) (log : Log) (stop : Stop) (events : List Event) (rank : ℕ) (call : Call) (reply : Reply) → KeepsForm next → IsReplayable log → Replays next log stop events → is_member log.group rank ≡ true → next log.ranks rank (replies_in (view_of events rank)) ≡ Some call → answer_of log stop (view_of events) (view_of events rank) rank call ≡ Replied reply → TakesMade (view_of events rank) call reply
+pub TakesMade-Replays : (next : Next) (log : Log) (stop : Breakpoint) (events : List Event) (rank : ℕ) (call : Call) (reply : Reply) → KeepsForm next → IsReplayable log → Replays next log stop events → is_member log.group rank ≡ true → next log.ranks rank (replies_in (view_of events rank)) ≡ Some call → answer_of log stop (view_of events) (view_of events rank) rank call ≡ Replied reply → TakesMade (view_of events rank) call reply
 TakesMade-Replays next log stop events rank call reply laws fine all mine asked answered =
     let order = AreInOrder-Replays next log stop events laws fine all in
     takes_made log.ranks rank (view_of events rank) call reply
     (answer_shaped log stop events rank call reply (below_at log.ranks log.group rank fine.below mine) order mine answered)
 
 -- so each rank knew the communicators of its Enters
-pub EntersKnown-Replays : (next : Next) (log : Log) (stop : Stop) (events : List Event) → KeepsForm next → IsReplayable log → Replays next log stop events → AreEntersKnown log.ranks events
+pub EntersKnown-Replays : (next : Next) (log : Log) (stop : Breakpoint) (events : List Event) → KeepsForm next → IsReplayable log → Replays next log stop events → AreEntersKnown log.ranks events
 EntersKnown-Replays next log stop events laws fine all rank comm instance one below at =
     let order = AreInOrder-Replays next log stop events laws fine all in
     let is = (order.ranks rank below).entered comm instance one at in

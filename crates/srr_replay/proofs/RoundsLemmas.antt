@@ -13,7 +13,7 @@ use Rattle.run_model.proofs.Prefixes.{prefix_trans}
 use Rattle.run_model.proofs.Views.{test_cases, view_of-own, view_of-other}
 use Rattle.srr_entry.specs.declared.log.Log.{Log}
 use Rattle.replay_model.specs.declared.step.Step.TheVariants.{Replied}
-use Rattle.replay_model.specs.Replays.{ReplayState, Stop, IsExhausted, answer_of, event_of}
+use Rattle.replay_model.specs.Replays.{ReplayState, Breakpoint, IsExhausted, answer_of, event_of}
 use Rattle.srr_replay.specs.Rounds.{GrowsBy, HasNoStep, RunAll, attempt, attempts, rounds}
 
 snoc-map : {A B : Type 0} (f : A → B) (xs : List A) (x : A) → map f (xs ++ x ∷ []) ≡ map f xs ++ f x ∷ []
@@ -41,12 +41,12 @@ IsAfter-asked program n rank events before after h e =
     rw e (record { same_program = h.same_program; ranks = h.ranks; rank_is = h.rank_is; replies_are = h.replies_are })
 
 -- a rank that has ended has no step, nor has one whose call was answered otherwise
-pub HasNoStep-ended : (next : Next) (log : Log) (stop : Stop) (events : List Event) (rank : ℕ) → next log.ranks rank (replies_in (view_of events rank)) ≡ None → HasNoStep next log stop events rank
+pub HasNoStep-ended : (next : Next) (log : Log) (stop : Breakpoint) (events : List Event) (rank : ℕ) → next log.ranks rank (replies_in (view_of events rank)) ≡ None → HasNoStep next log stop events rank
 HasNoStep-ended next log stop events rank h event same step =
     let asked : next log.ranks rank (replies_in (view_of events rank)) ≡ Some event.call = rw same at step.call in
     cc
 
-pub HasNoStep-answered : (next : Next) (log : Log) (stop : Stop) (events : List Event) (rank : ℕ) (call : Call) → next log.ranks rank (replies_in (view_of events rank)) ≡ Some call → ((reply : Reply) → answer_of log stop (view_of events) (view_of events rank) rank call ≡ Replied reply → ⊥) → HasNoStep next log stop events rank
+pub HasNoStep-answered : (next : Next) (log : Log) (stop : Breakpoint) (events : List Event) (rank : ℕ) (call : Call) → next log.ranks rank (replies_in (view_of events rank)) ≡ Some call → ((reply : Reply) → answer_of log stop (view_of events) (view_of events rank) rank call ≡ Replied reply → ⊥) → HasNoStep next log stop events rank
 HasNoStep-answered next log stop events rank call h other event same step =
     let asked : next log.ranks rank (replies_in (view_of events rank)) ≡ Some event.call = rw same at step.call in
     let some : Some event.call ≡ Some call = sym asked ∙ h in
@@ -133,7 +133,7 @@ member_at (x ∷ group) rank h =
     ]
 
 -- where none of those listed has a step, no rank has
-pub IsExhausted-each : (next : Next) (log : Log) (stop : Stop) (events : List Event) → ((k : ℕ) → k < length log.group → HasNoStep next log stop events (slice_index log.group k)) → IsExhausted next log stop events
+pub IsExhausted-each : (next : Next) (log : Log) (stop : Breakpoint) (events : List Event) → ((k : ℕ) → k < length log.group → HasNoStep next log stop events (slice_index log.group k)) → IsExhausted next log stop events
 IsExhausted-each next log stop events each event step =
     let found = member_at log.group event.rank step.member in
     each found.0 found.1 event (sym found.2) step
@@ -169,25 +169,25 @@ pub map_take-more : {Y : Type 0} (f : ℕ → Y) (xs : List ℕ) (k : ℕ) → k
 map_take-more f xs k lt = ap (map f) (take_more xs k 0 lt) ∙ map-append f (take k xs) (slice_index xs k ∷ [])
 
 -- one attempt more, one round more
-attempts_last : (next : Next) (log : Log) (stop : Stop) (events : List Event) (ranks : List ℕ) (rank : ℕ)
+attempts_last : (next : Next) (log : Log) (stop : Breakpoint) (events : List Event) (ranks : List ℕ) (rank : ℕ)
     → attempts next log stop events (ranks ++ rank ∷ []) ≡ attempt next log stop (attempts next log stop events ranks) rank
 attempts_last next log stop events [] rank = refl
 attempts_last next log stop events (first ∷ ranks) rank = attempts_last next log stop (attempt next log stop events first) ranks rank
 
-rounds_last : (next : Next) (log : Log) (stop : Stop) (count : ℕ) (events : List Event)
+rounds_last : (next : Next) (log : Log) (stop : Breakpoint) (count : ℕ) (events : List Event)
     → rounds next log stop (suc count) events ≡ attempts next log stop (rounds next log stop count events) log.group
 rounds_last next log stop zero events = refl
 rounds_last next log stop (suc count) events = rounds_last next log stop count (attempts next log stop events log.group)
 
 -- one rank more of a round
-pub one_attempt : (next : Next) (log : Log) (stop : Stop) (group : List ℕ) (k : ℕ) (start before after : List Event) → k < length group
+pub one_attempt : (next : Next) (log : Log) (stop : Breakpoint) (group : List ℕ) (k : ℕ) (start before after : List Event) → k < length group
     → before ≡ attempts next log stop start (take k group) → after ≡ attempt next log stop before (slice_index group k)
     → after ≡ attempts next log stop start (take (k + 1) group)
 one_attempt next log stop group k start before after within so_far one =
     one ∙ ap (λ events. attempt next log stop events (slice_index group k)) so_far
     ∙ sym (ap (attempts next log stop start) (take_more group k 0 within) ∙ attempts_last next log stop start (take k group) (slice_index group k))
 
-one_more : (next : Next) (log : Log) (stop : Stop) (count : ℕ) (start before after : List Event) → before ≡ rounds next log stop count start
+one_more : (next : Next) (log : Log) (stop : Breakpoint) (count : ℕ) (start before after : List Event) → before ≡ rounds next log stop count start
     → after ≡ attempts next log stop before log.group → after ≡ rounds next log stop (suc count) start
 one_more next log stop count start before after so_far one =
     one ∙ ap (λ events. attempts next log stop events log.group) so_far ∙ sym (rounds_last next log stop count start)
@@ -199,5 +199,5 @@ pub one_round : {P : Type 0} (next : P → Next) (count : ℕ) (one two three : 
 one_round {P} next count one two three program log stop so_far step =
     let F : P → Type 0 = λ p. three.events ≡ attempts (next p) two.log two.stop two.events two.log.group in
     let G : Log → Type 0 = λ l. three.events ≡ attempts (next one.program) l two.stop two.events l.group in
-    let H : Stop → Type 0 = λ s. three.events ≡ attempts (next one.program) one.log s two.events one.log.group in
+    let H : Breakpoint → Type 0 = λ s. three.events ≡ attempts (next one.program) one.log s two.events one.log.group in
     one_more (next one.program) one.log one.stop count one.events two.events three.events so_far (subst H stop (subst G log (subst F program step)))

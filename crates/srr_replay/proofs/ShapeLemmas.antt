@@ -47,7 +47,7 @@ use Rattle.replay_model.specs.Breaks.{break_inner, break_mark, break_marks, brea
 use Rattle.srr_replay.specs.Collectives.{IsCollective}
 use Rattle.replay_model.specs.Filling.{absent_of, as_took, fill_inner, fill_made, fill_mark, fill_marks, filled, joined, made_new, message_from, peeked_from, push_item}
 use Rattle.replay_model.specs.Fits.{fits, mark_fits, marks_fit}
-use Rattle.replay_model.specs.Replays.{Stop, answer_of, entry_answer, is_break, judged}
+use Rattle.replay_model.specs.Replays.{Breakpoint, answer_of, entry_answer, is_break, judged}
 use Rattle.srr_replay.proofs.CollectiveLemmas.{form_of, inputs_are, or_none-first, or_none-rest}
 use Rattle.srr_replay.proofs.LogLemmas.{both}
 use Rattle.srr_replay.proofs.MissingMarks.{enter_for-made}
@@ -413,7 +413,7 @@ found_shaped n group events me call (Some entry) reply below order mine h =
     ]
 
 -- the answer of a log has the shape of the call
-pub answer_shaped : (log : Log) (stop : Stop) (events : List Event) (me : ℕ) (call : Call) (reply : Reply) → me < log.ranks → AreInOrder log.ranks events → is_member log.group me ≡ true → answer_of log stop (view_of events) (view_of events me) me call ≡ Replied reply → has_shape log.ranks me (view_of events me) call reply ≡ true
+pub answer_shaped : (log : Log) (stop : Breakpoint) (events : List Event) (me : ℕ) (call : Call) (reply : Reply) → me < log.ranks → AreInOrder log.ranks events → is_member log.group me ≡ true → answer_of log stop (view_of events) (view_of events me) me call ≡ Replied reply → has_shape log.ranks me (view_of events me) call reply ≡ true
 answer_shaped log stop events me call reply below order mine h =
     elim (test_cases (is_break stop me (length (view_of events me)))) [
       | inl stops ↦ (let told = rw stops at h in absurd (cc))

@@ -15,7 +15,7 @@ use Rattle.replay_model.specs.declared.replayed.Replayed.{Replayed}
 use Rattle.replay_model.specs.declared.replayed.Stand.{Stand}
 use Rattle.replay_model.specs.declared.replayed.Stand.TheVariants.{AtBreak as StandAtBreak, Starved}
 use Rattle.replay_model.specs.Laws.{BeginsRun, EachStand, HasAllOf, HasNotDiverged, HasTheCut, IsDone, IsReplayOfRun, StarvesBehindABreak}
-use Rattle.replay_model.specs.Replays.{IsWholeReplay, Stop}
+use Rattle.replay_model.specs.Replays.{IsWholeReplay, Breakpoint}
 use Rattle.replay_model.specs.Stands.{IsReplayed, printed_of, stand_of}
 
 -- what holds of each stand of the group holds of the list of them
@@ -69,11 +69,11 @@ same_outputs f g (rank ∷ group) each =
     let rest = same_outputs f g group (λ r member. each r (or_right (rank == r) (is_member group r) member)) in
     ap₂ (λ x xs. x ∷ xs) first rest
 
-pub IsWholeReplay-replayed : (next : Next) (output : ℕ → ℕ → List Reply → List ℕ) (variables : ℕ → ℕ → List Reply → List Variable) (log : Log) (stop : Stop) (replayed : Replayed)
+pub IsWholeReplay-replayed : (next : Next) (output : ℕ → ℕ → List Reply → List ℕ) (variables : ℕ → ℕ → List Reply → List Variable) (log : Log) (stop : Breakpoint) (replayed : Replayed)
     → IsReplayed next output variables log stop replayed → IsWholeReplay next log stop replayed.events.events
 IsWholeReplay-replayed next output variables log stop replayed is = record { replays = is.replays; exhausted = is.exhausted }
 
-pub IsReplayOfRun-laws : (next : Next) (output : ℕ → ℕ → List Reply → List ℕ) (variables : ℕ → ℕ → List Reply → List Variable) (log : Log) (stop : Stop) (run : List Event) (replayed : Replayed)
+pub IsReplayOfRun-laws : (next : Next) (output : ℕ → ℕ → List Reply → List ℕ) (variables : ℕ → ℕ → List Reply → List Variable) (log : Log) (stop : Breakpoint) (run : List Event) (replayed : Replayed)
     → IsReplayed next output variables log stop replayed
     → BeginsRun output log replayed.events.events run
     → EachStand HasNotDiverged next variables log stop replayed.events.events

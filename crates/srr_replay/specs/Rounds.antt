@@ -8,7 +8,7 @@ use Rattle.run_model.specs.Lists.{are_below}
 use Rattle.run_model.specs.Program.{Standing, IsAfter}
 use Rattle.run_model.specs.Views.{Next, replies_in, view_of}
 use Rattle.srr_entry.specs.declared.log.Log.{Log}
-use Rattle.replay_model.specs.Replays.{Stop, IsStep, answer_of, events_after}
+use Rattle.replay_model.specs.Replays.{Breakpoint, IsStep, answer_of, events_after}
 
 -- 1 to 64 ranks, a group of distinct ranks below their number, a list of entries for each, no longer than a log holds
 pub record IsReplayable (log : Log) : Type 0 where
@@ -28,7 +28,7 @@ abbrev pub GrowsBy : ℕ → List Event → List Event → Bool → Type 0
 GrowsBy rank before after false = after ≡ before
 GrowsBy rank before after true = (event : Event) × (event.rank ≡ rank) × (after ≡ before ++ event ∷ [])
 
-abbrev pub HasNoStep : Next → Log → Stop → List Event → ℕ → Type 0
+abbrev pub HasNoStep : Next → Log → Breakpoint → List Event → ℕ → Type 0
 HasNoStep next log stop events rank = (event : Event) → event.rank ≡ rank → IsStep next log stop events event → ⊥
 
 -- one run for each rank of the group, each after its rank's events
@@ -37,25 +37,25 @@ pub record RunAll {P R : Type 0} (standing : R → Standing P) (program : P) (lo
   pub each : (k : ℕ) (run : R) → k < length log.group → IsAfter program log.ranks (slice_index log.group k) events (standing (slice_index_or runs k run))
 
 -- an attempt of a rank: one event more, where it has a step
-abbrev pub attempt_with : Log → Stop → List Event → ℕ → Option Call → List Event
+abbrev pub attempt_with : Log → Breakpoint → List Event → ℕ → Option Call → List Event
 attempt_with log stop events rank None = events
 attempt_with log stop events rank (Some call) = events_after events rank call (answer_of log stop (view_of events) (view_of events rank) rank call)
 
-abbrev pub attempt : Next → Log → Stop → List Event → ℕ → List Event
+abbrev pub attempt : Next → Log → Breakpoint → List Event → ℕ → List Event
 attempt next log stop events rank = attempt_with log stop events rank (next log.ranks rank (replies_in (view_of events rank)))
 
 -- these ranks attempt in order
-abbrev pub attempts : Next → Log → Stop → List Event → List ℕ → List Event
+abbrev pub attempts : Next → Log → Breakpoint → List Event → List ℕ → List Event
 attempts next log stop events [] = events
 attempts next log stop events (rank ∷ ranks) = attempts next log stop (attempt next log stop events rank) ranks
 
 -- so many rounds over the group, in the order of its ranks
-abbrev pub rounds : Next → Log → Stop → ℕ → List Event → List Event
+abbrev pub rounds : Next → Log → Breakpoint → ℕ → List Event → List Event
 rounds next log stop zero events = events
 rounds next log stop (suc more) events = rounds next log stop more (attempts next log stop events log.group)
 
 -- the events after as many rounds as it takes until one has no event
-pub record AreRounds (next : Next) (log : Log) (stop : Stop) (before events : List Event) : Type 0 where
+pub record AreRounds (next : Next) (log : Log) (stop : Breakpoint) (before events : List Event) : Type 0 where
   pub count : ℕ
   pub made : rounds next log stop count before ≡ events
   pub rests : attempts next log stop events log.group ≡ events

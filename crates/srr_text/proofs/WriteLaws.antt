@@ -5,7 +5,7 @@ use Rattle.std.proofs.Math.Seq.{drop-cons}
 use Rattle.srr_entry.specs.declared.entry.Entry.{Entry}
 use Rattle.srr_entry.specs.declared.log.Log.{Log}
 use Rattle.wiz_base.specs.Decimals.{decimal_text}
-use Rattle.srr_text.specs.EntryText.{entry_line, each_behind}
+use Rattle.srr_text.specs.EntryText.{entry_line, each_after}
 use Rattle.srr_text.specs.LogText.{line, head_text, group_text, program_text, entries_text, list_head_text, list_text, lists_text, log_text}
 
 line_append : (bytes behind more : List ℕ) → line bytes behind ++ more ≡ line bytes (behind ++ more)
@@ -48,7 +48,7 @@ whole_text log start first second third fourth out a b c d e =
     let program : program_text log.program [] ++ rest ≡ program_text log.program rest =
     line_append (codes "program " ++ decimal_text (length log.program)) (line log.program []) rest ∙ ap (line (codes "program " ++ decimal_text (length log.program))) (line_append log.program [] rest) in
     let group : group_text log.group [] ++ program_text log.program rest ≡ group_text log.group (program_text log.program rest) =
-    line_append (codes "group" ++ each_behind 32 (map decimal_text log.group)) [] (program_text log.program rest) in
+    line_append (codes "group" ++ each_after 32 (map decimal_text log.group)) [] (program_text log.program rest) in
     let head : head_text log.ranks [] ++ group_text log.group (program_text log.program rest) ≡ log_text log =
     line_append (codes "srr 1") (line (codes "ranks " ++ decimal_text log.ranks) []) (group_text log.group (program_text log.program rest))
     ∙ ap (line (codes "srr 1")) (line_append (codes "ranks " ++ decimal_text log.ranks) [] (group_text log.group (program_text log.program rest))) in

@@ -11,14 +11,14 @@ use Rattle.srr_entry.specs.declared.entry.Entry.TheVariants.{Sent, Posted, Enter
 use Rattle.wiz_base.specs.Decimals.{decimal_text, number_text}
 
 -- the pieces, a mark before each
-abbrev pub each_behind : ℕ → List (List ℕ) → List ℕ
-each_behind mark [] = []
-each_behind mark (piece ∷ pieces) = mark ∷ (piece ++ each_behind mark pieces)
+abbrev pub each_after : ℕ → List (List ℕ) → List ℕ
+each_after mark [] = []
+each_after mark (piece ∷ pieces) = mark ∷ (piece ++ each_after mark pieces)
 
 -- the pieces, a comma between each two
 abbrev pub by_commas : List (List ℕ) → List ℕ
 by_commas [] = []
-by_commas (piece ∷ pieces) = piece ++ each_behind 44 pieces
+by_commas (piece ∷ pieces) = piece ++ each_after 44 pieces
 
 abbrev pub ints_text : List ℤ → List ℕ
 ints_text ints = by_commas (map number_text ints)
@@ -70,7 +70,7 @@ entry_line Sent = codes "s"
 entry_line Posted = codes "p"
 entry_line Entered = codes "e"
 entry_line Ended = codes "z"
-entry_line (Took items) = codes "t" ++ each_behind 32 (map item_text items)
+entry_line (Took items) = codes "t" ++ each_after 32 (map item_text items)
 entry_line NotYet = codes "n"
 entry_line (PeekedInside source start) = codes "k " ++ name_text source start
 entry_line (PeekedOutside source start tag count) =

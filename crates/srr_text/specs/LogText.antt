@@ -3,7 +3,7 @@ use Rattle.std.specs.Prelude.{◌≡◌, ℕ, List, [], ◌∷◌, ◌++◌, map
 use Rattle.srr_entry.specs.declared.entry.Entry.{Entry}
 use Rattle.srr_entry.specs.declared.log.Log.{Log}
 use Rattle.wiz_base.specs.Decimals.{decimal_text}
-use Rattle.srr_text.specs.EntryText.{each_behind, entry_line}
+use Rattle.srr_text.specs.EntryText.{each_after, entry_line}
 use Rattle.srr_text.specs.Bounds.{IsInBounds}
 
 -- a line, its newline, and what stands behind
@@ -15,7 +15,7 @@ abbrev pub head_text : ℕ → List ℕ → List ℕ
 head_text ranks behind = line (codes "srr 1") (line (codes "ranks " ++ decimal_text ranks) behind)
 
 abbrev pub group_text : List ℕ → List ℕ → List ℕ
-group_text group behind = line (codes "group" ++ each_behind 32 (map decimal_text group)) behind
+group_text group behind = line (codes "group" ++ each_after 32 (map decimal_text group)) behind
 
 -- how many bytes the program has, and then these
 abbrev pub program_text : List ℕ → List ℕ → List ℕ

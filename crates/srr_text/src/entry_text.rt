@@ -1,7 +1,7 @@
 //! The text of an entry.
 ghost use Rattle.std.specs.Prelude.{◌≡◌, ◌∷◌, ◌++◌, OnOk, OnErr, map};
 ghost use Rattle.mpi_call.specs.Halts.{fault_number};
-ghost use Rattle.srr_text.specs.EntryText.{each_behind, by_commas, ints_text, name_text, mark_text, item_text, halt_number, halt_details, entry_line};
+ghost use Rattle.srr_text.specs.EntryText.{each_after, by_commas, ints_text, name_text, mark_text, item_text, halt_number, halt_details, entry_line};
 ghost use Rattle.wiz_base.specs.Decimals.{decimal_text, number_text};
 
 use mpi_call::call::{Fault, Halt};
@@ -44,17 +44,17 @@ pub(crate) fn push_entry(out: &mut Bytes, entry: &Entry) -> Result<(), AllocErro
         } => {
             push_text(out, b"k ")?;
             push_tagged(out, *source, *start, *tag)?;
-            push_behind(out, b":", *count as u64)
+            push_after(out, b":", *count as u64)
         }
         Entry::Stopped(halt) => {
-            push_behind(out, b"x ", halt_number(halt) as u64)?;
+            push_after(out, b"x ", halt_number(halt) as u64)?;
             push_details(out, halt)
         }
     }
 }
 
 /// A word and a number.
-pub(crate) fn push_behind(out: &mut Bytes, word: &[u8], number: u64) -> Result<(), AllocError>
+pub(crate) fn push_after(out: &mut Bytes, word: &[u8], number: u64) -> Result<(), AllocError>
     ensures { OnOk result (out.new ≡ out.old ++ word.now ++ decimal_text number) }
 {
     push_text(out, word)?;
@@ -62,7 +62,7 @@ pub(crate) fn push_behind(out: &mut Bytes, word: &[u8], number: u64) -> Result<(
 }
 
 /// A word and an int.
-fn push_int_behind(out: &mut Bytes, word: &[u8], int: i32) -> Result<(), AllocError>
+fn push_int_after(out: &mut Bytes, word: &[u8], int: i32) -> Result<(), AllocError>
     ensures { OnOk result (out.new ≡ out.old ++ word.now ++ number_text int) }
 {
     push_text(out, word)?;
@@ -70,12 +70,12 @@ fn push_int_behind(out: &mut Bytes, word: &[u8], int: i32) -> Result<(), AllocEr
 }
 
 /// Numbers, a mark before each.
-pub(crate) fn push_each_behind(out: &mut Bytes, mark: u8, numbers: &[u8]) -> Result<(), AllocError>
-    ensures { OnOk result (out.new ≡ out.old ++ each_behind mark (map decimal_text numbers.now)) }
+pub(crate) fn push_each_after(out: &mut Bytes, mark: u8, numbers: &[u8]) -> Result<(), AllocError>
+    ensures { OnOk result (out.new ≡ out.old ++ each_after mark (map decimal_text numbers.now)) }
 {
     let mut rest = numbers;
     while let [number, after @ ..] = rest {
-        push_behind(out, &[mark], *number as u64)?;
+        push_after(out, &[mark], *number as u64)?;
         rest = after;
     }
     Ok(())
@@ -85,7 +85,7 @@ fn push_name(out: &mut Bytes, source: u8, start: u32) -> Result<(), AllocError>
     ensures { OnOk result (out.new ≡ out.old ++ name_text source start) }
 {
     push_decimal(out, source as u64)?;
-    push_behind(out, b".", start as u64)
+    push_after(out, b".", start as u64)
 }
 
 /// The name and the tag of a message from outside.
@@ -93,16 +93,16 @@ fn push_tagged(out: &mut Bytes, source: u8, start: u32, tag: u32) -> Result<(), 
     ensures { OnOk result (out.new ≡ out.old ++ name_text source start ++ (46 ∷ decimal_text tag)) }
 {
     push_name(out, source, start)?;
-    push_behind(out, b".", tag as u64)
+    push_after(out, b".", tag as u64)
 }
 
 /// Each item behind a blank.
 fn push_items(out: &mut Bytes, items: &[Marked]) -> Result<(), AllocError>
-    ensures { OnOk result (out.new ≡ out.old ++ each_behind 32 (map item_text items.now)) }
+    ensures { OnOk result (out.new ≡ out.old ++ each_after 32 (map item_text items.now)) }
 {
     let mut rest = items;
     while let [item, after @ ..] = rest {
-        push_behind(out, b" ", item.index as u64)?;
+        push_after(out, b" ", item.index as u64)?;
         push_text(out, b"=")?;
         push_mark(out, &item.mark)?;
         rest = after;
@@ -131,9 +131,9 @@ fn push_mark(out: &mut Bytes, mark: &Mark) -> Result<(), AllocError>
             push_text(out, b"c")?;
             push_ints(out, ints.as_slice())
         }
-        Mark::Made { comm } => push_behind(out, b"m.", *comm as u64),
+        Mark::Made { comm } => push_after(out, b"m.", *comm as u64),
         Mark::MadeOutside { comm, members } => {
-            push_behind(out, b"m.", *comm as u64)?;
+            push_after(out, b"m.", *comm as u64)?;
             push_members(out, members.as_slice())
         }
     }
@@ -146,17 +146,17 @@ fn push_ints(out: &mut Bytes, ints: &[i32]) -> Result<(), AllocError>
     let [first, others @ ..] = ints else {
         return push_text(out, b":");
     };
-    push_int_behind(out, b":", *first)?;
+    push_int_after(out, b":", *first)?;
     push_others(out, others)
 }
 
 /// Each int behind a comma.
 fn push_others(out: &mut Bytes, ints: &[i32]) -> Result<(), AllocError>
-    ensures { OnOk result (out.new ≡ out.old ++ each_behind 44 (map number_text ints.now)) }
+    ensures { OnOk result (out.new ≡ out.old ++ each_after 44 (map number_text ints.now)) }
 {
     let mut rest = ints;
     while let [int, after @ ..] = rest {
-        push_int_behind(out, b",", *int)?;
+        push_int_after(out, b",", *int)?;
         rest = after;
     }
     Ok(())
@@ -169,8 +169,8 @@ fn push_members(out: &mut Bytes, members: &[u8]) -> Result<(), AllocError>
     let [first, others @ ..] = members else {
         return push_text(out, b":");
     };
-    push_behind(out, b":", *first as u64)?;
-    push_each_behind(out, b',', others)
+    push_after(out, b":", *first as u64)?;
+    push_each_after(out, b',', others)
 }
 
 fn halt_number(halt: &Halt) -> u8
@@ -199,18 +199,18 @@ fn push_details(out: &mut Bytes, halt: &Halt) -> Result<(), AllocError>
 {
     match halt {
         Halt::Aborted { rank, code } => {
-            push_behind(out, b" ", *rank as u64)?;
-            push_int_behind(out, b" ", *code)
+            push_after(out, b" ", *rank as u64)?;
+            push_int_after(out, b" ", *code)
         }
         Halt::Trapped { rank, fault } => {
-            push_behind(out, b" ", *rank as u64)?;
-            push_behind(out, b" ", fault_number(*fault) as u64)
+            push_after(out, b" ", *rank as u64)?;
+            push_after(out, b" ", fault_number(*fault) as u64)
         }
         Halt::Truncated { rank, start } | Halt::BadRequest { rank, start } => {
-            push_behind(out, b" ", *rank as u64)?;
-            push_behind(out, b" ", *start as u64)
+            push_after(out, b" ", *rank as u64)?;
+            push_after(out, b" ", *start as u64)
         }
-        Halt::Mismatched { rank } => push_behind(out, b" ", *rank as u64),
+        Halt::Mismatched { rank } => push_after(out, b" ", *rank as u64),
         Halt::Limit | Halt::Stuck => Ok(()),
     }
 }

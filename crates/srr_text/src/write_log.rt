@@ -3,7 +3,7 @@ ghost use Rattle.std.specs.Prelude.{◌≡◌, ◌++◌, [], OnOk, IfOk, length}
 ghost use Rattle.srr_text.specs.LogText.{entries_text, line, group_text, head_text, list_text, lists_text, log_text, program_text};
 ghost use Rattle.wiz_base.specs.Decimals.{decimal_text};
 
-use crate::entry_text::{push_behind, push_each_behind, push_entry};
+use crate::entry_text::{push_after, push_each_after, push_entry};
 use srr_entry::entry::Entry;
 use srr_entry::log::{Entries, Log};
 use std::alloc::{AllocError, Global};
@@ -34,7 +34,7 @@ fn push_log(out: &mut Bytes, log: &Log) -> Result<(), AllocError>
 fn push_number_line(out: &mut Bytes, word: &[u8], number: u64) -> Result<(), AllocError>
     ensures { OnOk result (out.new ≡ out.old ++ line (word.now ++ decimal_text number) []) }
 {
-    push_behind(out, word, number)?;
+    push_after(out, word, number)?;
     push_text(out, b"\n")
 }
 
@@ -48,7 +48,7 @@ fn push_group(out: &mut Bytes, group: &[u8]) -> Result<(), AllocError>
     ensures { OnOk result (out.new ≡ out.old ++ group_text group.now []) }
 {
     push_text(out, b"group")?;
-    push_each_behind(out, b' ', group)?;
+    push_each_after(out, b' ', group)?;
     push_text(out, b"\n")
 }
 
@@ -74,7 +74,7 @@ fn push_lists(out: &mut Bytes, group: &[u8], lists: &[Entries]) -> Result<(), Al
 fn push_list(out: &mut Bytes, rank: u8, entries: &[Entry]) -> Result<(), AllocError>
     ensures { OnOk result (out.new ≡ out.old ++ list_text rank entries.now []) }
 {
-    push_behind(out, b"rank ", rank as u64)?;
+    push_after(out, b"rank ", rank as u64)?;
     push_number_line(out, b" ", entries.len() as u64)?;
     push_entries(out, entries)
 }

@@ -1,5 +1,5 @@
 //! A history is read.
-use log_bounds::words::replies_fit;
+use log_bounds::ints32::replies_fit;
 use mpi_call::call::{Call, TakeMode};
 use mpi_call::lists::{Ints, Starts};
 use mpi_call::reply::{Got, Item, Items, Reply};

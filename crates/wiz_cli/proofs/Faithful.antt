@@ -10,7 +10,7 @@ use Rattle.replay_model.specs.declared.replayed.Stand.{Stand}
 use Rattle.replay_model.specs.declared.replayed.Stand.TheVariants.{Ended, LogEnded, AtBreak, Diverged as HasDiverged, Starved as IsStarved}
 use Rattle.replay_model.specs.declared.step.Missing.{Missing}
 use Rattle.replay_model.specs.Laws.{HasNotDiverged, IsRunWith}
-use Rattle.replay_model.specs.Replays.{Stop}
+use Rattle.replay_model.specs.Replays.{Breakpoint}
 use Rattle.run_model.specs.declared.event.Event.{Event}
 use Rattle.run_model.specs.declared.lists.Variable.{Variable}
 use Rattle.srr_entry.specs.declared.log.Log.{Log}
@@ -80,13 +80,13 @@ one_log_of [] log other is too = absurd is
 one_log_of (bytes ∷ more) log other is too = one_log bytes log other is too
 
 -- beside a run with the log, a replay's stands are done
-done_beside : (text : List ℕ) (log : Log) (stop : Stop) (replayed : Replayed) (program : CProgram) (run : List Event) → IsReplayOf text log stop replayed
+done_beside : (text : List ℕ) (log : Log) (stop : Breakpoint) (replayed : Replayed) (program : CProgram) (run : List Event) → IsReplayOf text log stop replayed
     → IsProgramOf text program → IsRunWith (next_of program) log run → of_stands replayed.ends ≡ Done
 done_beside text log stop replayed program run is is_program with =
     let of = (is.shows program is_program).runs run with in
     stands_are_done replayed.ends of.agrees of.starved
 
-pub replay_is_done : (stop : Stop) (texts : List (List ℕ)) (held : Log) (replayed : Replayed) (log : Log) (program : CProgram) (run : List Event)
+pub replay_is_done : (stop : Breakpoint) (texts : List (List ℕ)) (held : Log) (replayed : Replayed) (log : Log) (program : CProgram) (run : List Event)
     → IsLogOf texts held → IsLogOf texts log → IsReplayOf (program_text texts held) held stop replayed
     → IsProgramOf (program_text texts log) program → IsRunWith (next_of program) log run → number_of (of_stands replayed.ends) ≡ number_of Done
 replay_is_done stop texts held replayed log program run is_held is_log is is_program with =

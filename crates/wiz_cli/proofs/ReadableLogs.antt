@@ -3,7 +3,7 @@ use Rattle.std.proofs.Common.{◌≡◌, ◌<◌, ◌≤◌, ◌+◌, ℕ, List,
 use Rattle.std.specs.List.{AllByRecursion}
 use Rattle.std.proofs.lemmas.Bool.{lt-ltb}
 use Rattle.group_plan.specs.Plans.{IsPlan, Rises, number_of_ranks, top, IsGroup as IsPlanGroup}
-use Rattle.log_bounds.specs.RunBounds.{AreOfWords, LogsAreInBounds, LogTextsAreShort}
+use Rattle.log_bounds.specs.RunBounds.{RepliesFit32, LogsAreInBounds, LogTextsAreShort}
 use Rattle.run_model.specs.declared.event.Event.{Event}
 use Rattle.run_model.specs.Chosen.{IsChosen}
 use Rattle.run_model.specs.Lists.{are_below}
@@ -27,7 +27,7 @@ some (rank ∷ ranks) h = omega arith
 group_is : (n : ℕ) (ranks : List ℕ) → IsPlanGroup ranks → top ranks ≤ n → IsGroup n ranks
 group_is n ranks h low = (some ranks h.0, rise_from 0 0 ranks refl h.1, below n ranks low)
 
-readable_from : (next : Next) (n : ℕ) (text : List ℕ) (events : List Event) (groups : List (List ℕ)) → LogsAreInBounds next n → LogTextsAreShort next n → IsChosen next n events → AreOfWords events
+readable_from : (next : Next) (n : ℕ) (text : List ℕ) (events : List Event) (groups : List (List ℕ)) → LogsAreInBounds next n → LogTextsAreShort next n → IsChosen next n events → RepliesFit32 events
     → length text ≤ 65536 → AllByRecursion IsPlanGroup groups → number_of_ranks groups ≤ n → AllByRecursion IsReadable (map (log_of text n events) groups)
 readable_from next n text events [] law brief chosen words short are low = tt
 readable_from next n text events (group ∷ groups) law brief chosen words short are low = (
@@ -39,6 +39,6 @@ readable_from next n text events (group ∷ groups) law brief chosen words short
 )
 
 pub readable_logs : (next : Next) (text : List ℕ) (events : List Event) (groups : List (List ℕ)) → LogsAreInBounds next (number_of_ranks groups) → LogTextsAreShort next (number_of_ranks groups) → IsChosen next (number_of_ranks groups) events
-    → AreOfWords events → length text ≤ 65536 → IsPlan groups → AllByRecursion IsReadable (map (log_of text (number_of_ranks groups) events) groups)
+    → RepliesFit32 events → length text ≤ 65536 → IsPlan groups → AllByRecursion IsReadable (map (log_of text (number_of_ranks groups) events) groups)
 readable_logs next text events groups law brief chosen words short plan =
     readable_from next (number_of_ranks groups) text events groups law brief chosen words short plan.rising (omega arith)

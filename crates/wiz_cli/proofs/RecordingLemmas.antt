@@ -3,7 +3,7 @@ use Rattle.std.proofs.Common.{◌≡◌, Bool, false}
 use Rattle.std.proofs.lemmas.List.{length-map}
 use Rattle.c_program.specs.Program.{next_of, output_of}
 use Rattle.group_plan.specs.Plans.{IsPlan, number_of_ranks}
-use Rattle.log_bounds.specs.RunBounds.{AreOfWords, LogsAreInBounds, LogTextsAreShort}
+use Rattle.log_bounds.specs.RunBounds.{RepliesFit32, LogsAreInBounds, LogTextsAreShort}
 use Rattle.srr_entry.specs.Entries.{log_of}
 use Rattle.srr_record.specs.declared.recording.Recording.{Recording}
 use Rattle.srr_record.specs.Recordings.{IsRecorded}
@@ -15,7 +15,7 @@ use Rattle.wiz_cli.proofs.ReadableLogs.{readable_logs}
 
 pub made_by : (ready : Ready) (recording : Recording) → CanRun ready
     → IsRecorded (next_of ready.program) (output_of ready.program) (number_of_ranks ready.plan) ready.text ready.plan recording
-    → LogsAreInBounds (next_of ready.program) (number_of_ranks ready.plan) → LogTextsAreShort (next_of ready.program) (number_of_ranks ready.plan) → AreOfWords recording.history.events → IsPlan ready.plan
+    → LogsAreInBounds (next_of ready.program) (number_of_ranks ready.plan) → LogTextsAreShort (next_of ready.program) (number_of_ranks ready.plan) → RepliesFit32 recording.history.events → IsPlan ready.plan
     → (is_threaded : Bool)
     → (is_threaded ≡ false → IsInTurns (next_of ready.program) (number_of_ranks ready.plan) ready.turns recording.history.events)
     → IsMade is_threaded ready recording

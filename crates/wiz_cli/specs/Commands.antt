@@ -3,7 +3,7 @@ use Rattle.std.specs.Prelude.{◌≡◌, ◌⊎◌, ℕ, List, [], ◌∷◌, fa
 use Rattle.c_program.specs.declared.program.CProgram.{CProgram}
 use Rattle.log_bounds.specs.RunBounds.{log_limit}
 use Rattle.replay_model.specs.declared.replayed.Replayed.{Replayed}
-use Rattle.replay_model.specs.Replays.{Stop}
+use Rattle.replay_model.specs.Replays.{Breakpoint}
 use Rattle.srr_entry.specs.declared.log.Log.{Log}
 use Rattle.srr_record.specs.declared.recording.Recording.{Recording}
 use Rattle.srr_text.specs.LogText.{IsLogText}
@@ -133,7 +133,7 @@ abbrev pub demonstrated : ℕ → ℕ → List (List ℕ) → Recording → List
 demonstrated seed rounds groups recording replays = demo_text seed rounds recording.history.events groups replays recording.ending
 
 -- a log is replayed with the program of a text
-abbrev pub TellsReplay : List ℕ → Log → Stop → Outcome → Type 0
+abbrev pub TellsReplay : List ℕ → Log → Breakpoint → Outcome → Type 0
 TellsReplay text log stop outcome =
     (replayed : Replayed) × IsReplayOf text log stop replayed × (outcome ≡ replay_outcome replayed)
 

@@ -8,7 +8,7 @@ use Rattle.c_types.specs.Checks.{IsProgramOf}
 use Rattle.mpi_call.specs.Collectives.{is_member}
 use Rattle.replay_model.specs.declared.replayed.Replayed.{Replayed}
 use Rattle.replay_model.specs.Laws.{IsRunWith, ShowsInEveryOrder}
-use Rattle.replay_model.specs.Replays.{IsWholeReplay, Stop}
+use Rattle.replay_model.specs.Replays.{IsWholeReplay, Breakpoint}
 use Rattle.replay_model.specs.Stands.{printed_of}
 use Rattle.run_model.specs.declared.event.Event.{Event}
 use Rattle.run_model.specs.Views.{view_of}
@@ -40,7 +40,7 @@ pub record BesideEveryRun (Holds : CProgram → Log → List Event → Type 0) (
 -- of a run: whatever the order of a replay's events, at every moment each rank of the group has a prefix of its recorded calls,
 -- replies and printed output, a replay that can go no further has given all of them, and no rank outside the group takes a step. The
 -- report's own replay is one that can go no further: all of the run where no breakpoint is set
-pub record IsShown (stop : Stop) (replayed : Replayed) (program : CProgram) (log : Log) (run : List Event) : Type 0 where
+pub record IsShown (stop : Breakpoint) (replayed : Replayed) (program : CProgram) (log : Log) (run : List Event) : Type 0 where
   pub orders : ShowsInEveryOrder (next_of program) (output_of program) log run
   pub whole : IsWholeReplay (next_of program) log stop replayed.events.events
   pub views : stop ≡ None → (rank : ℕ) → is_member log.group rank ≡ true → view_of replayed.events.events rank ≡ view_of run rank

@@ -9,7 +9,7 @@ use Rattle.c_program.specs.Program.{next_of, output_of, variables_of}
 use Rattle.c_types.specs.Checks.{IsProgramOf}
 use Rattle.replay_model.specs.declared.replayed.Replayed.{Replayed}
 use Rattle.replay_model.specs.Laws.{IsReplayOfEveryRun}
-use Rattle.replay_model.specs.Replays.{Stop}
+use Rattle.replay_model.specs.Replays.{Breakpoint}
 use Rattle.replay_model.specs.Stands.{IsReplayed}
 use Rattle.srr_entry.specs.declared.log.Log.{Log}
 use Rattle.srr_record.specs.declared.recording.Recording.{Recording}
@@ -167,15 +167,15 @@ pub record IsSubjectOf (texts : List (List ℕ)) (subject : Subject) : Type 0 wh
   pub is_program : IsProgramOf (used_text subject.log subject.text) subject.program
 
 -- a whole replay of a log's group with a program, beside every run of the program with that log
-pub record IsReplayBy (program : CProgram) (log : Log) (stop : Stop) (replayed : Replayed) : Type 0 where
+pub record IsReplayBy (program : CProgram) (log : Log) (stop : Breakpoint) (replayed : Replayed) : Type 0 where
   pub replay : IsReplayed (next_of program) (output_of program) (variables_of program) log stop replayed
   pub runs : IsReplayOfEveryRun (next_of program) (output_of program) log stop replayed
 
 -- what is command of a call that makes a replay
-abbrev pub TakesLogs : (Bor CProgram → Bor Log → Stop → Type 0) → Type 0
-TakesLogs Takes = (program : Bor CProgram) (log : Bor Log) (stop : Stop) → IsReplayable log.now → Takes program log stop
+abbrev pub TakesLogs : (Bor CProgram → Bor Log → Breakpoint → Type 0) → Type 0
+TakesLogs Takes = (program : Bor CProgram) (log : Bor Log) (stop : Breakpoint) → IsReplayable log.now → Takes program log stop
 
-abbrev pub MakesReplays : (Bor CProgram → Bor Log → Stop → Result Replayed AllocError → Type 0) → Type 0
+abbrev pub MakesReplays : (Bor CProgram → Bor Log → Breakpoint → Result Replayed AllocError → Type 0) → Type 0
 MakesReplays Makes =
-    (program : Bor CProgram) (log : Bor Log) (stop : Stop) (made : Result Replayed AllocError) → Makes program log stop made
+    (program : Bor CProgram) (log : Bor Log) (stop : Breakpoint) (made : Result Replayed AllocError) → Makes program log stop made
     → IfOk made (IsReplayBy program.now log.now stop)

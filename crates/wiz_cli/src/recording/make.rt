@@ -8,8 +8,8 @@ ghost use Rattle.wiz_cli.specs.Steps.{CanRun, IsMade};
 
 use crate::ranks::start_all;
 use crate::recording::ready::Ready;
+use log_bounds::ints32::replies_fit;
 use log_bounds::laws::{run_logs_are_in_bounds, run_logs_are_short};
-use log_bounds::words::replies_fit;
 use rank_threads::{Gate, record_threads};
 use srr_record::{Recording, record_serial};
 use std::alloc::{AllocError, Global};

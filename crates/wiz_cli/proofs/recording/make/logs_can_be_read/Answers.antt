@@ -1,6 +1,6 @@
 use Rattle.std.proofs.Common.{List, false, subst, true, ℕ}
 use Rattle.group_plan.specs.Plans.{number_of_ranks}
-use Rattle.log_bounds.specs.RunBounds.{AreOfWords, LogsAreInBounds, LogTextsAreShort}
+use Rattle.log_bounds.specs.RunBounds.{RepliesFit32, LogsAreInBounds, LogTextsAreShort}
 use Rattle.run_model.specs.declared.event.Event.{Event}
 use Rattle.run_model.specs.Views.{Next}
 use Rattle.c_program.specs.Program.{next_of}
@@ -14,9 +14,9 @@ returns c =
     let events : List Event = c.args.recording.now.history.events in
     let F : ℕ → Type 0 = λ k. LogsAreInBounds next k in
     let B : ℕ → Type 0 = λ k. LogTextsAreShort next k in
-    let G : List Event → Type 0 = λ run. AreOfWords run in
+    let G : List Event → Type 0 = λ run. RepliesFit32 run in
     let law : LogsAreInBounds next n = subst F c.n.ensures.ranks c.run_logs_are_in_bounds.ensures in
     let brief : LogTextsAreShort next n = subst B c.n-2.ensures.ranks c.run_logs_are_short.ensures in
-    let words : AreOfWords events = subst G c.as_slice.ensures.events c.replies_fit.ensures in
+    let words : RepliesFit32 events = subst G c.as_slice.ensures.events c.replies_fit.ensures in
     let made = made_by c.args.ready.now c.args.recording.now c.requires.ready c.requires.recorded law brief words c.n.ensures.plan in
     record { threads = made true (λ no. absurd (cc)); serial = λ serial. made false (λ same. serial) }
