@@ -1,10 +1,10 @@
 -- The end of a block leaves what stood before it.
 use Rattle.std.proofs.Common.{◌≡◌, Bool, List, [], ◌∷◌, Option, Some, None, refl, ◌∙◌}
 use Rattle.c_grammar.specs.declared.word.Spot.{Spot}
-use Rattle.c_check.specs.Programs.{after_parameter, after_parameters, declare_optional, parameter_name, parameter_thing}
-use Rattle.c_check_expr.specs.declared.thing.Thing.{Thing}
+use Rattle.c_check.specs.Programs.{after_parameter, after_parameters, declare_optional, parameter_name, parameter_entity}
+use Rattle.c_check_expr.specs.declared.meaning.Entity.{Entity}
 use Rattle.c_grammar.specs.Tree as t
-use Rattle.c_names.specs.declared.kind.Kind.{Kind}
+use Rattle.c_names.specs.declared.kind.VariableKind.{VariableKind}
 use Rattle.c_check_expr.specs.Scopes.{Env, closed, opened}
 use Rattle.c_check_expr.specs.Signatures.{listed}
 use Rattle.c_check_expr.specs.Kinds.{kind_of_word}
@@ -13,7 +13,7 @@ use Rattle.c_check.specs.Statements.{after_declaration, after_item, after_items,
 abbrev pub closing : Env → Env
 closing env = record env { entries = closed env.entries }
 
-closed_items : (env : Env) (kind : Kind) (items : List t.Item) → closing (after_items env kind items) ≡ closing env
+closed_items : (env : Env) (kind : VariableKind) (items : List t.Item) → closing (after_items env kind items) ≡ closing env
 closed_items env kind [] = refl
 closed_items env kind (item ∷ items) = closed_items (after_item env kind item) kind items
 
@@ -40,11 +40,11 @@ pub closed_start : (env : Env) (start : t.ForStart) → closing (after_start (op
 closed_start env start = closed_started (opened env) start
 
 closed_declared : (env : Env) (main : Bool) (one : t.Parameter) → closing (after_parameter env main one) ≡ closing env
-closed_declared env main one = closed_optional env (parameter_name one) (parameter_thing main one)
+closed_declared env main one = closed_optional env (parameter_name one) (parameter_entity main one)
   where
-    closed_optional : (env : Env) (name : Option Spot) (thing : Thing) → closing (declare_optional env name thing) ≡ closing env
-    closed_optional env None thing = refl
-    closed_optional env (Some name) thing = refl
+    closed_optional : (env : Env) (name : Option Spot) (entity : Entity) → closing (declare_optional env name entity) ≡ closing env
+    closed_optional env None entity = refl
+    closed_optional env (Some name) entity = refl
 
 closed_parameters : (env : Env) (main : Bool) (parameters : List t.Parameter) → closing (after_parameters env main parameters) ≡ closing env
 closed_parameters env main [] = refl

@@ -1,3 +1,4 @@
+pub mod Arguments
 pub mod Closed
 pub mod Walks
 pub mod Texts

@@ -8,18 +8,18 @@ use Rattle.c_check_expr.specs.Least.{least_from}
 use Rattle.c_check.specs.Programs.{heads_of, text_env, after_parameter, after_parameters, after_top, optional_twice_faults, parameter_faults, parameter_name, parameters_faults, prototype_faults, seen_after, top_faults, tops_faults}
 use Rattle.c_check_expr.specs.Scopes.{Env, Signature}
 use Rattle.c_check_expr.specs.Signatures.{function_entries, signature_of}
-use Rattle.c_check_expr.specs.declared.fault.Fault.{Fault}
+use Rattle.c_check_expr.specs.declared.fault.TypingFault.{TypingFault}
 use Rattle.c_check_expr.proofs.Least.{least_from_append}
 use Rattle.c_check_expr.proofs.Lists.{drop_at, drop_got}
 
-pub prototype_next : (env : Env) (main : Bool) (best : Option Fault) (all : List t.Parameter) (i : ℕ) (one : t.Parameter) → slice_get all i ≡ Some one
+pub prototype_next : (env : Env) (main : Bool) (best : Option TypingFault) (all : List t.Parameter) (i : ℕ) (one : t.Parameter) → slice_get all i ≡ Some one
     → least_from best (prototype_faults env main (drop i all))
     ≡ least_from (least_from best (parameter_faults env main one)) (prototype_faults env main (drop (i + 1) all))
 prototype_next env main best all i one e =
     ap (λ left. least_from best (prototype_faults env main left)) (drop_got all i one e)
     ∙ least_from_append best (parameter_faults env main one) (prototype_faults env main (drop (i + 1) all))
 
-pub parameters_next : (env : Env) (main : Bool) (best : Option Fault) (all : List t.Parameter) (i : ℕ) (one : t.Parameter) → slice_get all i ≡ Some one
+pub parameters_next : (env : Env) (main : Bool) (best : Option TypingFault) (all : List t.Parameter) (i : ℕ) (one : t.Parameter) → slice_get all i ≡ Some one
     → least_from best (parameters_faults env main (drop i all))
     ≡ least_from (least_from best (parameter_faults env main one ++ optional_twice_faults env (parameter_name one)))
     (parameters_faults (after_parameter env main one) main (drop (i + 1) all))
@@ -32,7 +32,7 @@ pub after_parameters_next : (env : Env) (main : Bool) (all : List t.Parameter) (
     → after_parameters env main (drop i all) ≡ after_parameters (after_parameter env main one) main (drop (i + 1) all)
 after_parameters_next env main all i one e = ap (λ left. after_parameters env main left) (drop_got all i one e)
 
-pub tops_next : (env : Env) (seen : List (List ℕ)) (best : Option Fault) (tops : List Top) (i : ℕ) (one : Top) → i < length tops → one ≡ get_or tops i one
+pub tops_next : (env : Env) (seen : List (List ℕ)) (best : Option TypingFault) (tops : List Top) (i : ℕ) (one : Top) → i < length tops → one ≡ get_or tops i one
     → least_from best (tops_faults env seen (map top_view (drop i tops)))
     ≡ least_from (least_from best (top_faults env seen (top_view one)))
     (tops_faults (after_top env (top_view one)) (seen_after env.text seen (top_view one)) (map top_view (drop (i + 1) tops)))

@@ -5,17 +5,17 @@ use Rattle.c_grammar.specs.declared.word.Spot.{Spot}
 use Rattle.c_check_expr.specs.Least.{least_from}
 use Rattle.c_check_expr.specs.Scopes.{Env}
 use Rattle.c_check_expr.specs.Signatures.{parameters_listed}
-use Rattle.c_check_expr.specs.declared.fault.Fault.{Fault}
+use Rattle.c_check_expr.specs.declared.fault.TypingFault.{TypingFault}
 use Rattle.c_check_expr.proofs.Wanted.{both}
 use Rattle.c_check.specs.Programs.{function_faults, is_main, prototype_faults, top_faults, top_twice_faults}
 
-pub define_top : (env : Env) (text : List ℕ) (seen : List (List ℕ)) (word name : Spot) (value : t.Value) (end : Spot) (top : t.Top) (old new : Option Fault)
+pub define_top : (env : Env) (text : List ℕ) (seen : List (List ℕ)) (word name : Spot) (value : t.Value) (end : Spot) (top : t.Top) (old new : Option TypingFault)
     → top ≡ t.define word name value end → text ≡ env.text → new ≡ least_from old (top_twice_faults text seen name)
     → new ≡ least_from old (top_faults env seen top)
 define_top env text seen word name value end top old new is e n =
     n ∙ ap (λ one. least_from old (top_twice_faults one seen name)) e ∙ ap (λ one. least_from old (top_faults env seen one)) (sym is)
 
-pub function_top : (env : Env) (text : List ℕ) (seen : List (List ℕ)) (head : t.Head) (opening : Spot) (parts : t.Parts) (closing : Spot) (top : t.Top) (old mid new : Option Fault)
+pub function_top : (env : Env) (text : List ℕ) (seen : List (List ℕ)) (head : t.Head) (opening : Spot) (parts : t.Parts) (closing : Spot) (top : t.Top) (old mid new : Option TypingFault)
     → top ≡ t.function head opening parts closing → text ≡ env.text → mid ≡ least_from old (top_twice_faults text seen head.name)
     → new ≡ least_from mid (function_faults env head parts) → new ≡ least_from old (top_faults env seen top)
 function_top env text seen head opening parts closing top old mid new is e m n =
@@ -23,7 +23,7 @@ function_top env text seen head opening parts closing top old mid new is e m n =
     (m ∙ ap (λ one. least_from old (top_twice_faults one seen head.name)) e) n
     ∙ ap (λ one. least_from old (top_faults env seen one)) (sym is)
 
-pub prototype_top : (env : Env) (text : List ℕ) (seen : List (List ℕ)) (head : t.Head) (end : Spot) (main : Bool) (top : t.Top) (old new : Option Fault)
+pub prototype_top : (env : Env) (text : List ℕ) (seen : List (List ℕ)) (head : t.Head) (end : Spot) (main : Bool) (top : t.Top) (old new : Option TypingFault)
     → top ≡ t.prototype head end → text ≡ env.text → main ≡ is_main text head
     → new ≡ least_from old (prototype_faults env main (parameters_listed head.listed)) → new ≡ least_from old (top_faults env seen top)
 prototype_top env text seen head end main top old new is e m n =

@@ -1,2 +1,4 @@
+pub mod Calls
+pub mod CallView
 pub mod Statements
 pub mod Programs

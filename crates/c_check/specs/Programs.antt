@@ -7,16 +7,16 @@ use Rattle.c_lex.specs.declared.fault.Why.TheVariants.{Twice, NoMain, LeftOut}
 use Rattle.c_grammar.specs.declared.word.Spot.{Spot}
 use Rattle.c_grammar.specs.Tree as t
 use Rattle.c_names.specs.Predefined.{predefined}
-use Rattle.c_names.specs.declared.kind.Kind.TheVariants.{Int, Communicator}
+use Rattle.c_names.specs.declared.kind.VariableKind.TheVariants.{Int, Communicator}
 use Rattle.c_check_expr.specs.Least.{unless}
 use Rattle.c_check_expr.specs.Literals.{number_at}
 use Rattle.c_check_expr.specs.Constants.{length_faults}
 use Rattle.c_check_expr.specs.Signatures.{function_entries, is_int, parameters_listed, signature_of}
-use Rattle.c_check_expr.specs.Scopes.{Env, cut, declare, opened, twice_faults}
+use Rattle.c_check_expr.specs.Scopes.{Env, token_bytes, declare, opened, twice_faults}
 use Rattle.c_check.specs.Statements.{parts_faults}
-use Rattle.c_check_expr.specs.declared.fault.Fault.{Fault}
-use Rattle.c_check_expr.specs.declared.thing.Thing.{Thing}
-use Rattle.c_check_expr.specs.declared.thing.Thing.TheVariants as d
+use Rattle.c_check_expr.specs.declared.fault.TypingFault.{TypingFault}
+use Rattle.c_check_expr.specs.declared.meaning.Entity.{Entity}
+use Rattle.c_check_expr.specs.declared.meaning.Entity.TheVariants as d
 
 -- ---- main
 
@@ -36,19 +36,19 @@ are_main_parameters (count ∷ texts ∷ []) = is_one_int count && is_text texts
 are_main_parameters _ = false
 
 abbrev pub is_main : List ℕ → t.Head → Bool
-is_main text head = (is_int head.result && bytes_eq (cut text head.name) (codes "main")) && are_main_parameters (parameters_listed head.listed)
+is_main text head = (is_int head.result && bytes_eq (token_bytes text head.name) (codes "main")) && are_main_parameters (parameters_listed head.listed)
 
 -- ---- heads
 
 -- `main`: the head is that of main
-abbrev pub parameter_thing : Bool → t.Parameter → Thing
-parameter_thing true (t.int word name) = d.ArgumentCount
-parameter_thing false (t.int word name) = d.Variable Int
-parameter_thing main (t.array word name opening length closing) = d.ArrayParameter
-parameter_thing main (t.pointer word star name) = d.ArrayParameter
-parameter_thing main (t.communicator word name) = d.Variable Communicator
-parameter_thing main (t.text_pointers word star second name) = d.ArgumentTexts
-parameter_thing main (t.text_array word star name opening closing) = d.ArgumentTexts
+abbrev pub parameter_entity : Bool → t.Parameter → Entity
+parameter_entity true (t.int word name) = d.ArgumentCount
+parameter_entity false (t.int word name) = d.Variable Int
+parameter_entity main (t.array word name opening length closing) = d.ArrayParameter
+parameter_entity main (t.pointer word star name) = d.ArrayParameter
+parameter_entity main (t.communicator word name) = d.Variable Communicator
+parameter_entity main (t.text_pointers word star second name) = d.ArgumentTexts
+parameter_entity main (t.text_array word star name opening closing) = d.ArgumentTexts
 
 abbrev pub parameter_name : t.Parameter → Option Spot
 parameter_name (t.int word name) = name
@@ -58,34 +58,34 @@ parameter_name (t.communicator word name) = name
 parameter_name (t.text_pointers word star second name) = name
 parameter_name (t.text_array word star name opening closing) = name
 
-abbrev pub optional_length_faults : Env → Option t.Expr → List Fault
+abbrev pub optional_length_faults : Env → Option t.Expr → List TypingFault
 optional_length_faults env None = []
 optional_length_faults env (Some length) = length_faults env length
 
 -- a length that is none, and a `char` away from main
-abbrev pub parameter_faults : Env → Bool → t.Parameter → List Fault
+abbrev pub parameter_faults : Env → Bool → t.Parameter → List TypingFault
 parameter_faults env main (t.array word name opening length closing) = optional_length_faults env length
 parameter_faults env main (t.text_pointers word star second name) = unless main word LeftOut
 parameter_faults env main (t.text_array word star name opening closing) = unless main word LeftOut
 parameter_faults env main _ = []
 
 -- a prototype declares nothing
-abbrev pub prototype_faults : Env → Bool → List t.Parameter → List Fault
+abbrev pub prototype_faults : Env → Bool → List t.Parameter → List TypingFault
 prototype_faults env main [] = []
 prototype_faults env main (one ∷ others) = parameter_faults env main one ++ prototype_faults env main others
 
-abbrev pub optional_twice_faults : Env → Option Spot → List Fault
+abbrev pub optional_twice_faults : Env → Option Spot → List TypingFault
 optional_twice_faults env None = []
 optional_twice_faults env (Some name) = twice_faults env name
 
-abbrev pub declare_optional : Env → Option Spot → Thing → Env
-declare_optional env None thing = env
-declare_optional env (Some name) thing = declare env name thing
+abbrev pub declare_optional : Env → Option Spot → Entity → Env
+declare_optional env None entity = env
+declare_optional env (Some name) entity = declare env name entity
 
 abbrev pub after_parameter : Env → Bool → t.Parameter → Env
-after_parameter env main one = declare_optional env (parameter_name one) (parameter_thing main one)
+after_parameter env main one = declare_optional env (parameter_name one) (parameter_entity main one)
 
-abbrev pub parameters_faults : Env → Bool → List t.Parameter → List Fault
+abbrev pub parameters_faults : Env → Bool → List t.Parameter → List TypingFault
 parameters_faults env main [] = []
 parameters_faults env main (one ∷ others) =
     (parameter_faults env main one ++ optional_twice_faults env (parameter_name one)) ++ parameters_faults (after_parameter env main one) main others
@@ -95,7 +95,7 @@ after_parameters env main [] = env
 after_parameters env main (one ∷ others) = after_parameters (after_parameter env main one) main others
 
 -- parameters share the scope of the function's block
-abbrev pub function_faults : Env → t.Head → t.Parts → List Fault
+abbrev pub function_faults : Env → t.Head → t.Parts → List TypingFault
 function_faults env head parts =
     parameters_faults (opened env) (is_main env.text head) (parameters_listed head.listed)
     ++ parts_faults (after_parameters (opened env) (is_main env.text head) (parameters_listed head.listed)) (is_int head.result) false parts
@@ -103,14 +103,14 @@ function_faults env head parts =
 -- ---- the text
 
 -- a name that is predefined, or was declared before in the text
-abbrev pub top_twice_faults : List ℕ → List (List ℕ) → Spot → List Fault
+abbrev pub top_twice_faults : List ℕ → List (List ℕ) → Spot → List TypingFault
 top_twice_faults text seen name =
-    unless (not (is_some (predefined (cut text name)) || list_any (bytes_eq (cut text name)) seen)) name Twice
+    unless (not (is_some (predefined (token_bytes text name)) || list_any (bytes_eq (token_bytes text name)) seen)) name Twice
 
 abbrev pub define_value : List ℕ → t.Value → ℤ
 define_value text value = if is_some value.minus then neg_ℤ (pos (number_at text value.number)) else pos (number_at text value.number)
 
-abbrev pub top_faults : Env → List (List ℕ) → t.Top → List Fault
+abbrev pub top_faults : Env → List (List ℕ) → t.Top → List TypingFault
 top_faults env seen (t.define word name value end) = top_twice_faults env.text seen name
 top_faults env seen (t.function head opening parts closing) = top_twice_faults env.text seen head.name ++ function_faults env head parts
 top_faults env seen (t.prototype head end) = prototype_faults env (is_main env.text head) (parameters_listed head.listed)
@@ -121,11 +121,11 @@ after_top env (t.define word name value end) = declare env name (d.Define (defin
 after_top env _ = env
 
 abbrev pub seen_after : List ℕ → List (List ℕ) → t.Top → List (List ℕ)
-seen_after text seen (t.define word name value end) = seen ++ cut text name ∷ []
-seen_after text seen (t.function head opening parts closing) = seen ++ cut text head.name ∷ []
+seen_after text seen (t.define word name value end) = seen ++ token_bytes text name ∷ []
+seen_after text seen (t.function head opening parts closing) = seen ++ token_bytes text head.name ∷ []
 seen_after text seen (t.prototype head end) = seen
 
-abbrev pub tops_faults : Env → List (List ℕ) → List t.Top → List Fault
+abbrev pub tops_faults : Env → List (List ℕ) → List t.Top → List TypingFault
 tops_faults env seen [] = []
 tops_faults env seen (top ∷ tops) = top_faults env seen top ++ tops_faults (after_top env top) (seen_after env.text seen top) tops
 
@@ -141,9 +141,9 @@ abbrev pub text_env : List ℕ → t.Tree → Env
 text_env text tree = record { text = text; functions = map signature_of (heads_of tree); entries = function_entries text 0 (heads_of tree) }
 
 -- no main, at the end of the text
-abbrev pub main_faults : List ℕ → t.Tree → List Fault
+abbrev pub main_faults : List ℕ → t.Tree → List TypingFault
 main_faults text tree = if list_any (is_main text) (heads_of tree) then [] else record { at = length text; why = NoMain } ∷ []
 
 -- all faults of a program, in no order that matters
-abbrev pub faults : List ℕ → t.Tree → List Fault
+abbrev pub faults : List ℕ → t.Tree → List TypingFault
 faults text tree = tops_faults (text_env text tree) [] tree ++ main_faults text tree

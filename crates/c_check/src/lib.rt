@@ -1,5 +1,6 @@
 //! The faults of a C program against the rules of types.
 #![tactic(auto)]
 
+pub mod call;
 pub mod program;
 pub mod statement;

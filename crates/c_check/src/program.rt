@@ -4,21 +4,21 @@ ghost use Rattle.std.specs.List.{list_any};
 ghost use Rattle.std.specs.Str.{bytes_eq};
 ghost use Rattle.c_grammar.specs.StmtView.{head_view, parameter_view, parameters_view, parts_view, top_view, tree_view, value_view};
 ghost use Rattle.c_check_expr.specs.Least.{IsFirst, least_from};
-ghost use Rattle.c_check.specs.Programs.{after_parameter, after_parameters, after_top, are_main_parameters, declare_optional, define_value, faults, function_faults, heads_of, is_main, is_one_int, is_text, main_faults, optional_twice_faults, parameter_faults, parameter_name, parameter_thing, parameters_faults, prototype_faults, seen_after, text_env, top_faults, top_twice_faults, tops_faults, with_head};
-ghost use Rattle.c_check_expr.specs.Scopes.{cut};
+ghost use Rattle.c_check.specs.Programs.{after_parameter, after_parameters, after_top, are_main_parameters, declare_optional, define_value, faults, function_faults, heads_of, is_main, is_one_int, is_text, main_faults, optional_twice_faults, parameter_faults, parameter_name, parameter_entity, parameters_faults, prototype_faults, seen_after, text_env, top_faults, top_twice_faults, tops_faults, with_head};
+ghost use Rattle.c_check_expr.specs.Scopes.{token_bytes};
 ghost use Rattle.c_check_expr.specs.Signatures.{parameters_listed};
 
 use crate::statement::check_parts;
-use c_check_call::call::{is_int, parameter_at, parameter_count};
+use crate::call::{is_int, parameter_at, parameter_count};
 use c_grammar::statement::{Head, Parameter, Parameters, Part, Top, Tree, Value};
 use c_grammar::word::Spot;
 use c_lex::Why;
-use c_names::kind::Kind;
+use c_names::kind::VariableKind;
 use c_names::predefined::meaning_of;
 use c_check_expr::constant::want_length;
-use c_check_expr::fault::{Fault, note, note_unless};
-use c_check_expr::scope::{Scope, cut, is_same, number_at};
-use c_check_expr::thing::Thing;
+use c_check_expr::fault::{TypingFault, note, note_unless};
+use c_check_expr::scope::{Scope, token_bytes, is_same, number_at};
+use c_check_expr::meaning::Entity;
 use std::alloc::{AllocError, Global};
 
 // ---- main
@@ -59,29 +59,29 @@ pub fn is_main(text: &[u8], head: &Head) -> bool
     ensures { result ≡ is_main text.now (head_view head.now) }
 {
     is_int(head.result)
-        && is_same(cut(text, head.name), b"main")
+        && is_same(token_bytes(text, head.name), b"main")
         && are_main_parameters(&head.parameters)
 }
 
 // ---- heads
 
 /// What a parameter is, in a head that is that of main or in another.
-pub fn parameter_thing(main: bool, parameter: &Parameter) -> Thing
-    ensures { result ≡ parameter_thing main (parameter_view parameter.now) }
+pub fn parameter_entity(main: bool, parameter: &Parameter) -> Entity
+    ensures { result ≡ parameter_entity main (parameter_view parameter.now) }
 {
     match parameter {
         Parameter::Int { .. } => {
             if main {
-                Thing::ArgumentCount
+                Entity::ArgumentCount
             } else {
-                Thing::Variable(Kind::Int)
+                Entity::Variable(VariableKind::Int)
             }
         }
-        Parameter::Array { .. } => Thing::ArrayParameter,
-        Parameter::Pointer { .. } => Thing::ArrayParameter,
-        Parameter::Communicator { .. } => Thing::Variable(Kind::Communicator),
-        Parameter::TextPointers { .. } => Thing::ArgumentTexts,
-        Parameter::TextArray { .. } => Thing::ArgumentTexts,
+        Parameter::Array { .. } => Entity::ArrayParameter,
+        Parameter::Pointer { .. } => Entity::ArrayParameter,
+        Parameter::Communicator { .. } => Entity::Variable(VariableKind::Communicator),
+        Parameter::TextPointers { .. } => Entity::ArgumentTexts,
+        Parameter::TextArray { .. } => Entity::ArgumentTexts,
     }
 }
 
@@ -99,7 +99,7 @@ pub fn parameter_name(parameter: &Parameter) -> Option<Spot>
 }
 
 /// A length that is none, and a `char` away from main.
-fn check_parameter(best: &mut Option<Fault>, scope: &Scope, main: bool, parameter: &Parameter)
+fn check_parameter(best: &mut Option<TypingFault>, scope: &Scope, main: bool, parameter: &Parameter)
     ensures { best.new ≡ least_from best.old (parameter_faults scope.now main (parameter_view parameter.now)) }
 {
     match parameter {
@@ -115,7 +115,7 @@ fn check_parameter(best: &mut Option<Fault>, scope: &Scope, main: bool, paramete
 }
 
 /// A prototype declares nothing.
-fn check_prototype(best: &mut Option<Fault>, scope: &Scope, main: bool, head: &Head)
+fn check_prototype(best: &mut Option<TypingFault>, scope: &Scope, main: bool, head: &Head)
     ensures { best.new ≡ least_from best.old (prototype_faults scope.now main (parameters_listed (parameters_view head.now.parameters))) }
 {
     for place in 0..parameter_count(head) {
@@ -126,7 +126,7 @@ fn check_prototype(best: &mut Option<Fault>, scope: &Scope, main: bool, head: &H
     }
 }
 
-fn want_free(best: &mut Option<Fault>, scope: &Scope, name: Option<Spot>)
+fn want_free(best: &mut Option<TypingFault>, scope: &Scope, name: Option<Spot>)
     ensures { best.new ≡ least_from best.old (optional_twice_faults scope.now name) }
 {
     if let Some(name) = name {
@@ -134,11 +134,11 @@ fn want_free(best: &mut Option<Fault>, scope: &Scope, name: Option<Spot>)
     }
 }
 
-fn declare(scope: &mut Scope, name: Option<Spot>, thing: Thing) -> Result<(), AllocError>
-    ensures { OnOk result (scope.new ≡ declare_optional scope.old name thing) }
+fn declare(scope: &mut Scope, name: Option<Spot>, entity: Entity) -> Result<(), AllocError>
+    ensures { OnOk result (scope.new ≡ declare_optional scope.old name entity) }
 {
     match name {
-        Some(name) => scope.declare(name, thing),
+        Some(name) => scope.declare(name, entity),
         None => Ok(()),
     }
 }
@@ -146,7 +146,7 @@ fn declare(scope: &mut Scope, name: Option<Spot>, thing: Thing) -> Result<(), Al
 /// A parameter, which is then declared.
 #[tactic(auto, using(c_check_expr::proofs::Least::least_from_append))]
 fn check_declared(
-    best: &mut Option<Fault>,
+    best: &mut Option<TypingFault>,
     scope: &mut Scope,
     main: bool,
     parameter: &Parameter,
@@ -157,11 +157,11 @@ fn check_declared(
     check_parameter(best, scope, main, parameter);
     let name = parameter_name(parameter);
     want_free(best, scope, name);
-    declare(scope, name, parameter_thing(main, parameter))
+    declare(scope, name, parameter_entity(main, parameter))
 }
 
 fn check_parameters(
-    best: &mut Option<Fault>,
+    best: &mut Option<TypingFault>,
     scope: &mut Scope,
     main: bool,
     head: &Head,
@@ -181,7 +181,7 @@ fn check_parameters(
 /// The faults of a function behind its name.
 #[tactic(auto, using(c_check_expr::proofs::Least::least_from_append, crate::proofs::Closed::closed_function))]
 fn check_function(
-    best: &mut Option<Fault>,
+    best: &mut Option<TypingFault>,
     scope: &mut Scope,
     head: &Head,
     parts: &[Part],
@@ -211,18 +211,18 @@ fn is_seen(seen: &[&[u8]], name: &[u8]) -> bool
 }
 
 /// A name that is free in the text.
-fn want_new(best: &mut Option<Fault>, text: &[u8], seen: &[&[u8]], spot: Spot)
+fn want_new(best: &mut Option<TypingFault>, text: &[u8], seen: &[&[u8]], spot: Spot)
     ensures { best.new ≡ least_from best.old (top_twice_faults text.now (map (λ other. other.now) seen.now) spot) }
 {
-    let name = cut(text, spot);
+    let name = token_bytes(text, spot);
     let taken = meaning_of(name).is_some() || is_seen(seen, name);
     note_unless(best, !taken, spot, Why::Twice);
 }
 
 fn see<'a>(text: &'a [u8], seen: &mut Vec<&'a [u8]>, spot: Spot) -> Result<(), AllocError>
-    ensures { OnOk result (map (λ other. other.now) seen.new.items ≡ map (λ other. other.now) seen.old.items ++ cut text.now spot ∷ []) }
+    ensures { OnOk result (map (λ other. other.now) seen.new.items ≡ map (λ other. other.now) seen.old.items ++ token_bytes text.now spot ∷ []) }
 {
-    seen.push(cut(text, spot))?;
+    seen.push(token_bytes(text, spot))?;
     Ok(())
 }
 
@@ -241,7 +241,7 @@ pub fn define_value(text: &[u8], value: &Value) -> i32
 /// The faults of what stands in the text, which is then seen, and declared if it is a define.
 #[tactic(auto, using(c_check_expr::proofs::Least::least_from_append))]
 fn check_top<'a>(
-    best: &mut Option<Fault>,
+    best: &mut Option<TypingFault>,
     scope: &mut Scope<'a>,
     seen: &mut Vec<&'a [u8]>,
     top: &Top,
@@ -255,7 +255,7 @@ fn check_top<'a>(
         Top::Define { name, value, .. } => {
             want_new(best, text, seen, *name);
             see(text, seen, *name)?;
-            scope.declare(*name, Thing::Define(define_value(text, value)))
+            scope.declare(*name, Entity::Define(define_value(text, value)))
         }
         Top::Function { head, parts, .. } => {
             want_new(best, text, seen, head.name);
@@ -324,14 +324,14 @@ fn has_main(text: &[u8], tops: &[Top]) -> bool
 }
 
 /// A text without a main.
-fn want_main(best: &mut Option<Fault>, text: &[u8], tree: &Tree)
+fn want_main(best: &mut Option<TypingFault>, text: &[u8], tree: &Tree)
     requires { length text.now ≤ 65536 }
     ensures { best.new ≡ least_from best.old (main_faults text.now (tree_view tree.now)) }
 {
     if !has_main(text, &tree.tops) {
         note(
             best,
-            Fault {
+            TypingFault {
                 at: text.len() as u32,
                 why: Why::NoMain,
             },
@@ -341,7 +341,7 @@ fn want_main(best: &mut Option<Fault>, text: &[u8], tree: &Tree)
 
 fn check_tops<'a>(
     alloc: Global,
-    best: &mut Option<Fault>,
+    best: &mut Option<TypingFault>,
     scope: &mut Scope<'a>,
     tops: &[Top],
 ) -> Result<(), AllocError>
@@ -356,7 +356,7 @@ fn check_tops<'a>(
 
 /// The first fault of a program in source order, or `None` where it has none.
 #[tactic(auto, using(c_check_expr::proofs::Least::least_from_append, c_check_expr::proofs::Least::first_of))]
-pub fn first_fault(alloc: Global, text: &[u8], tree: &Tree) -> Result<Option<Fault>, AllocError>
+pub fn first_fault(alloc: Global, text: &[u8], tree: &Tree) -> Result<Option<TypingFault>, AllocError>
     requires { length text.now ≤ 65536 }
     ensures { IfOk result (λ first. MatchOption first (faults text.now (tree_view tree.now) ≡ []) (λ found. IsFirst (faults text.now (tree_view tree.now)) found)) }
 {

@@ -7,31 +7,31 @@ ghost use Rattle.c_check_expr.specs.Expressions.{int_faults};
 ghost use Rattle.c_check_expr.specs.Least.{least_from, unless};
 ghost use Rattle.c_check_expr.specs.Scopes.{opened};
 ghost use Rattle.c_check_expr.specs.Signatures.{listed};
-ghost use Rattle.c_check.specs.Statements.{after_declaration, after_item, after_part, after_parts, after_start, array_length, begins_with, begun_takes, braces_faults, can_begin, declaration_faults, declared_thing, goal_kind, goal_takes, initial_faults, int_goal_faults, is_assign, is_goal, is_int_array, is_int_goal, item_faults, part_faults, parts_faults, place_length_faults, return_faults, simple_faults, start_faults, step_faults, stmt_faults, test_faults, values_faults};
+ghost use Rattle.c_check.specs.Statements.{after_declaration, after_item, after_part, after_parts, after_start, array_length, begins_with, begun_takes, braces_faults, can_begin, declaration_faults, declared_entity, lvalue_kind, lvalue_takes, initial_faults, int_lvalue_faults, is_assign, is_assignable, is_int_array, is_int_lvalue, item_faults, part_faults, parts_faults, place_length_faults, return_faults, simple_faults, start_faults, step_faults, stmt_faults, test_faults, values_faults};
 
-use c_check_call::call::{check_call, right_start, want_right};
+use crate::call::{check_call, right_first_token, want_right};
 use c_grammar::statement::{
     Declaration, ForStart, Initial, Item, Listed, Part, Right, Simple, Stmt,
 };
 use c_grammar::tree::{Expr, Place};
 use c_grammar::word::{Spot, Word};
 use c_lex::Why;
-use c_names::kind::Kind;
+use c_names::kind::VariableKind;
 use c_check_expr::constant::{length_of, want_length};
 use c_check_expr::expression::{check_place, want_int};
-use c_check_expr::fault::{Fault, note_at, note_unless};
-use c_check_expr::kind::{cell_kind, place_start, target_kind};
+use c_check_expr::fault::{TypingFault, note_at, note_unless};
+use c_check_expr::kind::{cell_kind, place_first_token, target_kind};
 use c_check_expr::row::item_count;
 use c_check_expr::scope::Scope;
-use c_check_expr::thing::{ExprKind, Thing, kind_of_word};
+use c_check_expr::meaning::{ExprKind, Entity, kind_of_word};
 use std::alloc::AllocError;
 
 // ---- assignments
 
 /// What is assigned to.
 #[tactic(auto, using(c_grammar::proofs::Viewed::views))]
-pub fn goal_kind(scope: &Scope, place: &Place) -> ExprKind
-    ensures { result ≡ goal_kind scope.now (place_view place.now) }
+pub fn lvalue_kind(scope: &Scope, place: &Place) -> ExprKind
+    ensures { result ≡ lvalue_kind scope.now (place_view place.now) }
 {
     match place {
         Place::Whole(name) => target_kind(scope.meaning(*name)),
@@ -39,32 +39,32 @@ pub fn goal_kind(scope: &Scope, place: &Place) -> ExprKind
     }
 }
 
-fn is_goal(kind: ExprKind) -> bool
-    ensures { result ≡ is_goal kind }
+fn is_assignable(kind: ExprKind) -> bool
+    ensures { result ≡ is_assignable kind }
 {
     match kind {
-        ExprKind::Of(Kind::Status) => false,
+        ExprKind::Of(VariableKind::Status) => false,
         ExprKind::Of(_) => true,
         ExprKind::Nothing => true,
         _ => false,
     }
 }
 
-fn is_int_goal(kind: ExprKind) -> bool
-    ensures { result ≡ is_int_goal kind }
+fn is_int_lvalue(kind: ExprKind) -> bool
+    ensures { result ≡ is_int_lvalue kind }
 {
     match kind {
-        ExprKind::Of(Kind::Int) => true,
+        ExprKind::Of(VariableKind::Int) => true,
         ExprKind::Nothing => true,
         _ => false,
     }
 }
 
-fn goal_takes(kind: ExprKind) -> ExprKind
-    ensures { result ≡ goal_takes kind }
+fn lvalue_takes(kind: ExprKind) -> ExprKind
+    ensures { result ≡ lvalue_takes kind }
 {
     match kind {
-        ExprKind::Of(Kind::Status) => ExprKind::Nothing,
+        ExprKind::Of(VariableKind::Status) => ExprKind::Nothing,
         ExprKind::Of(_) => kind,
         _ => ExprKind::Nothing,
     }
@@ -81,17 +81,17 @@ pub fn is_assign(word: Word) -> bool
 
 /// A place of an int.
 #[tactic(auto, using(c_check_expr::proofs::Least::least_from_append))]
-fn want_int_goal(best: &mut Option<Fault>, scope: &Scope, place: &Place)
-    ensures { best.new ≡ least_from best.old (int_goal_faults scope.now (place_view place.now)) }
+fn want_int_lvalue(best: &mut Option<TypingFault>, scope: &Scope, place: &Place)
+    ensures { best.new ≡ least_from best.old (int_lvalue_faults scope.now (place_view place.now)) }
 {
     check_place(best, scope, place);
-    let well = is_int_goal(goal_kind(scope, place));
-    note_unless(best, well, place_start(place), Why::WrongType);
+    let well = is_int_lvalue(lvalue_kind(scope, place));
+    note_unless(best, well, place_first_token(place), Why::WrongType);
 }
 
 /// The faults of an assignment or a call.
 #[tactic(auto, using(c_check_expr::proofs::Least::least_from_append))]
-pub fn check_simple(best: &mut Option<Fault>, scope: &Scope, simple: &Simple)
+pub fn check_simple(best: &mut Option<TypingFault>, scope: &Scope, simple: &Simple)
     ensures { best.new ≡ least_from best.old (simple_faults scope.now (simple_view simple.now)) }
 {
     match simple {
@@ -103,16 +103,16 @@ pub fn check_simple(best: &mut Option<Fault>, scope: &Scope, simple: &Simple)
         } => {
             if is_assign(*operator) {
                 check_place(best, scope, place);
-                let kind = goal_kind(scope, place);
-                note_unless(best, is_goal(kind), place_start(place), Why::WrongType);
-                want_right(best, scope, goal_takes(kind), right);
+                let kind = lvalue_kind(scope, place);
+                note_unless(best, is_assignable(kind), place_first_token(place), Why::WrongType);
+                want_right(best, scope, lvalue_takes(kind), right);
             } else {
-                want_int_goal(best, scope, place);
-                want_right(best, scope, ExprKind::Of(Kind::Int), right);
+                want_int_lvalue(best, scope, place);
+                want_right(best, scope, ExprKind::Of(VariableKind::Int), right);
             }
         }
-        Simple::After { place, .. } => want_int_goal(best, scope, place),
-        Simple::Before { place, .. } => want_int_goal(best, scope, place),
+        Simple::After { place, .. } => want_int_lvalue(best, scope, place),
+        Simple::Before { place, .. } => want_int_lvalue(best, scope, place),
         Simple::Call(call) => check_call(best, scope, call),
     }
 }
@@ -120,17 +120,17 @@ pub fn check_simple(best: &mut Option<Fault>, scope: &Scope, simple: &Simple)
 // ---- declarations
 
 #[tactic(auto, using(c_grammar::proofs::Viewed::views))]
-pub fn declared_thing(scope: &Scope, kind: Kind, place: &Place) -> Thing
-    ensures { result ≡ declared_thing scope.now kind (place_view place.now) }
+pub fn declared_entity(scope: &Scope, kind: VariableKind, place: &Place) -> Entity
+    ensures { result ≡ declared_entity scope.now kind (place_view place.now) }
 {
     match place {
-        Place::Whole(_) => Thing::Variable(kind),
-        Place::Cell { index, .. } => Thing::Array(kind, length_of(scope, index)),
+        Place::Whole(_) => Entity::Variable(kind),
+        Place::Cell { index, .. } => Entity::Array(kind, length_of(scope, index)),
     }
 }
 
 #[tactic(auto, using(c_grammar::proofs::Viewed::views))]
-fn want_place_length(best: &mut Option<Fault>, scope: &Scope, place: &Place)
+fn want_place_length(best: &mut Option<TypingFault>, scope: &Scope, place: &Place)
     ensures { best.new ≡ least_from best.old (place_length_faults scope.now (place_view place.now)) }
 {
     match place {
@@ -139,12 +139,12 @@ fn want_place_length(best: &mut Option<Fault>, scope: &Scope, place: &Place)
     }
 }
 
-fn begins_with(thing: Thing) -> ExprKind
-    ensures { result ≡ begins_with thing }
+fn begins_with(entity: Entity) -> ExprKind
+    ensures { result ≡ begins_with entity }
 {
-    match thing {
-        Thing::Variable(Kind::Status) => ExprKind::Other,
-        Thing::Variable(kind) => ExprKind::Of(kind),
+    match entity {
+        Entity::Variable(VariableKind::Status) => ExprKind::Other,
+        Entity::Variable(kind) => ExprKind::Of(kind),
         _ => ExprKind::Other,
     }
 }
@@ -167,27 +167,27 @@ fn begun_takes(kind: ExprKind) -> ExprKind
     }
 }
 
-fn is_int_array(thing: Thing) -> bool
-    ensures { result ≡ is_int_array thing }
+fn is_int_array(entity: Entity) -> bool
+    ensures { result ≡ is_int_array entity }
 {
-    match thing {
-        Thing::Array(Kind::Int, _) => true,
+    match entity {
+        Entity::Array(VariableKind::Int, _) => true,
         _ => false,
     }
 }
 
-fn array_length(thing: Thing) -> u32
-    ensures { result ≡ array_length thing }
+fn array_length(entity: Entity) -> u32
+    ensures { result ≡ array_length entity }
 {
-    match thing {
-        Thing::Array(_, length) => length,
+    match entity {
+        Entity::Array(_, length) => length,
         _ => 0,
     }
 }
 
 /// Ints in braces.
 #[tactic(auto, using(c_check_expr::proofs::Least::least_from_append))]
-fn want_values(best: &mut Option<Fault>, scope: &Scope, values: &Listed<Expr>)
+fn want_values(best: &mut Option<TypingFault>, scope: &Scope, values: &Listed<Expr>)
     ensures { best.new ≡ least_from best.old (values_faults scope.now (listed (row_view view values.now))) }
 {
     want_int(best, scope, &values.first);
@@ -197,11 +197,11 @@ fn want_values(best: &mut Option<Fault>, scope: &Scope, values: &Listed<Expr>)
 }
 
 /// Values in braces.
-fn want_braces(best: &mut Option<Fault>, name: Spot, thing: Thing, count: usize)
-    ensures { best.new ≡ least_from best.old (braces_faults name thing count) }
+fn want_braces(best: &mut Option<TypingFault>, name: Spot, entity: Entity, count: usize)
+    ensures { best.new ≡ least_from best.old (braces_faults name entity count) }
 {
-    if is_int_array(thing) {
-        let length = array_length(thing) as usize;
+    if is_int_array(entity) {
+        let length = array_length(entity) as usize;
         note_unless(best, !(0 < length && length < count), name, Why::WrongCount);
     } else {
         note_at(best, name, Why::WrongType);
@@ -210,23 +210,23 @@ fn want_braces(best: &mut Option<Fault>, name: Spot, thing: Thing, count: usize)
 
 #[tactic(auto, using(c_check_expr::proofs::Least::least_from_append))]
 fn check_initial(
-    best: &mut Option<Fault>,
+    best: &mut Option<TypingFault>,
     scope: &Scope,
     name: Spot,
-    thing: Thing,
+    entity: Entity,
     initial: &Option<Initial>,
 )
-    ensures { best.new ≡ least_from best.old (initial_faults scope.now name thing (option_map initial_view initial.now)) }
+    ensures { best.new ≡ least_from best.old (initial_faults scope.now name entity (option_map initial_view initial.now)) }
 {
     match initial {
         None => {}
         Some(Initial::Right { right, .. }) => {
-            let kind = begins_with(thing);
+            let kind = begins_with(entity);
             note_unless(best, can_begin(kind), name, Why::WrongType);
             want_right(best, scope, begun_takes(kind), right);
         }
         Some(Initial::Braced { values, .. }) => {
-            want_braces(best, name, thing, item_count(values));
+            want_braces(best, name, entity, item_count(values));
             want_values(best, scope, values);
         }
     }
@@ -235,27 +235,27 @@ fn check_initial(
 /// A declared name, which is then declared.
 #[tactic(auto, using(c_check_expr::proofs::Least::least_from_append))]
 fn check_item(
-    best: &mut Option<Fault>,
+    best: &mut Option<TypingFault>,
     scope: &mut Scope,
-    kind: Kind,
+    kind: VariableKind,
     item: &Item,
 ) -> Result<(), AllocError>
     ensures faults { OnOk result (best.new ≡ least_from best.old (item_faults scope.old kind (item_view item.now))) }
     ensures scope { OnOk result (scope.new ≡ after_item scope.old kind (item_view item.now)) }
 {
-    let name = place_start(&item.place);
+    let name = place_first_token(&item.place);
     want_place_length(best, scope, &item.place);
     scope.want_free(best, name);
-    let thing = declared_thing(scope, kind, &item.place);
-    scope.declare(name, thing)?;
-    check_initial(best, scope, name, thing, &item.initial);
+    let entity = declared_entity(scope, kind, &item.place);
+    scope.declare(name, entity)?;
+    check_initial(best, scope, name, entity, &item.initial);
     Ok(())
 }
 
 /// The faults of a declaration, whose names are then declared.
 #[tactic(auto, using(c_check_expr::proofs::Least::least_from_append))]
 pub fn check_declaration(
-    best: &mut Option<Fault>,
+    best: &mut Option<TypingFault>,
     scope: &mut Scope,
     declaration: &Declaration,
 ) -> Result<(), AllocError>
@@ -274,28 +274,28 @@ pub fn check_declaration(
 
 /// What a function gives back.
 #[tactic(auto, using(c_check_expr::proofs::Least::least_from_append))]
-fn check_return(best: &mut Option<Fault>, scope: &Scope, gives: bool, value: &Option<Right>)
+fn check_return(best: &mut Option<TypingFault>, scope: &Scope, gives: bool, value: &Option<Right>)
     ensures { best.new ≡ least_from best.old (return_faults scope.now gives (option_map right_view value.now)) }
 {
     if let Some(right) = value {
         if gives {
-            want_right(best, scope, ExprKind::Of(Kind::Int), right);
+            want_right(best, scope, ExprKind::Of(VariableKind::Int), right);
         } else {
             want_right(best, scope, ExprKind::Nothing, right);
-            note_at(best, right_start(right), Why::WrongType);
+            note_at(best, right_first_token(right), Why::WrongType);
         }
     }
 }
 
 /// A word that stands in loops alone.
-fn want_loop(best: &mut Option<Fault>, loops: bool, word: Spot)
+fn want_loop(best: &mut Option<TypingFault>, loops: bool, word: Spot)
     ensures { best.new ≡ least_from best.old (unless loops word WrongType) }
 {
     note_unless(best, loops, word, Why::WrongType);
 }
 
 fn check_start(
-    best: &mut Option<Fault>,
+    best: &mut Option<TypingFault>,
     scope: &mut Scope,
     start: &ForStart,
 ) -> Result<(), AllocError>
@@ -312,7 +312,7 @@ fn check_start(
     }
 }
 
-fn check_test(best: &mut Option<Fault>, scope: &Scope, test: &Option<Expr>)
+fn check_test(best: &mut Option<TypingFault>, scope: &Scope, test: &Option<Expr>)
     ensures { best.new ≡ least_from best.old (test_faults scope.now (option_map view test.now)) }
 {
     if let Some(test) = test {
@@ -320,7 +320,7 @@ fn check_test(best: &mut Option<Fault>, scope: &Scope, test: &Option<Expr>)
     }
 }
 
-fn check_step(best: &mut Option<Fault>, scope: &Scope, step: &Option<Simple>)
+fn check_step(best: &mut Option<TypingFault>, scope: &Scope, step: &Option<Simple>)
     ensures { best.new ≡ least_from best.old (step_faults scope.now (option_map simple_view step.now)) }
 {
     if let Some(step) = step {
@@ -331,7 +331,7 @@ fn check_step(best: &mut Option<Fault>, scope: &Scope, step: &Option<Simple>)
 /// The faults of a statement. `gives`: the function gives an int; `loops`: a loop stands around.
 #[cycle(statement)]
 pub fn check_stmt(
-    best: &mut Option<Fault>,
+    best: &mut Option<TypingFault>,
     scope: &mut Scope,
     gives: bool,
     loops: bool,
@@ -381,7 +381,7 @@ pub fn check_stmt(
 /// The parts of a block, in a scope of their own.
 #[cycle(statement)]
 fn check_block(
-    best: &mut Option<Fault>,
+    best: &mut Option<TypingFault>,
     scope: &mut Scope,
     gives: bool,
     loops: bool,
@@ -399,7 +399,7 @@ fn check_block(
 /// A test, and a statement behind it.
 #[cycle(statement)]
 fn check_tested(
-    best: &mut Option<Fault>,
+    best: &mut Option<TypingFault>,
     scope: &mut Scope,
     gives: bool,
     loops: bool,
@@ -417,7 +417,7 @@ fn check_tested(
 /// A test, and the two statements behind it.
 #[cycle(statement)]
 fn check_both(
-    best: &mut Option<Fault>,
+    best: &mut Option<TypingFault>,
     scope: &mut Scope,
     gives: bool,
     loops: bool,
@@ -436,7 +436,7 @@ fn check_both(
 /// A body, and the test behind it.
 #[cycle(statement)]
 fn check_do(
-    best: &mut Option<Fault>,
+    best: &mut Option<TypingFault>,
     scope: &mut Scope,
     gives: bool,
     test: &Expr,
@@ -453,7 +453,7 @@ fn check_do(
 /// A `for`, in a scope of its own.
 #[cycle(statement)]
 fn check_for(
-    best: &mut Option<Fault>,
+    best: &mut Option<TypingFault>,
     scope: &mut Scope,
     gives: bool,
     start: &ForStart,
@@ -475,7 +475,7 @@ fn check_for(
 
 #[cycle(statement)]
 fn check_part(
-    best: &mut Option<Fault>,
+    best: &mut Option<TypingFault>,
     scope: &mut Scope,
     gives: bool,
     loops: bool,
@@ -492,7 +492,7 @@ fn check_part(
 
 #[cycle(statement)]
 pub fn check_parts(
-    best: &mut Option<Fault>,
+    best: &mut Option<TypingFault>,
     scope: &mut Scope,
     gives: bool,
     loops: bool,

@@ -6,22 +6,22 @@ use Rattle.c_grammar.specs.declared.word.Spot.{Spot}
 use Rattle.c_grammar.specs.declared.word.Word.{Word}
 use Rattle.c_grammar.specs.declared.word.Word.TheVariants as w
 use Rattle.c_grammar.specs.Tree as t
-use Rattle.c_names.specs.Operators.{applied, signed}
+use Rattle.c_names.specs.Operators.{applied, unary_applied}
 use Rattle.c_names.specs.declared.operator.Operator.{Operator}
 use Rattle.c_names.specs.declared.operator.Operator.TheVariants as o
-use Rattle.c_names.specs.declared.operator.Sign.{Sign}
-use Rattle.c_names.specs.declared.operator.Sign.TheVariants as s
+use Rattle.c_names.specs.declared.operator.UnaryOperator.{UnaryOperator}
+use Rattle.c_names.specs.declared.operator.UnaryOperator.TheVariants as s
 use Rattle.c_names.specs.declared.predefined.Predefined.TheVariants as p
 use Rattle.c_check_expr.specs.Least.{fault}
-use Rattle.c_check_expr.specs.Kinds.{start_of}
+use Rattle.c_check_expr.specs.Kinds.{first_token}
 use Rattle.c_check_expr.specs.Literals.{number_at}
 use Rattle.c_check_expr.specs.Scopes.{Env, meaning, name_faults}
-use Rattle.c_check_expr.specs.declared.fault.Fault.{Fault}
+use Rattle.c_check_expr.specs.declared.fault.TypingFault.{TypingFault}
 use Rattle.c_check_expr.specs.declared.constant.Constant.{Constant}
 use Rattle.c_check_expr.specs.declared.constant.Constant.TheVariants.{Value, NoValue, Variable, Nameless}
-use Rattle.c_check_expr.specs.declared.thing.Meaning.{Meaning}
-use Rattle.c_check_expr.specs.declared.thing.Meaning.TheVariants as m
-use Rattle.c_check_expr.specs.declared.thing.Thing.TheVariants as d
+use Rattle.c_check_expr.specs.declared.meaning.Meaning.{Meaning}
+use Rattle.c_check_expr.specs.declared.meaning.Meaning.TheVariants as m
+use Rattle.c_check_expr.specs.declared.meaning.Entity.TheVariants as d
 
 -- the operator of a word; no other word stands between two operands
 abbrev pub operator_of : Word → Operator
@@ -45,11 +45,11 @@ operator_of w.Divide = o.Divide
 operator_of _ = o.Remainder
 
 -- the sign of a word; no other word stands before an operand
-abbrev pub sign_of : Word → Sign
-sign_of w.Minus = s.Minus
-sign_of w.Plus = s.Plus
-sign_of w.Not = s.Not
-sign_of _ = s.Complement
+abbrev pub unary_of : Word → UnaryOperator
+unary_of w.Minus = s.Minus
+unary_of w.Plus = s.Plus
+unary_of w.Not = s.Not
+unary_of _ = s.Complement
 
 abbrev pub constant_meant : Meaning → Constant
 constant_meant (m.Known (p.Number value)) = Value value
@@ -84,9 +84,9 @@ joined_values operator a b = NoValue
 abbrev pub joined : Operator → Constant → Constant → Constant
 joined operator a b = over a b (joined_values operator a b)
 
-abbrev pub signed_constant : Sign → Constant → Constant
-signed_constant sign (Value value) = Value (signed sign value)
-signed_constant sign other = other
+abbrev pub unary_constant : UnaryOperator → Constant → Constant
+unary_constant sign (Value value) = Value (unary_applied sign value)
+unary_constant sign other = other
 
 -- `?:` needs the branch alone that its test takes
 abbrev pub chosen_value : Constant → Constant → Constant → Constant
@@ -102,7 +102,7 @@ abbrev mutual
   constant_of env (t.read place) = place_constant env place
   constant_of env (t.field place dot name) = Variable
   constant_of env (t.paren opening inner closing) = constant_of env inner
-  constant_of env (t.unary sign at operand) = signed_constant (sign_of sign) (constant_of env operand)
+  constant_of env (t.unary sign at operand) = unary_constant (unary_of sign) (constant_of env operand)
   constant_of env (t.chain level first links) = links_constant env (constant_of env first) links
   constant_of env (t.choice test question taken colon spared) = chosen (constant_of env test) (constant_of env taken) (constant_of env spared)
 
@@ -116,7 +116,7 @@ abbrev mutual
 
 -- each name without a meaning, at the name
 abbrev mutual
-  pub names_in : Env → t.Expr → List Fault
+  pub names_in : Env → t.Expr → List TypingFault
   names_in env (t.number at) = []
   names_in env (t.read place) = names_in_place env place
   names_in env (t.field place dot name) = names_in_place env place
@@ -125,11 +125,11 @@ abbrev mutual
   names_in env (t.chain level first links) = names_in env first ++ names_in_links env links
   names_in env (t.choice test question taken colon spared) = (names_in env test ++ names_in env taken) ++ names_in env spared
 
-  pub names_in_place : Env → t.Place → List Fault
+  pub names_in_place : Env → t.Place → List TypingFault
   names_in_place env (t.whole name) = name_faults (meaning env name) name
   names_in_place env (t.cell name opening index closing) = name_faults (meaning env name) name ++ names_in env index
 
-  pub names_in_links : Env → t.Links → List Fault
+  pub names_in_links : Env → t.Links → List TypingFault
   names_in_links env t.no_link = []
   names_in_links env (t.link operator at operand rest) = names_in env operand ++ names_in_links env rest
 
@@ -141,11 +141,11 @@ length_from other = 0
 abbrev pub length_of : Env → t.Expr → ℕ
 length_of env e = length_from (constant_of env e)
 
-abbrev pub value_faults : Constant → ℕ → Spot → List Fault
+abbrev pub value_faults : Constant → ℕ → Spot → List TypingFault
 value_faults Nameless length at = []
 value_faults other zero at = fault at WrongType
 value_faults other (suc n) at = []
 
 -- a name without a meaning, or, at the first token, what is no constant, or has no value from 1 to 262,144
-abbrev pub length_faults : Env → t.Expr → List Fault
-length_faults env e = names_in env e ++ value_faults (constant_of env e) (length_of env e) (start_of e)
+abbrev pub length_faults : Env → t.Expr → List TypingFault
+length_faults env e = names_in env e ++ value_faults (constant_of env e) (length_of env e) (first_token e)

@@ -6,24 +6,24 @@ use Rattle.c_grammar.specs.declared.word.Word.{Word}
 use Rattle.c_grammar.specs.declared.word.Word.TheVariants as w
 use Rattle.c_grammar.specs.Tree as t
 use Rattle.c_names.specs.declared.predefined.Predefined.TheVariants as p
-use Rattle.c_names.specs.declared.kind.Kind.{Kind}
-use Rattle.c_names.specs.declared.kind.Kind.TheVariants.{Int, Status, Request, Communicator}
+use Rattle.c_names.specs.declared.kind.VariableKind.{VariableKind}
+use Rattle.c_names.specs.declared.kind.VariableKind.TheVariants.{Int, Status, Request, Communicator}
 use Rattle.c_check_expr.specs.Least.{unless}
 use Rattle.c_check_expr.specs.Scopes.{Env, meaning}
-use Rattle.c_check_expr.specs.declared.fault.Fault.{Fault}
-use Rattle.c_check_expr.specs.declared.thing.ExprKind.{ExprKind}
-use Rattle.c_check_expr.specs.declared.thing.ExprKind.TheVariants.{Of, NullRequest, Other, Nothing}
-use Rattle.c_check_expr.specs.declared.thing.Meaning.{Meaning}
-use Rattle.c_check_expr.specs.declared.thing.Meaning.TheVariants as m
-use Rattle.c_check_expr.specs.declared.thing.Thing.TheVariants as d
+use Rattle.c_check_expr.specs.declared.fault.TypingFault.{TypingFault}
+use Rattle.c_check_expr.specs.declared.meaning.ExprKind.{ExprKind}
+use Rattle.c_check_expr.specs.declared.meaning.ExprKind.TheVariants.{Of, NullRequest, Other, Nothing}
+use Rattle.c_check_expr.specs.declared.meaning.Meaning.{Meaning}
+use Rattle.c_check_expr.specs.declared.meaning.Meaning.TheVariants as m
+use Rattle.c_check_expr.specs.declared.meaning.Entity.TheVariants as d
 
-abbrev pub kind_of_word : Word → Kind
+abbrev pub kind_of_word : Word → VariableKind
 kind_of_word w.Status = Status
 kind_of_word w.Request = Request
 kind_of_word w.Communicator = Communicator
 kind_of_word _ = Int
 
-abbrev pub is_same_kind : Kind → Kind → Bool
+abbrev pub is_same_kind : VariableKind → VariableKind → Bool
 is_same_kind Int Int = true
 is_same_kind Status Status = true
 is_same_kind Request Request = true
@@ -66,18 +66,18 @@ kind_of env (t.read place) = place_kind env place
 kind_of env _ = Of Int
 
 -- the first token
-abbrev pub place_start : t.Place → Spot
-place_start (t.whole name) = name
-place_start (t.cell name opening index closing) = name
+abbrev pub place_first_token : t.Place → Spot
+place_first_token (t.whole name) = name
+place_first_token (t.cell name opening index closing) = name
 
-abbrev pub start_of : t.Expr → Spot
-start_of (t.number at) = at
-start_of (t.read place) = place_start place
-start_of (t.field place dot name) = place_start place
-start_of (t.paren opening inner closing) = opening
-start_of (t.unary sign at operand) = at
-start_of (t.chain level first links) = start_of first
-start_of (t.choice test question taken colon spared) = start_of test
+abbrev pub first_token : t.Expr → Spot
+first_token (t.number at) = at
+first_token (t.read place) = place_first_token place
+first_token (t.field place dot name) = place_first_token place
+first_token (t.paren opening inner closing) = opening
+first_token (t.unary sign at operand) = at
+first_token (t.chain level first links) = first_token first
+first_token (t.choice test question taken colon spared) = first_token test
 
 -- whether something of one kind may stand where one is wanted; anything may stand where nothing is
 abbrev pub fits : ExprKind → ExprKind → Bool
@@ -91,7 +91,7 @@ fits (Of Request) NullRequest = true
 fits wanted given = false
 
 -- something else than what is wanted, at its first token
-abbrev pub kind_faults : ExprKind → ExprKind → Spot → List Fault
+abbrev pub kind_faults : ExprKind → ExprKind → Spot → List TypingFault
 kind_faults wanted given at = unless (fits wanted given) at WrongType
 
 -- the two sides of `==` and `!=` that may be handles

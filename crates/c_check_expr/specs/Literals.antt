@@ -3,7 +3,7 @@ use Rattle.std.specs.Prelude.{ℕ, ◌&&◌, Bool, true, List, [], ◌∷◌, le
 use Rattle.std.specs.Char.{digit_value}
 use Rattle.c_lex.specs.Literals.{base, digits_of, literal_value}
 use Rattle.c_grammar.specs.declared.word.Spot.{Spot}
-use Rattle.c_check_expr.specs.Scopes.{cut}
+use Rattle.c_check_expr.specs.Scopes.{token_bytes}
 
 abbrev pub all_digits : ℕ → List ℕ → Bool
 all_digits radix [] = true
@@ -14,4 +14,4 @@ is_literal word = (nat_lt 0 (length (digits_of word)) && all_digits (base word) 
 
 -- the number of a token; 0 for what is no literal, as no token is
 abbrev pub number_at : List ℕ → Spot → ℕ
-number_at text spot = if is_literal (cut text spot) then literal_value (cut text spot) else 0
+number_at text spot = if is_literal (token_bytes text spot) then literal_value (token_bytes text spot) else 0

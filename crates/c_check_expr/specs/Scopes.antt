@@ -10,14 +10,14 @@ use Rattle.c_names.specs.Predefined.{predefined}
 use Rattle.c_names.specs.declared.function.ArgumentKind.{ArgumentKind}
 use Rattle.c_names.specs.declared.predefined.Predefined.{Predefined}
 use Rattle.c_check_expr.specs.Least.{fault, unless}
-use Rattle.c_check_expr.specs.declared.fault.Fault.{Fault}
-use Rattle.c_check_expr.specs.declared.thing.Thing.{Thing}
-use Rattle.c_check_expr.specs.declared.thing.Meaning.{Meaning}
-use Rattle.c_check_expr.specs.declared.thing.Meaning.TheVariants as m
+use Rattle.c_check_expr.specs.declared.fault.TypingFault.{TypingFault}
+use Rattle.c_check_expr.specs.declared.meaning.Entity.{Entity}
+use Rattle.c_check_expr.specs.declared.meaning.Meaning.{Meaning}
+use Rattle.c_check_expr.specs.declared.meaning.Meaning.TheVariants as m
 
 pub data Entry : Type 0 where
   opening : Entry
-  named : List ℕ → Thing → Entry
+  named : List ℕ → Entity → Entry
 
 -- what a function takes, and whether it gives an int
 pub record Signature : Type 0 where
@@ -31,16 +31,16 @@ pub record Env : Type 0 where
   pub entries : List Entry
 
 -- the bytes of a token
-abbrev pub cut : List ℕ → Spot → List ℕ
-cut text spot = take spot.len (drop spot.start text)
+abbrev pub token_bytes : List ℕ → Spot → List ℕ
+token_bytes text spot = take spot.len (drop spot.start text)
 
-abbrev pub found : List Entry → List ℕ → Option Thing
+abbrev pub found : List Entry → List ℕ → Option Entity
 found [] name = None
 found (opening ∷ rest) name = found rest name
-found (named other thing ∷ rest) name = if bytes_eq other name then Some thing else found rest name
+found (named other entity ∷ rest) name = if bytes_eq other name then Some entity else found rest name
 
-abbrev pub declared_meaning : List ℕ → Option Thing → Meaning
-declared_meaning name (Some thing) = m.Declared thing
+abbrev pub declared_meaning : List ℕ → Option Entity → Meaning
+declared_meaning name (Some entity) = m.Declared entity
 declared_meaning name None = if starts_with nat_eq name (codes "MPI_") then m.LeftOut else m.Unknown
 
 abbrev pub meaning_in : List Entry → List ℕ → Option Predefined → Meaning
@@ -52,10 +52,10 @@ abbrev pub meaning_of : List Entry → List ℕ → Meaning
 meaning_of entries name = meaning_in entries name (predefined name)
 
 abbrev pub meaning : Env → Spot → Meaning
-meaning env spot = meaning_of env.entries (cut env.text spot)
+meaning env spot = meaning_of env.entries (token_bytes env.text spot)
 
 -- a name without a meaning, at the name
-abbrev pub name_faults : Meaning → Spot → List Fault
+abbrev pub name_faults : Meaning → Spot → List TypingFault
 name_faults m.Unknown at = fault at Unknown
 name_faults m.LeftOut at = fault at LeftOut
 name_faults _ at = []
@@ -64,17 +64,17 @@ name_faults _ at = []
 abbrev pub is_in_block : List Entry → List ℕ → Bool
 is_in_block [] name = false
 is_in_block (opening ∷ rest) name = false
-is_in_block (named other thing ∷ rest) name = bytes_eq other name || is_in_block rest name
+is_in_block (named other entity ∷ rest) name = bytes_eq other name || is_in_block rest name
 
 abbrev pub is_taken : List Entry → List ℕ → Bool
 is_taken entries name = is_some (predefined name) || is_in_block entries name
 
 -- a name that is predefined, or declared in this block before, at the name
-abbrev pub twice_faults : Env → Spot → List Fault
-twice_faults env spot = unless (not (is_taken env.entries (cut env.text spot))) spot Twice
+abbrev pub twice_faults : Env → Spot → List TypingFault
+twice_faults env spot = unless (not (is_taken env.entries (token_bytes env.text spot))) spot Twice
 
-abbrev pub declare : Env → Spot → Thing → Env
-declare env spot thing = record env { entries = named (cut env.text spot) thing ∷ env.entries }
+abbrev pub declare : Env → Spot → Entity → Env
+declare env spot entity = record env { entries = named (token_bytes env.text spot) entity ∷ env.entries }
 
 abbrev pub opened : Env → Env
 opened env = record env { entries = opening ∷ env.entries }
@@ -83,4 +83,4 @@ opened env = record env { entries = opening ∷ env.entries }
 abbrev pub closed : List Entry → List Entry
 closed [] = []
 closed (opening ∷ rest) = rest
-closed (named name thing ∷ rest) = closed rest
+closed (named name entity ∷ rest) = closed rest

@@ -5,8 +5,8 @@ use Rattle.c_grammar.specs.declared.word.Word.TheVariants as w
 use Rattle.c_grammar.specs.Tree as t
 use Rattle.c_names.specs.declared.function.ArgumentKind.{ArgumentKind}
 use Rattle.c_names.specs.declared.function.ArgumentKind.TheVariants as a
-use Rattle.c_check_expr.specs.Scopes.{Entry, named, Signature, cut}
-use Rattle.c_check_expr.specs.declared.thing.Thing.TheVariants as d
+use Rattle.c_check_expr.specs.Scopes.{Entry, named, Signature, token_bytes}
+use Rattle.c_check_expr.specs.declared.meaning.Entity.TheVariants as d
 
 -- things in a row
 abbrev pub listed : {A : Type 0} → t.Row A → List A
@@ -36,4 +36,4 @@ signature_of head = record { gives = is_int head.result; takes = map parameter_t
 -- functions are visible in the whole text; of two with one name, the first
 abbrev pub function_entries : List ℕ → ℕ → List t.Head → List Entry
 function_entries text number [] = []
-function_entries text number (head ∷ heads) = named (cut text head.name) (d.Function number) ∷ function_entries text (suc number) heads
+function_entries text number (head ∷ heads) = named (token_bytes text head.name) (d.Function number) ∷ function_entries text (suc number) heads

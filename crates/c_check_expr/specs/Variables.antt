@@ -3,14 +3,14 @@ use Rattle.std.specs.Prelude.{◌+◌, ℕ, ℤ, negsuc, List, [], ◌∷◌, Op
 use Rattle.std.specs.Str.{bytes_eq}
 use Rattle.c_grammar.specs.declared.word.Spot.{Spot}
 use Rattle.c_names.specs.declared.predefined.Predefined.TheVariants as p
-use Rattle.c_check_expr.specs.Scopes.{Entry, opening, named, Env, cut}
-use Rattle.c_check_expr.specs.declared.thing.Meaning.{Meaning}
-use Rattle.c_check_expr.specs.declared.thing.Meaning.TheVariants as m
-use Rattle.c_check_expr.specs.declared.thing.Thing.{Thing}
-use Rattle.c_check_expr.specs.declared.thing.Thing.TheVariants as d
+use Rattle.c_check_expr.specs.Scopes.{Entry, opening, named, Env, token_bytes}
+use Rattle.c_check_expr.specs.declared.meaning.Meaning.{Meaning}
+use Rattle.c_check_expr.specs.declared.meaning.Meaning.TheVariants as m
+use Rattle.c_check_expr.specs.declared.meaning.Entity.{Entity}
+use Rattle.c_check_expr.specs.declared.meaning.Entity.TheVariants as d
 
 -- functions and defines are no variables
-abbrev pub is_variable : Thing → ℕ
+abbrev pub is_variable : Entity → ℕ
 is_variable (d.Function number) = 0
 is_variable (d.Define value) = 0
 is_variable _ = 1
@@ -18,16 +18,16 @@ is_variable _ = 1
 abbrev pub variables_in : List Entry → ℕ
 variables_in [] = 0
 variables_in (opening ∷ rest) = variables_in rest
-variables_in (named name thing ∷ rest) = is_variable thing + variables_in rest
+variables_in (named name entity ∷ rest) = is_variable entity + variables_in rest
 
 -- how many variables stand before the innermost declaration of a name
 abbrev pub number_in : List Entry → List ℕ → ℕ
 number_in [] name = 0
 number_in (opening ∷ rest) name = number_in rest name
-number_in (named other thing ∷ rest) name = if bytes_eq other name then variables_in rest else number_in rest name
+number_in (named other entity ∷ rest) name = if bytes_eq other name then variables_in rest else number_in rest name
 
 abbrev pub variable : Env → Spot → ℕ
-variable env name = number_in env.entries (cut env.text name)
+variable env name = number_in env.entries (token_bytes env.text name)
 
 -- a handle is a number, and none is -1
 abbrev pub value_meant : Meaning → Option ℤ

@@ -1,17 +1,17 @@
 //! Expressions of numbers, defines and predefined ints.
 ghost use Rattle.std.specs.Prelude.{◌≡◌, ℤ, Option, map, pos, zero, suc};
 ghost use Rattle.c_grammar.specs.View.{links_from, piece, place_view, view};
-ghost use Rattle.c_check_expr.specs.Constants.{chosen, chosen_value, constant_meant, constant_of, decided, joined, joined_values, length_faults, length_from, length_of, links_constant, names_in, names_in_links, names_in_place, operator_of, or_no_value, over, place_constant, sign_of, signed_constant, value_faults};
+ghost use Rattle.c_check_expr.specs.Constants.{chosen, chosen_value, constant_meant, constant_of, decided, joined, joined_values, length_faults, length_from, length_of, links_constant, names_in, names_in_links, names_in_place, operator_of, or_no_value, over, place_constant, unary_of, unary_constant, value_faults};
 ghost use Rattle.c_check_expr.specs.Least.{least_from};
 
-use crate::fault::{Fault, note_at};
-use crate::kind::start_of;
+use crate::fault::{TypingFault, note_at};
+use crate::kind::first_token;
 use crate::scope::{Scope, number_at, want_meaning};
-use crate::thing::{Meaning, Thing};
+use crate::meaning::{Meaning, Entity};
 use c_grammar::tree::{Expr, Link, Place};
 use c_grammar::word::{Spot, Word};
 use c_lex::Why;
-use c_names::operator::{Operator, Sign, apply, apply_sign};
+use c_names::operator::{Operator, UnaryOperator, apply, apply_unary};
 use c_names::predefined::Predefined;
 
 /// The most cells that an array has.
@@ -54,14 +54,14 @@ pub fn operator_of(word: Word) -> Operator
     }
 }
 
-pub fn sign_of(word: Word) -> Sign
-    ensures { result ≡ sign_of word }
+pub fn unary_of(word: Word) -> UnaryOperator
+    ensures { result ≡ unary_of word }
 {
     match word {
-        Word::Minus => Sign::Minus,
-        Word::Plus => Sign::Plus,
-        Word::Not => Sign::Not,
-        _ => Sign::Complement,
+        Word::Minus => UnaryOperator::Minus,
+        Word::Plus => UnaryOperator::Plus,
+        Word::Not => UnaryOperator::Not,
+        _ => UnaryOperator::Complement,
     }
 }
 
@@ -70,7 +70,7 @@ fn constant_meant(meaning: Meaning) -> Constant
 {
     match meaning {
         Meaning::Known(Predefined::Number(value)) => Constant::Value(value),
-        Meaning::Declared(Thing::Define(value)) => Constant::Value(value),
+        Meaning::Declared(Entity::Define(value)) => Constant::Value(value),
         Meaning::LeftOut | Meaning::Unknown => Constant::Nameless,
         _ => Constant::Variable,
     }
@@ -137,11 +137,11 @@ fn joined(operator: Operator, a: Constant, b: Constant) -> Constant
     over(a, b, joined_values(operator, a, b))
 }
 
-fn signed_constant(sign: Sign, constant: Constant) -> Constant
-    ensures { result ≡ signed_constant sign constant }
+fn unary_constant(sign: UnaryOperator, constant: Constant) -> Constant
+    ensures { result ≡ unary_constant sign constant }
 {
     match constant {
-        Constant::Value(value) => Constant::Value(apply_sign(sign, value)),
+        Constant::Value(value) => Constant::Value(apply_unary(sign, value)),
         _ => constant,
     }
 }
@@ -187,7 +187,7 @@ fn constant_of(scope: &Scope, e: &Expr) -> Constant
         Expr::Field { .. } => Constant::Variable,
         Expr::Paren { inner, .. } => constant_of(scope, inner),
         Expr::Unary { sign, operand, .. } => {
-            signed_constant(sign_of(*sign), constant_of(scope, operand))
+            unary_constant(unary_of(*sign), constant_of(scope, operand))
         }
         Expr::Chain { first, links, .. } => {
             let left = constant_of(scope, first);
@@ -222,7 +222,7 @@ fn links_constant(scope: &Scope, left: Constant, links: &[Link]) -> Constant
 /// Each name without a meaning.
 #[cycle(names)]
 #[tactic(auto, using(c_grammar::proofs::Viewed::views, crate::proofs::Least::least_from_append))]
-fn want_names(best: &mut Option<Fault>, scope: &Scope, e: &Expr)
+fn want_names(best: &mut Option<TypingFault>, scope: &Scope, e: &Expr)
     ensures { best.new ≡ least_from best.old (names_in scope.now (view e.now)) }
 {
     match e {
@@ -250,7 +250,7 @@ fn want_names(best: &mut Option<Fault>, scope: &Scope, e: &Expr)
 
 #[cycle(names)]
 #[tactic(auto, using(c_grammar::proofs::Viewed::views, crate::proofs::Least::least_from_append))]
-fn want_names_in_place(best: &mut Option<Fault>, scope: &Scope, place: &Place)
+fn want_names_in_place(best: &mut Option<TypingFault>, scope: &Scope, place: &Place)
     ensures { best.new ≡ least_from best.old (names_in_place scope.now (place_view place.now)) }
 {
     match place {
@@ -263,7 +263,7 @@ fn want_names_in_place(best: &mut Option<Fault>, scope: &Scope, place: &Place)
 }
 
 #[cycle(names)]
-fn want_names_in_links(best: &mut Option<Fault>, scope: &Scope, links: &[Link])
+fn want_names_in_links(best: &mut Option<TypingFault>, scope: &Scope, links: &[Link])
     ensures { best.new ≡ least_from best.old (names_in_links scope.now (links_from (map piece links.now))) }
 {
     for link in links {
@@ -293,7 +293,7 @@ pub fn length_of(scope: &Scope, e: &Expr) -> u32
     length_from(constant_of(scope, e))
 }
 
-fn want_value(best: &mut Option<Fault>, constant: Constant, length: u32, at: Spot)
+fn want_value(best: &mut Option<TypingFault>, constant: Constant, length: u32, at: Spot)
     ensures { best.new ≡ least_from best.old (value_faults constant length at) }
 {
     match constant {
@@ -308,10 +308,10 @@ fn want_value(best: &mut Option<Fault>, constant: Constant, length: u32, at: Spo
 
 /// The length of an array.
 #[tactic(auto, using(crate::proofs::Least::least_from_append))]
-pub fn want_length(best: &mut Option<Fault>, scope: &Scope, e: &Expr)
+pub fn want_length(best: &mut Option<TypingFault>, scope: &Scope, e: &Expr)
     ensures { best.new ≡ least_from best.old (length_faults scope.now (view e.now)) }
 {
     want_names(best, scope, e);
     let constant = constant_of(scope, e);
-    want_value(best, constant, length_from(constant), start_of(e));
+    want_value(best, constant, length_from(constant), first_token(e));
 }

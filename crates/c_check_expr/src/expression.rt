@@ -4,23 +4,23 @@ ghost use Rattle.c_grammar.specs.View.{links_from, piece, place_view, view};
 ghost use Rattle.c_check_expr.specs.Expressions.{expr_faults, field_faults, int_faults, is_equality, is_field, links_faults, operand_faults, place_faults, takes_index, wanted_faults};
 ghost use Rattle.c_check_expr.specs.Least.{least_from};
 
-use crate::fault::{Fault, note_unless};
-use crate::kind::{compares, kind_of, place_kind, place_start, start_of, want_kind};
-use crate::scope::{Scope, cut, is_same, want_meaning};
-use crate::thing::{ExprKind, Meaning, Thing};
+use crate::fault::{TypingFault, note_unless};
+use crate::kind::{compares, kind_of, place_kind, place_first_token, first_token, want_kind};
+use crate::scope::{Scope, token_bytes, is_same, want_meaning};
+use crate::meaning::{ExprKind, Meaning, Entity};
 use c_grammar::tree::{Expr, Link, Place};
 use c_grammar::word::{Spot, Word};
 use c_lex::Why;
-use c_names::kind::Kind;
+use c_names::kind::VariableKind;
 
-const INT: ExprKind = ExprKind::Of(Kind::Int);
+const INT: ExprKind = ExprKind::Of(VariableKind::Int);
 
 fn takes_index(meaning: Meaning) -> bool
     ensures { result ≡ takes_index meaning }
 {
     match meaning {
-        Meaning::Declared(Thing::Array(_, _)) => true,
-        Meaning::Declared(Thing::ArrayParameter) => true,
+        Meaning::Declared(Entity::Array(_, _)) => true,
+        Meaning::Declared(Entity::ArrayParameter) => true,
         Meaning::Declared(_) => false,
         Meaning::Known(_) => false,
         _ => true,
@@ -39,7 +39,7 @@ fn is_equality(word: Word) -> bool
 /// Two operands: handles that may be compared, or ints.
 #[tactic(auto, using(crate::proofs::Least::least_from_append))]
 fn want_operands(
-    best: &mut Option<Fault>,
+    best: &mut Option<TypingFault>,
     operator: Word,
     left: ExprKind,
     left_at: Spot,
@@ -49,8 +49,8 @@ fn want_operands(
     ensures { best.new ≡ least_from best.old (operand_faults operator left left_at right right_at) }
 {
     if !(is_equality(operator) && compares(left, right)) {
-        want_kind(best, ExprKind::Of(Kind::Int), left, left_at);
-        want_kind(best, ExprKind::Of(Kind::Int), right, right_at);
+        want_kind(best, ExprKind::Of(VariableKind::Int), left, left_at);
+        want_kind(best, ExprKind::Of(VariableKind::Int), right, right_at);
     }
 }
 
@@ -61,18 +61,18 @@ fn is_field(name: &[u8]) -> bool
 }
 
 /// A field that a status has.
-fn want_field(best: &mut Option<Fault>, scope: &Scope, kind: ExprKind, name: Spot)
+fn want_field(best: &mut Option<TypingFault>, scope: &Scope, kind: ExprKind, name: Spot)
     ensures { best.new ≡ least_from best.old (field_faults scope.now kind name) }
 {
-    if let ExprKind::Of(Kind::Status) = kind {
-        note_unless(best, is_field(cut(scope.text(), name)), name, Why::LeftOut);
+    if let ExprKind::Of(VariableKind::Status) = kind {
+        note_unless(best, is_field(token_bytes(scope.text(), name)), name, Why::LeftOut);
     }
 }
 
 /// The faults of an expression.
 #[cycle(expression)]
 #[tactic(auto, using(c_grammar::proofs::Viewed::views, crate::proofs::Least::least_from_append))]
-pub fn check_expr(best: &mut Option<Fault>, scope: &Scope, e: &Expr)
+pub fn check_expr(best: &mut Option<TypingFault>, scope: &Scope, e: &Expr)
     ensures { best.new ≡ least_from best.old (expr_faults scope.now (view e.now)) }
 {
     match e {
@@ -81,14 +81,14 @@ pub fn check_expr(best: &mut Option<Fault>, scope: &Scope, e: &Expr)
         Expr::Field { place, name, .. } => {
             check_place(best, scope, place);
             let kind = place_kind(scope, place);
-            want_kind(best, ExprKind::Of(Kind::Status), kind, place_start(place));
+            want_kind(best, ExprKind::Of(VariableKind::Status), kind, place_first_token(place));
             want_field(best, scope, kind, *name);
         }
         Expr::Paren { inner, .. } => want_int(best, scope, inner),
         Expr::Unary { operand, .. } => want_int(best, scope, operand),
         Expr::Chain { first, links, .. } => {
             check_expr(best, scope, first);
-            check_links(best, scope, kind_of(scope, first), start_of(first), links);
+            check_links(best, scope, kind_of(scope, first), first_token(first), links);
         }
         Expr::Choice {
             test,
@@ -105,7 +105,7 @@ pub fn check_expr(best: &mut Option<Fault>, scope: &Scope, e: &Expr)
 
 #[cycle(expression)]
 #[tactic(auto, using(c_grammar::proofs::Viewed::views, crate::proofs::Least::least_from_append))]
-pub fn check_place(best: &mut Option<Fault>, scope: &Scope, place: &Place)
+pub fn check_place(best: &mut Option<TypingFault>, scope: &Scope, place: &Place)
     ensures { best.new ≡ least_from best.old (place_faults scope.now (place_view place.now)) }
 {
     match place {
@@ -122,7 +122,7 @@ pub fn check_place(best: &mut Option<Fault>, scope: &Scope, place: &Place)
 /// The operators and operands behind a first one.
 #[cycle(expression)]
 fn check_links(
-    best: &mut Option<Fault>,
+    best: &mut Option<TypingFault>,
     scope: &Scope,
     left: ExprKind,
     left_at: Spot,
@@ -140,7 +140,7 @@ fn check_links(
             kind,
             left_at,
             right,
-            start_of(&link.operand),
+            first_token(&link.operand),
         );
         kind = INT;
     }
@@ -148,18 +148,18 @@ fn check_links(
 
 /// An int is wanted.
 #[cycle(expression)]
-pub fn want_int(best: &mut Option<Fault>, scope: &Scope, e: &Expr)
+pub fn want_int(best: &mut Option<TypingFault>, scope: &Scope, e: &Expr)
     ensures { best.new ≡ least_from best.old (int_faults scope.now (view e.now)) }
 {
     check_expr(best, scope, e);
-    want_kind(best, INT, kind_of(scope, e), start_of(e));
+    want_kind(best, INT, kind_of(scope, e), first_token(e));
 }
 
 /// An expression of a kind is wanted.
 #[tactic(auto, using(crate::proofs::Least::least_from_append))]
-pub fn want_expr(best: &mut Option<Fault>, scope: &Scope, wanted: ExprKind, e: &Expr)
+pub fn want_expr(best: &mut Option<TypingFault>, scope: &Scope, wanted: ExprKind, e: &Expr)
     ensures { best.new ≡ least_from best.old (wanted_faults scope.now wanted (view e.now)) }
 {
     check_expr(best, scope, e);
-    want_kind(best, wanted, kind_of(scope, e), start_of(e));
+    want_kind(best, wanted, kind_of(scope, e), first_token(e));
 }

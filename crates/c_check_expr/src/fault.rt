@@ -1,20 +1,20 @@
 //! Faults, ordered by place and then by reason.
 ghost use Rattle.std.specs.Prelude.{◌≡◌};
-ghost use Rattle.c_check_expr.specs.Least.{fault, is_less, least_from, rank, take_less, unless};
+ghost use Rattle.c_check_expr.specs.Least.{fault, is_less, least_from, reason_order, take_less, unless};
 
 use c_grammar::word::Spot;
 use c_lex::Why;
 
 /// A fault and its place, which counts from 0.
 #[derive(Clone, Copy)]
-pub struct Fault {
+pub struct TypingFault {
     pub at: u32,
     pub why: Why,
 }
 
 /// The place of a reason in the list of reasons.
-fn rank(why: Why) -> u8
-    ensures { result ≡ rank why }
+fn reason_order(why: Why) -> u8
+    ensures { result ≡ reason_order why }
 {
     match why {
         Why::BadByte => 1,
@@ -34,14 +34,14 @@ fn rank(why: Why) -> u8
     }
 }
 
-fn is_less(a: Fault, b: Fault) -> bool
+fn is_less(a: TypingFault, b: TypingFault) -> bool
     ensures { result ≡ is_less a b }
 {
-    a.at < b.at || (a.at == b.at && rank(a.why) < rank(b.why))
+    a.at < b.at || (a.at == b.at && reason_order(a.why) < reason_order(b.why))
 }
 
 /// Keeps the first of what was found so far and this fault.
-pub fn note(best: &mut Option<Fault>, found: Fault)
+pub fn note(best: &mut Option<TypingFault>, found: TypingFault)
     ensures { best.new ≡ take_less best.old found }
 {
     match *best {
@@ -55,12 +55,12 @@ pub fn note(best: &mut Option<Fault>, found: Fault)
 }
 
 /// A fault at a token.
-pub fn note_at(best: &mut Option<Fault>, spot: Spot, why: Why)
+pub fn note_at(best: &mut Option<TypingFault>, spot: Spot, why: Why)
     ensures { best.new ≡ least_from best.old (fault spot why) }
 {
     note(
         best,
-        Fault {
+        TypingFault {
             at: spot.start,
             why,
         },
@@ -68,7 +68,7 @@ pub fn note_at(best: &mut Option<Fault>, spot: Spot, why: Why)
 }
 
 /// A fault at a token, unless all is well.
-pub fn note_unless(best: &mut Option<Fault>, well: bool, spot: Spot, why: Why)
+pub fn note_unless(best: &mut Option<TypingFault>, well: bool, spot: Spot, why: Why)
     ensures { best.new ≡ least_from best.old (unless well spot why) }
 {
     if !well {

@@ -1,26 +1,26 @@
 //! The kinds of expressions.
 ghost use Rattle.std.specs.Prelude.{◌≡◌};
 ghost use Rattle.c_grammar.specs.View.{place_view, view};
-ghost use Rattle.c_check_expr.specs.Kinds.{cell_kind, compares, fits, is_same_kind, kind_faults, kind_of, place_kind, place_start, start_of, target_kind, whole_kind};
+ghost use Rattle.c_check_expr.specs.Kinds.{cell_kind, compares, fits, is_same_kind, kind_faults, kind_of, place_kind, place_first_token, first_token, target_kind, whole_kind};
 ghost use Rattle.c_check_expr.specs.Least.{least_from};
 
-use crate::fault::{Fault, note_unless};
+use crate::fault::{TypingFault, note_unless};
 use crate::scope::Scope;
-use crate::thing::{ExprKind, Meaning, Thing};
+use crate::meaning::{ExprKind, Meaning, Entity};
 use c_grammar::tree::{Expr, Place};
 use c_grammar::word::Spot;
 use c_lex::Why;
-use c_names::kind::Kind;
+use c_names::kind::VariableKind;
 use c_names::predefined::Predefined;
 
-pub fn is_same_kind(a: Kind, b: Kind) -> bool
+pub fn is_same_kind(a: VariableKind, b: VariableKind) -> bool
     ensures { result ≡ is_same_kind a b }
 {
     match (a, b) {
-        (Kind::Int, Kind::Int) => true,
-        (Kind::Status, Kind::Status) => true,
-        (Kind::Request, Kind::Request) => true,
-        (Kind::Communicator, Kind::Communicator) => true,
+        (VariableKind::Int, VariableKind::Int) => true,
+        (VariableKind::Status, VariableKind::Status) => true,
+        (VariableKind::Request, VariableKind::Request) => true,
+        (VariableKind::Communicator, VariableKind::Communicator) => true,
         _ => false,
     }
 }
@@ -30,13 +30,13 @@ pub fn whole_kind(meaning: Meaning) -> ExprKind
     ensures { result ≡ whole_kind meaning }
 {
     match meaning {
-        Meaning::Known(Predefined::Number(_)) => ExprKind::Of(Kind::Int),
-        Meaning::Known(Predefined::Communicator(_)) => ExprKind::Of(Kind::Communicator),
+        Meaning::Known(Predefined::Number(_)) => ExprKind::Of(VariableKind::Int),
+        Meaning::Known(Predefined::Communicator(_)) => ExprKind::Of(VariableKind::Communicator),
         Meaning::Known(Predefined::NullRequest) => ExprKind::NullRequest,
         Meaning::Known(_) => ExprKind::Other,
-        Meaning::Declared(Thing::Define(_)) => ExprKind::Of(Kind::Int),
-        Meaning::Declared(Thing::Variable(kind)) => ExprKind::Of(kind),
-        Meaning::Declared(Thing::ArgumentCount) => ExprKind::Of(Kind::Int),
+        Meaning::Declared(Entity::Define(_)) => ExprKind::Of(VariableKind::Int),
+        Meaning::Declared(Entity::Variable(kind)) => ExprKind::Of(kind),
+        Meaning::Declared(Entity::ArgumentCount) => ExprKind::Of(VariableKind::Int),
         Meaning::Declared(_) => ExprKind::Other,
         Meaning::LeftOut | Meaning::Unknown => ExprKind::Nothing,
     }
@@ -47,8 +47,8 @@ pub fn cell_kind(meaning: Meaning) -> ExprKind
     ensures { result ≡ cell_kind meaning }
 {
     match meaning {
-        Meaning::Declared(Thing::Array(kind, _)) => ExprKind::Of(kind),
-        Meaning::Declared(Thing::ArrayParameter) => ExprKind::Of(Kind::Int),
+        Meaning::Declared(Entity::Array(kind, _)) => ExprKind::Of(kind),
+        Meaning::Declared(Entity::ArrayParameter) => ExprKind::Of(VariableKind::Int),
         _ => ExprKind::Nothing,
     }
 }
@@ -58,8 +58,8 @@ pub fn target_kind(meaning: Meaning) -> ExprKind
     ensures { result ≡ target_kind meaning }
 {
     match meaning {
-        Meaning::Declared(Thing::Variable(kind)) => ExprKind::Of(kind),
-        Meaning::Declared(Thing::ArgumentCount) => ExprKind::Of(Kind::Int),
+        Meaning::Declared(Entity::Variable(kind)) => ExprKind::Of(kind),
+        Meaning::Declared(Entity::ArgumentCount) => ExprKind::Of(VariableKind::Int),
         Meaning::LeftOut | Meaning::Unknown => ExprKind::Nothing,
         _ => ExprKind::Other,
     }
@@ -81,18 +81,18 @@ pub fn kind_of(scope: &Scope, e: &Expr) -> ExprKind
 {
     match e {
         Expr::Read(place) => place_kind(scope, place),
-        Expr::Number(_) => ExprKind::Of(Kind::Int),
-        Expr::Field { .. } => ExprKind::Of(Kind::Int),
-        Expr::Paren { .. } => ExprKind::Of(Kind::Int),
-        Expr::Unary { .. } => ExprKind::Of(Kind::Int),
-        Expr::Chain { .. } => ExprKind::Of(Kind::Int),
-        Expr::Choice { .. } => ExprKind::Of(Kind::Int),
+        Expr::Number(_) => ExprKind::Of(VariableKind::Int),
+        Expr::Field { .. } => ExprKind::Of(VariableKind::Int),
+        Expr::Paren { .. } => ExprKind::Of(VariableKind::Int),
+        Expr::Unary { .. } => ExprKind::Of(VariableKind::Int),
+        Expr::Chain { .. } => ExprKind::Of(VariableKind::Int),
+        Expr::Choice { .. } => ExprKind::Of(VariableKind::Int),
     }
 }
 
 #[tactic(auto, using(c_grammar::proofs::Viewed::views))]
-pub fn place_start(place: &Place) -> Spot
-    ensures { result ≡ place_start (place_view place.now) }
+pub fn place_first_token(place: &Place) -> Spot
+    ensures { result ≡ place_first_token (place_view place.now) }
 {
     match place {
         Place::Whole(name) => *name,
@@ -101,17 +101,17 @@ pub fn place_start(place: &Place) -> Spot
 }
 
 #[tactic(auto, using(c_grammar::proofs::Viewed::views))]
-pub fn start_of(e: &Expr) -> Spot
-    ensures { result ≡ start_of (view e.now) }
+pub fn first_token(e: &Expr) -> Spot
+    ensures { result ≡ first_token (view e.now) }
 {
     match e {
         Expr::Number(at) => *at,
-        Expr::Read(place) => place_start(place),
-        Expr::Field { place, .. } => place_start(place),
+        Expr::Read(place) => place_first_token(place),
+        Expr::Field { place, .. } => place_first_token(place),
         Expr::Paren { opening, .. } => *opening,
         Expr::Unary { at, .. } => *at,
-        Expr::Chain { first, .. } => start_of(first),
-        Expr::Choice { test, .. } => start_of(test),
+        Expr::Chain { first, .. } => first_token(first),
+        Expr::Choice { test, .. } => first_token(test),
     }
 }
 
@@ -122,16 +122,16 @@ pub fn fits(wanted: ExprKind, given: ExprKind) -> bool
     match (wanted, given) {
         (ExprKind::Nothing, _) => true,
         (_, ExprKind::Nothing) => true,
-        (ExprKind::Of(Kind::Int), ExprKind::Of(Kind::Int)) => true,
-        (ExprKind::Of(Kind::Status), ExprKind::Of(Kind::Status)) => true,
-        (ExprKind::Of(Kind::Communicator), ExprKind::Of(Kind::Communicator)) => true,
-        (ExprKind::Of(Kind::Request), ExprKind::NullRequest) => true,
+        (ExprKind::Of(VariableKind::Int), ExprKind::Of(VariableKind::Int)) => true,
+        (ExprKind::Of(VariableKind::Status), ExprKind::Of(VariableKind::Status)) => true,
+        (ExprKind::Of(VariableKind::Communicator), ExprKind::Of(VariableKind::Communicator)) => true,
+        (ExprKind::Of(VariableKind::Request), ExprKind::NullRequest) => true,
         _ => false,
     }
 }
 
 /// Something else than what is wanted.
-pub fn want_kind(best: &mut Option<Fault>, wanted: ExprKind, given: ExprKind, at: Spot)
+pub fn want_kind(best: &mut Option<TypingFault>, wanted: ExprKind, given: ExprKind, at: Spot)
     ensures { best.new ≡ least_from best.old (kind_faults wanted given at) }
 {
     note_unless(best, fits(wanted, given), at, Why::WrongType);
@@ -142,13 +142,13 @@ pub fn compares(left: ExprKind, right: ExprKind) -> bool
     ensures { result ≡ compares left right }
 {
     match (left, right) {
-        (ExprKind::Of(Kind::Communicator), ExprKind::Of(Kind::Communicator)) => true,
-        (ExprKind::Of(Kind::Communicator), ExprKind::Nothing) => true,
-        (ExprKind::Nothing, ExprKind::Of(Kind::Communicator)) => true,
-        (ExprKind::Of(Kind::Request), ExprKind::NullRequest) => true,
-        (ExprKind::Of(Kind::Request), ExprKind::Nothing) => true,
-        (ExprKind::Nothing, ExprKind::Of(Kind::Request)) => true,
-        (ExprKind::NullRequest, ExprKind::Of(Kind::Request)) => true,
+        (ExprKind::Of(VariableKind::Communicator), ExprKind::Of(VariableKind::Communicator)) => true,
+        (ExprKind::Of(VariableKind::Communicator), ExprKind::Nothing) => true,
+        (ExprKind::Nothing, ExprKind::Of(VariableKind::Communicator)) => true,
+        (ExprKind::Of(VariableKind::Request), ExprKind::NullRequest) => true,
+        (ExprKind::Of(VariableKind::Request), ExprKind::Nothing) => true,
+        (ExprKind::Nothing, ExprKind::Of(VariableKind::Request)) => true,
+        (ExprKind::NullRequest, ExprKind::Of(VariableKind::Request)) => true,
         (ExprKind::NullRequest, ExprKind::NullRequest) => true,
         (ExprKind::NullRequest, ExprKind::Nothing) => true,
         (ExprKind::Nothing, ExprKind::NullRequest) => true,

@@ -5,6 +5,6 @@ pub mod constant;
 pub mod expression;
 pub mod fault;
 pub mod kind;
+pub mod meaning;
 pub mod row;
 pub mod scope;
-pub mod thing;

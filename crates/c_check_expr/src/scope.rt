@@ -6,10 +6,10 @@ ghost use Rattle.c_check_expr.specs.Least.{least_from};
 ghost use Rattle.c_check_expr.specs.Literals.{number_at};
 ghost use Rattle.c_check_expr.specs.Signatures.{function_entries, signature_of};
 ghost use Rattle.c_check_expr.specs.Variables.{is_variable, variable};
-ghost use Rattle.c_check_expr.specs.Scopes.{closed, cut, declare, declared_meaning, found, is_in_block, is_taken, meaning, meaning_of, name_faults, opened, twice_faults};
+ghost use Rattle.c_check_expr.specs.Scopes.{closed, token_bytes, declare, declared_meaning, found, is_in_block, is_taken, meaning, meaning_of, name_faults, opened, twice_faults};
 
-use crate::fault::{Fault, note_at, note_unless};
-use crate::thing::{Meaning, Thing};
+use crate::fault::{TypingFault, note_at, note_unless};
+use crate::meaning::{Meaning, Entity};
 use c_grammar::statement::Head;
 use c_grammar::word::Spot;
 use c_lex::{Why, literal_value};
@@ -18,8 +18,8 @@ use std::alloc::{AllocError, Global};
 use std::marker::Model;
 
 /// The bytes of a token.
-pub fn cut(text: &[u8], spot: Spot) -> &[u8]
-    ensures { result.now ≡ cut text.now spot }
+pub fn token_bytes(text: &[u8], spot: Spot) -> &[u8]
+    ensures { result.now ≡ token_bytes text.now spot }
 {
     let from = text.len().min(spot.start as usize);
     let rest = &text[from..];
@@ -37,14 +37,14 @@ pub fn is_same(name: &[u8], other: &[u8]) -> bool
 pub fn number_at(text: &[u8], spot: Spot) -> u32
     ensures { result ≡ number_at text.now spot }
 {
-    literal_value(cut(text, spot)).unwrap_or(0)
+    literal_value(token_bytes(text, spot)).unwrap_or(0)
 }
 
 /// The begin of a block, or a declaration.
 #[derive(Clone, Copy)]
 pub enum Placed<'a> {
     Opening,
-    Named { name: &'a [u8], thing: Thing },
+    Named { name: &'a [u8], entity: Entity },
 }
 
 /// The text, the heads of its functions, and what is declared, the outermost first. Contracts see an `Env`.
@@ -82,8 +82,8 @@ impl<'a> Scope<'a> {
         while number > 0 {
             number -= 1;
             placed.push(Placed::Named {
-                name: cut(text, heads[number].name),
-                thing: Thing::Function(number),
+                name: token_bytes(text, heads[number].name),
+                entity: Entity::Function(number),
             })?;
         }
         Ok(Scope {
@@ -106,11 +106,11 @@ impl<'a> Scope<'a> {
         self.heads.get(number).copied()
     }
 
-    pub fn declare(&mut self, name: Spot, thing: Thing) -> Result<(), AllocError>
-        ensures { OnOk result (self.new ≡ declare self.old name thing) }
+    pub fn declare(&mut self, name: Spot, entity: Entity) -> Result<(), AllocError>
+        ensures { OnOk result (self.new ≡ declare self.old name entity) }
     {
-        let name = cut(self.text, name);
-        self.placed.push(Placed::Named { name, thing })?;
+        let name = token_bytes(self.text, name);
+        self.placed.push(Placed::Named { name, entity })?;
         Ok(())
     }
 
@@ -135,14 +135,14 @@ impl<'a> Scope<'a> {
     }
 
     #[tactic(auto, using(crate::proofs::Entries::entries_more))]
-    fn find(&self, name: &[u8]) -> Option<Thing>
+    fn find(&self, name: &[u8]) -> Option<Entity>
         ensures { result ≡ found self.now.entries name.now }
     {
         let mut found = None;
         for placed in &self.placed {
-            if let Placed::Named { name: other, thing } = placed {
+            if let Placed::Named { name: other, entity } = placed {
                 if is_same(other, name) {
-                    found = Some(*thing);
+                    found = Some(*entity);
                 }
             }
         }
@@ -153,7 +153,7 @@ impl<'a> Scope<'a> {
     pub fn meaning(&self, spot: Spot) -> Meaning
         ensures { result ≡ meaning self.now spot }
     {
-        let name = cut(self.text, spot);
+        let name = token_bytes(self.text, spot);
         match meaning_of(name) {
             Some(known) => Meaning::Known(known),
             None => declared_meaning(name, self.find(name)),
@@ -165,15 +165,15 @@ impl<'a> Scope<'a> {
     pub fn variable(&self, spot: Spot) -> usize
         ensures { result ≡ variable self.now spot }
     {
-        let name = cut(self.text, spot);
+        let name = token_bytes(self.text, spot);
         let mut number = 0;
         let mut found = 0;
         for placed in &self.placed {
-            if let Placed::Named { name: other, thing } = placed {
+            if let Placed::Named { name: other, entity } = placed {
                 if is_same(other, name) {
                     found = number;
                 }
-                number += is_variable(*thing);
+                number += is_variable(*entity);
             }
         }
         found
@@ -194,21 +194,21 @@ impl<'a> Scope<'a> {
     }
 
     /// A name that may not be declared here.
-    pub fn want_free(&self, best: &mut Option<Fault>, spot: Spot)
+    pub fn want_free(&self, best: &mut Option<TypingFault>, spot: Spot)
         ensures { best.new ≡ least_from best.old (twice_faults self.now spot) }
     {
-        let name = cut(self.text, spot);
+        let name = token_bytes(self.text, spot);
         let taken = meaning_of(name).is_some() || self.is_in_block(name);
         note_unless(best, !taken, spot, Why::Twice);
     }
 }
 
 /// A name that is not predefined, and its declaration.
-fn declared_meaning(name: &[u8], found: Option<Thing>) -> Meaning
+fn declared_meaning(name: &[u8], found: Option<Entity>) -> Meaning
     ensures { result ≡ declared_meaning name.now found }
 {
     match found {
-        Some(thing) => Meaning::Declared(thing),
+        Some(entity) => Meaning::Declared(entity),
         None => {
             if name.starts_with(b"MPI_") {
                 Meaning::LeftOut
@@ -219,17 +219,17 @@ fn declared_meaning(name: &[u8], found: Option<Thing>) -> Meaning
     }
 }
 
-fn is_variable(thing: Thing) -> usize
-    ensures { result ≡ is_variable thing }
+fn is_variable(entity: Entity) -> usize
+    ensures { result ≡ is_variable entity }
 {
-    match thing {
-        Thing::Function(_) | Thing::Define(_) => 0,
+    match entity {
+        Entity::Function(_) | Entity::Define(_) => 0,
         _ => 1,
     }
 }
 
 /// A name without a meaning.
-pub fn want_meaning(best: &mut Option<Fault>, meaning: Meaning, spot: Spot)
+pub fn want_meaning(best: &mut Option<TypingFault>, meaning: Meaning, spot: Spot)
     ensures { best.new ≡ least_from best.old (name_faults meaning spot) }
 {
     match meaning {

@@ -4,7 +4,7 @@ use Rattle.mpi_call.specs.declared.call.Op.{Op}
 use Rattle.c_grammar.specs.Tree as t
 use Rattle.c_names.specs.declared.function.MpiFunction.{MpiFunction}
 use Rattle.c_names.specs.declared.predefined.Predefined.TheVariants as p
-use Rattle.c_check_call.specs.Calls.{word_of}
+use Rattle.c_check.specs.Calls.{predefined_of}
 use Rattle.c_check_expr.specs.Scopes.{Env}
 use Rattle.c_program.specs.Effects.{effect_of, status}
 use Rattle.c_program.specs.State.{State}
@@ -20,14 +20,14 @@ use Rattle.c_meaning.proofs.SameValues.{same_given, same_range}
 
 module _ (env : Env) where
   -- no status that is ignored is a reference
-  no_ignored : {given : t.Argument} {typed : Reference} → IsReference env given typed → word_of env given ≡ Some p.IgnoredStatus → ⊥
+  no_ignored : {given : t.Argument} {typed : Reference} → IsReference env given typed → predefined_of env given ≡ Some p.IgnoredStatus → ⊥
   no_ignored (r.null g) h = cc
   no_ignored r.address h = cc
   no_ignored (r.address_from g) h = cc
   no_ignored (r.array g) h = cc
   no_ignored (r.sum plus g) h = cc
 
-  no_ignored_all : {given : t.Argument} {typed : Reference} → IsReference env given typed → word_of env given ≡ Some p.IgnoredStatuses → ⊥
+  no_ignored_all : {given : t.Argument} {typed : Reference} → IsReference env given typed → predefined_of env given ≡ Some p.IgnoredStatuses → ⊥
   no_ignored_all (r.null g) h = cc
   no_ignored_all r.address h = cc
   no_ignored_all (r.address_from g) h = cc

@@ -2,7 +2,7 @@
 use Rattle.std.proofs.Common.{◌≡◌, ◌∙◌, ℕ, ℤ, pos, zero, suc, List, [], ◌∷◌, Some, refl, sym, ap, subst, slice_get}
 use Rattle.mpi_call.specs.declared.call.Fault.TheVariants.{Cells as CellsFault}
 use Rattle.c_grammar.specs.Tree as t
-use Rattle.c_check_expr.specs.Scopes.{Env, cut}
+use Rattle.c_check_expr.specs.Scopes.{Env, token_bytes}
 use Rattle.c_program.specs.Courses.{call_in, ended, shaped_after, state_in, trapped, variables_in}
 use Rattle.c_program.specs.Meaning as m
 use Rattle.c_program.specs.Meaning.{Calls, call_at, course_of}
@@ -27,7 +27,7 @@ same_parameter : {text : List ℕ} {one : t.Parameter} {a b : Parameter} → IsP
 same_parameter {text} {a = a} {b = b} one other =
     let g = one.named in let h = other.named in
     let spot : one.name ≡ other.name = cc in
-    let name : a.name ≡ b.name = one.name_is ∙ ap (cut text) spot ∙ sym other.name_is in
+    let name : a.name ≡ b.name = one.name_is ∙ ap (token_bytes text) spot ∙ sym other.name_is in
     let kind : a.kind ≡ b.kind = one.kind_is ∙ sym other.kind_is in
     λ i. record { name = name i; kind = kind i }
 

@@ -3,8 +3,8 @@ use Rattle.std.proofs.Common.{◌≡◌, ◌∙◌, ◌+◌, ℕ, ℤ, List, ◌
 use Rattle.mpi_call.specs.Operations.{is_set}
 use Rattle.mpi_call.specs.declared.call.Fault.TheVariants.{Cells as CellsFault}
 use Rattle.c_grammar.specs.Tree as t
-use Rattle.c_names.specs.declared.kind.Kind.{Kind}
-use Rattle.c_check_call.specs.Calls.{arguments_of}
+use Rattle.c_names.specs.declared.kind.VariableKind.{VariableKind}
+use Rattle.c_check.specs.Calls.{arguments_of}
 use Rattle.c_check_expr.specs.Scopes.{Env}
 use Rattle.c_program.specs.Courses.{trapped}
 use Rattle.c_program.specs.Meaning as m
@@ -102,7 +102,7 @@ module _ (rank : Rank) (calls : Calls) where
   same_initial (x.begun one) (x.begun other) cell s go = same_right one other s (λ v s. go (put cell v s))
   same_initial (x.braced one) (x.braced other) cell s go = same_exprs one other cell s go
 
-  same_item : {env : Env} {kind : Kind} {item : t.Item} {a b : Item} → IsItem env kind item a → IsItem env kind item b
+  same_item : {env : Env} {kind : VariableKind} {item : t.Item} {a b : Item} → IsItem env kind item a → IsItem env kind item b
       → (s : State) (go : Onward) → m.declare calls a s go ≡ m.declare calls b s go
   same_item {a = a} {b = b} one other s go =
       let name : a.name ≡ b.name = one.name ∙ sym other.name in
@@ -113,7 +113,7 @@ module _ (rank : Rank) (calls : Calls) where
       (m.with_slot (name i) (m.length_or_one (long i)) (width_of (kind i)) (m.repeated (m.length_or_one (long i)) (first_cells (kind i))) s) go i)
       (trapped CellsFault s)
 
-  same_items : {kind : Kind} {env : Env} {items : List t.Item} {xs ys : List Item} → AreItems kind env items xs → AreItems kind env items ys
+  same_items : {kind : VariableKind} {env : Env} {items : List t.Item} {xs ys : List Item} → AreItems kind env items xs → AreItems kind env items ys
       → (s : State) (go : Onward) → m.declare_all calls xs s go ≡ m.declare_all calls ys s go
   same_items x.no_item x.no_item s go = refl
   same_items (x.item one all) (x.item other both) s go = λ i. same_item one other s (λ s. same_items all both s go i) i

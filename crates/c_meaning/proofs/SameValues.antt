@@ -2,11 +2,11 @@
 use Rattle.std.proofs.Common.{◌≡◌, ◌∙◌, ◌+◌, ℤ, List, ◌∷◌, Ok, if◌then◌else◌, refl, sym, ap, subst, slice_get}
 use Rattle.mpi_call.specs.Operations.{is_set, int_of}
 use Rattle.c_grammar.specs.Tree as t
-use Rattle.c_names.specs.Operators.{signed}
+use Rattle.c_names.specs.Operators.{unary_applied}
 use Rattle.c_names.specs.declared.function.ArgumentKind.{ArgumentKind}
-use Rattle.c_check_call.specs.Calls.{arguments_of, signature_takes}
-use Rattle.c_check_expr.specs.Constants.{sign_of}
-use Rattle.c_check_expr.specs.Scopes.{Env, cut}
+use Rattle.c_check.specs.Calls.{arguments_of, signature_takes}
+use Rattle.c_check_expr.specs.Constants.{unary_of}
+use Rattle.c_check_expr.specs.Scopes.{Env, token_bytes}
 use Rattle.c_check_expr.specs.Variables.{variable}
 use Rattle.c_program.specs.Equations.{chained_list, value-chain}
 use Rattle.c_program.specs.Meaning.{passed, passed_all}
@@ -35,9 +35,9 @@ module _ (env : Env) where
     same_value (x.read g place) (x.value h) s = absurd (cc)
     same_value (x.read g one) (x.read h other) s = λ i. given (same_cell one other s i) (λ cell. Ok (cell_at s cell))
     same_value (x.field {name = name} one) (x.field other) s =
-        λ i. given (same_cell one other s i) (λ cell. Ok (cell_at s (cell + field_place (field_of (cut env.text name)))))
+        λ i. given (same_cell one other s i) (λ cell. Ok (cell_at s (cell + field_place (field_of (token_bytes env.text name)))))
     same_value (x.paren one) (x.paren other) s = same_value one other s
-    same_value (x.signed {sign = sign} one) (x.signed other) s = λ i. given (same_value one other s i) (λ v. Ok (signed (sign_of sign) v))
+    same_value (x.signed {sign = sign} one) (x.signed other) s = λ i. given (same_value one other s i) (λ v. Ok (unary_applied (unary_of sign) v))
     same_value (x.chain {typed = a} links one all) (x.chain {typed = b} others other both) s =
         value-chain a links s ∙ (λ i. given (same_value one other s i) (λ v. same_links all both v s i)) ∙ sym (value-chain b others s)
     same_value (x.choice test one two) (x.choice other_test other_one other_two) s =

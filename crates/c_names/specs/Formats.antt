@@ -6,8 +6,8 @@ use Rattle.c_names.specs.declared.format.Before.{Before}
 use Rattle.c_names.specs.declared.format.Before.TheVariants.{Pieces, Escape, Percent, Filled, Wide}
 use Rattle.c_names.specs.declared.format.Filling.{Filling}
 use Rattle.c_names.specs.declared.format.Filling.TheVariants.{Blanks, Left, Zeros}
-use Rattle.c_names.specs.declared.format.Piece.{Piece}
-use Rattle.c_names.specs.declared.format.Piece.TheVariants.{Byte, Int}
+use Rattle.c_names.specs.declared.format.FormatPiece.{FormatPiece}
+use Rattle.c_names.specs.declared.format.FormatPiece.TheVariants.{Byte, Int}
 use Rattle.c_names.specs.declared.format.Step.{Step}
 
 -- the byte that stands for itself behind a `\`, or for a tab, a newline or a return
@@ -23,7 +23,7 @@ escaped byte =
 abbrev pub on : Before → Option Step
 on before = Some (record { before = before; piece = None })
 
-abbrev pub end : Piece → Option Step
+abbrev pub end : FormatPiece → Option Step
 end piece = Some (record { before = Pieces; piece = Some piece })
 
 abbrev pub converts : Filling → ℕ → ℕ → Option Step
@@ -51,29 +51,29 @@ step_of (Wide filling width) byte =
     else converts filling width byte
 
 -- one piece more before the others
-abbrev pub with_piece : Option Piece → List Piece → List Piece
+abbrev pub with_piece : Option FormatPiece → List FormatPiece → List FormatPiece
 with_piece None pieces = pieces
 with_piece (Some piece) pieces = piece ∷ pieces
 
 -- what a byte adds to the pieces behind it
-abbrev pub goes_on : Option Step → (Before → Option (List Piece)) → Option (List Piece)
+abbrev pub goes_on : Option Step → (Before → Option (List FormatPiece)) → Option (List FormatPiece)
 goes_on None behind = None
 goes_on (Some step) behind = option_map (with_piece step.piece) (behind step.before)
 
 -- the pieces of a format, or nothing where it is none
-abbrev pub pieces_from : Before → List ℕ → Option (List Piece)
+abbrev pub pieces_from : Before → List ℕ → Option (List FormatPiece)
 pieces_from Pieces [] = Some []
 pieces_from before [] = None
 pieces_from before (byte ∷ bytes) = goes_on (step_of before byte) (λ before. pieces_from before bytes)
 
-abbrev pub pieces_of : List ℕ → Option (List Piece)
+abbrev pub pieces_of : List ℕ → Option (List FormatPiece)
 pieces_of bytes = pieces_from Pieces bytes
 
 -- how many ints it takes
-abbrev pub ints_of : Option Piece → ℕ
+abbrev pub ints_of : Option FormatPiece → ℕ
 ints_of (Some (Int filling width base)) = 1
 ints_of _ = 0
 
-abbrev pub ints_in : List Piece → ℕ
+abbrev pub ints_in : List FormatPiece → ℕ
 ints_in [] = 0
 ints_in (piece ∷ pieces) = ints_of (Some piece) + ints_in pieces

@@ -5,8 +5,8 @@ use Rattle.std.specs.Ordering.{int_eq}
 use Rattle.mpi_call.specs.Operations.{is_set, int_of}
 use Rattle.c_names.specs.declared.operator.Operator.{Operator}
 use Rattle.c_names.specs.declared.operator.Operator.TheVariants as o
-use Rattle.c_names.specs.declared.operator.Sign.{Sign}
-use Rattle.c_names.specs.declared.operator.Sign.TheVariants as s
+use Rattle.c_names.specs.declared.operator.UnaryOperator.{UnaryOperator}
+use Rattle.c_names.specs.declared.operator.UnaryOperator.TheVariants as s
 
 -- shifts are by the count's five lowest bits
 abbrev pub shift_count : ℤ → ℕ
@@ -37,8 +37,8 @@ applied o.Times a b = Some (int_wrapping_mul w32 a b)
 applied o.Divide a b = unless_zero b (int_wrapping_div w32 a b)
 applied o.Remainder a b = unless_zero b (int_rem a b)
 
-abbrev pub signed : Sign → ℤ → ℤ
-signed s.Minus a = int_wrapping_neg w32 a
-signed s.Plus a = a
-signed s.Not a = int_of (not (is_set a))
-signed s.Complement a = int_bit_not w32 a
+abbrev pub unary_applied : UnaryOperator → ℤ → ℤ
+unary_applied s.Minus a = int_wrapping_neg w32 a
+unary_applied s.Plus a = a
+unary_applied s.Not a = int_of (not (is_set a))
+unary_applied s.Complement a = int_bit_not w32 a

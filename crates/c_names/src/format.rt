@@ -23,7 +23,7 @@ pub enum Base {
 
 /// A piece of a format: a byte, or the place of the next int, `width` bytes at least.
 #[derive(Clone, Copy)]
-pub enum Piece {
+pub enum FormatPiece {
     Byte(u8),
     Int {
         filling: Filling,
@@ -51,7 +51,7 @@ pub enum Before {
 #[derive(Clone, Copy)]
 pub struct Step {
     pub before: Before,
-    pub piece: Option<Piece>,
+    pub piece: Option<FormatPiece>,
 }
 
 /// No piece ends at this byte.
@@ -64,7 +64,7 @@ fn on(before: Before) -> Option<Step>
     })
 }
 
-fn end(piece: Piece) -> Option<Step>
+fn end(piece: FormatPiece) -> Option<Step>
     ensures { result ≡ end piece }
 {
     Some(Step {
@@ -89,12 +89,12 @@ fn converts(filling: Filling, width: u8, byte: u8) -> Option<Step>
     ensures { result ≡ converts filling width byte }
 {
     match byte {
-        b'd' | b'i' => end(Piece::Int {
+        b'd' | b'i' => end(FormatPiece::Int {
             filling,
             width,
             base: Base::Decimal,
         }),
-        b'x' => end(Piece::Int {
+        b'x' => end(FormatPiece::Int {
             filling,
             width,
             base: Base::Hexadecimal,
@@ -121,11 +121,11 @@ fn next_step(before: Before, byte: u8) -> Option<Step>
         Before::Pieces => match byte {
             b'\\' => on(Before::Escape),
             b'%' => on(Before::Percent),
-            _ => end(Piece::Byte(byte)),
+            _ => end(FormatPiece::Byte(byte)),
         },
-        Before::Escape => end(Piece::Byte(escaped(byte)?)),
+        Before::Escape => end(FormatPiece::Byte(escaped(byte)?)),
         Before::Percent => match byte {
-            b'%' => end(Piece::Byte(b'%')),
+            b'%' => end(FormatPiece::Byte(b'%')),
             b'-' => on(Before::Filled(Filling::Left)),
             b'0' => on(Before::Filled(Filling::Zeros)),
             _ => begins_width(Filling::Blanks, byte),
@@ -141,11 +141,11 @@ fn next_step(before: Before, byte: u8) -> Option<Step>
     }
 }
 
-fn ints(piece: Option<Piece>) -> usize
+fn ints(piece: Option<FormatPiece>) -> usize
     ensures { result ≡ ints_of piece }
 {
     match piece {
-        Some(Piece::Int { .. }) => 1,
+        Some(FormatPiece::Int { .. }) => 1,
         _ => 0,
     }
 }
@@ -170,7 +170,7 @@ pub fn count_ints(format: &[u8]) -> Option<usize>
     }
 }
 
-fn push(found: &mut Vec<Piece>, piece: Option<Piece>) -> Result<(), AllocError>
+fn push(found: &mut Vec<FormatPiece>, piece: Option<FormatPiece>) -> Result<(), AllocError>
     ensures { OnOk result (found.new.items ≡ found.old.items ++ option_to_list piece) }
 {
     if let Some(piece) = piece {
@@ -181,7 +181,7 @@ fn push(found: &mut Vec<Piece>, piece: Option<Piece>) -> Result<(), AllocError>
 
 /// The pieces of a format, or `None` where it is none.
 #[tactic(auto, using(crate::proofs::FormatLaws::appended))]
-pub fn pieces(alloc: Global, format: &[u8]) -> Result<Option<Vec<Piece>>, AllocError>
+pub fn pieces(alloc: Global, format: &[u8]) -> Result<Option<Vec<FormatPiece>>, AllocError>
     ensures { IfOk result (λ found. option_map (λ pieces. pieces.items) found ≡ pieces_of format.now) }
 {
     let mut found = Vec::new(alloc);

@@ -2,7 +2,7 @@
 
 /// What a variable holds.
 #[derive(Clone, Copy)]
-pub enum Kind {
+pub enum VariableKind {
     Int,
     Status,
     Request,

@@ -1,6 +1,6 @@
 //! Operators on ints of 32 bits.
 ghost use Rattle.std.specs.Prelude.{◌≡◌};
-ghost use Rattle.c_names.specs.Operators.{applied, signed};
+ghost use Rattle.c_names.specs.Operators.{applied, unary_applied};
 ghost use Rattle.mpi_call.specs.Operations.{int_of};
 
 /// An operator between two operands.
@@ -28,7 +28,7 @@ pub enum Operator {
 
 /// An operator before one operand.
 #[derive(Clone, Copy)]
-pub enum Sign {
+pub enum UnaryOperator {
     Minus,
     Plus,
     Not,
@@ -79,13 +79,13 @@ pub fn apply(operator: Operator, left: i32, right: i32) -> Option<i32>
 }
 
 /// Takes no memory.
-pub fn apply_sign(sign: Sign, value: i32) -> i32
-    ensures { result ≡ signed sign value }
+pub fn apply_unary(sign: UnaryOperator, value: i32) -> i32
+    ensures { result ≡ unary_applied sign value }
 {
     match sign {
-        Sign::Minus => value.wrapping_neg(),
-        Sign::Plus => value,
-        Sign::Not => truth(value == 0),
-        Sign::Complement => !value,
+        UnaryOperator::Minus => value.wrapping_neg(),
+        UnaryOperator::Plus => value,
+        UnaryOperator::Not => truth(value == 0),
+        UnaryOperator::Complement => !value,
     }
 }

@@ -7,8 +7,8 @@ use Rattle.c_names.specs.declared.format.Base.{Base}
 use Rattle.c_names.specs.declared.format.Base.TheVariants.{Decimal, Hexadecimal}
 use Rattle.c_names.specs.declared.format.Filling.{Filling}
 use Rattle.c_names.specs.declared.format.Filling.TheVariants.{Blanks, Left, Zeros}
-use Rattle.c_names.specs.declared.format.Piece.{Piece}
-use Rattle.c_names.specs.declared.format.Piece.TheVariants.{Byte, Int}
+use Rattle.c_names.specs.declared.format.FormatPiece.{FormatPiece}
+use Rattle.c_names.specs.declared.format.FormatPiece.TheVariants.{Byte, Int}
 
 -- `0` to `9`, `a` to `f`
 abbrev pub digit_text : ℕ → ℕ
@@ -38,7 +38,7 @@ int_text filling width base v =
     filled filling (width - length (sign_text base v ++ size_text base v)) (sign_text base v) (size_text base v)
 
 -- a format and its ints
-abbrev pub text_of : List Piece → List ℤ → List ℕ
+abbrev pub text_of : List FormatPiece → List ℤ → List ℕ
 text_of [] vs = []
 text_of (Byte byte ∷ pieces) vs = byte ∷ text_of pieces vs
 text_of (Int filling width base ∷ pieces) [] = text_of pieces []

@@ -5,8 +5,8 @@ use Rattle.c_program.specs.Cells.{Cells}
 use Rattle.c_program.specs.declared.state.Begun.{Begun}
 use Rattle.c_program.specs.declared.state.Known.{Known}
 use Rattle.c_program.specs.declared.state.StackMark.{StackMark}
-use Rattle.c_names.specs.declared.kind.Kind.{Kind}
-use Rattle.c_names.specs.declared.kind.Kind.TheVariants.{Int, Status, Request, Communicator}
+use Rattle.c_names.specs.declared.kind.VariableKind.{VariableKind}
+use Rattle.c_names.specs.declared.kind.VariableKind.TheVariants.{Int, Status, Request, Communicator}
 
 -- ---- cells
 
@@ -25,13 +25,13 @@ abbrev pub null : ℤ
 null = negsuc 0
 
 -- how a variable's cells begin; a status has source, tag and count
-abbrev pub first_cells : Kind → List ℤ
+abbrev pub first_cells : VariableKind → List ℤ
 first_cells Int = pos 0 ∷ []
 first_cells Status = any_source ∷ (null ∷ (pos 0 ∷ []))
 first_cells Request = null ∷ []
 first_cells Communicator = null ∷ []
 
-abbrev pub width_of : Kind → ℕ
+abbrev pub width_of : VariableKind → ℕ
 width_of Status = 3
 width_of kind = 1
 

@@ -4,8 +4,8 @@ use Rattle.std.proofs.lemmas.Bool.{leb-true}
 use Rattle.std.proofs.lemmas.List.Elements.{All-append, All-cons, All-head, All-nil, All-tail, All-take}
 use Rattle.mpi_call.specs.declared.call.Fault.{Fault}
 use Rattle.mpi_call.specs.declared.call.Fault.TheVariants.{Budget, OutputFull, Depth, Cells as CellsFault}
-use Rattle.c_names.specs.declared.kind.Kind.{Kind}
-use Rattle.c_names.specs.declared.kind.Kind.TheVariants.{Int, Status, Request, Communicator}
+use Rattle.c_names.specs.declared.kind.VariableKind.{VariableKind}
+use Rattle.c_names.specs.declared.kind.VariableKind.TheVariants.{Int, Status, Request, Communicator}
 use Rattle.run_model.specs.Program.{IsRankOf}
 use Rattle.run_model.specs.Views.{View}
 use Rattle.run_model.proofs.Orders.{in_order_first}
@@ -194,7 +194,7 @@ module _ (n me : ℕ) where
 
   -- ---- declared variables have room
 
-  kind_has_cells : (kind : Kind) → 0 < length (first_cells kind)
+  kind_has_cells : (kind : VariableKind) → 0 < length (first_cells kind)
   kind_has_cells Int = omega arith
   kind_has_cells Status = omega arith
   kind_has_cells Request = omega arith

@@ -3,7 +3,7 @@ use Rattle.std.specs.Prelude.{◌+◌, ◌*◌, ◌-◌, ℕ, ℤ, pos, negsuc, 
 use Rattle.mpi_call.specs.Operations.{is_set, int_of}
 use Rattle.mpi_call.specs.declared.call.Fault.{Fault}
 use Rattle.mpi_call.specs.declared.call.Fault.TheVariants.{DivideByZero, OutOfBounds}
-use Rattle.c_names.specs.Operators.{applied, signed}
+use Rattle.c_names.specs.Operators.{applied, unary_applied}
 use Rattle.c_names.specs.declared.operator.Operator.{Operator}
 use Rattle.c_names.specs.declared.operator.Operator.TheVariants.{LogicalAnd, LogicalOr}
 use Rattle.c_program.specs.declared.expr.Expr.{Expr, Number, Read, Field as ReadField, Signed', Chain', Choice', Row_of-Link, end_of-Link, more_of-Link}
@@ -64,7 +64,7 @@ abbrev mutual
   value (Number n) s = Ok n
   value (Read place) s = given (cell_of place s) (λ cell. Ok (cell_at s cell))
   value (ReadField status field) s = given (cell_of status s) (λ cell. Ok (cell_at s (cell + field_place field)))
-  value (Signed' sign p operand) s = given (value operand s) (λ v. Ok (signed sign v))
+  value (Signed' sign p operand) s = given (value operand s) (λ v. Ok (unary_applied sign v))
   value (Chain' p first shape links) s = given (value first s) (λ v. chained links v s)
   value (Choice' p test q taken r spared) s = given (value test s) (λ v. if is_set v then value taken s else value spared s)
 

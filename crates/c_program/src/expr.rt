@@ -1,6 +1,6 @@
 //! Typed expressions, places and references.
 
-use c_names::operator::{Operator, Sign};
+use c_names::operator::{Operator, UnaryOperator};
 
 /// An expression. Handles are numbers: a request is that of its start, a communicator its own, and -1 is none.
 #[cycle(typed)]
@@ -14,7 +14,7 @@ pub enum Expr {
         field: Field,
     },
     Signed {
-        sign: Sign,
+        sign: UnaryOperator,
         operand: Box<Expr>,
     },
     /// Operators of one level, from the left on. `&&` and `||` evaluate only what they need.

@@ -2,8 +2,8 @@
 
 use crate::expr::{Expr, FunctionCall, Place, Right};
 use crate::mpi::MpiCall;
-use c_names::format::Piece;
-use c_names::kind::Kind;
+use c_names::format::FormatPiece;
+use c_names::kind::VariableKind;
 use c_names::operator::Operator;
 use wiz_base::Bytes;
 
@@ -24,7 +24,7 @@ pub enum Simple {
     Call(FunctionCall),
     Mpi(Box<MpiCall>),
     Print {
-        format: Vec<Piece>,
+        format: Vec<FormatPiece>,
         arguments: Vec<Expr>,
     },
     /// `fflush(stdout)`, which does nothing.
@@ -43,7 +43,7 @@ pub enum Initial {
 #[derive(Drop)]
 pub struct Item {
     pub name: Bytes,
-    pub kind: Kind,
+    pub kind: VariableKind,
     pub length: Option<u32>,
     pub initial: Initial,
 }

@@ -4,8 +4,8 @@ use Rattle.std.proofs.lemmas.List.{append-nil, length-map, take-map}
 use Rattle.std.specs.Prelude.{ℤ}
 use Rattle.run_model.proofs.CommunicatorLaws.{world-last}
 use Rattle.run_model.specs.Lists.{world}
-use Rattle.c_names.specs.declared.kind.Kind.{Kind}
-use Rattle.c_names.specs.declared.kind.Kind.TheVariants.{Int, Status, Request, Communicator}
+use Rattle.c_names.specs.declared.kind.VariableKind.{VariableKind}
+use Rattle.c_names.specs.declared.kind.VariableKind.TheVariants.{Int, Status, Request, Communicator}
 use Rattle.c_program.specs.Meaning.{repeated}
 use Rattle.c_program.specs.State.{State, cell_at, first_cells, values_from, width_of}
 
@@ -41,7 +41,7 @@ repeated_grows (suc n) (suc m) xs h =
 pub repeated_bound : (xs ys first : List ℤ) (n m : ℕ) → n ≤ m → ys ≡ xs ++ repeated n first → length ys ≤ length xs + length (repeated m first)
 repeated_bound xs ys first n m h e = rw e (omega (arith, length-append xs (repeated n first), repeated_grows n m first h))
 
-length-first : (kind : Kind) → length (first_cells kind) ≡ width_of kind
+length-first : (kind : VariableKind) → length (first_cells kind) ≡ width_of kind
 length-first Int = refl
 length-first Status = refl
 length-first Request = refl
@@ -52,7 +52,7 @@ length-repeated zero xs = omega arith
 length-repeated (suc n) xs = omega (arith, length-append xs (repeated n xs), length-repeated n xs)
 
 -- how many cells a variable has
-pub cells_counted : (n : ℕ) (kind : Kind) → length (repeated n (first_cells kind)) ≡ n * width_of kind
+pub cells_counted : (n : ℕ) (kind : VariableKind) → length (repeated n (first_cells kind)) ≡ n * width_of kind
 cells_counted n kind = length-repeated n (first_cells kind) ∙ ap (λ k. n * k) (length-first kind)
 
 pub ruleset slots = (take-map, length-map)

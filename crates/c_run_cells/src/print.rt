@@ -1,14 +1,14 @@
 //! What `printf` prints.
 ghost use Rattle.std.specs.Prelude.{◌≡◌, ◌++◌, ◌∷◌, ◌<◌, [], IfOk, List, OnOk, replicate};
-ghost use Rattle.c_names.specs.declared.format.Piece.{Piece};
+ghost use Rattle.c_names.specs.declared.format.FormatPiece.{FormatPiece};
 ghost use Rattle.c_program.specs.Prints.{digit_text, filled, hexadecimal_text, int_text, sign_text, size_text, text_of};
 
-use c_names::format::{Base, Filling, Piece};
+use c_names::format::{Base, Filling, FormatPiece};
 use std::alloc::{AllocError, Global};
 use wiz_base::{Bytes, push_decimal};
 
 /// The text of a format with its ints.
-pub fn text_of(alloc: Global, format: &[Piece], ints: &[i32]) -> Result<Vec<u8>, AllocError>
+pub fn text_of(alloc: Global, format: &[FormatPiece], ints: &[i32]) -> Result<Vec<u8>, AllocError>
     ensures { IfOk result (λ text. text.items ≡ text_of format.now ints.now) }
 {
     let mut text = Bytes::new(alloc);
@@ -25,17 +25,17 @@ pub fn text_of(alloc: Global, format: &[Piece], ints: &[i32]) -> Result<Vec<u8>,
 fn push_piece<'a>(
     alloc: Global,
     out: &mut Bytes,
-    piece: Piece,
+    piece: FormatPiece,
     ints: &'a [i32],
 ) -> Result<&'a [i32], AllocError>
-    ensures { IfOk result (λ rest. (pieces : List Piece) → out.new ++ text_of pieces rest.now ≡ out.old ++ text_of (piece ∷ pieces) ints.now) }
+    ensures { IfOk result (λ rest. (pieces : List FormatPiece) → out.new ++ text_of pieces rest.now ≡ out.old ++ text_of (piece ∷ pieces) ints.now) }
 {
     match piece {
-        Piece::Byte(byte) => {
+        FormatPiece::Byte(byte) => {
             push_byte(out, byte)?;
             Ok(ints)
         }
-        Piece::Int {
+        FormatPiece::Int {
             filling,
             width,
             base,

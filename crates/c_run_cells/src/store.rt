@@ -11,7 +11,7 @@ ghost use Rattle.c_run_cells.specs.SlotView.{slot_view};
 ghost use Rattle.c_run_cells.specs.Slots.{with_cells};
 ghost use Rattle.c_run_cells.specs.Steps.{HasStepped};
 
-use c_names::kind::Kind;
+use c_names::kind::VariableKind;
 use c_program::effect::Rank;
 use c_program::program::{Parameter, ParameterKind};
 use c_program::range::Range;
@@ -182,7 +182,7 @@ impl<'p> Store<'p> {
 
     /// A variable more, of some elements, with cells of its own.
     #[tactic(auto, using(crate::proofs::StoreLaws::cells_counted))]
-    pub fn declare(&mut self, name: &'p Bytes, kind: Kind, elements: u32) -> Result<(), AllocError>
+    pub fn declare(&mut self, name: &'p Bytes, kind: VariableKind, elements: u32) -> Result<(), AllocError>
         requires { has_room (length (repeated elements (first_cells kind))) self.old ≡ true }
         ensures { OnOk result (self.new ≡ with_slot name.now elements (width_of kind) (repeated elements (first_cells kind)) self.old) }
     {
@@ -398,28 +398,28 @@ fn all_ranks(alloc: Global) -> Result<Vec<u8>, AllocError>
     Ok(all)
 }
 
-pub fn width_of(kind: Kind) -> u32
+pub fn width_of(kind: VariableKind) -> u32
     ensures { result ≡ width_of kind }
 {
     match kind {
-        Kind::Status => 3,
+        VariableKind::Status => 3,
         _ => 1,
     }
 }
 
-fn push_first(cells: &mut Vec<i32>, kind: Kind) -> Result<(), AllocError>
+fn push_first(cells: &mut Vec<i32>, kind: VariableKind) -> Result<(), AllocError>
     ensures ok { OnOk result (cells.new.items ≡ cells.old.items ++ first_cells kind) }
     ensures err { OnErr result (cells.new.items ≡ cells.old.items) }
 {
     match kind {
-        Kind::Int => cells.extend_from_slice(&[0]),
-        Kind::Status => cells.extend_from_slice(&[-2, -1, 0]),
-        Kind::Request | Kind::Communicator => cells.extend_from_slice(&[-1]),
+        VariableKind::Int => cells.extend_from_slice(&[0]),
+        VariableKind::Status => cells.extend_from_slice(&[-2, -1, 0]),
+        VariableKind::Request | VariableKind::Communicator => cells.extend_from_slice(&[-1]),
     }
 }
 
 /// Pushes the first cells of some elements.
-fn push_firsts(cells: &mut Vec<i32>, kind: Kind, elements: u32) -> Result<(), AllocError>
+fn push_firsts(cells: &mut Vec<i32>, kind: VariableKind, elements: u32) -> Result<(), AllocError>
     ensures ok { OnOk result (cells.new.items ≡ cells.old.items ++ repeated elements (first_cells kind)) }
     ensures bound { length cells.new.items ≤ length cells.old.items + length (repeated elements (first_cells kind)) }
 {

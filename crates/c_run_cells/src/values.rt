@@ -6,7 +6,7 @@ ghost use Rattle.c_program.specs.Meaning.{passed, test};
 ghost use Rattle.c_program.specs.Values.{cell_of, field_place, is_decided, operated, range, value};
 
 use crate::store::Store;
-use c_names::operator::{Operator, apply, apply_sign};
+use c_names::operator::{Operator, apply, apply_unary};
 use c_program::expr::{Argument, Expr, Field, Link, Place, Reference};
 use c_program::range::Range;
 use c_program::state::Passed;
@@ -30,7 +30,7 @@ impl<'p> Store<'p> {
             }
             Expr::Signed { sign, operand } => {
                 let v = self.value(operand)?;
-                Ok(apply_sign(*sign, v))
+                Ok(apply_unary(*sign, v))
             }
             Expr::Chain { first, links } => {
                 let v = self.value(first)?;

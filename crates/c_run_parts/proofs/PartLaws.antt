@@ -1,7 +1,7 @@
 -- What parts come to.
 use Rattle.std.proofs.Common.{◌≡◌, ℕ, ℤ, zero, suc, ◌+◌, ◌-◌, ◌<◌, ◌≤◌, ◌++◌, true, false, List, [], ◌∷◌, Option, Some, None, refl, sym, ◌∙◌, ap, arith, length, nat_le, slice_get}
 use Rattle.mpi_call.specs.declared.call.Fault.TheVariants.{OutputFull}
-use Rattle.c_names.specs.declared.format.Piece.{Piece}
+use Rattle.c_names.specs.declared.format.FormatPiece.{FormatPiece}
 use Rattle.c_program.specs.declared.effect.Rank.{Rank}
 use Rattle.c_program.specs.declared.program.Function.{Function}
 use Rattle.c_program.specs.declared.program.Parameter.{Parameter}
@@ -24,11 +24,11 @@ le-false a b h = grind arith
 
 -- ---- printing
 
-pub prints : (format : List Piece) (vs : List ℤ) (text : List ℕ) (s t : State) (k : Onward) → text ≡ text_of format vs → length s.printed + length text ≤ 65536
+pub prints : (format : List FormatPiece) (vs : List ℤ) (text : List ℕ) (s t : State) (k : Onward) → text ≡ text_of format vs → length s.printed + length text ≤ 65536
     → t ≡ record s { printed = s.printed ++ text } → print_of (text_of format vs) s k ≡ k t
 prints format vs text s t k e le is = rw (← e, le-true (length s.printed + length text) 65536 le) (ap k (sym is))
 
-pub prints-full : (format : List Piece) (vs : List ℤ) (text : List ℕ) (s : State) (k : Onward) → text ≡ text_of format vs → 65536 < length s.printed + length text
+pub prints-full : (format : List FormatPiece) (vs : List ℤ) (text : List ℕ) (s : State) (k : Onward) → text ≡ text_of format vs → 65536 < length s.printed + length text
     → print_of (text_of format vs) s k ≡ trapped OutputFull s
 prints-full format vs text s k e gt = rw (← e, le-false (length s.printed + length text) 65536 gt) refl
 

@@ -12,7 +12,7 @@ use crate::fail::Fail;
 use c_run_cells::print::text_of;
 use c_run_cells::store::{Store, width_of};
 use c_run_cells::values::operated;
-use c_names::format::Piece;
+use c_names::format::FormatPiece;
 use c_names::operator::Operator;
 use c_program::expr::{Argument, Expr};
 use c_program::program::{Function, Parameter, ParameterKind};
@@ -37,7 +37,7 @@ pub fn take_step(store: &mut Store) -> Result<(), Fail>
 /// Prints a format with the values of its arguments. At most 65,536 bytes are printed.
 pub fn print(
     alloc: Global,
-    format: &[Piece],
+    format: &[FormatPiece],
     arguments: &[Expr],
     store: &mut Store,
 ) -> Result<(), Fail>

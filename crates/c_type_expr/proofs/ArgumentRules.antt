@@ -6,11 +6,11 @@ use Rattle.c_grammar.specs.Tree as t
 use Rattle.c_names.specs.declared.function.ArgumentKind.{ArgumentKind}
 use Rattle.c_program.specs.declared.expr.Argument.{Argument}
 use Rattle.c_check_expr.proofs.Lists.{drop_got, drop_past}
-use Rattle.c_check_call.specs.Calls.{argument_faults, arguments_faults, arguments_of, call_faults, signature_takes}
+use Rattle.c_check.specs.Calls.{argument_faults, arguments_faults, arguments_of, call_faults, signature_takes}
 use Rattle.c_check_expr.specs.Scopes.{Env, Signature, meaning}
 use Rattle.c_check_expr.specs.Signatures.{parameter_takes}
-use Rattle.c_check_expr.specs.declared.thing.Meaning.TheVariants as m
-use Rattle.c_check_expr.specs.declared.thing.Thing.TheVariants as d
+use Rattle.c_check_expr.specs.declared.meaning.Meaning.TheVariants as m
+use Rattle.c_check_expr.specs.declared.meaning.Entity.TheVariants as d
 use Rattle.c_type_expr.specs.Calls as y
 use Rattle.c_type_expr.specs.Calls.{AreArguments, IsArgument}
 use Rattle.c_type_expr.proofs.Faultless.{none_before, none_behind, text_fits}

@@ -18,7 +18,7 @@ use Rattle.c_names.specs.declared.predefined.Predefined.{Predefined}
 use Rattle.c_names.specs.declared.predefined.Predefined.TheVariants as p
 use Rattle.c_program.specs.declared.expr.Expr.{Expr}
 use Rattle.c_program.specs.declared.expr.Reference.TheVariants as r
-use Rattle.c_check_call.specs.Calls.{array_sum, is_plus, name_alone, sum_base, word_of}
+use Rattle.c_check.specs.Calls.{array_sum, is_plus, name_alone, sum_base, predefined_of}
 use Rattle.c_check_expr.specs.Scopes.{Env}
 use Rattle.c_check_expr.specs.Variables.{variable}
 use Rattle.c_type_expr.specs.Calls as y
@@ -46,10 +46,10 @@ name_tells (t.unary sign at operand) name h = cc
 name_tells (t.chain level first links) name h = cc
 name_tells (t.choice test question taken colon spared) name h = cc
 
-pub array_rule : (env : Env) (e : t.Expr) (name : Spot) (number : ℕ) → Some name ≡ name_alone e → number ≡ variable env name → word_of env (t.value e) ≡ None
+pub array_rule : (env : Env) (e : t.Expr) (name : Spot) (number : ℕ) → Some name ≡ name_alone e → number ≡ variable env name → predefined_of env (t.value e) ≡ None
     → IsReference env (t.value e) (r.Whole number)
 array_rule env e name number h n w =
-    let P : t.Expr → Type 0 = λ one. word_of env (t.value one) ≡ None → IsReference env (t.value one) (r.Whole number) in
+    let P : t.Expr → Type 0 = λ one. predefined_of env (t.value one) ≡ None → IsReference env (t.value one) (r.Whole number) in
     let is : t.read (t.whole name) ≡ e = sym (name_tells e name (sym h)) in
     subst P is (λ word. rw n (y.array word)) w
 
@@ -68,11 +68,11 @@ null_by (Some (p.Mpi function)) argument h k = cc
 null_by (Some p.Printf) argument h k = cc
 null_by (Some p.Fflush) argument h k = cc
 
-pub null_rule : (env : Env) (argument : t.Argument) (word : Option Predefined) → word ≡ word_of env argument → is_reference env argument ≡ true
+pub null_rule : (env : Env) (argument : t.Argument) (word : Option Predefined) → word ≡ predefined_of env argument → is_reference env argument ≡ true
     → is_some word ≡ true → IsReference env argument r.Nothing
 null_rule env argument word e h k =
     let P : Option Predefined → Type 0 = λ one. is_some one ≡ true in
-    y.null (null_by (word_of env argument) argument h (subst P e k))
+    y.null (null_by (predefined_of env argument) argument h (subst P e k))
 
 pub value_rule : (env : Env) (argument : Argument) (e : source.Expr) (typed : Expr) → argument ≡ ta.Value e → IsExpr env (view e) typed
     → IsValue env (argument_view argument) typed

@@ -11,16 +11,16 @@ use Rattle.c_grammar.specs.declared.tree.Expr.TheVariants as te
 use Rattle.c_grammar.specs.declared.tree.Place.TheVariants as tp
 use Rattle.c_grammar.specs.View.{links_from, piece, place_view, view}
 use Rattle.c_grammar.proofs.Viewed.{view-number, view-read, view-field, view-paren, view-unary, view-chain, view-choice, view-whole, view-cell}
-use Rattle.c_check_expr.specs.Constants.{operator_of, sign_of}
+use Rattle.c_check_expr.specs.Constants.{operator_of, unary_of}
 use Rattle.c_check_expr.specs.Literals.{number_at}
-use Rattle.c_check_expr.specs.Scopes.{Env, cut}
+use Rattle.c_check_expr.specs.Scopes.{Env, token_bytes}
 use Rattle.c_check_expr.specs.Variables.{variable}
 use Rattle.c_type_expr.specs.Exprs as x
 use Rattle.c_type_expr.specs.Exprs.{IsExpr, IsPlace, AreLinks, field_of, value_of_place}
 use Rattle.c_grammar.specs.declared.tree.Expr as source
 use Rattle.c_grammar.specs.declared.tree.Place as source_place
 use Rattle.c_grammar.specs.declared.tree.Link as source_link
-use Rattle.c_names.specs.declared.operator.Sign.{Sign}
+use Rattle.c_names.specs.declared.operator.UnaryOperator.{UnaryOperator}
 use Rattle.c_program.specs.declared.expr.Expr.{Expr}
 use Rattle.c_program.specs.declared.expr.Expr.TheVariants as v
 use Rattle.c_program.specs.declared.expr.Field.{Field}
@@ -40,15 +40,15 @@ pub read_rule : (env : Env) (e : source.Expr) (place : source_place.Place) (type
 read_rule env e place typed s h p = rw (s, view-read) (x.read (sym h) p)
 
 pub field_rule : (env : Env) (e : source.Expr) (place : source_place.Place) (dot name : Spot) (typed : Place) (field : Field) → e ≡ te.Field place dot name
-    → field ≡ field_of (cut env.text name) → IsPlace env (place_view place) typed → IsExpr env (view e) (v.Field typed field)
+    → field ≡ field_of (token_bytes env.text name) → IsPlace env (place_view place) typed → IsExpr env (view e) (v.Field typed field)
 field_rule env e place dot name typed field s f p = rw (s, view-field, f) (x.field p)
 
 pub paren_rule : (env : Env) (e : source.Expr) (opening : Spot) (inner : Box source.Expr Global) (closing : Spot) (typed : Expr)
     → e ≡ te.Paren opening inner closing → IsExpr env (view inner.value) typed → IsExpr env (view e) typed
 paren_rule env e opening inner closing typed s h = rw (s, view-paren) (x.paren h)
 
-pub signed_rule : (env : Env) (e : source.Expr) (sign : Word) (at : Spot) (operand : Box source.Expr Global) (meant : Sign) (typed : Box Expr Global)
-    → e ≡ te.Unary sign at operand → meant ≡ sign_of sign → IsExpr env (view operand.value) typed.value → IsExpr env (view e) (v.Signed meant typed)
+pub signed_rule : (env : Env) (e : source.Expr) (sign : Word) (at : Spot) (operand : Box source.Expr Global) (meant : UnaryOperator) (typed : Box Expr Global)
+    → e ≡ te.Unary sign at operand → meant ≡ unary_of sign → IsExpr env (view operand.value) typed.value → IsExpr env (view e) (v.Signed meant typed)
 signed_rule env e sign at operand meant typed s m h = rw (s, view-unary, m) (x.signed h)
 
 pub chain_rule : (env : Env) (e : source.Expr) (level : ℕ) (first : Box source.Expr Global) (links : Vec source_link.Link Global) (typed : Box Expr Global) (others : Vec Link Global)

@@ -13,19 +13,19 @@ use Rattle.c_names.specs.declared.function.MpiFunction.{MpiFunction}
 use Rattle.c_names.specs.declared.function.MpiFunction.TheVariants as f
 use Rattle.c_names.specs.declared.predefined.Predefined.{Predefined}
 use Rattle.c_names.specs.declared.predefined.Predefined.TheVariants as p
-use Rattle.c_names.specs.declared.kind.Kind.{Kind}
-use Rattle.c_names.specs.declared.kind.Kind.TheVariants.{Int, Status, Request, Communicator}
-use Rattle.c_check_call.specs.Calls.{accepts_own, accepts_word, argument_faults, arguments_faults, arguments_of, array_faults, array_sum, call_faults, counted_faults, first_is_null, is_array_of, is_own, meant_faults, misfit_faults, mpi_takes, reference_faults, result_faults, right_faults, signature_takes, sum_faults, unaccepted_faults, value_faults, word_meant, word_of}
+use Rattle.c_names.specs.declared.kind.VariableKind.{VariableKind}
+use Rattle.c_names.specs.declared.kind.VariableKind.TheVariants.{Int, Status, Request, Communicator}
+use Rattle.c_check.specs.Calls.{accepts_own, accepts_predefined, argument_faults, arguments_faults, arguments_of, array_faults, array_sum, call_faults, counted_faults, first_is_null, is_array_of, is_own, meant_faults, misfit_faults, mpi_takes, reference_faults, result_faults, right_faults, signature_takes, sum_faults, unaccepted_faults, value_faults, predefined_meant, predefined_of}
 use Rattle.c_check_expr.specs.Expressions.{expr_faults, takes_index, wanted_faults}
-use Rattle.c_check_expr.specs.Kinds.{cell_kind, fits, kind_faults, kind_of, start_of, whole_kind}
+use Rattle.c_check_expr.specs.Kinds.{cell_kind, fits, kind_faults, kind_of, first_token, whole_kind}
 use Rattle.c_check_expr.specs.Least.{unless}
 use Rattle.c_check_expr.specs.Scopes.{Env, meaning, name_faults}
-use Rattle.c_check_expr.specs.declared.fault.Fault.{Fault}
-use Rattle.c_check_expr.specs.declared.thing.ExprKind.{ExprKind}
-use Rattle.c_check_expr.specs.declared.thing.ExprKind.TheVariants.{Of, NullRequest, Other, Nothing}
-use Rattle.c_check_expr.specs.declared.thing.Meaning.{Meaning}
-use Rattle.c_check_expr.specs.declared.thing.Meaning.TheVariants as m
-use Rattle.c_check_expr.specs.declared.thing.Thing.TheVariants as d
+use Rattle.c_check_expr.specs.declared.fault.TypingFault.{TypingFault}
+use Rattle.c_check_expr.specs.declared.meaning.ExprKind.{ExprKind}
+use Rattle.c_check_expr.specs.declared.meaning.ExprKind.TheVariants.{Of, NullRequest, Other, Nothing}
+use Rattle.c_check_expr.specs.declared.meaning.Meaning.{Meaning}
+use Rattle.c_check_expr.specs.declared.meaning.Meaning.TheVariants as m
+use Rattle.c_check_expr.specs.declared.meaning.Entity.TheVariants as d
 use Rattle.c_type_expr.specs.Given.{AreShaped, Fits, argument, has_shape, is_operation, is_status, is_status_by}
 use Rattle.c_type_expr.specs.Shapes.{has_cells, is_reference, is_reference_by, is_value}
 
@@ -90,10 +90,10 @@ other_fits NullRequest h = cc
 other_fits Other h = cc
 other_fits Nothing h = refl
 
-other_kind : (fs : List Fault) (given : ExprKind) (at : Spot) → fs ++ kind_faults Other given at ≡ [] → given ≡ Nothing
+other_kind : (fs : List TypingFault) (given : ExprKind) (at : Spot) → fs ++ kind_faults Other given at ≡ [] → given ≡ Nothing
 other_kind fs given at h = other_fits given (unless_tells (fits Other given) at WrongType (none_behind fs (kind_faults Other given at) h))
 
-other_int : (fs : List Fault) (at : Spot) → fs ++ kind_faults Other (Of Int) at ≡ [] → ⊥
+other_int : (fs : List TypingFault) (at : Spot) → fs ++ kind_faults Other (Of Int) at ≡ [] → ⊥
 other_int fs at h = let e : Of Int ≡ Nothing = other_kind fs (Of Int) at h in cc
 
 -- an expression that is no value is at fault
@@ -103,9 +103,9 @@ other_never env (t.read (t.whole name)) h =
     (other_kind (name_faults (meaning env name) name) (whole_kind (meaning env name)) name h)
     (none_before (name_faults (meaning env name) name) (kind_faults Other (whole_kind (meaning env name)) name) h)
 other_never env (t.read (t.cell name opening index closing)) h =
-    let named : List Fault = name_faults (meaning env name) name in
-    let indexed : List Fault = unless (takes_index (meaning env name)) name WrongType in
-    let inner : List Fault = expr_faults env index ++ kind_faults (Of Int) (kind_of env index) (start_of index) in
+    let named : List TypingFault = name_faults (meaning env name) name in
+    let indexed : List TypingFault = unless (takes_index (meaning env name)) name WrongType in
+    let inner : List TypingFault = expr_faults env index ++ kind_faults (Of Int) (kind_of env index) (first_token index) in
     let all : (named ++ indexed) ++ inner ≡ [] = none_before ((named ++ indexed) ++ inner) (kind_faults Other (cell_kind (meaning env name)) name) h in
     let front : named ++ indexed ≡ [] = none_before (named ++ indexed) inner all in
     cell_named (meaning env name) name
@@ -113,12 +113,12 @@ other_never env (t.read (t.cell name opening index closing)) h =
     (none_before named indexed front)
     (unless_tells (takes_index (meaning env name)) name WrongType (none_behind named indexed front))
 other_never env (t.number at) h = other_int [] at h
-other_never env (t.field place dot name) h = other_int (expr_faults env (t.field place dot name)) (start_of (t.field place dot name)) h
+other_never env (t.field place dot name) h = other_int (expr_faults env (t.field place dot name)) (first_token (t.field place dot name)) h
 other_never env (t.paren opening inner closing) h = other_int (expr_faults env (t.paren opening inner closing)) opening h
 other_never env (t.unary sign at operand) h = other_int (expr_faults env (t.unary sign at operand)) at h
-other_never env (t.chain level first links) h = other_int (expr_faults env (t.chain level first links)) (start_of first) h
+other_never env (t.chain level first links) h = other_int (expr_faults env (t.chain level first links)) (first_token first) h
 other_never env (t.choice test question taken colon spared) h =
-    other_int (expr_faults env (t.choice test question taken colon spared)) (start_of test) h
+    other_int (expr_faults env (t.choice test question taken colon spared)) (first_token test) h
 
 pub misfit_never : (env : Env) (given : t.Argument) → misfit_faults env given ≡ [] → ⊥
 misfit_never env (t.text at) h = cc
@@ -132,22 +132,22 @@ value_shape env wanted (t.text at) h = cc
 value_shape env wanted (t.address mark place) h = cc
 value_shape env wanted (t.value e) h = refl
 
-array_word : (wanted : Kind) (meant : Meaning) → is_array_of wanted meant ≡ true → word_meant meant ≡ None
+array_word : (wanted : VariableKind) (meant : Meaning) → is_array_of wanted meant ≡ true → predefined_meant meant ≡ None
 array_word wanted m.LeftOut h = refl
 array_word wanted m.Unknown h = refl
 array_word wanted (m.Known known) h = cc
-array_word wanted (m.Declared thing) h = refl
+array_word wanted (m.Declared entity) h = refl
 
-sum_shape : (env : Env) (wanted : Kind) (e : t.Expr) (sum : Option (Spot × t.Expr)) → sum_faults env wanted e sum ≡ [] → is_some sum ≡ true
+sum_shape : (env : Env) (wanted : VariableKind) (e : t.Expr) (sum : Option (Spot × t.Expr)) → sum_faults env wanted e sum ≡ [] → is_some sum ≡ true
 sum_shape env wanted e None h = absurd (other_never env e h)
 sum_shape env wanted e (Some sum) h = refl
 
 -- cells, and no predefined name
 pub record HasCells (env : Env) (given : t.Argument) : Type 0 where
-  pub word : word_of env given ≡ None
+  pub word : predefined_of env given ≡ None
   pub cells : has_cells given ≡ true
 
-array_shape : (env : Env) (wanted : Kind) (e : t.Expr) → array_faults env wanted e ≡ [] → HasCells env (t.value e)
+array_shape : (env : Env) (wanted : VariableKind) (e : t.Expr) → array_faults env wanted e ≡ [] → HasCells env (t.value e)
 array_shape env wanted (t.read (t.whole name)) h = elim (cases (is_array_of wanted (meaning env name))) [
   | inl e ↦ record { word = array_word wanted (meaning env name) e; cells = refl }
   | inr e ↦ absurd (other_never env (t.read (t.whole name)) (rw e at h))
@@ -161,15 +161,15 @@ array_shape env wanted (t.paren opening inner closing) h = absurd (other_never e
 array_shape env wanted (t.unary sign at operand) h = absurd (other_never env (t.unary sign at operand) h)
 array_shape env wanted (t.choice test question taken colon spared) h = absurd (other_never env (t.choice test question taken colon spared) h)
 
-pub cells_shape : (env : Env) (wanted : Kind) (given : t.Argument) → reference_faults env wanted given ≡ [] → HasCells env given
+pub cells_shape : (env : Env) (wanted : VariableKind) (given : t.Argument) → reference_faults env wanted given ≡ [] → HasCells env given
 cells_shape env wanted (t.text at) h = cc
 cells_shape env wanted (t.address mark place) h = record { word = refl; cells = refl }
 cells_shape env wanted (t.value e) h = array_shape env wanted e h
 
-reference_shape : (env : Env) (wanted : Kind) (given : t.Argument) → reference_faults env wanted given ≡ [] → is_reference env given ≡ true
+reference_shape : (env : Env) (wanted : VariableKind) (given : t.Argument) → reference_faults env wanted given ≡ [] → is_reference env given ≡ true
 reference_shape env wanted given h = let s = cells_shape env wanted given h in rw s.word s.cells
 
-status_shape : (env : Env) (wanted : Kind) (given : t.Argument) → reference_faults env wanted given ≡ [] → is_status env given ≡ true
+status_shape : (env : Env) (wanted : VariableKind) (given : t.Argument) → reference_faults env wanted given ≡ [] → is_status env given ≡ true
 status_shape env wanted given h = let s = cells_shape env wanted given h in rw s.word s.cells
 
 -- ---- arguments, by what is wanted
@@ -182,8 +182,8 @@ own_never env kind (t.value e) h = refl
 
 -- accepted by its name, or without faults where it is not
 told : (env : Env) (kind : ArgumentKind) (given : t.Argument) → ((meant : Meaning) → is_own kind meant ≡ false) → argument_faults env kind given ≡ []
-    → (accepts_word kind (word_of env given) ≡ true) ⊎ (unaccepted_faults env kind given ≡ [])
-told env kind given o h = elim (cases (accepts_word kind (word_of env given))) [
+    → (accepts_predefined kind (predefined_of env given) ≡ true) ⊎ (unaccepted_faults env kind given ≡ [])
+told env kind given o h = elim (cases (accepts_predefined kind (predefined_of env given))) [
   | inl e ↦ inl e
   | inr e ↦ inr (rw (e, own_never env kind given o) at h)
 ]
@@ -192,15 +192,15 @@ told env kind given o h = elim (cases (accepts_word kind (word_of env given))) [
 unnamed : (env : Env) (kind : ArgumentKind) (given : t.Argument) → ((known : Predefined) → accepts kind known ≡ false)
     → ((meant : Meaning) → is_own kind meant ≡ false) → argument_faults env kind given ≡ [] → unaccepted_faults env kind given ≡ []
 unnamed env kind given n o h = elim (told env kind given o h) [
-  | inl e ↦ absurd (word_never kind (word_of env given) n e)
+  | inl e ↦ absurd (word_never kind (predefined_of env given) n e)
   | inr e ↦ e
 ]
   where
-    word_never : (kind : ArgumentKind) (word : Option Predefined) → ((known : Predefined) → accepts kind known ≡ false) → accepts_word kind word ≡ true → ⊥
+    word_never : (kind : ArgumentKind) (word : Option Predefined) → ((known : Predefined) → accepts kind known ≡ false) → accepts_predefined kind word ≡ true → ⊥
     word_never kind None n e = cc
     word_never kind (Some known) n e = cc (n known)
 
-buffer_word : (word : Option Predefined) (given : t.Argument) → accepts_word a.Buffer word ≡ true → is_reference_by word given ≡ true
+buffer_word : (word : Option Predefined) (given : t.Argument) → accepts_predefined a.Buffer word ≡ true → is_reference_by word given ≡ true
 buffer_word None given h = cc
 buffer_word (Some p.NoReference) given h = refl
 buffer_word (Some (p.Number value)) given h = cc
@@ -215,7 +215,7 @@ buffer_word (Some (p.Mpi function)) given h = cc
 buffer_word (Some p.Printf) given h = cc
 buffer_word (Some p.Fflush) given h = cc
 
-status_word : (word : Option Predefined) (given : t.Argument) → accepts_word a.Status word ≡ true → is_status_by word given ≡ true
+status_word : (word : Option Predefined) (given : t.Argument) → accepts_predefined a.Status word ≡ true → is_status_by word given ≡ true
 status_word None given h = cc
 status_word (Some p.IgnoredStatus) given h = refl
 status_word (Some p.NoReference) given h = cc
@@ -230,7 +230,7 @@ status_word (Some (p.Mpi function)) given h = cc
 status_word (Some p.Printf) given h = cc
 status_word (Some p.Fflush) given h = cc
 
-statuses_word : (word : Option Predefined) (given : t.Argument) → accepts_word a.Statuses word ≡ true → is_status_by word given ≡ true
+statuses_word : (word : Option Predefined) (given : t.Argument) → accepts_predefined a.Statuses word ≡ true → is_status_by word given ≡ true
 statuses_word None given h = cc
 statuses_word (Some p.IgnoredStatuses) given h = refl
 statuses_word (Some p.NoReference) given h = cc
@@ -245,7 +245,7 @@ statuses_word (Some (p.Mpi function)) given h = cc
 statuses_word (Some p.Printf) given h = cc
 statuses_word (Some p.Fflush) given h = cc
 
-operation_word : (word : Option Predefined) → accepts_word a.Operation word ≡ true → is_operation word ≡ true
+operation_word : (word : Option Predefined) → accepts_predefined a.Operation word ≡ true → is_operation word ≡ true
 operation_word None h = cc
 operation_word (Some (p.Operation op)) h = refl
 operation_word (Some p.NoReference) h = cc
@@ -267,19 +267,19 @@ shape env a.Ints given h = reference_shape env Int given (unnamed env a.Ints giv
 shape env a.NewCommunicator given h = reference_shape env Communicator given (unnamed env a.NewCommunicator given (λ known. refl) (λ meant. refl) h)
 shape env a.Requests given h = reference_shape env Request given (unnamed env a.Requests given (λ known. refl) (λ meant. refl) h)
 shape env a.Buffer given h = elim (told env a.Buffer given (λ meant. refl) h) [
-  | inl e ↦ buffer_word (word_of env given) given e
+  | inl e ↦ buffer_word (predefined_of env given) given e
   | inr e ↦ reference_shape env Int given e
 ]
 shape env a.Status given h = elim (told env a.Status given (λ meant. refl) h) [
-  | inl e ↦ status_word (word_of env given) given e
+  | inl e ↦ status_word (predefined_of env given) given e
   | inr e ↦ status_shape env Status given e
 ]
 shape env a.Statuses given h = elim (told env a.Statuses given (λ meant. refl) h) [
-  | inl e ↦ statuses_word (word_of env given) given e
+  | inl e ↦ statuses_word (predefined_of env given) given e
   | inr e ↦ status_shape env Status given e
 ]
 shape env a.Operation given h = elim (told env a.Operation given (λ meant. refl) h) [
-  | inl e ↦ operation_word (word_of env given) e
+  | inl e ↦ operation_word (predefined_of env given) e
   | inr e ↦ absurd (misfit_never env given e)
 ]
 shape env a.Datatype given h = refl

@@ -6,10 +6,10 @@ use Rattle.c_grammar.specs.Tree as t
 use Rattle.c_names.specs.declared.function.ArgumentKind.{ArgumentKind}
 use Rattle.c_names.specs.declared.function.ArgumentKind.TheVariants as k
 use Rattle.c_names.specs.declared.predefined.Predefined.TheVariants as p
-use Rattle.c_check_call.specs.Calls.{arguments_of, is_plus, signature_takes, word_of}
+use Rattle.c_check.specs.Calls.{arguments_of, is_plus, signature_takes, predefined_of}
 use Rattle.c_check_expr.specs.Scopes.{Env, meaning}
-use Rattle.c_check_expr.specs.declared.thing.Meaning.TheVariants as m
-use Rattle.c_check_expr.specs.declared.thing.Thing.TheVariants as d
+use Rattle.c_check_expr.specs.declared.meaning.Meaning.TheVariants as m
+use Rattle.c_check_expr.specs.declared.meaning.Entity.TheVariants as d
 use Rattle.std.specs.Prelude.{slice_get}
 use Rattle.c_program.specs.declared.expr.Argument.{Argument}
 use Rattle.c_program.specs.declared.expr.Argument.TheVariants as a
@@ -26,11 +26,11 @@ pub data IsValue (env : Env) : t.Argument → Expr → Type 0 where
   value : {e : t.Expr} {typed : Expr} → IsExpr env e typed → IsValue env (t.value e) typed
 
 pub data IsReference (env : Env) : t.Argument → Reference → Type 0 where
-  null : {argument : t.Argument} → word_of env argument ≡ Some p.NoReference → IsReference env argument r.Nothing
+  null : {argument : t.Argument} → predefined_of env argument ≡ Some p.NoReference → IsReference env argument r.Nothing
   address : {mark name : Spot} → IsReference env (t.address mark (t.whole name)) (r.Whole (variable env name))
   address_from : {mark name opening closing : Spot} {index : t.Expr} {typed : Expr} → IsExpr env index typed
       → IsReference env (t.address mark (t.cell name opening index closing)) (r.From (variable env name) typed)
-  array : {name : Spot} → word_of env (t.value (t.read (t.whole name))) ≡ None
+  array : {name : Spot} → predefined_of env (t.value (t.read (t.whole name))) ≡ None
       → IsReference env (t.value (t.read (t.whole name))) (r.Whole (variable env name))
   sum : {level : ℕ} {name at : Spot} {operator : Word} {operand : t.Expr} {typed : Expr} → is_plus operator ≡ true → IsExpr env operand typed
       → IsReference env (t.value (t.chain level (t.read (t.whole name)) (t.link operator at operand t.no_link))) (r.From (variable env name) typed)

@@ -14,9 +14,9 @@ use Rattle.c_program.specs.declared.expr.Field.TheVariants.{Source, Tag}
 use Rattle.c_program.specs.declared.expr.Link.{Link, out-Link}
 use Rattle.c_program.specs.declared.expr.Place.{Place}
 use Rattle.c_program.specs.declared.expr.Place.TheVariants as q
-use Rattle.c_check_expr.specs.Constants.{operator_of, sign_of}
+use Rattle.c_check_expr.specs.Constants.{operator_of, unary_of}
 use Rattle.c_check_expr.specs.Literals.{number_at}
-use Rattle.c_check_expr.specs.Scopes.{Env, cut, meaning}
+use Rattle.c_check_expr.specs.Scopes.{Env, token_bytes, meaning}
 use Rattle.c_check_expr.specs.Variables.{value_meant, variable}
 
 abbrev pub field_of : List ℕ → Field
@@ -33,10 +33,10 @@ mutual
     value : {place : t.Place} {value : ℤ} → value_of_place env place ≡ Some value → IsExpr env (t.read place) (v.Number value)
     read : {place : t.Place} {typed : Place} → value_of_place env place ≡ None → IsPlace env place typed → IsExpr env (t.read place) (v.Read typed)
     field : {place : t.Place} {typed : Place} {dot name : Spot} → IsPlace env place typed
-        → IsExpr env (t.field place dot name) (v.Field typed (field_of (cut env.text name)))
+        → IsExpr env (t.field place dot name) (v.Field typed (field_of (token_bytes env.text name)))
     paren : {opening closing : Spot} {inner : t.Expr} {typed : Expr} → IsExpr env inner typed → IsExpr env (t.paren opening inner closing) typed
     signed : {sign : Word} {at : Spot} {operand : t.Expr} {typed : Box Expr Global} → IsExpr env operand typed.value
-        → IsExpr env (t.unary sign at operand) (v.Signed (sign_of sign) typed)
+        → IsExpr env (t.unary sign at operand) (v.Signed (unary_of sign) typed)
     chain : {level : ℕ} {first : t.Expr} {links : t.Links} {typed : Box Expr Global} (others : Vec Link Global)
         → IsExpr env first typed.value → AreLinks env links others.items → IsExpr env (t.chain level first links) (v.Chain typed others)
     choice : {test taken spared : t.Expr} {question colon : Spot} {a b c : Box Expr Global}

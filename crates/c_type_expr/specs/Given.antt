@@ -9,7 +9,7 @@ use Rattle.c_names.specs.declared.function.ArgumentKind.TheVariants as a
 use Rattle.c_names.specs.declared.function.MpiFunction.{MpiFunction}
 use Rattle.c_names.specs.declared.predefined.Predefined.{Predefined}
 use Rattle.c_names.specs.declared.predefined.Predefined.TheVariants as p
-use Rattle.c_check_call.specs.Calls.{arguments_of, word_of}
+use Rattle.c_check.specs.Calls.{arguments_of, predefined_of}
 use Rattle.c_check_expr.specs.Scopes.{Env}
 use Rattle.c_type_expr.specs.Shapes.{has_cells, is_reference, is_value}
 
@@ -32,7 +32,7 @@ is_status_by (Some p.IgnoredStatuses) given = true
 is_status_by (Some _) given = false
 
 abbrev pub is_status : Env → t.Argument → Bool
-is_status env given = is_status_by (word_of env given) given
+is_status env given = is_status_by (predefined_of env given) given
 
 abbrev pub is_operation : Option Predefined → Bool
 is_operation (Some (p.Operation op)) = true
@@ -47,7 +47,7 @@ has_shape env a.NewCommunicator given = is_reference env given
 has_shape env a.Requests given = is_reference env given
 has_shape env a.Status given = is_status env given
 has_shape env a.Statuses given = is_status env given
-has_shape env a.Operation given = is_operation (word_of env given)
+has_shape env a.Operation given = is_operation (predefined_of env given)
 has_shape env _ given = true
 
 abbrev pub AreShaped : Env → List ArgumentKind → (ℕ → t.Argument) → Type 0

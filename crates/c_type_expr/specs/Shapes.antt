@@ -4,7 +4,7 @@ use Rattle.std.specs.Option.{is_some}
 use Rattle.c_grammar.specs.Tree as t
 use Rattle.c_names.specs.declared.predefined.Predefined.{Predefined}
 use Rattle.c_names.specs.declared.predefined.Predefined.TheVariants as p
-use Rattle.c_check_call.specs.Calls.{array_sum, name_alone, word_of}
+use Rattle.c_check.specs.Calls.{array_sum, name_alone, predefined_of}
 use Rattle.c_check_expr.specs.Scopes.{Env}
 
 abbrev pub is_value : t.Argument → Bool
@@ -27,4 +27,4 @@ is_reference_by (Some p.NoReference) argument = true
 is_reference_by (Some _) argument = false
 
 abbrev pub is_reference : Env → t.Argument → Bool
-is_reference env argument = is_reference_by (word_of env argument) argument
+is_reference env argument = is_reference_by (predefined_of env argument) argument

@@ -5,24 +5,24 @@ ghost use Rattle.std.specs.Option.{is_some};
 ghost use Rattle.c_grammar.specs.StmtView.{argument_view, call_view, head_view, parameter_view, right_view};
 ghost use Rattle.c_grammar.specs.Tree as t;
 ghost use Rattle.c_grammar.specs.View.{place_view, view};
-ghost use Rattle.c_check_call.specs.Calls.{argument_faults, arguments_faults, arguments_of, array_sum, call_faults, right_faults, word_of};
+ghost use Rattle.c_check.specs.Calls.{argument_faults, arguments_faults, arguments_of, array_sum, call_faults, right_faults, predefined_of};
 ghost use Rattle.c_check_expr.specs.Scopes.{meaning};
 ghost use Rattle.c_check_expr.specs.Signatures.{parameter_takes, signature_of};
-ghost use Rattle.c_check_expr.specs.declared.thing.ExprKind.{ExprKind};
-ghost use Rattle.c_check_expr.specs.declared.thing.Meaning.TheVariants as m;
-ghost use Rattle.c_check_expr.specs.declared.thing.Thing.TheVariants as d;
+ghost use Rattle.c_check_expr.specs.declared.meaning.ExprKind.{ExprKind};
+ghost use Rattle.c_check_expr.specs.declared.meaning.Meaning.TheVariants as m;
+ghost use Rattle.c_check_expr.specs.declared.meaning.Entity.TheVariants as d;
 ghost use Rattle.c_type_expr.specs.Calls.{AreArguments, IsArgument, IsCall, IsReference, IsRight, IsValue};
 ghost use Rattle.c_type_expr.specs.Shapes.{is_array, is_reference, is_value};
 
 use crate::expr_of::expr_of;
-use c_check_call::call::{
-    argument_at, argument_count, array_sum, name_alone, parameter_at, word_of,
+use c_check::call::{
+    argument_at, argument_count, array_sum, name_alone, parameter_at, predefined_of,
 };
 use c_grammar::word::Spot;
 use c_grammar::{statement, tree};
 use c_program::expr::{Argument, Expr, FunctionCall, Reference, Right};
 use c_check_expr::scope::Scope;
-use c_check_expr::thing::{Meaning, Thing};
+use c_check_expr::meaning::{Meaning, Entity};
 use std::alloc::{AllocError, Global};
 
 /// What is added to the name of an array.
@@ -45,7 +45,7 @@ fn sum_of(alloc: Global, scope: &Scope, e: &tree::Expr) -> Result<Reference, All
 /// The name of an array, or such a name and what is added to it.
 fn array_of(alloc: Global, scope: &Scope, e: &tree::Expr) -> Result<Reference, AllocError>
     requires shape { is_array (view e.now) ≡ true }
-    requires word { word_of scope.now (t.value (view e.now)) ≡ None }
+    requires word { predefined_of scope.now (t.value (view e.now)) ≡ None }
     ensures { IfOk result (λ typed. IsReference scope.now (t.value (view e.now)) typed) }
 {
     match name_alone(e) {
@@ -87,7 +87,7 @@ pub fn reference_of(
     requires { is_reference scope.now (argument_view argument.now) ≡ true }
     ensures { IfOk result (λ typed. IsReference scope.now (argument_view argument.now) typed) }
 {
-    if word_of(scope, argument).is_some() {
+    if predefined_of(scope, argument).is_some() {
         return Ok(Reference::Nothing);
     }
     match argument {
@@ -204,7 +204,7 @@ fn function_at(scope: &Scope, name: Spot) -> usize
     ensures { meaning scope.now name ≡ m.Declared (d.Function result) }
 {
     match scope.meaning(name) {
-        Meaning::Declared(Thing::Function(number)) => number,
+        Meaning::Declared(Entity::Function(number)) => number,
         _ => unreachable!(),
     }
 }

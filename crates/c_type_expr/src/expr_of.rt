@@ -8,9 +8,9 @@ ghost use Rattle.c_type_expr.specs.Exprs.{AreLinks, IsExpr, IsPlace, field_of, v
 use c_grammar::tree;
 use c_names::predefined::Predefined;
 use c_program::expr::{Expr, Field, Link, Place};
-use c_check_expr::constant::{operator_of, sign_of};
-use c_check_expr::scope::{Scope, cut, is_same, number_at};
-use c_check_expr::thing::{Meaning, Thing};
+use c_check_expr::constant::{operator_of, unary_of};
+use c_check_expr::scope::{Scope, token_bytes, is_same, number_at};
+use c_check_expr::meaning::{Meaning, Entity};
 use std::alloc::{AllocError, Global};
 
 fn boxed(alloc: Global, e: Expr) -> Result<Box<Expr>, AllocError>
@@ -30,7 +30,7 @@ fn value_meant(meaning: Meaning) -> Option<i32>
         Meaning::Known(Predefined::Number(value)) => Some(value),
         Meaning::Known(Predefined::Communicator(number)) => Some(number),
         Meaning::Known(Predefined::NullRequest) => Some(-1),
-        Meaning::Declared(Thing::Define(value)) => Some(value),
+        Meaning::Declared(Entity::Define(value)) => Some(value),
         _ => None,
     }
 }
@@ -68,14 +68,14 @@ pub fn expr_of(alloc: Global, scope: &Scope, e: &tree::Expr) -> Result<Expr, All
         },
         tree::Expr::Field { place, name, .. } => Ok(Expr::Field {
             status: place_of(alloc, scope, place)?,
-            field: field_of(cut(scope.text(), *name)),
+            field: field_of(token_bytes(scope.text(), *name)),
         }),
         tree::Expr::Paren { inner, .. } => {
             let typed = expr_of(alloc, scope, inner)?;
             Ok(typed)
         }
         tree::Expr::Unary { sign, operand, .. } => Ok(Expr::Signed {
-            sign: sign_of(*sign),
+            sign: unary_of(*sign),
             operand: boxed_of(alloc, scope, operand)?,
         }),
         tree::Expr::Chain { first, links, .. } => Ok(Expr::Chain {

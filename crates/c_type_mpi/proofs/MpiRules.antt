@@ -7,7 +7,7 @@ use Rattle.c_names.specs.declared.function.MpiFunction.{MpiFunction}
 use Rattle.c_names.specs.declared.predefined.Predefined.{Predefined}
 use Rattle.c_names.specs.declared.predefined.Predefined.TheVariants as p
 use Rattle.c_program.specs.declared.mpi.MpiCall.{MpiCall}
-use Rattle.c_check_call.specs.Calls.{word_of}
+use Rattle.c_check.specs.Calls.{predefined_of}
 use Rattle.c_check_expr.specs.Scopes.{Env}
 use Rattle.c_type_expr.specs.Given.{Fits, argument, is_status, is_status_by}
 use Rattle.c_type_mpi.specs.MpiCalls as y
@@ -51,11 +51,11 @@ ignored_by (Some (p.Mpi function)) given h k = cc
 ignored_by (Some p.Printf) given h k = cc
 ignored_by (Some p.Fflush) given h k = cc
 
-pub ignored_rule : (env : Env) (given : t.Argument) (word : Option Predefined) → word ≡ word_of env given → is_status env given ≡ true → is_some word ≡ true
+pub ignored_rule : (env : Env) (given : t.Argument) (word : Option Predefined) → word ≡ predefined_of env given → is_status env given ≡ true → is_some word ≡ true
     → IsStatus env given None
 ignored_rule env given word e h k =
     let P : Option Predefined → Type 0 = λ one. is_some one ≡ true in
-    elim (ignored_by (word_of env given) given h (subst P e k)) [
+    elim (ignored_by (predefined_of env given) given h (subst P e k)) [
       | inl w ↦ y.ignored w
       | inr w ↦ y.ignored_all w
     ]

@@ -19,14 +19,14 @@ use Rattle.c_program.specs.declared.mpi.Outgoing.{Outgoing}
 use Rattle.c_program.specs.declared.mpi.ProbeCall.TheVariants as probes
 use Rattle.c_program.specs.declared.mpi.Reduction.{Reduction}
 use Rattle.c_program.specs.declared.mpi.SomeRequests.{SomeRequests}
-use Rattle.c_check_call.specs.Calls.{word_of}
+use Rattle.c_check.specs.Calls.{predefined_of}
 use Rattle.c_check_expr.specs.Scopes.{Env}
 use Rattle.c_type_expr.specs.Calls.{IsReference, IsValue}
 
 -- a status that is ignored is nothing
 pub data IsStatus (env : Env) : t.Argument → Option Reference → Type 0 where
-  ignored : {given : t.Argument} → word_of env given ≡ Some p.IgnoredStatus → IsStatus env given None
-  ignored_all : {given : t.Argument} → word_of env given ≡ Some p.IgnoredStatuses → IsStatus env given None
+  ignored : {given : t.Argument} → predefined_of env given ≡ Some p.IgnoredStatus → IsStatus env given None
+  ignored_all : {given : t.Argument} → predefined_of env given ≡ Some p.IgnoredStatuses → IsStatus env given None
   kept : {given : t.Argument} {typed : Reference} → IsReference env given typed → IsStatus env given (Some typed)
 
 pub record IsBuffer (env : Env) (cells count : t.Argument) (typed : Buffer) : Type 0 where
@@ -51,7 +51,7 @@ pub record IsSeveral (env : Env) (count requests outcount indices statuses : t.A
   pub statuses_are : IsStatus env statuses typed.statuses
 
 abbrev pub IsOperation : Env → t.Argument → Op → Type 0
-IsOperation env given op = word_of env given ≡ Some (p.Operation op)
+IsOperation env given op = predefined_of env given ≡ Some (p.Operation op)
 
 pub record IsReduction (env : Env) (send receive count op : t.Argument) (typed : Reduction) : Type 0 where
   pub send_is : IsReference env send typed.send

@@ -4,9 +4,9 @@ ghost use Rattle.std.specs.Prelude.{◌≡◌, ◌≤◌, ◌+◌, IfOk, List, [
 ghost use Rattle.c_grammar.specs.StmtView.{argument_view, call_view};
 ghost use Rattle.c_names.specs.declared.function.MpiFunction.TheVariants as f;
 ghost use Rattle.c_names.specs.declared.predefined.Predefined.TheVariants as p;
-ghost use Rattle.c_check_call.specs.Calls.{arguments_of, call_faults, word_of};
+ghost use Rattle.c_check.specs.Calls.{arguments_of, call_faults, predefined_of};
 ghost use Rattle.c_check_expr.specs.Scopes.{meaning};
-ghost use Rattle.c_check_expr.specs.declared.thing.Meaning.TheVariants as m;
+ghost use Rattle.c_check_expr.specs.declared.meaning.Meaning.TheVariants as m;
 ghost use Rattle.c_type_expr.specs.Calls.{IsReference, IsValue};
 ghost use Rattle.c_type_expr.specs.Given.{Fits, argument, given_of, is_operation, is_status};
 ghost use Rattle.c_type_mpi.specs.MpiCalls.{IsBuffer, IsIncoming, IsMpiCall, IsOperation, IsOutgoing, IsReduction, IsSeveral, IsStatus};
@@ -14,7 +14,7 @@ ghost use Rattle.c_type_expr.specs.Shapes.{is_reference, is_value};
 
 use c_type_expr::call_of::{reference_of, value_of};
 use c_type_expr::results::{both, five, four, three};
-use c_check_call::call::{argument_at, word_of};
+use c_check::call::{argument_at, predefined_of};
 use c_grammar::statement::{Argument, Call};
 use c_names::function::MpiFunction;
 use c_names::predefined::Predefined;
@@ -36,7 +36,7 @@ fn status_of(
     requires { is_status scope.now (argument_view argument.now) ≡ true }
     ensures { IfOk result (λ typed. IsStatus scope.now (argument_view argument.now) typed) }
 {
-    if word_of(scope, argument).is_some() {
+    if predefined_of(scope, argument).is_some() {
         return Ok(None);
     }
     let typed = reference_of(alloc, scope, argument)?;
@@ -45,10 +45,10 @@ fn status_of(
 
 /// The operation of an argument that is one.
 fn operation_of(scope: &Scope, argument: &Argument) -> Op
-    requires { is_operation (word_of scope.now (argument_view argument.now)) ≡ true }
+    requires { is_operation (predefined_of scope.now (argument_view argument.now)) ≡ true }
     ensures { IsOperation scope.now (argument_view argument.now) result }
 {
-    match word_of(scope, argument) {
+    match predefined_of(scope, argument) {
         Some(Predefined::Operation(op)) => op,
         _ => unreachable!(),
     }
@@ -105,7 +105,7 @@ impl<'a> Given<'a> {
     }
 
     fn operation(&self, place: usize) -> Op
-        requires { is_operation (word_of self.now.scope.now (argument (given_of self.now.call.now) place)) ≡ true }
+        requires { is_operation (predefined_of self.now.scope.now (argument (given_of self.now.call.now) place)) ≡ true }
         ensures { IsOperation self.now.scope.now (argument (given_of self.now.call.now) place) result }
     {
         match argument_at(self.call, place) {
@@ -177,7 +177,7 @@ impl<'a> Given<'a> {
         requires send { is_reference self.now.scope.now (argument (given_of self.now.call.now) 0) ≡ true }
         requires receive { is_reference self.now.scope.now (argument (given_of self.now.call.now) 1) ≡ true }
         requires count { is_value (argument (given_of self.now.call.now) 2) ≡ true }
-        requires op { is_operation (word_of self.now.scope.now (argument (given_of self.now.call.now) 4)) ≡ true }
+        requires op { is_operation (predefined_of self.now.scope.now (argument (given_of self.now.call.now) 4)) ≡ true }
         ensures { IfOk result (λ typed. IsReduction self.now.scope.now (argument (given_of self.now.call.now) 0) (argument (given_of self.now.call.now) 1) (argument (given_of self.now.call.now) 2) (argument (given_of self.now.call.now) 4) typed) }
     {
         let op = self.operation(4);

@@ -8,25 +8,25 @@ use Rattle.c_grammar.specs.declared.word.Spot.{Spot}
 use Rattle.c_grammar.specs.declared.word.Word.{Word}
 use Rattle.c_grammar.specs.Tree as t
 use Rattle.c_names.specs.Formats.{ints_in, pieces_of}
-use Rattle.c_names.specs.declared.format.Piece.{Piece}
+use Rattle.c_names.specs.declared.format.FormatPiece.{FormatPiece}
 use Rattle.c_names.specs.declared.operator.Operator.{Operator}
 use Rattle.c_names.specs.declared.predefined.Predefined.TheVariants as p
-use Rattle.c_names.specs.declared.kind.Kind.TheVariants.{Int}
+use Rattle.c_names.specs.declared.kind.VariableKind.TheVariants.{Int}
 use Rattle.c_program.specs.declared.expr.Expr.{Expr}
 use Rattle.c_program.specs.declared.expr.Place.{Place}
 use Rattle.c_program.specs.declared.statement.Simple.TheVariants as l
-use Rattle.c_check_call.specs.Calls.{arguments_of, call_faults, format_faults, inside, is_format, misfit_faults, numbers_faults, print_faults, right_faults, value_faults}
+use Rattle.c_check.specs.Calls.{arguments_of, call_faults, format_faults, inside, is_format, misfit_faults, numbers_faults, print_faults, right_faults, value_faults}
 use Rattle.c_check_expr.specs.Expressions.{expr_faults, int_faults, place_faults, takes_index, wanted_faults}
-use Rattle.c_check_expr.specs.Kinds.{cell_kind, kind_faults, place_start, whole_kind}
+use Rattle.c_check_expr.specs.Kinds.{cell_kind, kind_faults, place_first_token, whole_kind}
 use Rattle.c_check_expr.specs.Least.{unless}
-use Rattle.c_check_expr.specs.Scopes.{Env, cut, meaning, name_faults}
-use Rattle.c_check.specs.Statements.{goal_kind, goal_takes, int_goal_faults, is_assign, is_goal, simple_faults}
-use Rattle.c_check_expr.specs.declared.fault.Fault.{Fault}
-use Rattle.c_check_expr.specs.declared.thing.ExprKind.{ExprKind}
-use Rattle.c_check_expr.specs.declared.thing.ExprKind.TheVariants.{Of, Other}
-use Rattle.c_check_expr.specs.declared.thing.Meaning.{Meaning}
-use Rattle.c_check_expr.specs.declared.thing.Meaning.TheVariants as m
-use Rattle.c_check_expr.specs.declared.thing.Thing.TheVariants as d
+use Rattle.c_check_expr.specs.Scopes.{Env, token_bytes, meaning, name_faults}
+use Rattle.c_check.specs.Statements.{lvalue_kind, lvalue_takes, int_lvalue_faults, is_assign, is_assignable, simple_faults}
+use Rattle.c_check_expr.specs.declared.fault.TypingFault.{TypingFault}
+use Rattle.c_check_expr.specs.declared.meaning.ExprKind.{ExprKind}
+use Rattle.c_check_expr.specs.declared.meaning.ExprKind.TheVariants.{Of, Other}
+use Rattle.c_check_expr.specs.declared.meaning.Meaning.{Meaning}
+use Rattle.c_check_expr.specs.declared.meaning.Meaning.TheVariants as m
+use Rattle.c_check_expr.specs.declared.meaning.Entity.TheVariants as d
 use Rattle.c_check_expr.proofs.Lists.{drop_got, drop_past}
 use Rattle.c_type_expr.specs.Calls.{IsValue}
 use Rattle.c_type_expr.specs.Exprs.{IsPlace}
@@ -77,7 +77,7 @@ misfit_whole (m.Declared d.ArrayParameter) name at e = cc
 misfit_whole (m.Declared d.ArgumentCount) name at e = cc
 misfit_whole (m.Declared d.ArgumentTexts) name at e = cc
 
-misfit_cell : (meant : Meaning) (name at : Spot) (others : List Fault)
+misfit_cell : (meant : Meaning) (name at : Spot) (others : List TypingFault)
     → ((name_faults meant name ++ unless (takes_index meant) name WrongType) ++ others) ++ kind_faults Other (cell_kind meant) at ≡ [] → ⊥
 misfit_cell meant name at others e =
     by_meaning meant (none_left _ _ (none_left _ _ e)) (none_right ((name_faults meant name ++ unless (takes_index meant) name WrongType) ++ others) _ e)
@@ -108,13 +108,13 @@ no_misfit env (t.choice test question taken colon spared) h = let k = none_right
 pub record IsPrint (env : Env) (given : List t.Argument) : Type 0 where
   pub at : Spot
   pub first : slice_get given 0 ≡ Some (t.text at)
-  pub format : is_some (pieces_of (inside (cut env.text at))) ≡ true
+  pub format : is_some (pieces_of (inside (token_bytes env.text at))) ≡ true
   pub numbers : numbers_faults env (drop 1 given) ≡ []
 
-format_shape : (env : Env) (at : Spot) (count : ℕ) → format_faults env at count ≡ [] → is_some (pieces_of (inside (cut env.text at))) ≡ true
-format_shape env at count e = by_pieces (pieces_of (inside (cut env.text at))) e
+format_shape : (env : Env) (at : Spot) (count : ℕ) → format_faults env at count ≡ [] → is_some (pieces_of (inside (token_bytes env.text at))) ≡ true
+format_shape env at count e = by_pieces (pieces_of (inside (token_bytes env.text at))) e
   where
-    by_pieces : (found : Option (List Piece)) → unless (is_format count (option_map ints_in found)) at BadFormat ≡ [] → is_some found ≡ true
+    by_pieces : (found : Option (List FormatPiece)) → unless (is_format count (option_map ints_in found)) at BadFormat ≡ [] → is_some found ≡ true
     by_pieces None e = absurd (cc)
     by_pieces (Some found) e = refl
 
@@ -133,15 +133,15 @@ pub print_tells : (env : Env) (call : t.Call) → meaning env call.name ≡ m.Kn
 print_tells env call h e = print_shape env call.name (arguments_of call) (rw h at e)
 
 pub format_tells : (env : Env) (given : List t.Argument) (at : Spot) → IsPrint env given → slice_get given 0 ≡ Some (t.text at)
-    → is_some (pieces_of (inside (cut env.text at))) ≡ true
+    → is_some (pieces_of (inside (token_bytes env.text at))) ≡ true
 format_tells env given at h first =
     let same : Some (t.text h.at) ≡ Some (t.text at) = sym h.first ∙ first in
     let one : h.at ≡ at = cc in
-    subst (λ z. is_some (pieces_of (inside (cut env.text z))) ≡ true) one h.format
+    subst (λ z. is_some (pieces_of (inside (token_bytes env.text z))) ≡ true) one h.format
 
-pub print_rule : (env : Env) (call : t.Call) (at : Spot) (format : Vec Piece Global) (typed : Vec Expr Global)
+pub print_rule : (env : Env) (call : t.Call) (at : Spot) (format : Vec FormatPiece Global) (typed : Vec Expr Global)
     → meaning env call.name ≡ m.Known p.Printf → slice_get (arguments_of call) 0 ≡ Some (t.text at)
-    → pieces_of (inside (cut env.text at)) ≡ Some format.items → AreValues env (drop 1 (arguments_of call)) typed.items
+    → pieces_of (inside (token_bytes env.text at)) ≡ Some format.items → AreValues env (drop 1 (arguments_of call)) typed.items
     → IsSimple env (t.invoke call) (l.Print format typed)
 print_rule env call at format typed h first f v = x.print h (drop_got (arguments_of call) 0 (t.text at) first) f v
 
@@ -178,8 +178,8 @@ pub assign_right : (env : Env) (place : t.Place) (operator : Word) (at : Spot) (
     → (wanted : ExprKind) × (right_faults env wanted right ≡ [])
 assign_right env place operator at right e = by_test (is_assign operator) e
   where
-    by_test : (b : Bool) → (if b then (place_faults env place ++ unless (is_goal (goal_kind env place)) (place_start place) WrongType)
-        ++ right_faults env (goal_takes (goal_kind env place)) right else int_goal_faults env place ++ right_faults env (Of Int) right) ≡ []
+    by_test : (b : Bool) → (if b then (place_faults env place ++ unless (is_assignable (lvalue_kind env place)) (place_first_token place) WrongType)
+        ++ right_faults env (lvalue_takes (lvalue_kind env place)) right else int_lvalue_faults env place ++ right_faults env (Of Int) right) ≡ []
         → (wanted : ExprKind) × (right_faults env wanted right ≡ [])
-    by_test true e = (goal_takes (goal_kind env place), none_right (place_faults env place ++ unless (is_goal (goal_kind env place)) (place_start place) WrongType) _ e)
-    by_test false e = (Of Int, none_right (int_goal_faults env place) _ e)
+    by_test true e = (lvalue_takes (lvalue_kind env place), none_right (place_faults env place ++ unless (is_assignable (lvalue_kind env place)) (place_first_token place) WrongType) _ e)
+    by_test false e = (Of Int, none_right (int_lvalue_faults env place) _ e)

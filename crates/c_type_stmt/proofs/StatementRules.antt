@@ -19,21 +19,21 @@ use Rattle.c_grammar.specs.StmtView.{declaration_view, item_view, part_view, par
 use Rattle.c_grammar.specs.Tree as t
 use Rattle.c_grammar.specs.View.{view}
 use Rattle.c_grammar.proofs.StmtViewed.{view-block, view-empty, view-simple, view-break, view-continue, view-return, view-if_only, view-if_else, view-while, view-do_while, view-for, view-declare, view-stmt}
-use Rattle.c_check_call.specs.Calls.{right_faults}
+use Rattle.c_check.specs.Calls.{right_faults}
 use Rattle.c_check_expr.specs.Expressions.{int_faults}
-use Rattle.c_check_expr.specs.Kinds.{place_start}
+use Rattle.c_check_expr.specs.Kinds.{place_first_token}
 use Rattle.c_check_expr.specs.Least.{unless}
-use Rattle.c_check_expr.specs.Scopes.{Env, cut, opened, twice_faults}
-use Rattle.c_check.specs.Statements.{after_item, after_items, after_part, after_parts, after_start, begins_with, begun_takes, can_begin, declaration_faults, declared_thing, initial_faults, item_faults, items_faults, part_faults, parts_faults, place_length_faults, return_faults, simple_faults, start_faults, step_faults, stmt_faults, test_faults}
-use Rattle.c_check_expr.specs.declared.thing.ExprKind.{ExprKind}
-use Rattle.c_check_expr.specs.declared.thing.ExprKind.TheVariants.{Of, Nothing}
-use Rattle.c_check_expr.specs.declared.thing.Thing.{Thing}
+use Rattle.c_check_expr.specs.Scopes.{Env, token_bytes, opened, twice_faults}
+use Rattle.c_check.specs.Statements.{after_item, after_items, after_part, after_parts, after_start, begins_with, begun_takes, can_begin, declaration_faults, declared_entity, initial_faults, item_faults, items_faults, part_faults, parts_faults, place_length_faults, return_faults, simple_faults, start_faults, step_faults, stmt_faults, test_faults}
+use Rattle.c_check_expr.specs.declared.meaning.ExprKind.{ExprKind}
+use Rattle.c_check_expr.specs.declared.meaning.ExprKind.TheVariants.{Of, Nothing}
+use Rattle.c_check_expr.specs.declared.meaning.Entity.{Entity}
 use Rattle.c_check_expr.proofs.Lists.{drop_at, drop_past}
 use Rattle.c_check.proofs.More.{after_items_next, after_parts_next}
 use Rattle.c_check_expr.proofs.Rows.{behind_viewed}
 use Rattle.c_lex.specs.declared.fault.Why.TheVariants.{WrongType}
-use Rattle.c_names.specs.declared.kind.Kind.{Kind}
-use Rattle.c_names.specs.declared.kind.Kind.TheVariants.{Int}
+use Rattle.c_names.specs.declared.kind.VariableKind.{VariableKind}
+use Rattle.c_names.specs.declared.kind.VariableKind.TheVariants.{Int}
 use Rattle.c_program.specs.declared.expr.Expr.{Expr}
 use Rattle.c_program.specs.declared.expr.Right.{Right}
 use Rattle.c_program.specs.declared.statement.Declaration.{Declaration}
@@ -73,41 +73,41 @@ exprs_end env values i whole typed past so_far =
 
 -- ---- declarations
 
-pub begun_right : (env : Env) (name mark : Spot) (thing : Thing) (right : t.Right) → initial_faults env name thing (Some (t.begun mark right)) ≡ []
+pub begun_right : (env : Env) (name mark : Spot) (entity : Entity) (right : t.Right) → initial_faults env name entity (Some (t.begun mark right)) ≡ []
     → (wanted : ExprKind) × (right_faults env wanted right ≡ [])
-begun_right env name mark thing right e = (begun_takes (begins_with thing), none_right (unless (can_begin (begins_with thing)) name WrongType) _ e)
+begun_right env name mark entity right e = (begun_takes (begins_with entity), none_right (unless (can_begin (begins_with entity)) name WrongType) _ e)
 
-pub item_initial : (env now : Env) (kind : Kind) (item : t.Item) → now ≡ after_item env kind item → item_faults env kind item ≡ []
-    → (name : Spot) × (thing : Thing) × (initial_faults now name thing item.initial ≡ [])
+pub item_initial : (env now : Env) (kind : VariableKind) (item : t.Item) → now ≡ after_item env kind item → item_faults env kind item ≡ []
+    → (name : Spot) × (entity : Entity) × (initial_faults now name entity item.initial ≡ [])
 item_initial env now kind item n e =
-    rw n (place_start item.place, declared_thing env kind item.place, none_right (place_length_faults env item.place ++ twice_faults env (place_start item.place)) _ e)
+    rw n (place_first_token item.place, declared_entity env kind item.place, none_right (place_length_faults env item.place ++ twice_faults env (place_first_token item.place)) _ e)
 
-pub items_first : (env : Env) (kind meant : Kind) (item : t.Item) (items : List t.Item) → kind ≡ meant → items_faults env meant (item ∷ items) ≡ [] → item_faults env kind item ≡ []
+pub items_first : (env : Env) (kind meant : VariableKind) (item : t.Item) (items : List t.Item) → kind ≡ meant → items_faults env meant (item ∷ items) ≡ [] → item_faults env kind item ≡ []
 items_first env kind meant item items k e = rw k (none_left (item_faults env meant item) _ e)
 
-pub items_start : (env now : Env) (kind meant : Kind) (first : t.Item) (items all : List (Behind source_item.Item)) → kind ≡ meant → items ≡ all → now ≡ after_item env kind first
+pub items_start : (env now : Env) (kind meant : VariableKind) (first : t.Item) (items all : List (Behind source_item.Item)) → kind ≡ meant → items ≡ all → now ≡ after_item env kind first
     → items_faults env meant (first ∷ behind_viewed item_view all) ≡ [] → items_faults now kind (behind_viewed item_view items) ≡ []
 items_start env now kind meant first items all k v n e = rw (n, v, k) (none_right (item_faults env meant first) _ e)
 
-pub item_next : (env : Env) (kind : Kind) (items : List (Behind source_item.Item)) (i : ℕ) (item : Behind source_item.Item) → i < length items → item ≡ get_or items i item
+pub item_next : (env : Env) (kind : VariableKind) (items : List (Behind source_item.Item)) (i : ℕ) (item : Behind source_item.Item) → i < length items → item ≡ get_or items i item
     → items_faults env kind (behind_viewed item_view (drop i items)) ≡ [] → item_faults env kind (item_view item.item) ≡ []
 item_next env kind items i item less is e =
     let all : items_faults env kind (item_view item.item ∷ behind_viewed item_view (drop (i + 1) items)) ≡ [] = rw (drop_at items i item less is) at e in
     none_left (item_faults env kind (item_view item.item)) _ all
 
-pub items_next : (env now : Env) (kind : Kind) (items : List (Behind source_item.Item)) (i : ℕ) (item : Behind source_item.Item) → i < length items → item ≡ get_or items i item
+pub items_next : (env now : Env) (kind : VariableKind) (items : List (Behind source_item.Item)) (i : ℕ) (item : Behind source_item.Item) → i < length items → item ≡ get_or items i item
     → now ≡ after_item env kind (item_view item.item) → items_faults env kind (behind_viewed item_view (drop i items)) ≡ []
     → items_faults now kind (behind_viewed item_view (drop (i + 1) items)) ≡ []
 items_next env now kind items i item less is n e =
     let all : items_faults env kind (item_view item.item ∷ behind_viewed item_view (drop (i + 1) items)) ≡ [] = rw (drop_at items i item less is) at e in
     rw n (none_right (item_faults env kind (item_view item.item)) _ all)
 
-pub items_after : (env now last : Env) (kind : Kind) (items : List (Behind source_item.Item)) (i : ℕ) (item : Behind source_item.Item) → i < length items → item ≡ get_or items i item
+pub items_after : (env now last : Env) (kind : VariableKind) (items : List (Behind source_item.Item)) (i : ℕ) (item : Behind source_item.Item) → i < length items → item ≡ get_or items i item
     → now ≡ after_item env kind (item_view item.item) → after_items env kind (behind_viewed item_view (drop i items)) ≡ last
     → after_items now kind (behind_viewed item_view (drop (i + 1) items)) ≡ last
 items_after env now last kind items i item less is n e = rw n (sym (after_items_next env kind items i item less is) ∙ e)
 
-pub items_more : (env start now : Env) (kind : Kind) (items : List (Behind source_item.Item)) (i : ℕ) (item : Behind source_item.Item) (whole : List t.Item)
+pub items_more : (env start now : Env) (kind : VariableKind) (items : List (Behind source_item.Item)) (i : ℕ) (item : Behind source_item.Item) (whole : List t.Item)
     (before after : List Item) (typed : Item) → after ≡ before ++ typed ∷ [] → i < length items → item ≡ get_or items i item
     → IsItem env kind (item_view item.item) typed → now ≡ after_item env kind (item_view item.item)
     → ((more : List Item) → AreItems kind env (behind_viewed item_view (drop i items)) more → AreItems kind start whole (before ++ more))
@@ -118,16 +118,16 @@ items_more env start now kind items i item whole before after typed e less is h 
     (λ more rest. subst (λ left. P env left (typed ∷ more)) (sym (drop_at items i item less is))
     (x.item h (subst (λ here. P here (drop (i + 1) items) more) n rest)))
 
-pub items_begin : (env now : Env) (kind : Kind) (first : t.Item) (items all : List (Behind source_item.Item)) (after : List Item) (typed : Item)
+pub items_begin : (env now : Env) (kind : VariableKind) (first : t.Item) (items all : List (Behind source_item.Item)) (after : List Item) (typed : Item)
     → items ≡ all → IsItem env kind first typed → now ≡ after_item env kind first → after ≡ typed ∷ []
     → (more : List Item) → AreItems kind now (behind_viewed item_view items) more → AreItems kind env (first ∷ behind_viewed item_view all) (after ++ more)
 items_begin env now kind first items all after typed v h n e more rest = rw e (x.item h (rw (v, n) at rest))
 
-pub items_end : (env start : Env) (kind meant : Kind) (items : List (Behind source_item.Item)) (i : ℕ) (whole : List t.Item) (typed : List Item) → kind ≡ meant → length items ≤ i
+pub items_end : (env start : Env) (kind meant : VariableKind) (items : List (Behind source_item.Item)) (i : ℕ) (whole : List t.Item) (typed : List Item) → kind ≡ meant → length items ≤ i
     → ((more : List Item) → AreItems kind env (behind_viewed item_view (drop i items)) more → AreItems kind start whole (typed ++ more)) → AreItems meant start whole typed
 items_end env start kind meant items i whole typed k past so_far =
     let P : List (Behind source_item.Item) → List Item → Type 0 = λ left all. AreItems kind env (behind_viewed item_view left) all in
-    subst (λ (one : Kind). AreItems one start whole typed) k
+    subst (λ (one : VariableKind). AreItems one start whole typed) k
     (ended (P (drop i items)) (λ all. AreItems kind start whole all) typed (subst (λ left. P left []) (sym (drop_past items i past)) x.no_item) so_far)
 
 -- ---- what a function gives back

@@ -8,12 +8,12 @@ use Rattle.c_grammar.specs.declared.word.Word.{Word}
 use Rattle.c_grammar.specs.declared.word.Word.TheVariants as w
 use Rattle.c_grammar.specs.Tree as t
 use Rattle.c_names.specs.Formats.{pieces_of}
-use Rattle.c_names.specs.declared.format.Piece.{Piece}
+use Rattle.c_names.specs.declared.format.FormatPiece.{FormatPiece}
 use Rattle.c_names.specs.declared.function.MpiFunction.{MpiFunction}
 use Rattle.c_names.specs.declared.operator.Operator.{Operator}
 use Rattle.c_names.specs.declared.operator.Operator.TheVariants as o
 use Rattle.c_names.specs.declared.predefined.Predefined.TheVariants as p
-use Rattle.c_names.specs.declared.kind.Kind.{Kind}
+use Rattle.c_names.specs.declared.kind.VariableKind.{VariableKind}
 use Rattle.c_program.specs.declared.expr.FunctionCall.{FunctionCall}
 use Rattle.c_program.specs.declared.expr.Expr.{Expr}
 use Rattle.c_program.specs.declared.expr.Expr.TheVariants as v
@@ -33,13 +33,13 @@ use Rattle.c_program.specs.declared.statement.Simple.{Simple}
 use Rattle.c_program.specs.declared.statement.Simple.TheVariants as l
 use Rattle.c_program.specs.declared.statement.Stmt.{Stmt}
 use Rattle.c_program.specs.declared.statement.Stmt.TheVariants as s
-use Rattle.c_check_call.specs.Calls.{arguments_of, inside}
+use Rattle.c_check.specs.Calls.{arguments_of, inside}
 use Rattle.c_check_expr.specs.Constants.{length_of}
-use Rattle.c_check_expr.specs.Kinds.{kind_of_word, place_start}
-use Rattle.c_check_expr.specs.Scopes.{Env, cut, meaning, opened}
+use Rattle.c_check_expr.specs.Kinds.{kind_of_word, place_first_token}
+use Rattle.c_check_expr.specs.Scopes.{Env, token_bytes, meaning, opened}
 use Rattle.c_check_expr.specs.Signatures.{listed}
 use Rattle.c_check.specs.Statements.{after_item, after_part, after_start, is_assign}
-use Rattle.c_check_expr.specs.declared.thing.Meaning.TheVariants as m
+use Rattle.c_check_expr.specs.declared.meaning.Meaning.TheVariants as m
 use Rattle.c_type_expr.specs.Calls.{IsCall, IsRight, IsValue}
 use Rattle.c_type_expr.specs.Exprs.{IsExpr, IsPlace}
 use Rattle.c_type_mpi.specs.MpiCalls.{IsMpiCall}
@@ -83,9 +83,9 @@ pub data IsSimple (env : Env) : t.Simple → Simple → Type 0 where
   call : {call : t.Call} {typed : FunctionCall} → IsCall env call typed → IsSimple env (t.invoke call) (l.Call typed)
   mpi : {call : t.Call} {function : MpiFunction} {typed : Box MpiCall Global} → meaning env call.name ≡ m.Known (p.Mpi function)
       → IsMpiCall env function (arguments_of call) typed.value → IsSimple env (t.invoke call) (l.Mpi typed)
-  print : {call : t.Call} {at : Spot} {more : List t.Argument} {format : Vec Piece Global} {typed : Vec Expr Global}
+  print : {call : t.Call} {at : Spot} {more : List t.Argument} {format : Vec FormatPiece Global} {typed : Vec Expr Global}
       → meaning env call.name ≡ m.Known p.Printf → arguments_of call ≡ t.text at ∷ more
-      → pieces_of (inside (cut env.text at)) ≡ Some format.items → AreValues env more typed.items
+      → pieces_of (inside (token_bytes env.text at)) ≡ Some format.items → AreValues env more typed.items
       → IsSimple env (t.invoke call) (l.Print format typed)
   flush : {call : t.Call} → meaning env call.name ≡ m.Known p.Fflush → IsSimple env (t.invoke call) l.Flush
 
@@ -107,13 +107,13 @@ length_in env (t.whole name) = None
 length_in env (t.cell name opening length closing) = Some (length_of env length)
 
 -- a name stands in its own initializer
-pub record IsItem (env : Env) (kind : Kind) (item : t.Item) (typed : Item) : Type 0 where
-  pub name : typed.name ≡ cut env.text (place_start item.place)
+pub record IsItem (env : Env) (kind : VariableKind) (item : t.Item) (typed : Item) : Type 0 where
+  pub name : typed.name ≡ token_bytes env.text (place_first_token item.place)
   pub kind_is : typed.kind ≡ kind
   pub length : typed.length ≡ length_in env item.place
   pub initial : IsInitial (after_item env kind item) item.initial typed.initial
 
-pub data AreItems (kind : Kind) : Env → List t.Item → List Item → Type 0 where
+pub data AreItems (kind : VariableKind) : Env → List t.Item → List Item → Type 0 where
   no_item : {env : Env} → AreItems kind env [] []
   item : {env : Env} {item : t.Item} {more : List t.Item} {typed : Item} {others : List Item}
       → IsItem env kind item typed → AreItems kind (after_item env kind item) more others → AreItems kind env (item ∷ more) (typed ∷ others)

@@ -7,35 +7,35 @@ ghost use Rattle.c_grammar.specs.Tree as t;
 ghost use Rattle.c_grammar.specs.View.{place_view, view};
 ghost use Rattle.c_names.specs.Formats.{pieces_of};
 ghost use Rattle.c_names.specs.declared.predefined.Predefined.TheVariants as p;
-ghost use Rattle.c_check_call.specs.Calls.{arguments_of, call_faults, numbers_faults};
-ghost use Rattle.c_check_call.specs.Calls as checked;
+ghost use Rattle.c_check.specs.Calls.{arguments_of, call_faults, numbers_faults};
+ghost use Rattle.c_check.specs.Calls as checked;
 ghost use Rattle.c_check_expr.specs.Scopes.{meaning, opened};
 ghost use Rattle.c_check_expr.specs.Scopes as scopes;
 ghost use Rattle.c_check_expr.specs.Signatures.{listed};
 ghost use Rattle.c_check.specs.Statements.{after_declaration, after_item, after_part, after_parts, after_start, declaration_faults, initial_faults, item_faults, part_faults, parts_faults, return_faults, simple_faults, start_faults, step_faults, stmt_faults, test_faults};
-ghost use Rattle.c_check_expr.specs.declared.thing.Meaning.TheVariants as m;
-ghost use Rattle.c_check_expr.specs.declared.thing.Thing.{Thing};
+ghost use Rattle.c_check_expr.specs.declared.meaning.Meaning.TheVariants as m;
+ghost use Rattle.c_check_expr.specs.declared.meaning.Entity.{Entity};
 ghost use Rattle.c_type_expr.specs.Exprs.{IsExpr};
 ghost use Rattle.c_type_stmt.specs.Statements.{AreExprs, AreParts, AreValues, IsDeclaration, IsInitial, IsItem, IsPart, IsReturn, IsSimple, IsStart, IsStep, IsStmt, IsTest, length_in, update_of};
 
 use c_type_expr::call_of::{call_of, right_of, value_of};
 use c_type_expr::expr_of::{expr_of, place_of};
 use c_type_expr::results::{both, boxed, held, three};
-use c_check_call::call::{argument_at, argument_count, inside};
+use c_check::call::{argument_at, argument_count, inside};
 use c_type_mpi::mpi_of::mpi_call_of;
-use c_check::statement::{declared_thing, is_assign};
+use c_check::statement::{declared_entity, is_assign};
 use c_grammar::word::{Spot, Word};
 use c_grammar::{statement, tree};
-use c_names::format::{Piece, pieces};
-use c_names::kind::Kind;
+use c_names::format::{FormatPiece, pieces};
+use c_names::kind::VariableKind;
 use c_names::operator::Operator;
 use c_names::predefined::Predefined;
 use c_program::expr::{Expr, Right};
 use c_program::statement::{Declaration, ForStart, Initial, Item, Part, Simple, Stmt};
 use c_check_expr::constant::length_of;
-use c_check_expr::kind::place_start;
-use c_check_expr::scope::{Scope, cut};
-use c_check_expr::thing::{Meaning, Thing, kind_of_word};
+use c_check_expr::kind::place_first_token;
+use c_check_expr::scope::{Scope, token_bytes};
+use c_check_expr::meaning::{Meaning, Entity, kind_of_word};
 use std::alloc::{AllocError, Global};
 use wiz_base::Bytes;
 
@@ -76,7 +76,7 @@ fn step_of(
 
 /// The text that an argument is.
 fn text_at(argument: &statement::Argument) -> Spot
-    requires { argument_view argument.now ≡ t.text (checked.argument_start (argument_view argument.now)) }
+    requires { argument_view argument.now ≡ t.text (checked.argument_first_token (argument_view argument.now)) }
     ensures { argument_view argument.now ≡ t.text result }
 {
     match argument {
@@ -98,11 +98,11 @@ fn first_text(call: &statement::Call) -> Spot
 }
 
 /// The pieces of a text that is a format.
-fn format_of(alloc: Global, scope: &Scope, at: Spot) -> Result<Vec<Piece>, AllocError>
-    requires { is_some (pieces_of (checked.inside (scopes.cut scope.now.text at))) ≡ true }
-    ensures { IfOk result (λ format. pieces_of (checked.inside (scopes.cut scope.now.text at)) ≡ Some format.items) }
+fn format_of(alloc: Global, scope: &Scope, at: Spot) -> Result<Vec<FormatPiece>, AllocError>
+    requires { is_some (pieces_of (checked.inside (scopes.token_bytes scope.now.text at))) ≡ true }
+    ensures { IfOk result (λ format. pieces_of (checked.inside (scopes.token_bytes scope.now.text at)) ≡ Some format.items) }
 {
-    match pieces(alloc, inside(cut(scope.text(), at)))? {
+    match pieces(alloc, inside(token_bytes(scope.text(), at)))? {
         Some(format) => Ok(format),
         None => unreachable!(),
     }
@@ -143,7 +143,7 @@ fn call_statement(
     ensures { IfOk result (λ typed. IsSimple scope.now (t.invoke (call_view call.now)) typed) }
 {
     match scope.meaning(call.name) {
-        Meaning::Declared(Thing::Function(number)) => {
+        Meaning::Declared(Entity::Function(number)) => {
             Ok(Simple::Call(call_of(alloc, scope, number, call)?))
         }
         Meaning::Known(Predefined::Mpi(function)) => {
@@ -214,7 +214,7 @@ fn begun_of(
     scope: &Scope,
     initial: &statement::Initial,
 ) -> Result<Initial, AllocError>
-    requires { (name : Spot) × (thing : Thing) × (initial_faults scope.now name thing (Some (initial_view initial.now)) ≡ []) }
+    requires { (name : Spot) × (entity : Entity) × (initial_faults scope.now name entity (Some (initial_view initial.now)) ≡ []) }
     ensures { IfOk result (λ typed. IsInitial scope.now (Some (initial_view initial.now)) typed) }
 {
     match initial {
@@ -232,7 +232,7 @@ fn initial_of(
     scope: &Scope,
     initial: &Option<statement::Initial>,
 ) -> Result<Initial, AllocError>
-    requires { (name : Spot) × (thing : Thing) × (initial_faults scope.now name thing (option_map initial_view initial.now) ≡ []) }
+    requires { (name : Spot) × (entity : Entity) × (initial_faults scope.now name entity (option_map initial_view initial.now) ≡ []) }
     ensures { IfOk result (λ typed. IsInitial scope.now (option_map initial_view initial.now) typed) }
 {
     match initial {
@@ -258,18 +258,18 @@ fn length_in(scope: &Scope, place: &tree::Place) -> Option<u32>
 fn item_of(
     alloc: Global,
     scope: &mut Scope,
-    kind: Kind,
+    kind: VariableKind,
     item: &statement::Item,
 ) -> Result<Item, AllocError>
     requires { item_faults scope.old kind (item_view item.now) ≡ [] }
     ensures typed { IfOk result (λ typed. IsItem scope.old kind (item_view item.now) typed) }
     ensures scope { OnOk result (scope.new ≡ after_item scope.old kind (item_view item.now)) }
 {
-    let spot = place_start(&item.place);
-    let name = Bytes::from_slice(alloc, cut(scope.text(), spot))?;
+    let spot = place_first_token(&item.place);
+    let name = Bytes::from_slice(alloc, token_bytes(scope.text(), spot))?;
     let length = length_in(scope, &item.place);
-    let thing = declared_thing(scope, kind, &item.place);
-    scope.declare(spot, thing)?;
+    let entity = declared_entity(scope, kind, &item.place);
+    scope.declare(spot, entity)?;
     let initial = initial_of(alloc, scope, &item.initial)?;
     Ok(Item {
         name,

@@ -20,8 +20,8 @@ use Rattle.c_parse.specs.Parsing as parsed
 use Rattle.c_parse.specs.Parsing.{IsTree, place_of, signs_of}
 use Rattle.c_program.specs.declared.program.CProgram.{CProgram}
 use Rattle.c_check.specs.Programs.{faults}
-use Rattle.c_check_expr.specs.Least.{IsFirst, IsIn, is_less, rank}
-use Rattle.c_check_expr.specs.declared.fault.Fault.{Fault}
+use Rattle.c_check_expr.specs.Least.{IsFirst, IsIn, is_less, reason_order}
+use Rattle.c_check_expr.specs.declared.fault.TypingFault.{TypingFault}
 use Rattle.c_types.specs.Checks as x
 use Rattle.c_types.specs.Checks.{IsFaultOf, IsFirstIn, IsProgramOf}
 
@@ -31,7 +31,7 @@ why_at n =
     (w.BadByte ∷ w.BadByte ∷ w.OpenComment ∷ w.OpenText ∷ w.BadLiteral ∷ w.Unexpected ∷ w.TooDeep ∷ w.Unknown ∷ w.Twice ∷ w.WrongType ∷ w.WrongCount ∷ w.NoMain
     ∷ w.BadFormat ∷ w.LeftOut ∷ []) n w.NoMemory
 
-why_rank : (why : Why) → why_at (rank why) ≡ why
+why_rank : (why : Why) → why_at (reason_order why) ≡ why
 unfolding why_at
 why_rank w.BadByte = refl
 why_rank w.OpenComment = refl
@@ -48,19 +48,19 @@ why_rank w.BadFormat = refl
 why_rank w.LeftOut = refl
 why_rank w.NoMemory = refl
 
-same_place : (a b : Fault) → is_less a b ≡ false → is_less b a ≡ false → a.at ≡ b.at
+same_place : (a b : TypingFault) → is_less a b ≡ false → is_less b a ≡ false → a.at ≡ b.at
 same_place a b h k = grind (arith, nat_tests)
 
-same_rank : (a b : Fault) → is_less a b ≡ false → is_less b a ≡ false → rank a.why ≡ rank b.why
+same_rank : (a b : TypingFault) → is_less a b ≡ false → is_less b a ≡ false → reason_order a.why ≡ reason_order b.why
 same_rank a b h k = grind (arith, nat_tests)
 
-one_fault : (a b : Fault) → is_less a b ≡ false → is_less b a ≡ false → a ≡ b
+one_fault : (a b : TypingFault) → is_less a b ≡ false → is_less b a ≡ false → a ≡ b
 one_fault a b h k =
     let why : a.why ≡ b.why = sym (why_rank a.why) ∙ ap why_at (same_rank a b h k) ∙ why_rank b.why in
-    let fault_of : ℕ → Why → Fault = λ at one. record { at = at; why = one } in
+    let fault_of : ℕ → Why → TypingFault = λ at one. record { at = at; why = one } in
     ap (λ at. fault_of at a.why) (same_place a b h k) ∙ ap (fault_of b.at) why
 
-pub first_one : (fs : List Fault) (a b : Fault) → IsFirst fs a → IsFirst fs b → a ≡ b
+pub first_one : (fs : List TypingFault) (a b : TypingFault) → IsFirst fs a → IsFirst fs b → a ≡ b
 first_one fs a b g h = one_fault a b (h.first a g.one) (g.first b h.one)
 
 -- two refusals for one reason at one place are one
@@ -72,18 +72,18 @@ one_refusal text place first other why u v =
     let fault_of : ℕ → ℕ → Why → SourceFault = λ l c z. record { line = l; column = c; why = z } in
     ap (λ l. fault_of l first.column first.why) line ∙ ap (λ c. fault_of other.line c first.why) column ∙ ap (fault_of other.line other.column) why
 
-pub one_first : (text : List ℕ) (fs : List Fault) (found other : SourceFault) → IsFirstIn text fs found → IsFirstIn text fs other → found ≡ other
+pub one_first : (text : List ℕ) (fs : List TypingFault) (found other : SourceFault) → IsFirstIn text fs found → IsFirstIn text fs other → found ≡ other
 one_first text fs found other g h =
     let same : g.fault ≡ h.fault = first_one fs g.fault h.fault g.first h.first in
     let place : IsPlaceOf text (min (length text) h.fault.at) found.line found.column =
-    subst (λ (one : Fault). IsPlaceOf text (min (length text) one.at) found.line found.column) same g.place in
-    one_refusal text (min (length text) h.fault.at) found other (g.why ∙ ap (λ (one : Fault). one.why) same ∙ sym h.why) place h.place
+    subst (λ (one : TypingFault). IsPlaceOf text (min (length text) one.at) found.line found.column) same g.place in
+    one_refusal text (min (length text) h.fault.at) found other (g.why ∙ ap (λ (one : TypingFault). one.why) same ∙ sym h.why) place h.place
 
 -- where there is a first fault, there is one
-pub first_is_one : (text : List ℕ) (fs : List Fault) (found : SourceFault) → IsFirstIn text fs found → fs ≡ [] → ⊥
+pub first_is_one : (text : List ℕ) (fs : List TypingFault) (found : SourceFault) → IsFirstIn text fs found → fs ≡ [] → ⊥
 first_is_one text fs found g e = none_in fs g.fault g.first.one e
   where
-    none_in : (fs : List Fault) (f : Fault) → IsIn f fs → fs ≡ [] → ⊥
+    none_in : (fs : List TypingFault) (f : TypingFault) → IsIn f fs → fs ≡ [] → ⊥
     none_in [] f i e = i
     none_in (g ∷ gs) f i e = cc
 

@@ -7,10 +7,10 @@ use Rattle.c_grammar.specs.declared.statement.Top as source_top
 use Rattle.c_grammar.specs.StmtGrammar.{AreTops, IsTop, are_named, has, is_named, name_of}
 use Rattle.c_grammar.specs.StmtView.{top_view}
 use Rattle.c_grammar.specs.Tree as t
-use Rattle.c_check.specs.Programs.{after_parameter, after_parameters, after_top, declare_optional, function_faults, heads_of, is_main, main_faults, parameter_name, parameter_thing, parameters_faults, text_env, top_faults, top_twice_faults, tops_faults, with_head}
-use Rattle.c_check_expr.specs.Scopes.{Env, cut, opened}
-use Rattle.c_check_expr.specs.declared.fault.Fault.{Fault}
-use Rattle.c_check_expr.specs.declared.thing.Thing.{Thing}
+use Rattle.c_check.specs.Programs.{after_parameter, after_parameters, after_top, declare_optional, function_faults, heads_of, is_main, main_faults, parameter_name, parameter_entity, parameters_faults, text_env, top_faults, top_twice_faults, tops_faults, with_head}
+use Rattle.c_check_expr.specs.Scopes.{Env, token_bytes, opened}
+use Rattle.c_check_expr.specs.declared.fault.TypingFault.{TypingFault}
+use Rattle.c_check_expr.specs.declared.meaning.Entity.{Entity}
 use Rattle.c_lex.specs.declared.fault.Why.TheVariants.{NoMain}
 use Rattle.c_program.specs.declared.program.Function.{Function}
 use Rattle.c_program.specs.declared.program.Parameter.{Parameter}
@@ -61,11 +61,11 @@ each_named (t.parameters (t.row first more)) zero one n e =
 each_named (t.parameters (t.row first more)) (suc i) one n e = more_named more i one (both (has (name_of first)) (are_named more) n).1 e
 
 after_text : (env : Env) (main : Bool) (one : t.Parameter) → (after_parameter env main one).text ≡ env.text
-after_text env main one = by_name (parameter_name one) (parameter_thing main one)
+after_text env main one = by_name (parameter_name one) (parameter_entity main one)
   where
-    by_name : (name : Option Spot) (thing : Thing) → (declare_optional env name thing).text ≡ env.text
-    by_name None thing = refl
-    by_name (Some name) thing = refl
+    by_name : (name : Option Spot) (entity : Entity) → (declare_optional env name entity).text ≡ env.text
+    by_name None entity = refl
+    by_name (Some name) entity = refl
 
 pub parameter_text : (env now : Env) (text : List ℕ) (main : Bool) (one : t.Parameter) → now ≡ after_parameter env main one → env.text ≡ text → now.text ≡ text
 parameter_text env now text main one n e = ap (λ (here : Env). here.text) n ∙ after_text env main one ∙ e
@@ -98,7 +98,7 @@ body_faultless env first now main head parts o m n e =
     rw (n, o, m) (is_int head.result, false, none_right (parameters_faults (opened env) (is_main env.text head) (parameters_listed head.listed)) _ e)
 
 pub function_rule : (env first now : Env) (main : Bool) (head : t.Head) (parts : t.Parts) (typed : Function) → first ≡ opened env → main ≡ is_main env.text head
-    → now ≡ after_parameters first main (parameters_listed head.listed) → typed.name ≡ cut env.text head.name → typed.gives ≡ is_int head.result
+    → now ≡ after_parameters first main (parameters_listed head.listed) → typed.name ≡ token_bytes env.text head.name → typed.gives ≡ is_int head.result
     → AreParameters first.text (parameters_listed head.listed) typed.parameters.items → AreParts now parts typed.body.items → IsFunction env head parts typed
 function_rule env first now main head parts typed o m n name gives parameters body = record {
   name = name;
@@ -211,9 +211,9 @@ main_left text tops i one less is m e =
 pub main_none : (text : List ℕ) (tops : List source_top.Top) (i : ℕ) → length tops ≤ i → list_any (is_main text) (heads_of (map top_view (drop i tops))) ≡ true → ⊥
 main_none text tops i past e = let none : list_any (is_main text) [] ≡ true = rw (drop_past tops i past) at e in cc
 
-pub has_main : (text : List ℕ) (tree : t.Tree) (others : List Fault) → others ++ main_faults text tree ≡ [] → list_any (is_main text) (heads_of tree) ≡ true
+pub has_main : (text : List ℕ) (tree : t.Tree) (others : List TypingFault) → others ++ main_faults text tree ≡ [] → list_any (is_main text) (heads_of tree) ≡ true
 has_main text tree others e = by_test (list_any (is_main text) (heads_of tree)) (record { at = length text; why = NoMain }) (none_right others _ e)
   where
-    by_test : (b : Bool) (none : Fault) → (if b then [] else none ∷ []) ≡ [] → b ≡ true
+    by_test : (b : Bool) (none : TypingFault) → (if b then [] else none ∷ []) ≡ [] → b ≡ true
     by_test true none e = refl
     by_test false none e = absurd (cc)

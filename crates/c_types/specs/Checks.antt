@@ -12,11 +12,11 @@ use Rattle.c_program.specs.declared.program.CProgram.{CProgram}
 use Rattle.c_types.specs.Programs.{IsProgram}
 use Rattle.c_check.specs.Programs.{faults}
 use Rattle.c_check_expr.specs.Least.{IsFirst}
-use Rattle.c_check_expr.specs.declared.fault.Fault.{Fault}
+use Rattle.c_check_expr.specs.declared.fault.TypingFault.{TypingFault}
 
 -- a token lies in its text, so the least of the two is its place
-pub record IsFirstIn (text : List ℕ) (faults : List Fault) (found : SourceFault) : Type 0 where
-  pub fault : Fault
+pub record IsFirstIn (text : List ℕ) (faults : List TypingFault) (found : SourceFault) : Type 0 where
+  pub fault : TypingFault
   pub first : IsFirst faults fault
   pub place : IsPlaceOf text (min (length text) fault.at) found.line found.column
   pub why : found.why ≡ fault.why

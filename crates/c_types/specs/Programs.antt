@@ -10,7 +10,7 @@ use Rattle.c_program.specs.declared.program.Parameter.{Parameter}
 use Rattle.c_program.specs.declared.program.ParameterKind.{ParameterKind}
 use Rattle.c_program.specs.declared.program.ParameterKind.TheVariants as k
 use Rattle.c_check.specs.Programs.{after_parameters, after_top, heads_of, is_main, parameter_name, text_env}
-use Rattle.c_check_expr.specs.Scopes.{Env, cut, opened}
+use Rattle.c_check_expr.specs.Scopes.{Env, token_bytes, opened}
 use Rattle.c_check_expr.specs.Signatures.{is_int, parameters_listed}
 use Rattle.c_type_stmt.specs.Statements.{AreParts}
 
@@ -25,7 +25,7 @@ parameter_kind (t.text_array word star name opening closing) = k.Texts
 pub record IsParameter (text : List ℕ) (one : t.Parameter) (typed : Parameter) : Type 0 where
   pub name : Spot
   pub named : parameter_name one ≡ Some name
-  pub name_is : typed.name ≡ cut text name
+  pub name_is : typed.name ≡ token_bytes text name
   pub kind_is : typed.kind ≡ parameter_kind one
 
 pub data AreParameters (text : List ℕ) : List t.Parameter → List Parameter → Type 0 where
@@ -35,7 +35,7 @@ pub data AreParameters (text : List ℕ) : List t.Parameter → List Parameter �
 
 -- parameters share the scope of the function's block
 pub record IsFunction (env : Env) (head : t.Head) (parts : t.Parts) (typed : Function) : Type 0 where
-  pub name : typed.name ≡ cut env.text head.name
+  pub name : typed.name ≡ token_bytes env.text head.name
   pub gives : typed.gives ≡ is_int head.result
   pub parameters : AreParameters env.text (parameters_listed head.listed) typed.parameters.items
   pub body : AreParts (after_parameters (opened env) (is_main env.text head) (parameters_listed head.listed)) parts typed.body.items

@@ -14,18 +14,18 @@ ghost use Rattle.c_types.specs.Checks.{IsFaultOf, IsFirstIn, IsProgramOf};
 ghost use Rattle.c_types.specs.Programs.{AreFunctions, AreParameters, IsFunction, IsFunctionOf, IsParameter, IsProgram, parameter_kind};
 
 use c_type_stmt::statement_of::parts_of;
-use c_check_call::call::{is_int, parameter_at, parameter_count};
+use c_check::call::{is_int, parameter_at, parameter_count};
 use c_check::program::{
-    define_value, first_fault, is_main, parameter_name, parameter_thing, text_scope,
+    define_value, first_fault, is_main, parameter_name, parameter_entity, text_scope,
 };
 use c_grammar::statement;
 use c_grammar::statement::{Head, Top, Tree};
 use c_lex::{SourceFault, fault_at, tokens};
 use c_parse::parse;
 use c_program::program::{CProgram, Function, Parameter, ParameterKind};
-use c_check_expr::fault::Fault;
-use c_check_expr::scope::{Scope, cut};
-use c_check_expr::thing::Thing;
+use c_check_expr::fault::TypingFault;
+use c_check_expr::scope::{Scope, token_bytes};
+use c_check_expr::meaning::Entity;
 use std::alloc::{AllocError, Global};
 use wiz_base::Bytes;
 
@@ -56,8 +56,8 @@ fn parameter_of(
     let Some(spot) = parameter_name(parameter) else {
         unreachable!()
     };
-    let name = Bytes::from_slice(alloc, cut(scope.text(), spot))?;
-    scope.declare(spot, parameter_thing(main, parameter))?;
+    let name = Bytes::from_slice(alloc, token_bytes(scope.text(), spot))?;
+    scope.declare(spot, parameter_entity(main, parameter))?;
     Ok(Parameter {
         name,
         kind: parameter_kind(parameter),
@@ -97,7 +97,7 @@ fn function_of(
     ensures typed { IfOk result (λ typed. IsFunction scope.old (head_view head.now) (parts_view parts.now) typed) }
     ensures scope { OnOk result (scope.new ≡ scope.old) }
 {
-    let name = Bytes::from_slice(alloc, cut(scope.text(), head.name))?;
+    let name = Bytes::from_slice(alloc, token_bytes(scope.text(), head.name))?;
     let main = is_main(scope.text(), head);
     scope.open()?;
     let parameters = parameters_of(alloc, scope, main, head)?;
@@ -121,7 +121,7 @@ fn top_of(alloc: Global, scope: &mut Scope, top: &Top) -> Result<Option<Function
     match top {
         Top::Define { name, value, .. } => {
             let text = scope.text();
-            scope.declare(*name, Thing::Define(define_value(text, value)))?;
+            scope.declare(*name, Entity::Define(define_value(text, value)))?;
             Ok(None)
         }
         Top::Function { head, parts, .. } => Ok(Some(function_of(alloc, scope, head, parts)?)),
@@ -205,7 +205,7 @@ fn program_of(alloc: Global, text: &[u8], tree: &Tree) -> Result<CProgram, Alloc
 }
 
 /// A fault with its line and column.
-fn refused(text: &[u8], fault: Fault) -> SourceFault
+fn refused(text: &[u8], fault: TypingFault) -> SourceFault
     requires { length text.now ≤ 65536 }
     ensures place { IsPlaceOf text.now (min (length text.now) fault.at) result.line result.column }
     ensures why { result.why ≡ fault.why }

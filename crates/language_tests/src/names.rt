@@ -1,7 +1,7 @@
 //! Values worked out by hand.
 use c_names::format::{count_ints, pieces};
 use c_names::function::{ArgumentKind, accepts, arguments};
-use c_names::operator::{Operator, Sign, apply, apply_sign};
+use c_names::operator::{Operator, UnaryOperator, apply, apply_unary};
 use c_names::predefined::{Predefined, meaning_of};
 use std::alloc::{AllocError, Global};
 use std::test::Fail;
@@ -54,8 +54,8 @@ fn operators_wrap(rt: HostRuntime) {
     for &(operator, left, right, expected) in &OPERATIONS {
         assert_eq!(rt; apply(operator, left, right), expected);
     }
-    assert_eq!(rt; apply_sign(Sign::Complement, 0), -1);
-    assert_eq!(rt; apply_sign(Sign::Not, 5), 0);
+    assert_eq!(rt; apply_unary(UnaryOperator::Complement, 0), -1);
+    assert_eq!(rt; apply_unary(UnaryOperator::Not, 5), 0);
 }
 
 #[test]

@@ -1,6 +1,6 @@
 //! A store to begin with.
 use c_run_cells::store::{Store, width_of};
-use c_names::kind::Kind;
+use c_names::kind::VariableKind;
 use std::alloc::Global;
 use std::test::Fail;
 use wiz_base::Bytes;
@@ -10,7 +10,7 @@ use wiz_base::Bytes;
 pub fn declare<'p>(
     store: &mut Store<'p>,
     name: &'p Bytes,
-    kind: Kind,
+    kind: VariableKind,
     elements: u32,
 ) -> Result<(), Fail> {
     if !store.has_room(elements as usize * width_of(kind) as usize) {
@@ -23,6 +23,6 @@ pub fn declare<'p>(
 /// A store with one array of ints.
 pub fn with_array<'p>(alloc: Global, name: &'p Bytes, elements: u32) -> Result<Store<'p>, Fail> {
     let mut store = Store::new(alloc)?;
-    declare(&mut store, name, Kind::Int, elements)?;
+    declare(&mut store, name, VariableKind::Int, elements)?;
     Ok(store)
 }

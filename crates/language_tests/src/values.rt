@@ -3,7 +3,7 @@ use crate::stores::declare;
 use c_run_cells::print::text_of;
 use c_run_cells::store::Store;
 use c_names::format::pieces;
-use c_names::kind::Kind;
+use c_names::kind::VariableKind;
 use c_names::operator::Operator;
 use c_program::expr::{Expr, Link, Place};
 use mpi_call::call::Fault;
@@ -121,7 +121,7 @@ fn check_block<'p>(
     name: &'p Bytes,
 ) -> Result<(), Fail> {
     let outside = store.mark();
-    declare(store, name, Kind::Int, 3)?;
+    declare(store, name, VariableKind::Int, 3)?;
     store.put(2, 7);
     check_elements(rt, store)?;
     let variables = store.variables(rt.alloc())?.as_slice().len();

@@ -1,7 +1,7 @@
 use Rattle.std.proofs.Common.{◌∙◌, ap, map}
 use Rattle.c_grammar.proofs.Viewed.{view-chain, view-choice, view-field, view-number, view-paren, view-read, view-unary}
 use Rattle.c_grammar.specs.View.{links_from, piece, view}
-use Rattle.c_check_expr.specs.Constants.{chosen, constant_of, links_constant, sign_of, signed_constant}
+use Rattle.c_check_expr.specs.Constants.{chosen, constant_of, links_constant, unary_of, unary_constant}
 use Rattle.c_check_expr.proofs.constant.+constant.Goals as goal
 
 pub constant_of-returns-in-Read : goal.constant_of-returns-in-Read
@@ -16,8 +16,8 @@ constant_of-returns-in-Paren t c = rw (c.in-Paren.is, view-paren) (rw c.deref.en
 pub constant_of-returns-in-Unary : goal.constant_of-returns-in-Unary
 constant_of-returns-in-Unary t c =
     rw (c.in-Unary.is, view-unary)
-    (c.signed_constant.ensures ∙ ap (λ sign. signed_constant sign c.constant_of-in-Unary.result) c.sign_of.ensures
-    ∙ ap (signed_constant (sign_of c.in-Unary.sign)) (rw c.deref-in-Unary.ensures at c.constant_of-in-Unary.ensures))
+    (c.unary_constant.ensures ∙ ap (λ sign. unary_constant sign c.constant_of-in-Unary.result) c.unary_of.ensures
+    ∙ ap (unary_constant (unary_of c.in-Unary.sign)) (rw c.deref-in-Unary.ensures at c.constant_of-in-Unary.ensures))
 
 pub constant_of-returns-in-Chain : goal.constant_of-returns-in-Chain
 constant_of-returns-in-Chain t c =

@@ -1,6 +1,6 @@
 use Rattle.std.proofs.Common.{sym}
 use Rattle.c_grammar.specs.StmtView.{argument_view, call_view, head_view, parameter_view, parameters_view}
-use Rattle.c_check_call.specs.Calls.{arguments_of}
+use Rattle.c_check.specs.Calls.{arguments_of}
 use Rattle.c_check_expr.specs.Signatures.{parameter_takes, parameters_listed, signature_of}
 use Rattle.c_type_expr.proofs.ArgumentRules.{arguments_end, arguments_more, kind_at, more_faults, one_fault}
 use Rattle.c_type_expr.proofs.call_of.arguments_of.Goals as goal

@@ -1,7 +1,7 @@
 use Rattle.std.proofs.Common.{◌≡◌, ◌++◌, List, [], drop}
 use Rattle.c_grammar.specs.StmtView.{call_view, head_view}
 use Rattle.c_program.specs.declared.expr.Argument.{Argument}
-use Rattle.c_check_call.specs.Calls.{arguments_faults, arguments_of}
+use Rattle.c_check.specs.Calls.{arguments_faults, arguments_of}
 use Rattle.c_check_expr.specs.Signatures.{signature_of}
 use Rattle.c_type_expr.specs.Calls.{AreArguments}
 use Rattle.c_type_expr.proofs.call_of.arguments_of.Given as goal

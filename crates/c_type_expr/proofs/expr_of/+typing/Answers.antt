@@ -1,6 +1,6 @@
 use Rattle.std.proofs.Common.{rules, ◌≡◌, ◌∙◌, ap, arith}
 use Rattle.std.proofs.lemmas.Grind.{common_steps}
-use Rattle.c_check_expr.specs.Scopes.{cut}
+use Rattle.c_check_expr.specs.Scopes.{token_bytes}
 use Rattle.c_type_expr.specs.Exprs.{field_of}
 use Rattle.c_type_expr.proofs.ExprRules.{number_rule, value_rule, read_rule, field_rule, paren_rule, signed_rule, chain_rule, choice_rule, whole_rule, element_rule, links_more, links_end}
 use Rattle.c_type_expr.proofs.expr_of.+typing.Goals as goal
@@ -18,7 +18,7 @@ expr_of-returns-in_ok-place_of-in-None t c =
 
 pub expr_of-returns-in_ok-place_of-in-Field : goal.expr_of-returns-in_ok-place_of-in-Field
 expr_of-returns-in_ok-place_of-in-Field t c =
-    let e : c.cut.result.now ≡ cut c.args.scope.now.text c.in-Field.name = cc (c.cut.ensures, c.text-in-Field.ensures) in
+    let e : c.token_bytes.result.now ≡ token_bytes c.args.scope.now.text c.in-Field.name = cc (c.token_bytes.ensures, c.text-in-Field.ensures) in
     field_rule c.args.scope.now c.args.e.now c.in-Field.place c.in-Field.dot c.in-Field.name c.in_ok-place_of-in-Field.field-0 c.field_of.result c.in-Field.is
     (c.field_of.ensures ∙ ap field_of e) c.in_ok-place_of-in-Field.ensures
 
@@ -28,7 +28,7 @@ expr_of-returns-in_ok-typed-in-Paren t c =
 
 pub expr_of-returns-in_ok-boxed_of-in-Unary : goal.expr_of-returns-in_ok-boxed_of-in-Unary
 expr_of-returns-in_ok-boxed_of-in-Unary t c =
-    signed_rule c.args.scope.now c.args.e.now c.in-Unary.sign c.in-Unary.at c.in-Unary.operand c.sign_of.result c.in_ok-boxed_of-in-Unary.field-0 c.in-Unary.is c.sign_of.ensures
+    signed_rule c.args.scope.now c.args.e.now c.in-Unary.sign c.in-Unary.at c.in-Unary.operand c.unary_of.result c.in_ok-boxed_of-in-Unary.field-0 c.in-Unary.is c.unary_of.ensures
     (rw c.deref-in-Unary.ensures at c.in_ok-boxed_of-in-Unary.ensures)
 
 pub expr_of-returns-in_ok-links_of-in-Chain : goal.expr_of-returns-in_ok-links_of-in-Chain

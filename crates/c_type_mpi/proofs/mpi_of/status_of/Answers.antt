@@ -6,7 +6,7 @@ use Rattle.c_type_mpi.proofs.mpi_of.status_of.Goals as goal
 
 pub returns-then-is_some : goal.returns-then-is_some
 returns-then-is_some c =
-    ignored_rule c.args.scope.now (argument_view c.args.argument.now) c.word_of.result c.word_of.ensures c.requires (sym c.is_some.ensures ∙ c.if-is_some.true)
+    ignored_rule c.args.scope.now (argument_view c.args.argument.now) c.predefined_of.result c.predefined_of.ensures c.requires (sym c.is_some.ensures ∙ c.if-is_some.true)
 
 pub returns : goal.returns
 returns c = y.kept c.in_ok-typed.ensures

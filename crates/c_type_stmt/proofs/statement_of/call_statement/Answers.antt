@@ -1,7 +1,7 @@
 use Rattle.std.proofs.Common.{◌≡◌, ap, sym, ◌∙◌}
 use Rattle.c_names.specs.declared.predefined.Predefined.TheVariants as p
 use Rattle.c_check_expr.specs.Scopes.{meaning}
-use Rattle.c_check_expr.specs.declared.thing.Meaning.TheVariants as m
+use Rattle.c_check_expr.specs.declared.meaning.Meaning.TheVariants as m
 use Rattle.c_type_mpi.proofs.MpiRules.{of_ok}
 use Rattle.c_type_stmt.specs.Statements as x
 use Rattle.c_type_stmt.proofs.statement_of.call_statement.Goals as goal

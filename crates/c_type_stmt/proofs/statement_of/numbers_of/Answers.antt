@@ -1,6 +1,6 @@
 use Rattle.std.proofs.Common.{sym}
 use Rattle.c_grammar.specs.StmtView.{argument_view, call_view}
-use Rattle.c_check_call.specs.Calls.{arguments_of}
+use Rattle.c_check.specs.Calls.{arguments_of}
 use Rattle.c_type_stmt.proofs.SimpleRules.{number_shape, numbers_end, numbers_more, numbers_rest}
 use Rattle.c_type_stmt.proofs.statement_of.numbers_of.Goals as goal
 

@@ -1,7 +1,7 @@
 use Rattle.std.proofs.Common.{◌≡◌, ◌++◌, List, [], drop}
 use Rattle.c_grammar.specs.StmtView.{call_view}
 use Rattle.c_program.specs.declared.expr.Expr.{Expr}
-use Rattle.c_check_call.specs.Calls.{arguments_of, numbers_faults}
+use Rattle.c_check.specs.Calls.{arguments_of, numbers_faults}
 use Rattle.c_type_stmt.specs.Statements.{AreValues}
 use Rattle.c_type_stmt.proofs.statement_of.numbers_of.Given as goal
 

@@ -1,5 +1,5 @@
 use Rattle.c_grammar.specs.StmtView.{call_view}
-use Rattle.c_check_call.specs.Calls.{arguments_of}
+use Rattle.c_check.specs.Calls.{arguments_of}
 use Rattle.c_type_stmt.proofs.SimpleRules.{format_tells, print_rule, print_tells}
 use Rattle.c_type_stmt.proofs.statement_of.print_of.Goals as goal
 

@@ -3,19 +3,19 @@ ghost use Rattle.std.specs.Prelude.{◌≡◌};
 ghost use Rattle.c_check_expr.specs.Kinds.{kind_of_word};
 
 use c_grammar::word::Word;
-use c_names::kind::Kind;
+use c_names::kind::VariableKind;
 use c_names::predefined::Predefined;
 
 /// What a program declares.
 #[derive(Clone, Copy)]
-pub enum Thing {
+pub enum Entity {
     /// By its number among the text's functions.
     Function(usize),
     Define(i32),
     /// A variable that is no array, or such a parameter.
-    Variable(Kind),
+    Variable(VariableKind),
     /// An array; 0 stands for a length that is none.
-    Array(Kind, u32),
+    Array(VariableKind, u32),
     /// A parameter that is an array.
     ArrayParameter,
     /// The two parameters of main.
@@ -27,7 +27,7 @@ pub enum Thing {
 #[derive(Clone, Copy)]
 pub enum Meaning {
     Known(Predefined),
-    Declared(Thing),
+    Declared(Entity),
     /// A name of MPI that this language leaves out.
     LeftOut,
     Unknown,
@@ -36,7 +36,7 @@ pub enum Meaning {
 /// What an expression is.
 #[derive(Clone, Copy)]
 pub enum ExprKind {
-    Of(Kind),
+    Of(VariableKind),
     /// `MPI_REQUEST_NULL`.
     NullRequest,
     /// None of these, as the name of an array.
@@ -46,13 +46,13 @@ pub enum ExprKind {
 }
 
 /// The word of a declaration.
-pub fn kind_of_word(word: Word) -> Kind
+pub fn kind_of_word(word: Word) -> VariableKind
     ensures { result ≡ kind_of_word word }
 {
     match word {
-        Word::Status => Kind::Status,
-        Word::Request => Kind::Request,
-        Word::Communicator => Kind::Communicator,
-        _ => Kind::Int,
+        Word::Status => VariableKind::Status,
+        Word::Request => VariableKind::Request,
+        Word::Communicator => VariableKind::Communicator,
+        _ => VariableKind::Int,
     }
 }

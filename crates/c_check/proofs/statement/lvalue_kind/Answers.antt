@@ -1,7 +1,7 @@
 use Rattle.std.proofs.Common.{◌∙◌, ap}
 use Rattle.c_grammar.proofs.Viewed.{view-cell, view-whole}
 use Rattle.c_check_expr.specs.Kinds.{cell_kind, target_kind}
-use Rattle.c_check.proofs.statement.goal_kind.Goals as goal
+use Rattle.c_check.proofs.statement.lvalue_kind.Goals as goal
 
 pub returns-in-Whole : goal.returns-in-Whole
 returns-in-Whole c = rw (c.in-Whole.is, view-whole) (c.target_kind.ensures ∙ ap target_kind c.meaning.ensures)

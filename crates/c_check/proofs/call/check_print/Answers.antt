@@ -1,8 +1,8 @@
 use Rattle.std.proofs.Common.{sym}
 use Rattle.c_grammar.specs.StmtView.{argument_view, call_view}
-use Rattle.c_check_call.specs.Calls.{arguments_of}
-use Rattle.c_check_call.proofs.Arguments.{numbers_next}
-use Rattle.c_check_call.proofs.call.check_print.Goals as goal
+use Rattle.c_check.specs.Calls.{arguments_of}
+use Rattle.c_check.proofs.Arguments.{numbers_next}
+use Rattle.c_check.proofs.call.check_print.Goals as goal
 
 pub loop-place-preserved : goal.loop-place-preserved
 loop-place-preserved c =

@@ -3,8 +3,8 @@ use Rattle.c_grammar.specs.StmtView.{call_view}
 use Rattle.c_check_expr.specs.Least.{least_from}
 use Rattle.c_check_expr.specs.Scopes.{meaning}
 use Rattle.c_check_expr.proofs.Wanted.{both}
-use Rattle.c_check_call.specs.Calls.{call_faults, result_faults}
-use Rattle.c_check_call.proofs.call.want_right.Goals as goal
+use Rattle.c_check.specs.Calls.{call_faults, result_faults}
+use Rattle.c_check.proofs.call.want_right.Goals as goal
 
 pub returns-in-Call : goal.returns-in-Call
 returns-in-Call c =

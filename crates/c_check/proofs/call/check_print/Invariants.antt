@@ -1,8 +1,8 @@
 use Rattle.std.proofs.Common.{◌≡◌, drop}
 use Rattle.c_grammar.specs.StmtView.{call_view}
-use Rattle.c_check_call.specs.Calls.{arguments_of, numbers_faults}
+use Rattle.c_check.specs.Calls.{arguments_of, numbers_faults}
 use Rattle.c_check_expr.specs.Least.{least_from}
-use Rattle.c_check_call.proofs.call.check_print.Given as goal
+use Rattle.c_check.proofs.call.check_print.Given as goal
 
 abbrev pub invariant-loop-place : goal.invariant-loop-place
 invariant-loop-place l =

@@ -2,8 +2,8 @@
 ghost use Rattle.std.specs.Prelude.{◌≡◌, ◌++◌, ◌||◌, length, map, option_map, slice_get};
 ghost use Rattle.c_grammar.specs.StmtView.{argument_view, call_view, head_view, parameter_view, parameters_view, right_view};
 ghost use Rattle.c_grammar.specs.View.{links_from, piece, place_view, view};
-ghost use Rattle.c_check_call.specs.Calls.{accepts_own, accepts_word, address_faults, argument_faults, array_faults, array_sum, arguments_faults, arguments_of, call_faults, counted_faults, first_is_null, format_faults, gives_int, inside, is_array_name, is_array_of, is_nameless, is_own, is_place_of, is_plus, meant_faults, misfit_faults, mpi_takes, name_alone, name_word, numbers_faults, print_faults, reference_faults, result_faults, right_faults, right_start, sum_base, sum_faults, takes, unaccepted_faults, value_faults, word_meant, word_of};
-ghost use Rattle.c_check_call.specs.CallView.{takes_view};
+ghost use Rattle.c_check.specs.Calls.{accepts_own, accepts_predefined, address_faults, argument_faults, array_faults, array_sum, arguments_faults, arguments_of, call_faults, counted_faults, first_is_null, format_faults, gives_int, inside, is_array_name, is_array_of, is_nameless, is_own, is_place_of, is_plus, meant_faults, misfit_faults, mpi_takes, name_alone, name_predefined, numbers_faults, print_faults, reference_faults, result_faults, right_faults, right_first_token, sum_base, sum_faults, takes, unaccepted_faults, value_faults, predefined_meant, predefined_of};
+ghost use Rattle.c_check.specs.CallView.{takes_view};
 ghost use Rattle.c_lex.specs.declared.fault.Why.TheVariants.{WrongType};
 ghost use Rattle.c_check_expr.specs.Least.{least_from, unless};
 ghost use Rattle.c_check_expr.specs.Scopes.{meaning, name_faults};
@@ -15,19 +15,19 @@ use c_grammar::word::{Spot, Word};
 use c_lex::Why;
 use c_names::format::count_ints;
 use c_names::function::{ArgumentKind, MpiFunction, accepts, arguments};
-use c_names::kind::Kind;
+use c_names::kind::VariableKind;
 use c_names::predefined::Predefined;
 use c_check_expr::expression::{want_expr, want_int};
-use c_check_expr::fault::{Fault, note_at, note_unless};
-use c_check_expr::kind::{is_same_kind, start_of, want_kind};
+use c_check_expr::fault::{TypingFault, note_at, note_unless};
+use c_check_expr::kind::{is_same_kind, first_token, want_kind};
 use c_check_expr::row::{item_at, item_count};
-use c_check_expr::scope::{Scope, cut, want_meaning};
-use c_check_expr::thing::{ExprKind, Meaning, Thing};
+use c_check_expr::scope::{Scope, token_bytes, want_meaning};
+use c_check_expr::meaning::{ExprKind, Meaning, Entity};
 
 // ---- one argument
 
-fn word_meant(meaning: Meaning) -> Option<Predefined>
-    ensures { result ≡ word_meant meaning }
+fn predefined_meant(meaning: Meaning) -> Option<Predefined>
+    ensures { result ≡ predefined_meant meaning }
 {
     match meaning {
         Meaning::Known(known) => Some(known),
@@ -35,27 +35,27 @@ fn word_meant(meaning: Meaning) -> Option<Predefined>
     }
 }
 
-fn name_word(scope: &Scope, name: Option<Spot>) -> Option<Predefined>
-    ensures { result ≡ name_word scope.now name }
+fn name_predefined(scope: &Scope, name: Option<Spot>) -> Option<Predefined>
+    ensures { result ≡ name_predefined scope.now name }
 {
     match name {
-        Some(name) => word_meant(scope.meaning(name)),
+        Some(name) => predefined_meant(scope.meaning(name)),
         None => None,
     }
 }
 
 /// The predefined name that an argument is.
-pub fn word_of(scope: &Scope, argument: &Argument) -> Option<Predefined>
-    ensures { result ≡ word_of scope.now (argument_view argument.now) }
+pub fn predefined_of(scope: &Scope, argument: &Argument) -> Option<Predefined>
+    ensures { result ≡ predefined_of scope.now (argument_view argument.now) }
 {
     match argument {
-        Argument::Value(e) => name_word(scope, name_alone(e)),
+        Argument::Value(e) => name_predefined(scope, name_alone(e)),
         _ => None,
     }
 }
 
-fn accepts_word(kind: ArgumentKind, word: Option<Predefined>) -> bool
-    ensures { result ≡ accepts_word kind word }
+fn accepts_predefined(kind: ArgumentKind, word: Option<Predefined>) -> bool
+    ensures { result ≡ accepts_predefined kind word }
 {
     match word {
         Some(known) => accepts(kind, known),
@@ -67,8 +67,8 @@ fn is_own(kind: ArgumentKind, meaning: Meaning) -> bool
     ensures { result ≡ is_own kind meaning }
 {
     match (kind, meaning) {
-        (ArgumentKind::ArgumentCount, Meaning::Declared(Thing::ArgumentCount)) => true,
-        (ArgumentKind::ArgumentTexts, Meaning::Declared(Thing::ArgumentTexts)) => true,
+        (ArgumentKind::ArgumentCount, Meaning::Declared(Entity::ArgumentCount)) => true,
+        (ArgumentKind::ArgumentTexts, Meaning::Declared(Entity::ArgumentTexts)) => true,
         _ => false,
     }
 }
@@ -87,7 +87,7 @@ fn accepts_own(scope: &Scope, kind: ArgumentKind, argument: &Argument) -> bool
 }
 
 /// An argument that is not what is wanted.
-fn misfit(best: &mut Option<Fault>, scope: &Scope, argument: &Argument)
+fn misfit(best: &mut Option<TypingFault>, scope: &Scope, argument: &Argument)
     ensures { best.new ≡ least_from best.old (misfit_faults scope.now (argument_view argument.now)) }
 {
     match argument {
@@ -98,7 +98,7 @@ fn misfit(best: &mut Option<Fault>, scope: &Scope, argument: &Argument)
 }
 
 /// An expression of a kind is wanted.
-fn want_value(best: &mut Option<Fault>, scope: &Scope, wanted: ExprKind, argument: &Argument)
+fn want_value(best: &mut Option<TypingFault>, scope: &Scope, wanted: ExprKind, argument: &Argument)
     ensures { best.new ≡ least_from best.old (value_faults scope.now wanted (argument_view argument.now)) }
 {
     match argument {
@@ -107,22 +107,22 @@ fn want_value(best: &mut Option<Fault>, scope: &Scope, wanted: ExprKind, argumen
     }
 }
 
-pub fn is_array_of(wanted: Kind, meaning: Meaning) -> bool
+pub fn is_array_of(wanted: VariableKind, meaning: Meaning) -> bool
     ensures { result ≡ is_array_of wanted meaning }
 {
     match meaning {
-        Meaning::Declared(Thing::Array(kind, _)) => is_same_kind(wanted, kind),
-        Meaning::Declared(Thing::ArrayParameter) => is_same_kind(wanted, Kind::Int),
+        Meaning::Declared(Entity::Array(kind, _)) => is_same_kind(wanted, kind),
+        Meaning::Declared(Entity::ArrayParameter) => is_same_kind(wanted, VariableKind::Int),
         _ => false,
     }
 }
 
-fn is_place_of(wanted: Kind, meaning: Meaning) -> bool
+fn is_place_of(wanted: VariableKind, meaning: Meaning) -> bool
     ensures { result ≡ is_place_of wanted meaning }
 {
     match meaning {
-        Meaning::Declared(Thing::Variable(kind)) => is_same_kind(wanted, kind),
-        Meaning::Declared(Thing::ArgumentCount) => is_same_kind(wanted, Kind::Int),
+        Meaning::Declared(Entity::Variable(kind)) => is_same_kind(wanted, kind),
+        Meaning::Declared(Entity::ArgumentCount) => is_same_kind(wanted, VariableKind::Int),
         _ => is_array_of(wanted, meaning),
     }
 }
@@ -200,7 +200,7 @@ pub fn array_sum(e: &Expr) -> Option<(Spot, &Expr)>
     }
 }
 
-fn is_array_name(scope: &Scope, wanted: Kind, name: Option<Spot>) -> bool
+fn is_array_name(scope: &Scope, wanted: VariableKind, name: Option<Spot>) -> bool
     ensures { result ≡ is_array_name scope.now wanted name }
 {
     match name {
@@ -211,9 +211,9 @@ fn is_array_name(scope: &Scope, wanted: Kind, name: Option<Spot>) -> bool
 
 /// What is added to the name of an array.
 fn want_sum(
-    best: &mut Option<Fault>,
+    best: &mut Option<TypingFault>,
     scope: &Scope,
-    wanted: Kind,
+    wanted: VariableKind,
     e: &Expr,
     sum: Option<(Spot, &Expr)>,
 )
@@ -232,7 +232,7 @@ fn want_sum(
 }
 
 /// The name of an array, or such a name and an operand behind `+`.
-fn want_array(best: &mut Option<Fault>, scope: &Scope, wanted: Kind, e: &Expr)
+fn want_array(best: &mut Option<TypingFault>, scope: &Scope, wanted: VariableKind, e: &Expr)
     ensures { best.new ≡ least_from best.old (array_faults scope.now wanted (view e.now)) }
 {
     if !is_array_name(scope, wanted, name_alone(e)) {
@@ -242,7 +242,7 @@ fn want_array(best: &mut Option<Fault>, scope: &Scope, wanted: Kind, e: &Expr)
 
 /// A name behind `&`, and whether it fits there.
 #[tactic(auto, using(c_check_expr::proofs::Least::least_from_append))]
-fn want_referred(best: &mut Option<Fault>, meaning: Meaning, name: Spot, fits: bool, mark: Spot)
+fn want_referred(best: &mut Option<TypingFault>, meaning: Meaning, name: Spot, fits: bool, mark: Spot)
     ensures { best.new ≡ least_from best.old (name_faults meaning name ++ unless (is_nameless meaning || fits) mark WrongType) }
 {
     want_meaning(best, meaning, name);
@@ -250,7 +250,7 @@ fn want_referred(best: &mut Option<Fault>, meaning: Meaning, name: Spot, fits: b
 }
 
 /// A place behind `&`.
-fn want_address(best: &mut Option<Fault>, scope: &Scope, wanted: Kind, mark: Spot, place: &Place)
+fn want_address(best: &mut Option<TypingFault>, scope: &Scope, wanted: VariableKind, mark: Spot, place: &Place)
     ensures { best.new ≡ least_from best.old (address_faults scope.now wanted mark (place_view place.now)) }
 {
     match place {
@@ -267,7 +267,7 @@ fn want_address(best: &mut Option<Fault>, scope: &Scope, wanted: Kind, mark: Spo
 }
 
 /// A reference to cells of one kind.
-fn want_reference(best: &mut Option<Fault>, scope: &Scope, wanted: Kind, argument: &Argument)
+fn want_reference(best: &mut Option<TypingFault>, scope: &Scope, wanted: VariableKind, argument: &Argument)
     ensures { best.new ≡ least_from best.old (reference_faults scope.now wanted (argument_view argument.now)) }
 {
     match argument {
@@ -277,33 +277,33 @@ fn want_reference(best: &mut Option<Fault>, scope: &Scope, wanted: Kind, argumen
     }
 }
 
-fn want_unaccepted(best: &mut Option<Fault>, scope: &Scope, kind: ArgumentKind, argument: &Argument)
+fn want_unaccepted(best: &mut Option<TypingFault>, scope: &Scope, kind: ArgumentKind, argument: &Argument)
     ensures { best.new ≡ least_from best.old (unaccepted_faults scope.now kind (argument_view argument.now)) }
 {
     match kind {
-        ArgumentKind::Number => want_value(best, scope, ExprKind::Of(Kind::Int), argument),
+        ArgumentKind::Number => want_value(best, scope, ExprKind::Of(VariableKind::Int), argument),
         ArgumentKind::Communicator => {
-            want_value(best, scope, ExprKind::Of(Kind::Communicator), argument)
+            want_value(best, scope, ExprKind::Of(VariableKind::Communicator), argument)
         }
         ArgumentKind::Buffer | ArgumentKind::Ints => {
-            want_reference(best, scope, Kind::Int, argument)
+            want_reference(best, scope, VariableKind::Int, argument)
         }
         ArgumentKind::NewCommunicator => {
-            want_reference(best, scope, Kind::Communicator, argument)
+            want_reference(best, scope, VariableKind::Communicator, argument)
         }
-        ArgumentKind::Requests => want_reference(best, scope, Kind::Request, argument),
+        ArgumentKind::Requests => want_reference(best, scope, VariableKind::Request, argument),
         ArgumentKind::Status | ArgumentKind::Statuses => {
-            want_reference(best, scope, Kind::Status, argument)
+            want_reference(best, scope, VariableKind::Status, argument)
         }
         _ => misfit(best, scope, argument),
     }
 }
 
 /// An argument, by what it has to be.
-fn check_argument(best: &mut Option<Fault>, scope: &Scope, kind: ArgumentKind, argument: &Argument)
+fn check_argument(best: &mut Option<TypingFault>, scope: &Scope, kind: ArgumentKind, argument: &Argument)
     ensures { best.new ≡ least_from best.old (argument_faults scope.now kind (argument_view argument.now)) }
 {
-    let accepted = accepts_word(kind, word_of(scope, argument))
+    let accepted = accepts_predefined(kind, predefined_of(scope, argument))
         || accepts_own(scope, kind, argument);
     if !accepted {
         want_unaccepted(best, scope, kind, argument);
@@ -399,7 +399,7 @@ fn first_is_null(scope: &Scope, call: &Call) -> bool
     ensures { result ≡ first_is_null scope.now (arguments_of (call_view call.now)) }
 {
     match argument_at(call, 0) {
-        Some(argument) => accepts_word(ArgumentKind::NoReference, word_of(scope, argument)),
+        Some(argument) => accepts_predefined(ArgumentKind::NoReference, predefined_of(scope, argument)),
         None => false,
     }
 }
@@ -420,7 +420,7 @@ pub fn takes_of<'a>(scope: &Scope<'a>, meaning: Meaning, call: &Call) -> Option<
     ensures { option_map takes_view result ≡ takes scope.now meaning (arguments_of (call_view call.now)) }
 {
     match meaning {
-        Meaning::Declared(Thing::Function(number)) => match scope.head(number) {
+        Meaning::Declared(Entity::Function(number)) => match scope.head(number) {
             Some(head) => Some(Takes::Head(head)),
             None => Some(Takes::Row(&[])),
         },
@@ -432,7 +432,7 @@ pub fn takes_of<'a>(scope: &Scope<'a>, meaning: Meaning, call: &Call) -> Option<
     }
 }
 
-fn check_arguments(best: &mut Option<Fault>, scope: &Scope, kinds: Takes, call: &Call)
+fn check_arguments(best: &mut Option<TypingFault>, scope: &Scope, kinds: Takes, call: &Call)
     ensures { best.new ≡ least_from best.old (arguments_faults scope.now (takes_view kinds.entry) (arguments_of (call_view call.now))) }
 {
     for place in 0..count(kinds) {
@@ -446,7 +446,7 @@ fn check_arguments(best: &mut Option<Fault>, scope: &Scope, kinds: Takes, call: 
     }
 }
 
-fn check_counted(best: &mut Option<Fault>, scope: &Scope, kinds: Option<Takes>, call: &Call)
+fn check_counted(best: &mut Option<TypingFault>, scope: &Scope, kinds: Option<Takes>, call: &Call)
     ensures { best.new ≡ least_from best.old (counted_faults scope.now call.now.name (option_map takes_view kinds.entry) (arguments_of (call_view call.now))) }
 {
     match kinds {
@@ -472,10 +472,10 @@ pub fn inside(quoted: &[u8]) -> &[u8]
 }
 
 /// A format for so many ints.
-fn want_format(best: &mut Option<Fault>, scope: &Scope, at: Spot, count: usize)
+fn want_format(best: &mut Option<TypingFault>, scope: &Scope, at: Spot, count: usize)
     ensures { best.new ≡ least_from best.old (format_faults scope.now at count) }
 {
-    let well = match count_ints(inside(cut(scope.text(), at))) {
+    let well = match count_ints(inside(token_bytes(scope.text(), at))) {
         Some(ints) => ints == count,
         None => false,
     };
@@ -483,7 +483,7 @@ fn want_format(best: &mut Option<Fault>, scope: &Scope, at: Spot, count: usize)
 }
 
 /// `printf`: a format and ints.
-fn check_print(best: &mut Option<Fault>, scope: &Scope, call: &Call)
+fn check_print(best: &mut Option<TypingFault>, scope: &Scope, call: &Call)
     ensures { best.new ≡ least_from best.old (print_faults scope.now call.now.name (arguments_of (call_view call.now))) }
 {
     let Some(first) = argument_at(call, 0) else {
@@ -498,7 +498,7 @@ fn check_print(best: &mut Option<Fault>, scope: &Scope, call: &Call)
                 let Some(argument) = argument_at(call, place) else {
                     return;
                 };
-                want_value(best, scope, ExprKind::Of(Kind::Int), argument);
+                want_value(best, scope, ExprKind::Of(VariableKind::Int), argument);
             }
         }
         _ => misfit(best, scope, first),
@@ -506,7 +506,7 @@ fn check_print(best: &mut Option<Fault>, scope: &Scope, call: &Call)
 }
 
 /// The faults of a call.
-pub fn check_call(best: &mut Option<Fault>, scope: &Scope, call: &Call)
+pub fn check_call(best: &mut Option<TypingFault>, scope: &Scope, call: &Call)
     ensures { best.new ≡ least_from best.old (call_faults scope.now (call_view call.now)) }
 {
     let meaning = scope.meaning(call.name);
@@ -541,7 +541,7 @@ pub fn gives_int(scope: &Scope, number: usize) -> bool
 
 /// What a call gives where a kind is wanted.
 fn want_result(
-    best: &mut Option<Fault>,
+    best: &mut Option<TypingFault>,
     scope: &Scope,
     wanted: ExprKind,
     meaning: Meaning,
@@ -550,9 +550,9 @@ fn want_result(
     ensures { best.new ≡ least_from best.old (result_faults scope.now wanted meaning name) }
 {
     match meaning {
-        Meaning::Declared(Thing::Function(number)) => {
+        Meaning::Declared(Entity::Function(number)) => {
             if gives_int(scope, number) {
-                want_kind(best, wanted, ExprKind::Of(Kind::Int), name);
+                want_kind(best, wanted, ExprKind::Of(VariableKind::Int), name);
             } else {
                 note_at(best, name, Why::WrongType);
             }
@@ -565,7 +565,7 @@ fn want_result(
 }
 
 /// A right side of a kind is wanted.
-pub fn want_right(best: &mut Option<Fault>, scope: &Scope, wanted: ExprKind, right: &Right)
+pub fn want_right(best: &mut Option<TypingFault>, scope: &Scope, wanted: ExprKind, right: &Right)
     ensures { best.new ≡ least_from best.old (right_faults scope.now wanted (right_view right.now)) }
 {
     match right {
@@ -578,11 +578,11 @@ pub fn want_right(best: &mut Option<Fault>, scope: &Scope, wanted: ExprKind, rig
 }
 
 /// The first token of a right side.
-pub fn right_start(right: &Right) -> Spot
-    ensures { result ≡ right_start (right_view right.now) }
+pub fn right_first_token(right: &Right) -> Spot
+    ensures { result ≡ right_first_token (right_view right.now) }
 {
     match right {
         Right::Call(call) => call.name,
-        Right::Value(e) => start_of(e),
+        Right::Value(e) => first_token(e),
     }
 }

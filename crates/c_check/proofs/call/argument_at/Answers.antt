@@ -2,7 +2,7 @@ use Rattle.std.proofs.Common.{Bor}
 use Rattle.c_grammar.specs.StmtView.{argument_view}
 use Rattle.c_grammar.specs.declared.statement.Argument.{Argument}
 use Rattle.c_check_expr.proofs.Rows.{viewed_at}
-use Rattle.c_check_call.proofs.call.argument_at.Goals as goal
+use Rattle.c_check.proofs.call.argument_at.Goals as goal
 
 pub returns-in-Some : goal.returns-in-Some
 returns-in-Some c =

@@ -14,19 +14,19 @@ use Rattle.c_names.specs.declared.function.MpiFunction.{MpiFunction}
 use Rattle.c_names.specs.declared.function.MpiFunction.TheVariants as f
 use Rattle.c_names.specs.declared.predefined.Predefined.{Predefined}
 use Rattle.c_names.specs.declared.predefined.Predefined.TheVariants as p
-use Rattle.c_names.specs.declared.kind.Kind.{Kind}
-use Rattle.c_names.specs.declared.kind.Kind.TheVariants.{Int, Status, Request, Communicator}
+use Rattle.c_names.specs.declared.kind.VariableKind.{VariableKind}
+use Rattle.c_names.specs.declared.kind.VariableKind.TheVariants.{Int, Status, Request, Communicator}
 use Rattle.c_check_expr.specs.Least.{fault, unless}
-use Rattle.c_check_expr.specs.Kinds.{is_same_kind, kind_faults, start_of}
+use Rattle.c_check_expr.specs.Kinds.{is_same_kind, kind_faults, first_token}
 use Rattle.c_check_expr.specs.Signatures.{listed}
-use Rattle.c_check_expr.specs.Scopes.{Env, Signature, cut, meaning, name_faults}
+use Rattle.c_check_expr.specs.Scopes.{Env, Signature, token_bytes, meaning, name_faults}
 use Rattle.c_check_expr.specs.Expressions.{int_faults, wanted_faults}
-use Rattle.c_check_expr.specs.declared.fault.Fault.{Fault}
-use Rattle.c_check_expr.specs.declared.thing.ExprKind.{ExprKind}
-use Rattle.c_check_expr.specs.declared.thing.ExprKind.TheVariants.{Of, Other}
-use Rattle.c_check_expr.specs.declared.thing.Meaning.{Meaning}
-use Rattle.c_check_expr.specs.declared.thing.Meaning.TheVariants as m
-use Rattle.c_check_expr.specs.declared.thing.Thing.TheVariants as d
+use Rattle.c_check_expr.specs.declared.fault.TypingFault.{TypingFault}
+use Rattle.c_check_expr.specs.declared.meaning.ExprKind.{ExprKind}
+use Rattle.c_check_expr.specs.declared.meaning.ExprKind.TheVariants.{Of, Other}
+use Rattle.c_check_expr.specs.declared.meaning.Meaning.{Meaning}
+use Rattle.c_check_expr.specs.declared.meaning.Meaning.TheVariants as m
+use Rattle.c_check_expr.specs.declared.meaning.Entity.TheVariants as d
 
 abbrev pub arguments_listed : Option (t.Row t.Argument) → List t.Argument
 arguments_listed None = []
@@ -35,33 +35,33 @@ arguments_listed (Some arguments) = listed arguments
 abbrev pub arguments_of : t.Call → List t.Argument
 arguments_of call = arguments_listed call.arguments
 
-abbrev pub argument_start : t.Argument → Spot
-argument_start (t.text at) = at
-argument_start (t.address mark place) = mark
-argument_start (t.value e) = start_of e
+abbrev pub argument_first_token : t.Argument → Spot
+argument_first_token (t.text at) = at
+argument_first_token (t.address mark place) = mark
+argument_first_token (t.value e) = first_token e
 
 -- ---- one argument
 
 -- the predefined name that an argument is
-abbrev pub word_meant : Meaning → Option Predefined
-word_meant (m.Known known) = Some known
-word_meant _ = None
+abbrev pub predefined_meant : Meaning → Option Predefined
+predefined_meant (m.Known known) = Some known
+predefined_meant _ = None
 
 abbrev pub name_alone : t.Expr → Option Spot
 name_alone (t.read (t.whole name)) = Some name
 name_alone _ = None
 
-abbrev pub name_word : Env → Option Spot → Option Predefined
-name_word env None = None
-name_word env (Some name) = word_meant (meaning env name)
+abbrev pub name_predefined : Env → Option Spot → Option Predefined
+name_predefined env None = None
+name_predefined env (Some name) = predefined_meant (meaning env name)
 
-abbrev pub word_of : Env → t.Argument → Option Predefined
-word_of env (t.value e) = name_word env (name_alone e)
-word_of env _ = None
+abbrev pub predefined_of : Env → t.Argument → Option Predefined
+predefined_of env (t.value e) = name_predefined env (name_alone e)
+predefined_of env _ = None
 
-abbrev pub accepts_word : ArgumentKind → Option Predefined → Bool
-accepts_word kind None = false
-accepts_word kind (Some known) = accepts kind known
+abbrev pub accepts_predefined : ArgumentKind → Option Predefined → Bool
+accepts_predefined kind None = false
+accepts_predefined kind (Some known) = accepts kind known
 
 -- main's own parameter
 abbrev pub is_own : ArgumentKind → Meaning → Bool
@@ -74,23 +74,23 @@ accepts_own env kind (t.address mark (t.whole name)) = is_own kind (meaning env 
 accepts_own env kind _ = false
 
 -- an argument that is not what is wanted, at its first token; nothing follows from a name without a meaning
-abbrev pub misfit_faults : Env → t.Argument → List Fault
+abbrev pub misfit_faults : Env → t.Argument → List TypingFault
 misfit_faults env (t.text at) = fault at WrongType
 misfit_faults env (t.address mark place) = fault mark WrongType
 misfit_faults env (t.value e) = wanted_faults env Other e
 
 -- where an expression of a kind is wanted
-abbrev pub value_faults : Env → ExprKind → t.Argument → List Fault
+abbrev pub value_faults : Env → ExprKind → t.Argument → List TypingFault
 value_faults env wanted (t.value e) = wanted_faults env wanted e
 value_faults env wanted argument = misfit_faults env argument
 
 -- what a name may be before `+` or alone, and behind `&`
-abbrev pub is_array_of : Kind → Meaning → Bool
+abbrev pub is_array_of : VariableKind → Meaning → Bool
 is_array_of wanted (m.Declared (d.Array kind length)) = is_same_kind wanted kind
 is_array_of wanted (m.Declared d.ArrayParameter) = is_same_kind wanted Int
 is_array_of wanted _ = false
 
-abbrev pub is_place_of : Kind → Meaning → Bool
+abbrev pub is_place_of : VariableKind → Meaning → Bool
 is_place_of wanted (m.Declared (d.Variable kind)) = is_same_kind wanted kind
 is_place_of wanted (m.Declared d.ArgumentCount) = is_same_kind wanted Int
 is_place_of wanted other = is_array_of wanted other
@@ -113,18 +113,18 @@ abbrev pub array_sum : t.Expr → Option (Spot × t.Expr)
 array_sum (t.chain level first links) = sum_base (name_alone first) links
 array_sum _ = None
 
-abbrev pub is_array_name : Env → Kind → Option Spot → Bool
+abbrev pub is_array_name : Env → VariableKind → Option Spot → Bool
 is_array_name env wanted None = false
 is_array_name env wanted (Some name) = is_array_of wanted (meaning env name)
 
-abbrev pub sum_faults : Env → Kind → t.Expr → Option (Spot × t.Expr) → List Fault
+abbrev pub sum_faults : Env → VariableKind → t.Expr → Option (Spot × t.Expr) → List TypingFault
 sum_faults env wanted e None = wanted_faults env Other e
 sum_faults env wanted e (Some sum) = if is_array_of wanted (meaning env sum.0) then int_faults env sum.1 else wanted_faults env Other e
 
-abbrev pub array_faults : Env → Kind → t.Expr → List Fault
+abbrev pub array_faults : Env → VariableKind → t.Expr → List TypingFault
 array_faults env wanted e = if is_array_name env wanted (name_alone e) then [] else sum_faults env wanted e (array_sum e)
 
-abbrev pub address_faults : Env → Kind → Spot → t.Place → List Fault
+abbrev pub address_faults : Env → VariableKind → Spot → t.Place → List TypingFault
 address_faults env wanted mark (t.whole name) =
     name_faults (meaning env name) name ++ unless (is_nameless (meaning env name) || is_place_of wanted (meaning env name)) mark WrongType
 address_faults env wanted mark (t.cell name opening index closing) =
@@ -132,12 +132,12 @@ address_faults env wanted mark (t.cell name opening index closing) =
     ++ int_faults env index
 
 -- a reference to cells of one kind: `&NAME`, `&NAME[e]`, the name of an array, or such a name `+` an expression
-abbrev pub reference_faults : Env → Kind → t.Argument → List Fault
+abbrev pub reference_faults : Env → VariableKind → t.Argument → List TypingFault
 reference_faults env wanted (t.text at) = fault at WrongType
 reference_faults env wanted (t.address mark place) = address_faults env wanted mark place
 reference_faults env wanted (t.value e) = array_faults env wanted e
 
-abbrev pub unaccepted_faults : Env → ArgumentKind → t.Argument → List Fault
+abbrev pub unaccepted_faults : Env → ArgumentKind → t.Argument → List TypingFault
 unaccepted_faults env a.Number argument = value_faults env (Of Int) argument
 unaccepted_faults env a.Communicator argument = value_faults env (Of Communicator) argument
 unaccepted_faults env a.Buffer argument = reference_faults env Int argument
@@ -149,11 +149,11 @@ unaccepted_faults env a.Statuses argument = reference_faults env Status argument
 unaccepted_faults env _ argument = misfit_faults env argument
 
 -- an argument, by what it has to be
-abbrev pub argument_faults : Env → ArgumentKind → t.Argument → List Fault
+abbrev pub argument_faults : Env → ArgumentKind → t.Argument → List TypingFault
 argument_faults env kind argument =
-    if accepts_word kind (word_of env argument) || accepts_own env kind argument then [] else unaccepted_faults env kind argument
+    if accepts_predefined kind (predefined_of env argument) || accepts_own env kind argument then [] else unaccepted_faults env kind argument
 
-abbrev pub arguments_faults : Env → List ArgumentKind → List t.Argument → List Fault
+abbrev pub arguments_faults : Env → List ArgumentKind → List t.Argument → List TypingFault
 arguments_faults env (kind ∷ kinds) (argument ∷ arguments) = argument_faults env kind argument ++ arguments_faults env kinds arguments
 arguments_faults env _ _ = []
 
@@ -166,7 +166,7 @@ signature_takes (Some signature) = signature.takes
 -- `NULL` for both arguments, or main's own parameters
 abbrev pub first_is_null : Env → List t.Argument → Bool
 first_is_null env [] = false
-first_is_null env (argument ∷ arguments) = accepts_word a.NoReference (word_of env argument)
+first_is_null env (argument ∷ arguments) = accepts_predefined a.NoReference (predefined_of env argument)
 
 abbrev pub mpi_takes : Env → MpiFunction → List t.Argument → List ArgumentKind
 mpi_takes env f.Init arguments_given = if first_is_null env arguments_given then a.NoReference ∷ a.NoReference ∷ [] else arguments f.Init
@@ -187,29 +187,29 @@ is_format count None = false
 is_format count (Some ints) = ints == count
 
 -- a text that is no format, or one for another number of ints
-abbrev pub format_faults : Env → Spot → ℕ → List Fault
-format_faults env at count = unless (is_format count (option_map ints_in (pieces_of (inside (cut env.text at))))) at BadFormat
+abbrev pub format_faults : Env → Spot → ℕ → List TypingFault
+format_faults env at count = unless (is_format count (option_map ints_in (pieces_of (inside (token_bytes env.text at))))) at BadFormat
 
-abbrev pub numbers_faults : Env → List t.Argument → List Fault
+abbrev pub numbers_faults : Env → List t.Argument → List TypingFault
 numbers_faults env [] = []
 numbers_faults env (argument ∷ arguments) = value_faults env (Of Int) argument ++ numbers_faults env arguments
 
-abbrev pub print_faults : Env → Spot → List t.Argument → List Fault
+abbrev pub print_faults : Env → Spot → List t.Argument → List TypingFault
 print_faults env name [] = fault name WrongCount
 print_faults env name (t.text at ∷ others) = format_faults env at (length others) ++ numbers_faults env others
 print_faults env name (argument ∷ others) = misfit_faults env argument
 
-abbrev pub counted_faults : Env → Spot → Option (List ArgumentKind) → List t.Argument → List Fault
+abbrev pub counted_faults : Env → Spot → Option (List ArgumentKind) → List t.Argument → List TypingFault
 counted_faults env name None given = fault name WrongType
 counted_faults env name (Some kinds) given = if length given == length kinds then arguments_faults env kinds given else fault name WrongCount
 
-abbrev pub meant_faults : Env → Spot → Meaning → List t.Argument → List Fault
+abbrev pub meant_faults : Env → Spot → Meaning → List t.Argument → List TypingFault
 meant_faults env name m.LeftOut given = fault name LeftOut
 meant_faults env name m.Unknown given = fault name Unknown
 meant_faults env name (m.Known p.Printf) given = print_faults env name given
 meant_faults env name other given = counted_faults env name (takes env other given) given
 
-abbrev pub call_faults : Env → t.Call → List Fault
+abbrev pub call_faults : Env → t.Call → List TypingFault
 call_faults env call = meant_faults env call.name (meaning env call.name) (arguments_of call)
 
 -- ---- right sides
@@ -219,7 +219,7 @@ gives_int None = false
 gives_int (Some signature) = signature.gives
 
 -- what a call gives where a kind is wanted: an int function of the text gives an int, and nothing else may stand there
-abbrev pub result_faults : Env → ExprKind → Meaning → Spot → List Fault
+abbrev pub result_faults : Env → ExprKind → Meaning → Spot → List TypingFault
 result_faults env wanted (m.Declared (d.Function number)) name =
     if gives_int (slice_get env.functions number) then kind_faults wanted (Of Int) name else fault name WrongType
 result_faults env wanted (m.Known (p.Mpi function)) name = fault name LeftOut
@@ -227,10 +227,10 @@ result_faults env wanted (m.Known p.Printf) name = fault name LeftOut
 result_faults env wanted (m.Known p.Fflush) name = fault name WrongType
 result_faults env wanted _ name = []
 
-abbrev pub right_faults : Env → ExprKind → t.Right → List Fault
+abbrev pub right_faults : Env → ExprKind → t.Right → List TypingFault
 right_faults env wanted (t.called call) = call_faults env call ++ result_faults env wanted (meaning env call.name) call.name
 right_faults env wanted (t.valued e) = wanted_faults env wanted e
 
-abbrev pub right_start : t.Right → Spot
-right_start (t.called call) = call.name
-right_start (t.valued e) = start_of e
+abbrev pub right_first_token : t.Right → Spot
+right_first_token (t.called call) = call.name
+right_first_token (t.valued e) = first_token e

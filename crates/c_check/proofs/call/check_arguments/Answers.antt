@@ -1,9 +1,9 @@
 use Rattle.std.proofs.Common.{sym, ◌∙◌}
 use Rattle.c_grammar.specs.StmtView.{argument_view, call_view}
-use Rattle.c_check_call.specs.Calls.{arguments_of}
-use Rattle.c_check_call.specs.CallView.{takes_view}
-use Rattle.c_check_call.proofs.Arguments.{arguments_end, arguments_next}
-use Rattle.c_check_call.proofs.call.check_arguments.Goals as goal
+use Rattle.c_check.specs.Calls.{arguments_of}
+use Rattle.c_check.specs.CallView.{takes_view}
+use Rattle.c_check.proofs.Arguments.{arguments_end, arguments_next}
+use Rattle.c_check.proofs.call.check_arguments.Goals as goal
 
 pub returns-in_default-argument_at : goal.returns-in_default-argument_at
 returns-in_default-argument_at c =

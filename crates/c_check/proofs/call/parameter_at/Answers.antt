@@ -2,7 +2,7 @@ use Rattle.std.proofs.Common.{Bor}
 use Rattle.c_grammar.specs.StmtView.{parameter_view}
 use Rattle.c_grammar.specs.declared.statement.Parameter.{Parameter}
 use Rattle.c_check_expr.proofs.Rows.{viewed_at}
-use Rattle.c_check_call.proofs.call.parameter_at.Goals as goal
+use Rattle.c_check.proofs.call.parameter_at.Goals as goal
 
 pub returns-in-Listed : goal.returns-in-Listed
 returns-in-Listed c =
