@@ -5,10 +5,10 @@ use Rattle.std.proofs.Crossing.{crosses}
 use Rattle.c_program.proofs.expr.Expr.TheLaws.TheKnot as expr_knot
 use Rattle.c_program.proofs.expr.Field.TheSendSync as status_field
 use Rattle.c_program.proofs.statement.Part.TheLaws.TheKnot as part_knot
-use Rattle.c_names.proofs.operator.Sign.TheSendSync as sign
+use Rattle.c_names.proofs.operator.UnaryOperator.TheSendSync as sign
 use Rattle.c_names.proofs.operator.Operator.TheSendSync as operator
-use Rattle.c_names.proofs.kind.Kind.TheSendSync as kind
-use Rattle.c_names.proofs.format.Piece.TheSendSync as piece
+use Rattle.c_names.proofs.kind.VariableKind.TheSendSync as kind
+use Rattle.c_names.proofs.format.FormatPiece.TheSendSync as piece
 use Rattle.c_program.proofs.program.Parameter.TheSendSync as parameter
 use Rattle.c_program.specs.contracts.expr.FunctionCall as FunctionCall
 use Rattle.c_program.specs.contracts.expr.Expr as Expr

@@ -5,7 +5,7 @@ use denote.Param.Send.{IsSend, IsSync, enum_send, sendable, struct_send}
 use denote.Struct.Declared as struct
 use denote.Ref.{NamedLft}
 use Rattle.std.proofs.Crossing.{crosses}
-use Rattle.c_names.proofs.kind.Kind.TheSendSync as kind
+use Rattle.c_names.proofs.kind.VariableKind.TheSendSync as kind
 use Rattle.c_program.proofs.Sharing.{expr_field, function_field, part_field, program_field, right_field, simple_field, stmt_field}
 use Rattle.c_program.specs.contracts.statement.Item as Item
 use Rattle.c_program.proofs.state.StackMark.TheSendSync as mark
