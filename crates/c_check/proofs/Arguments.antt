@@ -2,7 +2,7 @@
 use Rattle.std.proofs.Common.{◌≡◌, ℕ, ◌+◌, ◌≤◌, List, [], ◌∷◌, drop, map, length, Option, Some, None, slice_get, refl, arith}
 use Rattle.c_grammar.specs.Tree as t
 use Rattle.c_grammar.specs.declared.tree.Link.{Link}
-use Rattle.c_grammar.specs.declared.word.Spot.{Spot}
+use Rattle.c_grammar.specs.declared.terminal.Span.{Span}
 use Rattle.c_grammar.specs.View.{links_from, piece}
 use Rattle.c_names.specs.declared.function.ArgumentKind.{ArgumentKind}
 use Rattle.c_names.specs.declared.kind.VariableKind.TheVariants.{Int}
@@ -14,7 +14,7 @@ use Rattle.c_check_expr.specs.declared.meaning.ExprKind.TheVariants.{Of}
 use Rattle.c_check_expr.proofs.Least.{least_from_append}
 use Rattle.c_check_expr.proofs.Lists.{drop_got, drop_none}
 
-pub sum_many : (name : Option Spot) (links : List Link) → 2 ≤ length links → sum_base name (links_from (map piece links)) ≡ None
+pub sum_many : (name : Option Span) (links : List Link) → 2 ≤ length links → sum_base name (links_from (map piece links)) ≡ None
 sum_many name [] h = absurd (omega arith)
 sum_many name (a ∷ []) h = absurd (omega arith)
 sum_many None (a ∷ b ∷ rest) h = refl

@@ -1,24 +1,24 @@
 -- The end of a block leaves what stood before it.
 use Rattle.std.proofs.Common.{◌≡◌, Bool, List, [], ◌∷◌, Option, Some, None, refl, ◌∙◌}
-use Rattle.c_grammar.specs.declared.word.Spot.{Spot}
+use Rattle.c_grammar.specs.declared.terminal.Span.{Span}
 use Rattle.c_check.specs.Programs.{after_parameter, after_parameters, declare_optional, parameter_name, parameter_entity}
 use Rattle.c_check_expr.specs.declared.meaning.Entity.{Entity}
 use Rattle.c_grammar.specs.Tree as t
 use Rattle.c_names.specs.declared.kind.VariableKind.{VariableKind}
 use Rattle.c_check_expr.specs.Scopes.{Env, closed, opened}
 use Rattle.c_check_expr.specs.Signatures.{listed}
-use Rattle.c_check_expr.specs.Kinds.{kind_of_word}
+use Rattle.c_check_expr.specs.Kinds.{kind_of_symbol}
 use Rattle.c_check.specs.Statements.{after_declaration, after_item, after_items, after_part, after_parts, after_start}
 
 abbrev pub closing : Env → Env
 closing env = record env { entries = closed env.entries }
 
-closed_items : (env : Env) (kind : VariableKind) (items : List t.Item) → closing (after_items env kind items) ≡ closing env
+closed_items : (env : Env) (kind : VariableKind) (items : List t.InitDeclarator) → closing (after_items env kind items) ≡ closing env
 closed_items env kind [] = refl
 closed_items env kind (item ∷ items) = closed_items (after_item env kind item) kind items
 
 closed_declaration : (env : Env) (one : t.Declaration) → closing (after_declaration env one) ≡ closing env
-closed_declaration env one = closed_items env (kind_of_word one.kind) (listed one.items)
+closed_declaration env one = closed_items env (kind_of_symbol one.kind) (listed one.items)
 
 closed_part : (env : Env) (one : t.Part) → closing (after_part env one) ≡ closing env
 closed_part env (t.declare declaration end) = closed_declaration env declaration
@@ -42,7 +42,7 @@ closed_start env start = closed_started (opened env) start
 closed_declared : (env : Env) (main : Bool) (one : t.Parameter) → closing (after_parameter env main one) ≡ closing env
 closed_declared env main one = closed_optional env (parameter_name one) (parameter_entity main one)
   where
-    closed_optional : (env : Env) (name : Option Spot) (entity : Entity) → closing (declare_optional env name entity) ≡ closing env
+    closed_optional : (env : Env) (name : Option Span) (entity : Entity) → closing (declare_optional env name entity) ≡ closing env
     closed_optional env None entity = refl
     closed_optional env (Some name) entity = refl
 

@@ -2,6 +2,6 @@ pub mod Arguments
 pub mod Closed
 pub mod Walks
 pub mod Texts
-pub mod Tops
+pub mod Externals
 pub mod More
 pub mod Parameters

@@ -1,11 +1,11 @@
 -- One parameter, one thing in the text more.
 use Rattle.std.proofs.Common.{◌≡◌, ℕ, ◌+◌, ◌<◌, ◌++◌, Bool, Bor, List, [], ◌∷◌, length, drop, get_or, map, Option, Some, slice_get, refl, ◌∙◌, ap}
 use Rattle.c_grammar.specs.Tree as t
-use Rattle.c_grammar.specs.declared.statement.Top.{Top}
+use Rattle.c_grammar.specs.declared.statement.ExternalDeclaration.{ExternalDeclaration}
 use Rattle.c_grammar.specs.declared.statement.Head.{Head}
-use Rattle.c_grammar.specs.StmtView.{head_view, top_view}
+use Rattle.c_grammar.specs.StmtView.{head_view, external_view}
 use Rattle.c_check_expr.specs.Least.{least_from}
-use Rattle.c_check.specs.Programs.{heads_of, text_env, after_parameter, after_parameters, after_top, optional_twice_faults, parameter_faults, parameter_name, parameters_faults, prototype_faults, seen_after, top_faults, tops_faults}
+use Rattle.c_check.specs.Programs.{heads_of, text_env, after_parameter, after_parameters, after_external, optional_twice_faults, parameter_faults, parameter_name, parameters_faults, prototype_faults, seen_after, external_faults, externals_faults}
 use Rattle.c_check_expr.specs.Scopes.{Env, Signature}
 use Rattle.c_check_expr.specs.Signatures.{function_entries, signature_of}
 use Rattle.c_check_expr.specs.declared.fault.TypingFault.{TypingFault}
@@ -32,14 +32,14 @@ pub after_parameters_next : (env : Env) (main : Bool) (all : List t.Parameter) (
     → after_parameters env main (drop i all) ≡ after_parameters (after_parameter env main one) main (drop (i + 1) all)
 after_parameters_next env main all i one e = ap (λ left. after_parameters env main left) (drop_got all i one e)
 
-pub tops_next : (env : Env) (seen : List (List ℕ)) (best : Option TypingFault) (tops : List Top) (i : ℕ) (one : Top) → i < length tops → one ≡ get_or tops i one
-    → least_from best (tops_faults env seen (map top_view (drop i tops)))
-    ≡ least_from (least_from best (top_faults env seen (top_view one)))
-    (tops_faults (after_top env (top_view one)) (seen_after env.text seen (top_view one)) (map top_view (drop (i + 1) tops)))
-tops_next env seen best tops i one h e =
-    ap (λ left. least_from best (tops_faults env seen (map top_view left))) (drop_at tops i one h e)
-    ∙ least_from_append best (top_faults env seen (top_view one))
-    (tops_faults (after_top env (top_view one)) (seen_after env.text seen (top_view one)) (map top_view (drop (i + 1) tops)))
+pub externals_next : (env : Env) (seen : List (List ℕ)) (best : Option TypingFault) (externals : List ExternalDeclaration) (i : ℕ) (one : ExternalDeclaration) → i < length externals → one ≡ get_or externals i one
+    → least_from best (externals_faults env seen (map external_view (drop i externals)))
+    ≡ least_from (least_from best (external_faults env seen (external_view one)))
+    (externals_faults (after_external env (external_view one)) (seen_after env.text seen (external_view one)) (map external_view (drop (i + 1) externals)))
+externals_next env seen best externals i one h e =
+    ap (λ left. least_from best (externals_faults env seen (map external_view left))) (drop_at externals i one h e)
+    ∙ least_from_append best (external_faults env seen (external_view one))
+    (externals_faults (after_external env (external_view one)) (seen_after env.text seen (external_view one)) (map external_view (drop (i + 1) externals)))
 
 map_twice : {A B C : Type 0} (f : B → C) (g : A → B) (xs : List A) → map (λ x. f (g x)) xs ≡ map f (map g xs)
 map_twice f g [] = refl

@@ -3,10 +3,10 @@ use Rattle.std.proofs.Common.{◌≡◌, ◌≤◌, ◌++◌, ℕ, Bool, List, O
 use Rattle.std.specs.Prelude.{OnOk}
 use Rattle.c_grammar.specs.Tree as t
 use Rattle.c_grammar.specs.StmtView.{item_view, parts_view}
-use Rattle.c_grammar.specs.declared.statement.Behind.{Behind}
-use Rattle.c_grammar.specs.declared.statement.Item.{Item}
+use Rattle.c_grammar.specs.declared.statement.AfterComma.{AfterComma}
+use Rattle.c_grammar.specs.declared.statement.InitDeclarator.{InitDeclarator}
 use Rattle.c_grammar.specs.declared.statement.Part.{Part}
-use Rattle.c_grammar.specs.declared.word.Spot.{Spot}
+use Rattle.c_grammar.specs.declared.terminal.Span.{Span}
 use Rattle.c_names.specs.declared.kind.VariableKind.{VariableKind}
 use Rattle.c_check_expr.specs.Kinds.{place_first_token}
 use Rattle.c_check_expr.specs.Least.{least_from}
@@ -14,16 +14,16 @@ use Rattle.c_check_expr.specs.Scopes.{Env, declare, opened, twice_faults}
 use Rattle.c_check_expr.specs.declared.fault.TypingFault.{TypingFault}
 use Rattle.c_check_expr.specs.declared.meaning.Entity.{Entity}
 use Rattle.c_check_expr.proofs.Lists.{drop_past}
-use Rattle.c_check_expr.proofs.Rows.{behind_viewed}
+use Rattle.c_check_expr.proofs.Rows.{after_comma_viewed}
 use Rattle.c_check_expr.proofs.Wanted.{both, three}
 use Rattle.c_check.specs.Statements.{after_item, after_items, after_parts, after_start, declared_entity, initial_faults, item_faults, parts_faults, place_length_faults, start_faults, step_faults, stmt_faults, test_faults}
 
-pub item_after : (env now : Env) (kind : VariableKind) (item : t.Item) (name : Spot) (entity : Entity)
+pub item_after : (env now : Env) (kind : VariableKind) (item : t.InitDeclarator) (name : Span) (entity : Entity)
     → name ≡ place_first_token item.place → entity ≡ declared_entity env kind item.place → now ≡ declare env name entity → now ≡ after_item env kind item
 item_after env now kind item name entity n h s =
     s ∙ ap (declare env name) h ∙ ap (λ at. declare env at (declared_entity env kind item.place)) n
 
-pub item_walk : (env now : Env) (kind : VariableKind) (item : t.Item) (name : Spot) (entity : Entity) (old one two new : Option TypingFault)
+pub item_walk : (env now : Env) (kind : VariableKind) (item : t.InitDeclarator) (name : Span) (entity : Entity) (old one two new : Option TypingFault)
     → name ≡ place_first_token item.place → entity ≡ declared_entity env kind item.place → now ≡ declare env name entity
     → one ≡ least_from old (place_length_faults env item.place) → two ≡ least_from one (twice_faults env name)
     → new ≡ least_from two (initial_faults now name entity item.initial) → new ≡ least_from old (item_faults env kind item)
@@ -34,15 +34,15 @@ item_walk env now kind item name entity old one two new n h s a b c =
     ∙ ap (λ at. least_from old ((place_length_faults env item.place ++ twice_faults env at) ++ initial_faults (after_item env kind item) at (declared_entity env kind item.place) item.initial)) n
 
 -- the scope behind a first name and the others
-pub declaration_after : (env now last : Env) (kind meant : VariableKind) (first : t.Item) (items more : List (Behind Item)) (n : ℕ)
+pub declaration_after : (env now last : Env) (kind meant : VariableKind) (first : t.InitDeclarator) (items more : List (AfterComma InitDeclarator)) (n : ℕ)
     → kind ≡ meant → now ≡ after_item env kind first → length items ≤ n → items ≡ more
-    → after_items last kind (behind_viewed item_view (drop n items)) ≡ after_items now kind (behind_viewed item_view items)
-    → last ≡ after_items (after_item env meant first) meant (behind_viewed item_view more)
+    → after_items last kind (after_comma_viewed item_view (drop n items)) ≡ after_items now kind (after_comma_viewed item_view items)
+    → last ≡ after_items (after_item env meant first) meant (after_comma_viewed item_view more)
 declaration_after env now last kind meant first items more n k s h e i =
-    let P : List (Behind Item) → Env = λ left. after_items last kind (behind_viewed item_view left) in
-    let Q : List (Behind Item) → Env = λ all. after_items now kind (behind_viewed item_view all) in
-    let R : Env → Env = λ from. after_items from kind (behind_viewed item_view more) in
-    let S : VariableKind → Env = λ one. after_items (after_item env one first) one (behind_viewed item_view more) in
+    let P : List (AfterComma InitDeclarator) → Env = λ left. after_items last kind (after_comma_viewed item_view left) in
+    let Q : List (AfterComma InitDeclarator) → Env = λ all. after_items now kind (after_comma_viewed item_view all) in
+    let R : Env → Env = λ from. after_items from kind (after_comma_viewed item_view more) in
+    let S : VariableKind → Env = λ one. after_items (after_item env one first) one (after_comma_viewed item_view more) in
     sym (ap P (drop_past items n h)) ∙ i ∙ ap Q e ∙ ap R s ∙ ap S k
 
 -- the end of a block's parts

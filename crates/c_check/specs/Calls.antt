@@ -2,9 +2,9 @@
 use Rattle.std.specs.Prelude.{◌++◌, ◌||◌, ◌==◌, ℕ, Bool, true, false, List, [], ◌∷◌, length, if◌then◌else◌, Option, Some, None, slice_get, take, drop, ◌-◌}
 use Rattle.std.specs.Option.{option_map}
 use Rattle.c_lex.specs.declared.fault.Why.TheVariants.{Unknown, WrongType, WrongCount, BadFormat, LeftOut}
-use Rattle.c_grammar.specs.declared.word.Spot.{Spot}
-use Rattle.c_grammar.specs.declared.word.Word.{Word}
-use Rattle.c_grammar.specs.declared.word.Word.TheVariants as w
+use Rattle.c_grammar.specs.declared.terminal.Span.{Span}
+use Rattle.c_grammar.specs.declared.terminal.Symbol.{Symbol}
+use Rattle.c_grammar.specs.declared.terminal.Symbol.TheVariants as w
 use Rattle.c_grammar.specs.Tree as t
 use Rattle.c_names.specs.Formats.{ints_in, pieces_of}
 use Rattle.c_names.specs.Functions.{accepts, arguments}
@@ -28,14 +28,14 @@ use Rattle.c_check_expr.specs.declared.meaning.Meaning.{Meaning}
 use Rattle.c_check_expr.specs.declared.meaning.Meaning.TheVariants as m
 use Rattle.c_check_expr.specs.declared.meaning.Entity.TheVariants as d
 
-abbrev pub arguments_listed : Option (t.Row t.Argument) → List t.Argument
+abbrev pub arguments_listed : Option (t.CommaList t.Argument) → List t.Argument
 arguments_listed None = []
 arguments_listed (Some arguments) = listed arguments
 
 abbrev pub arguments_of : t.Call → List t.Argument
 arguments_of call = arguments_listed call.arguments
 
-abbrev pub argument_first_token : t.Argument → Spot
+abbrev pub argument_first_token : t.Argument → Span
 argument_first_token (t.text at) = at
 argument_first_token (t.address mark place) = mark
 argument_first_token (t.value e) = first_token e
@@ -47,11 +47,11 @@ abbrev pub predefined_meant : Meaning → Option Predefined
 predefined_meant (m.Known known) = Some known
 predefined_meant _ = None
 
-abbrev pub name_alone : t.Expr → Option Spot
+abbrev pub name_alone : t.Expr → Option Span
 name_alone (t.read (t.whole name)) = Some name
 name_alone _ = None
 
-abbrev pub name_predefined : Env → Option Spot → Option Predefined
+abbrev pub name_predefined : Env → Option Span → Option Predefined
 name_predefined env None = None
 name_predefined env (Some name) = predefined_meant (meaning env name)
 
@@ -101,30 +101,30 @@ is_nameless m.Unknown = true
 is_nameless _ = false
 
 -- a name and what is added to it: the name of an array stands on the whole left side
-abbrev pub is_plus : Word → Bool
+abbrev pub is_plus : Symbol → Bool
 is_plus w.Plus = true
 is_plus _ = false
 
-abbrev pub sum_base : Option Spot → t.Links → Option (Spot × t.Expr)
+abbrev pub sum_base : Option Span → t.Links → Option (Span × t.Expr)
 sum_base (Some name) (t.link operator at operand t.no_link) = if is_plus operator then Some (name, operand) else None
 sum_base _ _ = None
 
-abbrev pub array_sum : t.Expr → Option (Spot × t.Expr)
+abbrev pub array_sum : t.Expr → Option (Span × t.Expr)
 array_sum (t.chain level first links) = sum_base (name_alone first) links
 array_sum _ = None
 
-abbrev pub is_array_name : Env → VariableKind → Option Spot → Bool
+abbrev pub is_array_name : Env → VariableKind → Option Span → Bool
 is_array_name env wanted None = false
 is_array_name env wanted (Some name) = is_array_of wanted (meaning env name)
 
-abbrev pub sum_faults : Env → VariableKind → t.Expr → Option (Spot × t.Expr) → List TypingFault
+abbrev pub sum_faults : Env → VariableKind → t.Expr → Option (Span × t.Expr) → List TypingFault
 sum_faults env wanted e None = wanted_faults env Other e
 sum_faults env wanted e (Some sum) = if is_array_of wanted (meaning env sum.0) then int_faults env sum.1 else wanted_faults env Other e
 
 abbrev pub array_faults : Env → VariableKind → t.Expr → List TypingFault
 array_faults env wanted e = if is_array_name env wanted (name_alone e) then [] else sum_faults env wanted e (array_sum e)
 
-abbrev pub address_faults : Env → VariableKind → Spot → t.Place → List TypingFault
+abbrev pub address_faults : Env → VariableKind → Span → t.Place → List TypingFault
 address_faults env wanted mark (t.whole name) =
     name_faults (meaning env name) name ++ unless (is_nameless (meaning env name) || is_place_of wanted (meaning env name)) mark WrongType
 address_faults env wanted mark (t.cell name opening index closing) =
@@ -187,23 +187,23 @@ is_format count None = false
 is_format count (Some ints) = ints == count
 
 -- a text that is no format, or one for another number of ints
-abbrev pub format_faults : Env → Spot → ℕ → List TypingFault
+abbrev pub format_faults : Env → Span → ℕ → List TypingFault
 format_faults env at count = unless (is_format count (option_map ints_in (pieces_of (inside (token_bytes env.text at))))) at BadFormat
 
 abbrev pub numbers_faults : Env → List t.Argument → List TypingFault
 numbers_faults env [] = []
 numbers_faults env (argument ∷ arguments) = value_faults env (Of Int) argument ++ numbers_faults env arguments
 
-abbrev pub print_faults : Env → Spot → List t.Argument → List TypingFault
+abbrev pub print_faults : Env → Span → List t.Argument → List TypingFault
 print_faults env name [] = fault name WrongCount
 print_faults env name (t.text at ∷ others) = format_faults env at (length others) ++ numbers_faults env others
 print_faults env name (argument ∷ others) = misfit_faults env argument
 
-abbrev pub counted_faults : Env → Spot → Option (List ArgumentKind) → List t.Argument → List TypingFault
+abbrev pub counted_faults : Env → Span → Option (List ArgumentKind) → List t.Argument → List TypingFault
 counted_faults env name None given = fault name WrongType
 counted_faults env name (Some kinds) given = if length given == length kinds then arguments_faults env kinds given else fault name WrongCount
 
-abbrev pub meant_faults : Env → Spot → Meaning → List t.Argument → List TypingFault
+abbrev pub meant_faults : Env → Span → Meaning → List t.Argument → List TypingFault
 meant_faults env name m.LeftOut given = fault name LeftOut
 meant_faults env name m.Unknown given = fault name Unknown
 meant_faults env name (m.Known p.Printf) given = print_faults env name given
@@ -219,7 +219,7 @@ gives_int None = false
 gives_int (Some signature) = signature.gives
 
 -- what a call gives where a kind is wanted: an int function of the text gives an int, and nothing else may stand there
-abbrev pub result_faults : Env → ExprKind → Meaning → Spot → List TypingFault
+abbrev pub result_faults : Env → ExprKind → Meaning → Span → List TypingFault
 result_faults env wanted (m.Declared (d.Function number)) name =
     if gives_int (slice_get env.functions number) then kind_faults wanted (Of Int) name else fault name WrongType
 result_faults env wanted (m.Known (p.Mpi function)) name = fault name LeftOut
@@ -231,6 +231,6 @@ abbrev pub right_faults : Env → ExprKind → t.Right → List TypingFault
 right_faults env wanted (t.called call) = call_faults env call ++ result_faults env wanted (meaning env call.name) call.name
 right_faults env wanted (t.valued e) = wanted_faults env wanted e
 
-abbrev pub right_first_token : t.Right → Spot
+abbrev pub right_first_token : t.Right → Span
 right_first_token (t.called call) = call.name
 right_first_token (t.valued e) = first_token e

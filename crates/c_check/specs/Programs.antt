@@ -4,7 +4,7 @@ use Rattle.std.specs.List.{list_any}
 use Rattle.std.specs.Option.{is_some}
 use Rattle.std.specs.Str.{bytes_eq}
 use Rattle.c_lex.specs.declared.fault.Why.TheVariants.{Twice, NoMain, LeftOut}
-use Rattle.c_grammar.specs.declared.word.Spot.{Spot}
+use Rattle.c_grammar.specs.declared.terminal.Span.{Span}
 use Rattle.c_grammar.specs.Tree as t
 use Rattle.c_names.specs.Predefined.{predefined}
 use Rattle.c_names.specs.declared.kind.VariableKind.TheVariants.{Int, Communicator}
@@ -22,12 +22,12 @@ use Rattle.c_check_expr.specs.declared.meaning.Entity.TheVariants as d
 
 -- no parameters, or an int and a `char` parameter
 abbrev pub is_text : t.Parameter → Bool
-is_text (t.text_pointers word star second name) = true
-is_text (t.text_array word star name opening closing) = true
+is_text (t.text_pointers keyword star second name) = true
+is_text (t.text_array keyword star name opening closing) = true
 is_text _ = false
 
 abbrev pub is_one_int : t.Parameter → Bool
-is_one_int (t.int word name) = true
+is_one_int (t.int keyword name) = true
 is_one_int _ = false
 
 abbrev pub are_main_parameters : List t.Parameter → Bool
@@ -42,21 +42,21 @@ is_main text head = (is_int head.result && bytes_eq (token_bytes text head.name)
 
 -- `main`: the head is that of main
 abbrev pub parameter_entity : Bool → t.Parameter → Entity
-parameter_entity true (t.int word name) = d.ArgumentCount
-parameter_entity false (t.int word name) = d.Variable Int
-parameter_entity main (t.array word name opening length closing) = d.ArrayParameter
-parameter_entity main (t.pointer word star name) = d.ArrayParameter
-parameter_entity main (t.communicator word name) = d.Variable Communicator
-parameter_entity main (t.text_pointers word star second name) = d.ArgumentTexts
-parameter_entity main (t.text_array word star name opening closing) = d.ArgumentTexts
+parameter_entity true (t.int keyword name) = d.ArgumentCount
+parameter_entity false (t.int keyword name) = d.Variable Int
+parameter_entity main (t.array keyword name opening length closing) = d.ArrayParameter
+parameter_entity main (t.pointer keyword star name) = d.ArrayParameter
+parameter_entity main (t.communicator keyword name) = d.Variable Communicator
+parameter_entity main (t.text_pointers keyword star second name) = d.ArgumentTexts
+parameter_entity main (t.text_array keyword star name opening closing) = d.ArgumentTexts
 
-abbrev pub parameter_name : t.Parameter → Option Spot
-parameter_name (t.int word name) = name
-parameter_name (t.array word name opening length closing) = name
-parameter_name (t.pointer word star name) = name
-parameter_name (t.communicator word name) = name
-parameter_name (t.text_pointers word star second name) = name
-parameter_name (t.text_array word star name opening closing) = name
+abbrev pub parameter_name : t.Parameter → Option Span
+parameter_name (t.int keyword name) = name
+parameter_name (t.array keyword name opening length closing) = name
+parameter_name (t.pointer keyword star name) = name
+parameter_name (t.communicator keyword name) = name
+parameter_name (t.text_pointers keyword star second name) = name
+parameter_name (t.text_array keyword star name opening closing) = name
 
 abbrev pub optional_length_faults : Env → Option t.Expr → List TypingFault
 optional_length_faults env None = []
@@ -64,9 +64,9 @@ optional_length_faults env (Some length) = length_faults env length
 
 -- a length that is none, and a `char` away from main
 abbrev pub parameter_faults : Env → Bool → t.Parameter → List TypingFault
-parameter_faults env main (t.array word name opening length closing) = optional_length_faults env length
-parameter_faults env main (t.text_pointers word star second name) = unless main word LeftOut
-parameter_faults env main (t.text_array word star name opening closing) = unless main word LeftOut
+parameter_faults env main (t.array keyword name opening length closing) = optional_length_faults env length
+parameter_faults env main (t.text_pointers keyword star second name) = unless main keyword LeftOut
+parameter_faults env main (t.text_array keyword star name opening closing) = unless main keyword LeftOut
 parameter_faults env main _ = []
 
 -- a prototype declares nothing
@@ -74,11 +74,11 @@ abbrev pub prototype_faults : Env → Bool → List t.Parameter → List TypingF
 prototype_faults env main [] = []
 prototype_faults env main (one ∷ others) = parameter_faults env main one ++ prototype_faults env main others
 
-abbrev pub optional_twice_faults : Env → Option Spot → List TypingFault
+abbrev pub optional_twice_faults : Env → Option Span → List TypingFault
 optional_twice_faults env None = []
 optional_twice_faults env (Some name) = twice_faults env name
 
-abbrev pub declare_optional : Env → Option Spot → Entity → Env
+abbrev pub declare_optional : Env → Option Span → Entity → Env
 declare_optional env None entity = env
 declare_optional env (Some name) entity = declare env name entity
 
@@ -103,39 +103,39 @@ function_faults env head parts =
 -- ---- the text
 
 -- a name that is predefined, or was declared before in the text
-abbrev pub top_twice_faults : List ℕ → List (List ℕ) → Spot → List TypingFault
-top_twice_faults text seen name =
+abbrev pub external_twice_faults : List ℕ → List (List ℕ) → Span → List TypingFault
+external_twice_faults text seen name =
     unless (not (is_some (predefined (token_bytes text name)) || list_any (bytes_eq (token_bytes text name)) seen)) name Twice
 
 abbrev pub define_value : List ℕ → t.Value → ℤ
 define_value text value = if is_some value.minus then neg_ℤ (pos (number_at text value.number)) else pos (number_at text value.number)
 
-abbrev pub top_faults : Env → List (List ℕ) → t.Top → List TypingFault
-top_faults env seen (t.define word name value end) = top_twice_faults env.text seen name
-top_faults env seen (t.function head opening parts closing) = top_twice_faults env.text seen head.name ++ function_faults env head parts
-top_faults env seen (t.prototype head end) = prototype_faults env (is_main env.text head) (parameters_listed head.listed)
+abbrev pub external_faults : Env → List (List ℕ) → t.ExternalDeclaration → List TypingFault
+external_faults env seen (t.define keyword name value end) = external_twice_faults env.text seen name
+external_faults env seen (t.function head opening parts closing) = external_twice_faults env.text seen head.name ++ function_faults env head parts
+external_faults env seen (t.prototype head end) = prototype_faults env (is_main env.text head) (parameters_listed head.listed)
 
 -- a define is visible from where it stands
-abbrev pub after_top : Env → t.Top → Env
-after_top env (t.define word name value end) = declare env name (d.Define (define_value env.text value))
-after_top env _ = env
+abbrev pub after_external : Env → t.ExternalDeclaration → Env
+after_external env (t.define keyword name value end) = declare env name (d.Define (define_value env.text value))
+after_external env _ = env
 
-abbrev pub seen_after : List ℕ → List (List ℕ) → t.Top → List (List ℕ)
-seen_after text seen (t.define word name value end) = seen ++ token_bytes text name ∷ []
+abbrev pub seen_after : List ℕ → List (List ℕ) → t.ExternalDeclaration → List (List ℕ)
+seen_after text seen (t.define keyword name value end) = seen ++ token_bytes text name ∷ []
 seen_after text seen (t.function head opening parts closing) = seen ++ token_bytes text head.name ∷ []
 seen_after text seen (t.prototype head end) = seen
 
-abbrev pub tops_faults : Env → List (List ℕ) → List t.Top → List TypingFault
-tops_faults env seen [] = []
-tops_faults env seen (top ∷ tops) = top_faults env seen top ++ tops_faults (after_top env top) (seen_after env.text seen top) tops
+abbrev pub externals_faults : Env → List (List ℕ) → List t.ExternalDeclaration → List TypingFault
+externals_faults env seen [] = []
+externals_faults env seen (external ∷ externals) = external_faults env seen external ++ externals_faults (after_external env external) (seen_after env.text seen external) externals
 
-abbrev pub with_head : t.Top → List t.Head → List t.Head
+abbrev pub with_head : t.ExternalDeclaration → List t.Head → List t.Head
 with_head (t.function head opening parts closing) heads = head ∷ heads
 with_head _ heads = heads
 
 abbrev pub heads_of : t.Tree → List t.Head
 heads_of [] = []
-heads_of (top ∷ tops) = with_head top (heads_of tops)
+heads_of (external ∷ externals) = with_head external (heads_of externals)
 
 abbrev pub text_env : List ℕ → t.Tree → Env
 text_env text tree = record { text = text; functions = map signature_of (heads_of tree); entries = function_entries text 0 (heads_of tree) }
@@ -146,4 +146,4 @@ main_faults text tree = if list_any (is_main text) (heads_of tree) then [] else 
 
 -- all faults of a program, in no order that matters
 abbrev pub faults : List ℕ → t.Tree → List TypingFault
-faults text tree = tops_faults (text_env text tree) [] tree ++ main_faults text tree
+faults text tree = externals_faults (text_env text tree) [] tree ++ main_faults text tree

@@ -1,15 +1,15 @@
 -- The faults of statements and declarations. (ISO C, "Statements and blocks", "Declarations".)
 use Rattle.std.specs.Prelude.{◌++◌, ◌&&◌, ℕ, Bool, true, false, not, List, [], ◌∷◌, length, if◌then◌else◌, nat_lt, Option, Some, None}
 use Rattle.c_lex.specs.declared.fault.Why.TheVariants.{WrongType, WrongCount}
-use Rattle.c_grammar.specs.declared.word.Spot.{Spot}
-use Rattle.c_grammar.specs.declared.word.Word.{Word}
-use Rattle.c_grammar.specs.declared.word.Word.TheVariants as w
+use Rattle.c_grammar.specs.declared.terminal.Span.{Span}
+use Rattle.c_grammar.specs.declared.terminal.Symbol.{Symbol}
+use Rattle.c_grammar.specs.declared.terminal.Symbol.TheVariants as w
 use Rattle.c_grammar.specs.Tree as t
 use Rattle.c_names.specs.declared.kind.VariableKind.{VariableKind}
 use Rattle.c_names.specs.declared.kind.VariableKind.TheVariants.{Int, Status}
 use Rattle.c_check_expr.specs.Least.{fault, unless}
 use Rattle.c_check_expr.specs.Constants.{length_faults, length_of}
-use Rattle.c_check_expr.specs.Kinds.{cell_kind, kind_of_word, place_first_token, target_kind}
+use Rattle.c_check_expr.specs.Kinds.{cell_kind, kind_of_symbol, place_first_token, target_kind}
 use Rattle.c_check_expr.specs.Signatures.{listed}
 use Rattle.c_check_expr.specs.Scopes.{Env, declare, meaning, opened, twice_faults}
 use Rattle.c_check_expr.specs.Expressions.{int_faults, place_faults}
@@ -44,7 +44,7 @@ lvalue_takes (Of Status) = Nothing
 lvalue_takes (Of kind) = Of kind
 lvalue_takes _ = Nothing
 
-abbrev pub is_assign : Word → Bool
+abbrev pub is_assign : Symbol → Bool
 is_assign w.Assign = true
 is_assign _ = false
 
@@ -69,7 +69,7 @@ declared_entity env kind (t.whole name) = d.Variable kind
 declared_entity env kind (t.cell name opening length closing) = d.Array kind (length_of env length)
 
 -- a name stands in its own initializer, and not in its own length
-abbrev pub after_item : Env → VariableKind → t.Item → Env
+abbrev pub after_item : Env → VariableKind → t.InitDeclarator → Env
 after_item env kind item = declare env (place_first_token item.place) (declared_entity env kind item.place)
 
 abbrev pub place_length_faults : Env → t.Place → List TypingFault
@@ -103,37 +103,37 @@ abbrev pub values_faults : Env → List t.Expr → List TypingFault
 values_faults env [] = []
 values_faults env (e ∷ es) = int_faults env e ++ values_faults env es
 
-abbrev pub braces_faults : Spot → Entity → ℕ → List TypingFault
+abbrev pub braces_faults : Span → Entity → ℕ → List TypingFault
 braces_faults name entity count =
     if is_int_array entity
     then unless (not (nat_lt 0 (array_length entity) && nat_lt (array_length entity) count)) name WrongCount
     else fault name WrongType
 
-abbrev pub initial_faults : Env → Spot → Entity → Option t.Initial → List TypingFault
+abbrev pub initial_faults : Env → Span → Entity → Option t.Initializer → List TypingFault
 initial_faults env name entity None = []
 initial_faults env name entity (Some (t.begun mark right)) =
     unless (can_begin (begins_with entity)) name WrongType ++ right_faults env (begun_takes (begins_with entity)) right
 initial_faults env name entity (Some (t.braced mark opening values closing)) =
     braces_faults name entity (length (listed values)) ++ values_faults env (listed values)
 
-abbrev pub item_faults : Env → VariableKind → t.Item → List TypingFault
+abbrev pub item_faults : Env → VariableKind → t.InitDeclarator → List TypingFault
 item_faults env kind item =
     (place_length_faults env item.place ++ twice_faults env (place_first_token item.place))
     ++ initial_faults (after_item env kind item) (place_first_token item.place) (declared_entity env kind item.place) item.initial
 
-abbrev pub items_faults : Env → VariableKind → List t.Item → List TypingFault
+abbrev pub items_faults : Env → VariableKind → List t.InitDeclarator → List TypingFault
 items_faults env kind [] = []
 items_faults env kind (item ∷ items) = item_faults env kind item ++ items_faults (after_item env kind item) kind items
 
-abbrev pub after_items : Env → VariableKind → List t.Item → Env
+abbrev pub after_items : Env → VariableKind → List t.InitDeclarator → Env
 after_items env kind [] = env
 after_items env kind (item ∷ items) = after_items (after_item env kind item) kind items
 
 abbrev pub declaration_faults : Env → t.Declaration → List TypingFault
-declaration_faults env one = items_faults env (kind_of_word one.kind) (listed one.items)
+declaration_faults env one = items_faults env (kind_of_symbol one.kind) (listed one.items)
 
 abbrev pub after_declaration : Env → t.Declaration → Env
-after_declaration env one = after_items env (kind_of_word one.kind) (listed one.items)
+after_declaration env one = after_items env (kind_of_symbol one.kind) (listed one.items)
 
 -- ---- statements
 
@@ -174,15 +174,15 @@ abbrev mutual
   stmt_faults env gives loops (t.block opening parts closing) = parts_faults (opened env) gives loops parts
   stmt_faults env gives loops (t.empty at) = []
   stmt_faults env gives loops (t.simple simple end) = simple_faults env simple
-  stmt_faults env gives loops (t.break word end) = unless loops word WrongType
-  stmt_faults env gives loops (t.continue word end) = unless loops word WrongType
-  stmt_faults env gives loops (t.return word value end) = return_faults env gives value
-  stmt_faults env gives loops (t.if_only word opening test closing taken) = int_faults env test ++ stmt_faults env gives loops taken
-  stmt_faults env gives loops (t.if_else word opening test closing taken other_word spared) =
+  stmt_faults env gives loops (t.break keyword end) = unless loops keyword WrongType
+  stmt_faults env gives loops (t.continue keyword end) = unless loops keyword WrongType
+  stmt_faults env gives loops (t.return keyword value end) = return_faults env gives value
+  stmt_faults env gives loops (t.if_only keyword opening test closing taken) = int_faults env test ++ stmt_faults env gives loops taken
+  stmt_faults env gives loops (t.if_else keyword opening test closing taken else_keyword spared) =
       (int_faults env test ++ stmt_faults env gives loops taken) ++ stmt_faults env gives loops spared
-  stmt_faults env gives loops (t.while word opening test closing body) = int_faults env test ++ stmt_faults env gives true body
-  stmt_faults env gives loops (t.do_while word body while_word opening test closing end) = stmt_faults env gives true body ++ int_faults env test
-  stmt_faults env gives loops (t.for word opening start start_end test test_end step closing body) =
+  stmt_faults env gives loops (t.while keyword opening test closing body) = int_faults env test ++ stmt_faults env gives true body
+  stmt_faults env gives loops (t.do_while keyword body while_keyword opening test closing end) = stmt_faults env gives true body ++ int_faults env test
+  stmt_faults env gives loops (t.for keyword opening start start_end test test_end step closing body) =
       ((start_faults (opened env) start ++ test_faults (after_start (opened env) start) test)
       ++ step_faults (after_start (opened env) start) step)
       ++ stmt_faults (after_start (opened env) start) gives true body

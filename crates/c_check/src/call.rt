@@ -9,20 +9,20 @@ ghost use Rattle.c_check_expr.specs.Least.{least_from, unless};
 ghost use Rattle.c_check_expr.specs.Scopes.{meaning, name_faults};
 ghost use Rattle.c_check_expr.specs.Signatures.{is_int, parameter_takes, parameters_listed};
 
+use c_check_expr::comma_list::{item_at, item_count};
+use c_check_expr::expression::{want_expr, want_int};
+use c_check_expr::fault::{TypingFault, note_at, note_unless};
+use c_check_expr::kind::{first_token, is_same_kind, want_kind};
+use c_check_expr::meaning::{Entity, ExprKind, Meaning};
+use c_check_expr::scope::{Scope, token_bytes, want_meaning};
 use c_grammar::statement::{Argument, Call, Head, Parameter, Parameters, Right};
+use c_grammar::terminal::{Span, Symbol};
 use c_grammar::tree::{Expr, Link, Place};
-use c_grammar::word::{Spot, Word};
 use c_lex::Why;
 use c_names::format::count_ints;
 use c_names::function::{ArgumentKind, MpiFunction, accepts, arguments};
 use c_names::kind::VariableKind;
 use c_names::predefined::Predefined;
-use c_check_expr::expression::{want_expr, want_int};
-use c_check_expr::fault::{TypingFault, note_at, note_unless};
-use c_check_expr::kind::{is_same_kind, first_token, want_kind};
-use c_check_expr::row::{item_at, item_count};
-use c_check_expr::scope::{Scope, token_bytes, want_meaning};
-use c_check_expr::meaning::{ExprKind, Meaning, Entity};
 
 // ---- one argument
 
@@ -35,7 +35,7 @@ fn predefined_meant(meaning: Meaning) -> Option<Predefined>
     }
 }
 
-fn name_predefined(scope: &Scope, name: Option<Spot>) -> Option<Predefined>
+fn name_predefined(scope: &Scope, name: Option<Span>) -> Option<Predefined>
     ensures { result ≡ name_predefined scope.now name }
 {
     match name {
@@ -138,7 +138,7 @@ fn is_nameless(meaning: Meaning) -> bool
 
 /// A name alone.
 #[tactic(auto, using(c_grammar::proofs::Viewed::views))]
-pub fn name_alone(e: &Expr) -> Option<Spot>
+pub fn name_alone(e: &Expr) -> Option<Span>
     ensures { result ≡ name_alone (view e.now) }
 {
     match e {
@@ -155,17 +155,17 @@ pub fn name_alone(e: &Expr) -> Option<Spot>
     }
 }
 
-pub fn is_plus(word: Word) -> bool
-    ensures { result ≡ is_plus word }
+pub fn is_plus(symbol: Symbol) -> bool
+    ensures { result ≡ is_plus symbol }
 {
-    match word {
-        Word::Plus => true,
+    match symbol {
+        Symbol::Plus => true,
         _ => false,
     }
 }
 
 /// The name and the operand of a sum of two, where its first one is a name alone.
-fn sum_base(name: Option<Spot>, links: &[Link]) -> Option<(Spot, &Expr)>
+fn sum_base(name: Option<Span>, links: &[Link]) -> Option<(Span, &Expr)>
     ensures { option_map (λ sum. (sum.0, view sum.1.now)) result ≡ sum_base name (links_from (map piece links.now)) }
 {
     match name {
@@ -186,7 +186,7 @@ fn sum_base(name: Option<Spot>, links: &[Link]) -> Option<(Spot, &Expr)>
 
 /// The name of an array and what is added to it.
 #[tactic(auto, using(c_grammar::proofs::Viewed::views))]
-pub fn array_sum(e: &Expr) -> Option<(Spot, &Expr)>
+pub fn array_sum(e: &Expr) -> Option<(Span, &Expr)>
     ensures { option_map (λ sum. (sum.0, view sum.1.now)) result ≡ array_sum (view e.now) }
 {
     match e {
@@ -200,7 +200,7 @@ pub fn array_sum(e: &Expr) -> Option<(Spot, &Expr)>
     }
 }
 
-fn is_array_name(scope: &Scope, wanted: VariableKind, name: Option<Spot>) -> bool
+fn is_array_name(scope: &Scope, wanted: VariableKind, name: Option<Span>) -> bool
     ensures { result ≡ is_array_name scope.now wanted name }
 {
     match name {
@@ -215,7 +215,7 @@ fn want_sum(
     scope: &Scope,
     wanted: VariableKind,
     e: &Expr,
-    sum: Option<(Spot, &Expr)>,
+    sum: Option<(Span, &Expr)>,
 )
     ensures { best.new ≡ least_from best.old (sum_faults scope.now wanted (view e.now) (option_map (λ sum. (sum.0, view sum.1.now)) sum.entry)) }
 {
@@ -242,7 +242,13 @@ fn want_array(best: &mut Option<TypingFault>, scope: &Scope, wanted: VariableKin
 
 /// A name behind `&`, and whether it fits there.
 #[tactic(auto, using(c_check_expr::proofs::Least::least_from_append))]
-fn want_referred(best: &mut Option<TypingFault>, meaning: Meaning, name: Spot, fits: bool, mark: Spot)
+fn want_referred(
+    best: &mut Option<TypingFault>,
+    meaning: Meaning,
+    name: Span,
+    fits: bool,
+    mark: Span,
+)
     ensures { best.new ≡ least_from best.old (name_faults meaning name ++ unless (is_nameless meaning || fits) mark WrongType) }
 {
     want_meaning(best, meaning, name);
@@ -250,7 +256,13 @@ fn want_referred(best: &mut Option<TypingFault>, meaning: Meaning, name: Spot, f
 }
 
 /// A place behind `&`.
-fn want_address(best: &mut Option<TypingFault>, scope: &Scope, wanted: VariableKind, mark: Spot, place: &Place)
+fn want_address(
+    best: &mut Option<TypingFault>,
+    scope: &Scope,
+    wanted: VariableKind,
+    mark: Span,
+    place: &Place,
+)
     ensures { best.new ≡ least_from best.old (address_faults scope.now wanted mark (place_view place.now)) }
 {
     match place {
@@ -267,7 +279,12 @@ fn want_address(best: &mut Option<TypingFault>, scope: &Scope, wanted: VariableK
 }
 
 /// A reference to cells of one kind.
-fn want_reference(best: &mut Option<TypingFault>, scope: &Scope, wanted: VariableKind, argument: &Argument)
+fn want_reference(
+    best: &mut Option<TypingFault>,
+    scope: &Scope,
+    wanted: VariableKind,
+    argument: &Argument,
+)
     ensures { best.new ≡ least_from best.old (reference_faults scope.now wanted (argument_view argument.now)) }
 {
     match argument {
@@ -277,13 +294,23 @@ fn want_reference(best: &mut Option<TypingFault>, scope: &Scope, wanted: Variabl
     }
 }
 
-fn want_unaccepted(best: &mut Option<TypingFault>, scope: &Scope, kind: ArgumentKind, argument: &Argument)
+fn want_unaccepted(
+    best: &mut Option<TypingFault>,
+    scope: &Scope,
+    kind: ArgumentKind,
+    argument: &Argument,
+)
     ensures { best.new ≡ least_from best.old (unaccepted_faults scope.now kind (argument_view argument.now)) }
 {
     match kind {
         ArgumentKind::Number => want_value(best, scope, ExprKind::Of(VariableKind::Int), argument),
         ArgumentKind::Communicator => {
-            want_value(best, scope, ExprKind::Of(VariableKind::Communicator), argument)
+            want_value(
+                best,
+                scope,
+                ExprKind::Of(VariableKind::Communicator),
+                argument,
+            )
         }
         ArgumentKind::Buffer | ArgumentKind::Ints => {
             want_reference(best, scope, VariableKind::Int, argument)
@@ -300,7 +327,12 @@ fn want_unaccepted(best: &mut Option<TypingFault>, scope: &Scope, kind: Argument
 }
 
 /// An argument, by what it has to be.
-fn check_argument(best: &mut Option<TypingFault>, scope: &Scope, kind: ArgumentKind, argument: &Argument)
+fn check_argument(
+    best: &mut Option<TypingFault>,
+    scope: &Scope,
+    kind: ArgumentKind,
+    argument: &Argument,
+)
     ensures { best.new ≡ least_from best.old (argument_faults scope.now kind (argument_view argument.now)) }
 {
     let accepted = accepts_predefined(kind, predefined_of(scope, argument))
@@ -399,7 +431,10 @@ fn first_is_null(scope: &Scope, call: &Call) -> bool
     ensures { result ≡ first_is_null scope.now (arguments_of (call_view call.now)) }
 {
     match argument_at(call, 0) {
-        Some(argument) => accepts_predefined(ArgumentKind::NoReference, predefined_of(scope, argument)),
+        Some(argument) => accepts_predefined(
+            ArgumentKind::NoReference,
+            predefined_of(scope, argument),
+        ),
         None => false,
     }
 }
@@ -472,7 +507,7 @@ pub fn inside(quoted: &[u8]) -> &[u8]
 }
 
 /// A format for so many ints.
-fn want_format(best: &mut Option<TypingFault>, scope: &Scope, at: Spot, count: usize)
+fn want_format(best: &mut Option<TypingFault>, scope: &Scope, at: Span, count: usize)
     ensures { best.new ≡ least_from best.old (format_faults scope.now at count) }
 {
     let well = match count_ints(inside(token_bytes(scope.text(), at))) {
@@ -520,11 +555,11 @@ pub fn check_call(best: &mut Option<TypingFault>, scope: &Scope, call: &Call)
 
 // ---- right sides
 
-pub fn is_int(word: Word) -> bool
-    ensures { result ≡ is_int word }
+pub fn is_int(symbol: Symbol) -> bool
+    ensures { result ≡ is_int symbol }
 {
-    match word {
-        Word::Int => true,
+    match symbol {
+        Symbol::Int => true,
         _ => false,
     }
 }
@@ -545,7 +580,7 @@ fn want_result(
     scope: &Scope,
     wanted: ExprKind,
     meaning: Meaning,
-    name: Spot,
+    name: Span,
 )
     ensures { best.new ≡ least_from best.old (result_faults scope.now wanted meaning name) }
 {
@@ -578,7 +613,7 @@ pub fn want_right(best: &mut Option<TypingFault>, scope: &Scope, wanted: ExprKin
 }
 
 /// The first token of a right side.
-pub fn right_first_token(right: &Right) -> Spot
+pub fn right_first_token(right: &Right) -> Span
     ensures { result ≡ right_first_token (right_view right.now) }
 {
     match right {

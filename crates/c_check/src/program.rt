@@ -2,23 +2,23 @@
 ghost use Rattle.std.specs.Prelude.{◌≡◌, ◌≤◌, ◌++◌, ◌∷◌, [], IfOk, MatchOption, OnOk, length, map};
 ghost use Rattle.std.specs.List.{list_any};
 ghost use Rattle.std.specs.Str.{bytes_eq};
-ghost use Rattle.c_grammar.specs.StmtView.{head_view, parameter_view, parameters_view, parts_view, top_view, tree_view, value_view};
+ghost use Rattle.c_grammar.specs.StmtView.{head_view, parameter_view, parameters_view, parts_view, external_view, tree_view, value_view};
 ghost use Rattle.c_check_expr.specs.Least.{IsFirst, least_from};
-ghost use Rattle.c_check.specs.Programs.{after_parameter, after_parameters, after_top, are_main_parameters, declare_optional, define_value, faults, function_faults, heads_of, is_main, is_one_int, is_text, main_faults, optional_twice_faults, parameter_faults, parameter_name, parameter_entity, parameters_faults, prototype_faults, seen_after, text_env, top_faults, top_twice_faults, tops_faults, with_head};
+ghost use Rattle.c_check.specs.Programs.{after_parameter, after_parameters, after_external, are_main_parameters, declare_optional, define_value, faults, function_faults, heads_of, is_main, is_one_int, is_text, main_faults, optional_twice_faults, parameter_faults, parameter_name, parameter_entity, parameters_faults, prototype_faults, seen_after, text_env, external_faults, external_twice_faults, externals_faults, with_head};
 ghost use Rattle.c_check_expr.specs.Scopes.{token_bytes};
 ghost use Rattle.c_check_expr.specs.Signatures.{parameters_listed};
 
-use crate::statement::check_parts;
 use crate::call::{is_int, parameter_at, parameter_count};
-use c_grammar::statement::{Head, Parameter, Parameters, Part, Top, Tree, Value};
-use c_grammar::word::Spot;
+use crate::statement::check_parts;
+use c_check_expr::constant::want_length;
+use c_check_expr::fault::{TypingFault, note, note_unless};
+use c_check_expr::meaning::Entity;
+use c_check_expr::scope::{Scope, is_same, number_at, token_bytes};
+use c_grammar::statement::{ExternalDeclaration, Head, Parameter, Parameters, Part, Tree, Value};
+use c_grammar::terminal::Span;
 use c_lex::Why;
 use c_names::kind::VariableKind;
 use c_names::predefined::meaning_of;
-use c_check_expr::constant::want_length;
-use c_check_expr::fault::{TypingFault, note, note_unless};
-use c_check_expr::scope::{Scope, token_bytes, is_same, number_at};
-use c_check_expr::meaning::Entity;
 use std::alloc::{AllocError, Global};
 
 // ---- main
@@ -85,7 +85,7 @@ pub fn parameter_entity(main: bool, parameter: &Parameter) -> Entity
     }
 }
 
-pub fn parameter_name(parameter: &Parameter) -> Option<Spot>
+pub fn parameter_name(parameter: &Parameter) -> Option<Span>
     ensures { result ≡ parameter_name (parameter_view parameter.now) }
 {
     match parameter {
@@ -108,8 +108,8 @@ fn check_parameter(best: &mut Option<TypingFault>, scope: &Scope, main: bool, pa
                 want_length(best, scope, length);
             }
         }
-        Parameter::TextPointers { word, .. } => note_unless(best, main, *word, Why::LeftOut),
-        Parameter::TextArray { word, .. } => note_unless(best, main, *word, Why::LeftOut),
+        Parameter::TextPointers { keyword, .. } => note_unless(best, main, *keyword, Why::LeftOut),
+        Parameter::TextArray { keyword, .. } => note_unless(best, main, *keyword, Why::LeftOut),
         _ => {}
     }
 }
@@ -126,7 +126,7 @@ fn check_prototype(best: &mut Option<TypingFault>, scope: &Scope, main: bool, he
     }
 }
 
-fn want_free(best: &mut Option<TypingFault>, scope: &Scope, name: Option<Spot>)
+fn want_free(best: &mut Option<TypingFault>, scope: &Scope, name: Option<Span>)
     ensures { best.new ≡ least_from best.old (optional_twice_faults scope.now name) }
 {
     if let Some(name) = name {
@@ -134,7 +134,7 @@ fn want_free(best: &mut Option<TypingFault>, scope: &Scope, name: Option<Spot>)
     }
 }
 
-fn declare(scope: &mut Scope, name: Option<Spot>, entity: Entity) -> Result<(), AllocError>
+fn declare(scope: &mut Scope, name: Option<Span>, entity: Entity) -> Result<(), AllocError>
     ensures { OnOk result (scope.new ≡ declare_optional scope.old name entity) }
 {
     match name {
@@ -211,18 +211,18 @@ fn is_seen(seen: &[&[u8]], name: &[u8]) -> bool
 }
 
 /// A name that is free in the text.
-fn want_new(best: &mut Option<TypingFault>, text: &[u8], seen: &[&[u8]], spot: Spot)
-    ensures { best.new ≡ least_from best.old (top_twice_faults text.now (map (λ other. other.now) seen.now) spot) }
+fn want_new(best: &mut Option<TypingFault>, text: &[u8], seen: &[&[u8]], span: Span)
+    ensures { best.new ≡ least_from best.old (external_twice_faults text.now (map (λ other. other.now) seen.now) span) }
 {
-    let name = token_bytes(text, spot);
+    let name = token_bytes(text, span);
     let taken = meaning_of(name).is_some() || is_seen(seen, name);
-    note_unless(best, !taken, spot, Why::Twice);
+    note_unless(best, !taken, span, Why::Twice);
 }
 
-fn see<'a>(text: &'a [u8], seen: &mut Vec<&'a [u8]>, spot: Spot) -> Result<(), AllocError>
-    ensures { OnOk result (map (λ other. other.now) seen.new.items ≡ map (λ other. other.now) seen.old.items ++ token_bytes text.now spot ∷ []) }
+fn see<'a>(text: &'a [u8], seen: &mut Vec<&'a [u8]>, span: Span) -> Result<(), AllocError>
+    ensures { OnOk result (map (λ other. other.now) seen.new.items ≡ map (λ other. other.now) seen.old.items ++ token_bytes text.now span ∷ []) }
 {
-    seen.push(token_bytes(text, spot))?;
+    seen.push(token_bytes(text, span))?;
     Ok(())
 }
 
@@ -240,51 +240,54 @@ pub fn define_value(text: &[u8], value: &Value) -> i32
 
 /// The faults of what stands in the text, which is then seen, and declared if it is a define.
 #[tactic(auto, using(c_check_expr::proofs::Least::least_from_append))]
-fn check_top<'a>(
+fn check_external<'a>(
     best: &mut Option<TypingFault>,
     scope: &mut Scope<'a>,
     seen: &mut Vec<&'a [u8]>,
-    top: &Top,
+    external: &ExternalDeclaration,
 ) -> Result<(), AllocError>
-    ensures faults { OnOk result (best.new ≡ least_from best.old (top_faults scope.old (map (λ other. other.now) seen.old.items) (top_view top.now))) }
-    ensures scope { OnOk result (scope.new ≡ after_top scope.old (top_view top.now)) }
-    ensures seen { OnOk result (map (λ other. other.now) seen.new.items ≡ seen_after scope.old.text (map (λ other. other.now) seen.old.items) (top_view top.now)) }
+    ensures faults { OnOk result (best.new ≡ least_from best.old (external_faults scope.old (map (λ other. other.now) seen.old.items) (external_view external.now))) }
+    ensures scope { OnOk result (scope.new ≡ after_external scope.old (external_view external.now)) }
+    ensures seen { OnOk result (map (λ other. other.now) seen.new.items ≡ seen_after scope.old.text (map (λ other. other.now) seen.old.items) (external_view external.now)) }
 {
     let text = scope.text();
-    match top {
-        Top::Define { name, value, .. } => {
+    match external {
+        ExternalDeclaration::Define { name, value, .. } => {
             want_new(best, text, seen, *name);
             see(text, seen, *name)?;
             scope.declare(*name, Entity::Define(define_value(text, value)))
         }
-        Top::Function { head, parts, .. } => {
+        ExternalDeclaration::Function { head, parts, .. } => {
             want_new(best, text, seen, head.name);
             see(text, seen, head.name)?;
             check_function(best, scope, head, parts)
         }
-        Top::Prototype { head, .. } => {
+        ExternalDeclaration::Prototype { head, .. } => {
             check_prototype(best, scope, is_main(text, head), head);
             Ok(())
         }
     }
 }
 
-fn push_head<'a>(heads: &mut Vec<&'a Head>, top: &'a Top) -> Result<(), AllocError>
-    ensures { OnOk result (map (λ head. head_view head.now) heads.new.items ≡ map (λ head. head_view head.now) heads.old.items ++ with_head (top_view top.now) []) }
+fn push_head<'a>(
+    heads: &mut Vec<&'a Head>,
+    external: &'a ExternalDeclaration,
+) -> Result<(), AllocError>
+    ensures { OnOk result (map (λ head. head_view head.now) heads.new.items ≡ map (λ head. head_view head.now) heads.old.items ++ with_head (external_view external.now) []) }
 {
-    if let Top::Function { head, .. } = top {
+    if let ExternalDeclaration::Function { head, .. } = external {
         heads.push(head)?;
     }
     Ok(())
 }
 
 /// The heads of the text's functions, in order.
-fn heads_of(alloc: Global, tops: &[Top]) -> Result<Vec<&Head>, AllocError>
-    ensures { IfOk result (λ heads. map (λ head. head_view head.now) heads.items ≡ heads_of (map top_view tops.now)) }
+fn heads_of(alloc: Global, externals: &[ExternalDeclaration]) -> Result<Vec<&Head>, AllocError>
+    ensures { IfOk result (λ heads. map (λ head. head_view head.now) heads.items ≡ heads_of (map external_view externals.now)) }
 {
     let mut heads = Vec::new(alloc);
-    for top in tops {
-        push_head(&mut heads, top)?;
+    for external in externals {
+        push_head(&mut heads, external)?;
     }
     Ok(heads)
 }
@@ -297,26 +300,26 @@ pub fn text_scope<'a>(
 ) -> Result<Scope<'a>, AllocError>
     ensures { IfOk result (λ scope. scope ≡ text_env text.now (tree_view tree.now)) }
 {
-    let heads = heads_of(alloc, &tree.tops)?;
+    let heads = heads_of(alloc, &tree.externals)?;
     let scope = Scope::of_functions(alloc, text, heads)?;
     Ok(scope)
 }
 
-fn is_main_top(text: &[u8], top: &Top) -> bool
-    ensures { result ≡ list_any (is_main text.now) (with_head (top_view top.now) []) }
+fn is_main_external(text: &[u8], external: &ExternalDeclaration) -> bool
+    ensures { result ≡ list_any (is_main text.now) (with_head (external_view external.now) []) }
 {
-    match top {
-        Top::Function { head, .. } => is_main(text, head),
-        Top::Define { .. } => false,
-        Top::Prototype { .. } => false,
+    match external {
+        ExternalDeclaration::Function { head, .. } => is_main(text, head),
+        ExternalDeclaration::Define { .. } => false,
+        ExternalDeclaration::Prototype { .. } => false,
     }
 }
 
-fn has_main(text: &[u8], tops: &[Top]) -> bool
-    ensures { result ≡ list_any (is_main text.now) (heads_of (map top_view tops.now)) }
+fn has_main(text: &[u8], externals: &[ExternalDeclaration]) -> bool
+    ensures { result ≡ list_any (is_main text.now) (heads_of (map external_view externals.now)) }
 {
-    for top in tops {
-        if is_main_top(text, top) {
+    for external in externals {
+        if is_main_external(text, external) {
             return true;
         }
     }
@@ -328,7 +331,7 @@ fn want_main(best: &mut Option<TypingFault>, text: &[u8], tree: &Tree)
     requires { length text.now ≤ 65536 }
     ensures { best.new ≡ least_from best.old (main_faults text.now (tree_view tree.now)) }
 {
-    if !has_main(text, &tree.tops) {
+    if !has_main(text, &tree.externals) {
         note(
             best,
             TypingFault {
@@ -339,30 +342,34 @@ fn want_main(best: &mut Option<TypingFault>, text: &[u8], tree: &Tree)
     }
 }
 
-fn check_tops<'a>(
+fn check_externals<'a>(
     alloc: Global,
     best: &mut Option<TypingFault>,
     scope: &mut Scope<'a>,
-    tops: &[Top],
+    externals: &[ExternalDeclaration],
 ) -> Result<(), AllocError>
-    ensures { OnOk result (best.new ≡ least_from best.old (tops_faults scope.old [] (map top_view tops.now))) }
+    ensures { OnOk result (best.new ≡ least_from best.old (externals_faults scope.old [] (map external_view externals.now))) }
 {
     let mut seen = Vec::new(alloc);
-    for top in tops {
-        check_top(best, scope, &mut seen, top)?;
+    for external in externals {
+        check_external(best, scope, &mut seen, external)?;
     }
     Ok(())
 }
 
 /// The first fault of a program in source order, or `None` where it has none.
 #[tactic(auto, using(c_check_expr::proofs::Least::least_from_append, c_check_expr::proofs::Least::first_of))]
-pub fn first_fault(alloc: Global, text: &[u8], tree: &Tree) -> Result<Option<TypingFault>, AllocError>
+pub fn first_fault(
+    alloc: Global,
+    text: &[u8],
+    tree: &Tree,
+) -> Result<Option<TypingFault>, AllocError>
     requires { length text.now ≤ 65536 }
     ensures { IfOk result (λ first. MatchOption first (faults text.now (tree_view tree.now) ≡ []) (λ found. IsFirst (faults text.now (tree_view tree.now)) found)) }
 {
     let mut best = None;
     let mut scope = text_scope(alloc, text, tree)?;
-    check_tops(alloc, &mut best, &mut scope, &tree.tops)?;
+    check_externals(alloc, &mut best, &mut scope, &tree.externals)?;
     want_main(&mut best, text, tree);
     Ok(best)
 }

@@ -1,6 +1,6 @@
 //! The faults of statements and declarations.
 ghost use Rattle.std.specs.Prelude.{◌≡◌, ◌++◌, OnOk, option_map, true};
-ghost use Rattle.c_grammar.specs.StmtView.{declaration_view, initial_view, item_view, part_view, parts_view, right_view, row_view, simple_view, start_view, stmt_view};
+ghost use Rattle.c_grammar.specs.StmtView.{declaration_view, initial_view, item_view, part_view, parts_view, right_view, comma_list_view, simple_view, start_view, stmt_view};
 ghost use Rattle.c_grammar.specs.View.{place_view, view};
 ghost use Rattle.c_lex.specs.declared.fault.Why.TheVariants.{WrongType};
 ghost use Rattle.c_check_expr.specs.Expressions.{int_faults};
@@ -10,20 +10,20 @@ ghost use Rattle.c_check_expr.specs.Signatures.{listed};
 ghost use Rattle.c_check.specs.Statements.{after_declaration, after_item, after_part, after_parts, after_start, array_length, begins_with, begun_takes, braces_faults, can_begin, declaration_faults, declared_entity, lvalue_kind, lvalue_takes, initial_faults, int_lvalue_faults, is_assign, is_assignable, is_int_array, is_int_lvalue, item_faults, part_faults, parts_faults, place_length_faults, return_faults, simple_faults, start_faults, step_faults, stmt_faults, test_faults, values_faults};
 
 use crate::call::{check_call, right_first_token, want_right};
-use c_grammar::statement::{
-    Declaration, ForStart, Initial, Item, Listed, Part, Right, Simple, Stmt,
-};
-use c_grammar::tree::{Expr, Place};
-use c_grammar::word::{Spot, Word};
-use c_lex::Why;
-use c_names::kind::VariableKind;
+use c_check_expr::comma_list::item_count;
 use c_check_expr::constant::{length_of, want_length};
 use c_check_expr::expression::{check_place, want_int};
 use c_check_expr::fault::{TypingFault, note_at, note_unless};
 use c_check_expr::kind::{cell_kind, place_first_token, target_kind};
-use c_check_expr::row::item_count;
+use c_check_expr::meaning::{Entity, ExprKind, kind_of_symbol};
 use c_check_expr::scope::Scope;
-use c_check_expr::meaning::{ExprKind, Entity, kind_of_word};
+use c_grammar::statement::{
+    CommaList, Declaration, ForStart, InitDeclarator, Initializer, Part, Right, Simple, Stmt,
+};
+use c_grammar::terminal::{Span, Symbol};
+use c_grammar::tree::{Expr, Place};
+use c_lex::Why;
+use c_names::kind::VariableKind;
 use std::alloc::AllocError;
 
 // ---- assignments
@@ -70,11 +70,11 @@ fn lvalue_takes(kind: ExprKind) -> ExprKind
     }
 }
 
-pub fn is_assign(word: Word) -> bool
-    ensures { result ≡ is_assign word }
+pub fn is_assign(symbol: Symbol) -> bool
+    ensures { result ≡ is_assign symbol }
 {
-    match word {
-        Word::Assign => true,
+    match symbol {
+        Symbol::Assign => true,
         _ => false,
     }
 }
@@ -104,7 +104,12 @@ pub fn check_simple(best: &mut Option<TypingFault>, scope: &Scope, simple: &Simp
             if is_assign(*operator) {
                 check_place(best, scope, place);
                 let kind = lvalue_kind(scope, place);
-                note_unless(best, is_assignable(kind), place_first_token(place), Why::WrongType);
+                note_unless(
+                    best,
+                    is_assignable(kind),
+                    place_first_token(place),
+                    Why::WrongType,
+                );
                 want_right(best, scope, lvalue_takes(kind), right);
             } else {
                 want_int_lvalue(best, scope, place);
@@ -187,8 +192,8 @@ fn array_length(entity: Entity) -> u32
 
 /// Ints in braces.
 #[tactic(auto, using(c_check_expr::proofs::Least::least_from_append))]
-fn want_values(best: &mut Option<TypingFault>, scope: &Scope, values: &Listed<Expr>)
-    ensures { best.new ≡ least_from best.old (values_faults scope.now (listed (row_view view values.now))) }
+fn want_values(best: &mut Option<TypingFault>, scope: &Scope, values: &CommaList<Expr>)
+    ensures { best.new ≡ least_from best.old (values_faults scope.now (listed (comma_list_view view values.now))) }
 {
     want_int(best, scope, &values.first);
     for behind in &values.more {
@@ -197,7 +202,7 @@ fn want_values(best: &mut Option<TypingFault>, scope: &Scope, values: &Listed<Ex
 }
 
 /// Values in braces.
-fn want_braces(best: &mut Option<TypingFault>, name: Spot, entity: Entity, count: usize)
+fn want_braces(best: &mut Option<TypingFault>, name: Span, entity: Entity, count: usize)
     ensures { best.new ≡ least_from best.old (braces_faults name entity count) }
 {
     if is_int_array(entity) {
@@ -212,20 +217,20 @@ fn want_braces(best: &mut Option<TypingFault>, name: Spot, entity: Entity, count
 fn check_initial(
     best: &mut Option<TypingFault>,
     scope: &Scope,
-    name: Spot,
+    name: Span,
     entity: Entity,
-    initial: &Option<Initial>,
+    initial: &Option<Initializer>,
 )
     ensures { best.new ≡ least_from best.old (initial_faults scope.now name entity (option_map initial_view initial.now)) }
 {
     match initial {
         None => {}
-        Some(Initial::Right { right, .. }) => {
+        Some(Initializer::Right { right, .. }) => {
             let kind = begins_with(entity);
             note_unless(best, can_begin(kind), name, Why::WrongType);
             want_right(best, scope, begun_takes(kind), right);
         }
-        Some(Initial::Braced { values, .. }) => {
+        Some(Initializer::Braced { values, .. }) => {
             want_braces(best, name, entity, item_count(values));
             want_values(best, scope, values);
         }
@@ -238,7 +243,7 @@ fn check_item(
     best: &mut Option<TypingFault>,
     scope: &mut Scope,
     kind: VariableKind,
-    item: &Item,
+    item: &InitDeclarator,
 ) -> Result<(), AllocError>
     ensures faults { OnOk result (best.new ≡ least_from best.old (item_faults scope.old kind (item_view item.now))) }
     ensures scope { OnOk result (scope.new ≡ after_item scope.old kind (item_view item.now)) }
@@ -262,7 +267,7 @@ pub fn check_declaration(
     ensures faults { OnOk result (best.new ≡ least_from best.old (declaration_faults scope.old (declaration_view declaration.now))) }
     ensures scope { OnOk result (scope.new ≡ after_declaration scope.old (declaration_view declaration.now)) }
 {
-    let kind = kind_of_word(declaration.kind);
+    let kind = kind_of_symbol(declaration.kind);
     check_item(best, scope, kind, &declaration.items.first)?;
     for behind in &declaration.items.more {
         check_item(best, scope, kind, &behind.item)?;
@@ -287,11 +292,11 @@ fn check_return(best: &mut Option<TypingFault>, scope: &Scope, gives: bool, valu
     }
 }
 
-/// A word that stands in loops alone.
-fn want_loop(best: &mut Option<TypingFault>, loops: bool, word: Spot)
-    ensures { best.new ≡ least_from best.old (unless loops word WrongType) }
+/// A keyword that stands in loops alone.
+fn want_loop(best: &mut Option<TypingFault>, loops: bool, keyword: Span)
+    ensures { best.new ≡ least_from best.old (unless loops keyword WrongType) }
 {
-    note_unless(best, loops, word, Why::WrongType);
+    note_unless(best, loops, keyword, Why::WrongType);
 }
 
 fn check_start(
@@ -347,12 +352,12 @@ pub fn check_stmt(
             check_simple(best, scope, simple);
             Ok(())
         }
-        Stmt::Break { word, .. } => {
-            want_loop(best, loops, *word);
+        Stmt::Break { keyword, .. } => {
+            want_loop(best, loops, *keyword);
             Ok(())
         }
-        Stmt::Continue { word, .. } => {
-            want_loop(best, loops, *word);
+        Stmt::Continue { keyword, .. } => {
+            want_loop(best, loops, *keyword);
             Ok(())
         }
         Stmt::Return { value, .. } => {

@@ -1,7 +1,7 @@
 -- One link more.
 use Rattle.std.proofs.Common.{◌≡◌, ℕ, ◌+◌, ◌<◌, ◌++◌, List, length, drop, get_or, map, Option, ◌∙◌, ap}
 use Rattle.c_grammar.specs.declared.tree.Link.{Link}
-use Rattle.c_grammar.specs.declared.word.Spot.{Spot}
+use Rattle.c_grammar.specs.declared.terminal.Span.{Span}
 use Rattle.c_grammar.specs.View.{links_from, piece, view}
 use Rattle.c_names.specs.declared.kind.VariableKind.TheVariants.{Int}
 use Rattle.c_check_expr.specs.Constants.{constant_of, joined, links_constant, names_in, names_in_links, operator_of}
@@ -28,7 +28,7 @@ names_next env best links i link h e =
     ap (λ left. least_from best (names_in_links env (links_from (map piece left)))) (drop_at links i link h e)
     ∙ least_from_append best (names_in env (view link.operand)) (names_in_links env (links_from (map piece (drop (i + 1) links))))
 
-pub faults_next : (env : Env) (best : Option TypingFault) (kind : ExprKind) (at : Spot) (links : List Link) (i : ℕ) (link : Link)
+pub faults_next : (env : Env) (best : Option TypingFault) (kind : ExprKind) (at : Span) (links : List Link) (i : ℕ) (link : Link)
     → i < length links → link ≡ get_or links i link
     → least_from best (links_faults env kind at (links_from (map piece (drop i links))))
     ≡ least_from (least_from (least_from best (expr_faults env (view link.operand)))

@@ -2,9 +2,9 @@
 use Rattle.std.specs.Prelude.{◌++◌, ℕ, ℤ, pos, zero, suc, nat_le, if◌then◌else◌, List, [], Option, Some, None}
 use Rattle.c_lex.specs.declared.fault.Why.TheVariants.{WrongType}
 use Rattle.mpi_call.specs.Operations.{is_set}
-use Rattle.c_grammar.specs.declared.word.Spot.{Spot}
-use Rattle.c_grammar.specs.declared.word.Word.{Word}
-use Rattle.c_grammar.specs.declared.word.Word.TheVariants as w
+use Rattle.c_grammar.specs.declared.terminal.Span.{Span}
+use Rattle.c_grammar.specs.declared.terminal.Symbol.{Symbol}
+use Rattle.c_grammar.specs.declared.terminal.Symbol.TheVariants as w
 use Rattle.c_grammar.specs.Tree as t
 use Rattle.c_names.specs.Operators.{applied, unary_applied}
 use Rattle.c_names.specs.declared.operator.Operator.{Operator}
@@ -24,7 +24,7 @@ use Rattle.c_check_expr.specs.declared.meaning.Meaning.TheVariants as m
 use Rattle.c_check_expr.specs.declared.meaning.Entity.TheVariants as d
 
 -- the operator of a word; no other word stands between two operands
-abbrev pub operator_of : Word → Operator
+abbrev pub operator_of : Symbol → Operator
 operator_of w.LogicalOr = o.LogicalOr
 operator_of w.LogicalAnd = o.LogicalAnd
 operator_of w.Or = o.Or
@@ -45,7 +45,7 @@ operator_of w.Divide = o.Divide
 operator_of _ = o.Remainder
 
 -- the sign of a word; no other word stands before an operand
-abbrev pub unary_of : Word → UnaryOperator
+abbrev pub unary_of : Symbol → UnaryOperator
 unary_of w.Minus = s.Minus
 unary_of w.Plus = s.Plus
 unary_of w.Not = s.Not
@@ -141,7 +141,7 @@ length_from other = 0
 abbrev pub length_of : Env → t.Expr → ℕ
 length_of env e = length_from (constant_of env e)
 
-abbrev pub value_faults : Constant → ℕ → Spot → List TypingFault
+abbrev pub value_faults : Constant → ℕ → Span → List TypingFault
 value_faults Nameless length at = []
 value_faults other zero at = fault at WrongType
 value_faults other (suc n) at = []

@@ -2,9 +2,9 @@
 use Rattle.std.specs.Prelude.{◌++◌, ◌&&◌, ◌||◌, ℕ, Bool, true, false, List, [], if◌then◌else◌, codes}
 use Rattle.std.specs.Str.{bytes_eq}
 use Rattle.c_lex.specs.declared.fault.Why.TheVariants.{WrongType, LeftOut}
-use Rattle.c_grammar.specs.declared.word.Spot.{Spot}
-use Rattle.c_grammar.specs.declared.word.Word.{Word}
-use Rattle.c_grammar.specs.declared.word.Word.TheVariants as w
+use Rattle.c_grammar.specs.declared.terminal.Span.{Span}
+use Rattle.c_grammar.specs.declared.terminal.Symbol.{Symbol}
+use Rattle.c_grammar.specs.declared.terminal.Symbol.TheVariants as w
 use Rattle.c_grammar.specs.Tree as t
 use Rattle.c_names.specs.declared.kind.VariableKind.TheVariants.{Int, Status}
 use Rattle.c_check_expr.specs.Least.{unless}
@@ -25,13 +25,13 @@ takes_index (m.Declared _) = false
 takes_index (m.Known _) = false
 takes_index _ = true
 
-abbrev pub is_equality : Word → Bool
+abbrev pub is_equality : Symbol → Bool
 is_equality w.Equal = true
 is_equality w.NotEqual = true
 is_equality _ = false
 
 -- handles may be compared; else both sides are ints, and what is none stands at its first token
-abbrev pub operand_faults : Word → ExprKind → Spot → ExprKind → Spot → List TypingFault
+abbrev pub operand_faults : Symbol → ExprKind → Span → ExprKind → Span → List TypingFault
 operand_faults operator left left_at right right_at =
     if is_equality operator && compares left right then []
     else kind_faults (Of Int) left left_at ++ kind_faults (Of Int) right right_at
@@ -40,7 +40,7 @@ operand_faults operator left left_at right right_at =
 abbrev pub is_field : List ℕ → Bool
 is_field name = bytes_eq name (codes "MPI_SOURCE") || bytes_eq name (codes "MPI_TAG")
 
-abbrev pub field_faults : Env → ExprKind → Spot → List TypingFault
+abbrev pub field_faults : Env → ExprKind → Span → List TypingFault
 field_faults env (Of Status) name = unless (is_field (token_bytes env.text name)) name LeftOut
 field_faults env kind name = []
 
@@ -65,7 +65,7 @@ abbrev mutual
       ++ (expr_faults env index ++ kind_faults (Of Int) (kind_of env index) (first_token index))
 
   -- the left operand's kind and first token, and the operators and operands behind it
-  pub links_faults : Env → ExprKind → Spot → t.Links → List TypingFault
+  pub links_faults : Env → ExprKind → Span → t.Links → List TypingFault
   links_faults env left left_at t.no_link = []
   links_faults env left left_at (t.link operator at operand rest) =
       (expr_faults env operand ++ operand_faults operator left left_at (kind_of env operand) (first_token operand))

@@ -1,9 +1,9 @@
 -- The kinds of expressions. (ISO C, "Expressions".)
 use Rattle.std.specs.Prelude.{Bool, true, false, List}
 use Rattle.c_lex.specs.declared.fault.Why.TheVariants.{WrongType}
-use Rattle.c_grammar.specs.declared.word.Spot.{Spot}
-use Rattle.c_grammar.specs.declared.word.Word.{Word}
-use Rattle.c_grammar.specs.declared.word.Word.TheVariants as w
+use Rattle.c_grammar.specs.declared.terminal.Span.{Span}
+use Rattle.c_grammar.specs.declared.terminal.Symbol.{Symbol}
+use Rattle.c_grammar.specs.declared.terminal.Symbol.TheVariants as w
 use Rattle.c_grammar.specs.Tree as t
 use Rattle.c_names.specs.declared.predefined.Predefined.TheVariants as p
 use Rattle.c_names.specs.declared.kind.VariableKind.{VariableKind}
@@ -17,11 +17,11 @@ use Rattle.c_check_expr.specs.declared.meaning.Meaning.{Meaning}
 use Rattle.c_check_expr.specs.declared.meaning.Meaning.TheVariants as m
 use Rattle.c_check_expr.specs.declared.meaning.Entity.TheVariants as d
 
-abbrev pub kind_of_word : Word → VariableKind
-kind_of_word w.Status = Status
-kind_of_word w.Request = Request
-kind_of_word w.Communicator = Communicator
-kind_of_word _ = Int
+abbrev pub kind_of_symbol : Symbol → VariableKind
+kind_of_symbol w.Status = Status
+kind_of_symbol w.Request = Request
+kind_of_symbol w.Communicator = Communicator
+kind_of_symbol _ = Int
 
 abbrev pub is_same_kind : VariableKind → VariableKind → Bool
 is_same_kind Int Int = true
@@ -66,11 +66,11 @@ kind_of env (t.read place) = place_kind env place
 kind_of env _ = Of Int
 
 -- the first token
-abbrev pub place_first_token : t.Place → Spot
+abbrev pub place_first_token : t.Place → Span
 place_first_token (t.whole name) = name
 place_first_token (t.cell name opening index closing) = name
 
-abbrev pub first_token : t.Expr → Spot
+abbrev pub first_token : t.Expr → Span
 first_token (t.number at) = at
 first_token (t.read place) = place_first_token place
 first_token (t.field place dot name) = place_first_token place
@@ -91,7 +91,7 @@ fits (Of Request) NullRequest = true
 fits wanted given = false
 
 -- something else than what is wanted, at its first token
-abbrev pub kind_faults : ExprKind → ExprKind → Spot → List TypingFault
+abbrev pub kind_faults : ExprKind → ExprKind → Span → List TypingFault
 kind_faults wanted given at = unless (fits wanted given) at WrongType
 
 -- the two sides of `==` and `!=` that may be handles

@@ -1,6 +1,6 @@
 -- The first of several faults, by place and then by reason.
 use Rattle.std.specs.Prelude.{◌≡◌, ◌&&◌, ◌||◌, ◌==◌, Bool, ℕ, List, [], ◌∷◌, Option, Some, None, if◌then◌else◌, nat_lt, false, ◌⊎◌}
-use Rattle.c_grammar.specs.declared.word.Spot.{Spot}
+use Rattle.c_grammar.specs.declared.terminal.Span.{Span}
 use Rattle.c_lex.specs.declared.fault.Why.{Why}
 use Rattle.c_lex.specs.declared.fault.Why.TheVariants as w
 use Rattle.c_check_expr.specs.declared.fault.TypingFault.{TypingFault}
@@ -43,9 +43,9 @@ pub record IsFirst (fs : List TypingFault) (f : TypingFault) : Type 0 where
   pub first : (g : TypingFault) → IsIn g fs → is_less g f ≡ false
 
 -- one fault, at a token
-abbrev pub fault : Spot → Why → List TypingFault
-fault spot why = record { at = spot.start; why = why } ∷ []
+abbrev pub fault : Span → Why → List TypingFault
+fault span why = record { at = span.start; why = why } ∷ []
 
 -- one fault, unless all is well
-abbrev pub unless : Bool → Spot → Why → List TypingFault
-unless well spot why = if well then [] else fault spot why
+abbrev pub unless : Bool → Span → Why → List TypingFault
+unless well span why = if well then [] else fault span why

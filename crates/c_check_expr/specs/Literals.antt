@@ -2,7 +2,7 @@
 use Rattle.std.specs.Prelude.{ℕ, ◌&&◌, Bool, true, List, [], ◌∷◌, length, if◌then◌else◌, nat_lt, nat_le}
 use Rattle.std.specs.Char.{digit_value}
 use Rattle.c_lex.specs.Literals.{base, digits_of, literal_value}
-use Rattle.c_grammar.specs.declared.word.Spot.{Spot}
+use Rattle.c_grammar.specs.declared.terminal.Span.{Span}
 use Rattle.c_check_expr.specs.Scopes.{token_bytes}
 
 abbrev pub all_digits : ℕ → List ℕ → Bool
@@ -13,5 +13,5 @@ abbrev pub is_literal : List ℕ → Bool
 is_literal word = (nat_lt 0 (length (digits_of word)) && all_digits (base word) (digits_of word)) && nat_le (literal_value word) 2147483647
 
 -- the number of a token; 0 for what is no literal, as no token is
-abbrev pub number_at : List ℕ → Spot → ℕ
-number_at text spot = if is_literal (token_bytes text spot) then literal_value (token_bytes text spot) else 0
+abbrev pub number_at : List ℕ → Span → ℕ
+number_at text span = if is_literal (token_bytes text span) then literal_value (token_bytes text span) else 0

@@ -1,6 +1,6 @@
 -- Things with a comma between each two, as a list.
 use Rattle.std.specs.Prelude.{List, ◌∷◌, map}
-use Rattle.c_grammar.specs.declared.statement.Listed.{Listed}
+use Rattle.c_grammar.specs.declared.statement.CommaList.{CommaList}
 
-abbrev pub items_of : {A : Type 0} → Listed A → List A
+abbrev pub items_of : {A : Type 0} → CommaList A → List A
 items_of list = list.first ∷ map (λ behind. behind.item) list.more.items

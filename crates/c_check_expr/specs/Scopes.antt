@@ -5,7 +5,7 @@ use Rattle.std.specs.List.{starts_with}
 use Rattle.std.specs.Option.{is_some}
 use Rattle.std.specs.Str.{bytes_eq}
 use Rattle.c_lex.specs.declared.fault.Why.TheVariants.{Unknown, Twice, LeftOut}
-use Rattle.c_grammar.specs.declared.word.Spot.{Spot}
+use Rattle.c_grammar.specs.declared.terminal.Span.{Span}
 use Rattle.c_names.specs.Predefined.{predefined}
 use Rattle.c_names.specs.declared.function.ArgumentKind.{ArgumentKind}
 use Rattle.c_names.specs.declared.predefined.Predefined.{Predefined}
@@ -31,8 +31,8 @@ pub record Env : Type 0 where
   pub entries : List Entry
 
 -- the bytes of a token
-abbrev pub token_bytes : List ℕ → Spot → List ℕ
-token_bytes text spot = take spot.len (drop spot.start text)
+abbrev pub token_bytes : List ℕ → Span → List ℕ
+token_bytes text span = take span.len (drop span.start text)
 
 abbrev pub found : List Entry → List ℕ → Option Entity
 found [] name = None
@@ -51,11 +51,11 @@ meaning_in entries name None = declared_meaning name (found entries name)
 abbrev pub meaning_of : List Entry → List ℕ → Meaning
 meaning_of entries name = meaning_in entries name (predefined name)
 
-abbrev pub meaning : Env → Spot → Meaning
-meaning env spot = meaning_of env.entries (token_bytes env.text spot)
+abbrev pub meaning : Env → Span → Meaning
+meaning env span = meaning_of env.entries (token_bytes env.text span)
 
 -- a name without a meaning, at the name
-abbrev pub name_faults : Meaning → Spot → List TypingFault
+abbrev pub name_faults : Meaning → Span → List TypingFault
 name_faults m.Unknown at = fault at Unknown
 name_faults m.LeftOut at = fault at LeftOut
 name_faults _ at = []
@@ -70,11 +70,11 @@ abbrev pub is_taken : List Entry → List ℕ → Bool
 is_taken entries name = is_some (predefined name) || is_in_block entries name
 
 -- a name that is predefined, or declared in this block before, at the name
-abbrev pub twice_faults : Env → Spot → List TypingFault
-twice_faults env spot = unless (not (is_taken env.entries (token_bytes env.text spot))) spot Twice
+abbrev pub twice_faults : Env → Span → List TypingFault
+twice_faults env span = unless (not (is_taken env.entries (token_bytes env.text span))) span Twice
 
-abbrev pub declare : Env → Spot → Entity → Env
-declare env spot entity = record env { entries = named (token_bytes env.text spot) entity ∷ env.entries }
+abbrev pub declare : Env → Span → Entity → Env
+declare env span entity = record env { entries = named (token_bytes env.text span) entity ∷ env.entries }
 
 abbrev pub opened : Env → Env
 opened env = record env { entries = opening ∷ env.entries }

@@ -1,7 +1,7 @@
 -- What a function takes and gives. (ISO C, "Function definitions".)
 use Rattle.std.specs.Prelude.{ℕ, suc, Bool, true, false, List, [], ◌∷◌, map}
-use Rattle.c_grammar.specs.declared.word.Word.{Word}
-use Rattle.c_grammar.specs.declared.word.Word.TheVariants as w
+use Rattle.c_grammar.specs.declared.terminal.Symbol.{Symbol}
+use Rattle.c_grammar.specs.declared.terminal.Symbol.TheVariants as w
 use Rattle.c_grammar.specs.Tree as t
 use Rattle.c_names.specs.declared.function.ArgumentKind.{ArgumentKind}
 use Rattle.c_names.specs.declared.function.ArgumentKind.TheVariants as a
@@ -9,21 +9,21 @@ use Rattle.c_check_expr.specs.Scopes.{Entry, named, Signature, token_bytes}
 use Rattle.c_check_expr.specs.declared.meaning.Entity.TheVariants as d
 
 -- things in a row
-abbrev pub listed : {A : Type 0} → t.Row A → List A
-listed (t.row first more) = first ∷ map (λ behind. behind.1) more
+abbrev pub listed : {A : Type 0} → t.CommaList A → List A
+listed (t.comma_list first more) = first ∷ map (λ behind. behind.1) more
 
-abbrev pub is_int : Word → Bool
+abbrev pub is_int : Symbol → Bool
 is_int w.Int = true
 is_int _ = false
 
 -- an int, a communicator, or a reference to ints; no argument fits a `char` parameter
 abbrev pub parameter_takes : t.Parameter → ArgumentKind
-parameter_takes (t.int word name) = a.Number
-parameter_takes (t.array word name opening length closing) = a.Buffer
-parameter_takes (t.pointer word star name) = a.Buffer
-parameter_takes (t.communicator word name) = a.Communicator
-parameter_takes (t.text_pointers word star second name) = a.Nothing
-parameter_takes (t.text_array word star name opening closing) = a.Nothing
+parameter_takes (t.int keyword name) = a.Number
+parameter_takes (t.array keyword name opening length closing) = a.Buffer
+parameter_takes (t.pointer keyword star name) = a.Buffer
+parameter_takes (t.communicator keyword name) = a.Communicator
+parameter_takes (t.text_pointers keyword star second name) = a.Nothing
+parameter_takes (t.text_array keyword star name opening closing) = a.Nothing
 
 abbrev pub parameters_listed : t.Parameters → List t.Parameter
 parameters_listed t.no_parameter = []

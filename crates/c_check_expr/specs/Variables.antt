@@ -1,7 +1,7 @@
 -- The numbers of variables, and the names that are values.
 use Rattle.std.specs.Prelude.{◌+◌, ℕ, ℤ, negsuc, List, [], ◌∷◌, Option, Some, None, if◌then◌else◌}
 use Rattle.std.specs.Str.{bytes_eq}
-use Rattle.c_grammar.specs.declared.word.Spot.{Spot}
+use Rattle.c_grammar.specs.declared.terminal.Span.{Span}
 use Rattle.c_names.specs.declared.predefined.Predefined.TheVariants as p
 use Rattle.c_check_expr.specs.Scopes.{Entry, opening, named, Env, token_bytes}
 use Rattle.c_check_expr.specs.declared.meaning.Meaning.{Meaning}
@@ -26,7 +26,7 @@ number_in [] name = 0
 number_in (opening ∷ rest) name = number_in rest name
 number_in (named other entity ∷ rest) name = if bytes_eq other name then variables_in rest else number_in rest name
 
-abbrev pub variable : Env → Spot → ℕ
+abbrev pub variable : Env → Span → ℕ
 variable env name = number_in env.entries (token_bytes env.text name)
 
 -- a handle is a number, and none is -1

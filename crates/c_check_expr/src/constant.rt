@@ -6,10 +6,10 @@ ghost use Rattle.c_check_expr.specs.Least.{least_from};
 
 use crate::fault::{TypingFault, note_at};
 use crate::kind::first_token;
+use crate::meaning::{Entity, Meaning};
 use crate::scope::{Scope, number_at, want_meaning};
-use crate::meaning::{Meaning, Entity};
+use c_grammar::terminal::{Span, Symbol};
 use c_grammar::tree::{Expr, Link, Place};
-use c_grammar::word::{Spot, Word};
 use c_lex::Why;
 use c_names::operator::{Operator, UnaryOperator, apply, apply_unary};
 use c_names::predefined::Predefined;
@@ -29,38 +29,38 @@ pub enum Constant {
     Nameless,
 }
 
-pub fn operator_of(word: Word) -> Operator
-    ensures { result ≡ operator_of word }
+pub fn operator_of(symbol: Symbol) -> Operator
+    ensures { result ≡ operator_of symbol }
 {
-    match word {
-        Word::LogicalOr => Operator::LogicalOr,
-        Word::LogicalAnd => Operator::LogicalAnd,
-        Word::Or => Operator::Or,
-        Word::Xor => Operator::Xor,
-        Word::And => Operator::And,
-        Word::Equal => Operator::Equal,
-        Word::NotEqual => Operator::NotEqual,
-        Word::Less => Operator::Less,
-        Word::AtMost => Operator::AtMost,
-        Word::Greater => Operator::Greater,
-        Word::AtLeast => Operator::AtLeast,
-        Word::ShiftLeft => Operator::ShiftLeft,
-        Word::ShiftRight => Operator::ShiftRight,
-        Word::Plus => Operator::Plus,
-        Word::Minus => Operator::Minus,
-        Word::Times => Operator::Times,
-        Word::Divide => Operator::Divide,
+    match symbol {
+        Symbol::LogicalOr => Operator::LogicalOr,
+        Symbol::LogicalAnd => Operator::LogicalAnd,
+        Symbol::Or => Operator::Or,
+        Symbol::Xor => Operator::Xor,
+        Symbol::And => Operator::And,
+        Symbol::Equal => Operator::Equal,
+        Symbol::NotEqual => Operator::NotEqual,
+        Symbol::Less => Operator::Less,
+        Symbol::AtMost => Operator::AtMost,
+        Symbol::Greater => Operator::Greater,
+        Symbol::AtLeast => Operator::AtLeast,
+        Symbol::ShiftLeft => Operator::ShiftLeft,
+        Symbol::ShiftRight => Operator::ShiftRight,
+        Symbol::Plus => Operator::Plus,
+        Symbol::Minus => Operator::Minus,
+        Symbol::Times => Operator::Times,
+        Symbol::Divide => Operator::Divide,
         _ => Operator::Remainder,
     }
 }
 
-pub fn unary_of(word: Word) -> UnaryOperator
-    ensures { result ≡ unary_of word }
+pub fn unary_of(symbol: Symbol) -> UnaryOperator
+    ensures { result ≡ unary_of symbol }
 {
-    match word {
-        Word::Minus => UnaryOperator::Minus,
-        Word::Plus => UnaryOperator::Plus,
-        Word::Not => UnaryOperator::Not,
+    match symbol {
+        Symbol::Minus => UnaryOperator::Minus,
+        Symbol::Plus => UnaryOperator::Plus,
+        Symbol::Not => UnaryOperator::Not,
         _ => UnaryOperator::Complement,
     }
 }
@@ -293,7 +293,7 @@ pub fn length_of(scope: &Scope, e: &Expr) -> u32
     length_from(constant_of(scope, e))
 }
 
-fn want_value(best: &mut Option<TypingFault>, constant: Constant, length: u32, at: Spot)
+fn want_value(best: &mut Option<TypingFault>, constant: Constant, length: u32, at: Span)
     ensures { best.new ≡ least_from best.old (value_faults constant length at) }
 {
     match constant {

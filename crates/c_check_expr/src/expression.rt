@@ -5,11 +5,11 @@ ghost use Rattle.c_check_expr.specs.Expressions.{expr_faults, field_faults, int_
 ghost use Rattle.c_check_expr.specs.Least.{least_from};
 
 use crate::fault::{TypingFault, note_unless};
-use crate::kind::{compares, kind_of, place_kind, place_first_token, first_token, want_kind};
-use crate::scope::{Scope, token_bytes, is_same, want_meaning};
-use crate::meaning::{ExprKind, Meaning, Entity};
+use crate::kind::{compares, first_token, kind_of, place_first_token, place_kind, want_kind};
+use crate::meaning::{Entity, ExprKind, Meaning};
+use crate::scope::{Scope, is_same, token_bytes, want_meaning};
+use c_grammar::terminal::{Span, Symbol};
 use c_grammar::tree::{Expr, Link, Place};
-use c_grammar::word::{Spot, Word};
 use c_lex::Why;
 use c_names::kind::VariableKind;
 
@@ -27,11 +27,11 @@ fn takes_index(meaning: Meaning) -> bool
     }
 }
 
-fn is_equality(word: Word) -> bool
-    ensures { result ≡ is_equality word }
+fn is_equality(symbol: Symbol) -> bool
+    ensures { result ≡ is_equality symbol }
 {
-    match word {
-        Word::Equal | Word::NotEqual => true,
+    match symbol {
+        Symbol::Equal | Symbol::NotEqual => true,
         _ => false,
     }
 }
@@ -40,11 +40,11 @@ fn is_equality(word: Word) -> bool
 #[tactic(auto, using(crate::proofs::Least::least_from_append))]
 fn want_operands(
     best: &mut Option<TypingFault>,
-    operator: Word,
+    operator: Symbol,
     left: ExprKind,
-    left_at: Spot,
+    left_at: Span,
     right: ExprKind,
-    right_at: Spot,
+    right_at: Span,
 )
     ensures { best.new ≡ least_from best.old (operand_faults operator left left_at right right_at) }
 {
@@ -61,11 +61,16 @@ fn is_field(name: &[u8]) -> bool
 }
 
 /// A field that a status has.
-fn want_field(best: &mut Option<TypingFault>, scope: &Scope, kind: ExprKind, name: Spot)
+fn want_field(best: &mut Option<TypingFault>, scope: &Scope, kind: ExprKind, name: Span)
     ensures { best.new ≡ least_from best.old (field_faults scope.now kind name) }
 {
     if let ExprKind::Of(VariableKind::Status) = kind {
-        note_unless(best, is_field(token_bytes(scope.text(), name)), name, Why::LeftOut);
+        note_unless(
+            best,
+            is_field(token_bytes(scope.text(), name)),
+            name,
+            Why::LeftOut,
+        );
     }
 }
 
@@ -81,14 +86,25 @@ pub fn check_expr(best: &mut Option<TypingFault>, scope: &Scope, e: &Expr)
         Expr::Field { place, name, .. } => {
             check_place(best, scope, place);
             let kind = place_kind(scope, place);
-            want_kind(best, ExprKind::Of(VariableKind::Status), kind, place_first_token(place));
+            want_kind(
+                best,
+                ExprKind::Of(VariableKind::Status),
+                kind,
+                place_first_token(place),
+            );
             want_field(best, scope, kind, *name);
         }
         Expr::Paren { inner, .. } => want_int(best, scope, inner),
         Expr::Unary { operand, .. } => want_int(best, scope, operand),
         Expr::Chain { first, links, .. } => {
             check_expr(best, scope, first);
-            check_links(best, scope, kind_of(scope, first), first_token(first), links);
+            check_links(
+                best,
+                scope,
+                kind_of(scope, first),
+                first_token(first),
+                links,
+            );
         }
         Expr::Choice {
             test,
@@ -125,7 +141,7 @@ fn check_links(
     best: &mut Option<TypingFault>,
     scope: &Scope,
     left: ExprKind,
-    left_at: Spot,
+    left_at: Span,
     links: &[Link],
 )
     ensures { best.new ≡ least_from best.old (links_faults scope.now left left_at (links_from (map piece links.now))) }

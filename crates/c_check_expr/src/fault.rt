@@ -2,7 +2,7 @@
 ghost use Rattle.std.specs.Prelude.{◌≡◌};
 ghost use Rattle.c_check_expr.specs.Least.{fault, is_less, least_from, reason_order, take_less, unless};
 
-use c_grammar::word::Spot;
+use c_grammar::terminal::Span;
 use c_lex::Why;
 
 /// A fault and its place, which counts from 0.
@@ -55,23 +55,23 @@ pub fn note(best: &mut Option<TypingFault>, found: TypingFault)
 }
 
 /// A fault at a token.
-pub fn note_at(best: &mut Option<TypingFault>, spot: Spot, why: Why)
-    ensures { best.new ≡ least_from best.old (fault spot why) }
+pub fn note_at(best: &mut Option<TypingFault>, span: Span, why: Why)
+    ensures { best.new ≡ least_from best.old (fault span why) }
 {
     note(
         best,
         TypingFault {
-            at: spot.start,
+            at: span.start,
             why,
         },
     );
 }
 
 /// A fault at a token, unless all is well.
-pub fn note_unless(best: &mut Option<TypingFault>, well: bool, spot: Spot, why: Why)
-    ensures { best.new ≡ least_from best.old (unless well spot why) }
+pub fn note_unless(best: &mut Option<TypingFault>, well: bool, span: Span, why: Why)
+    ensures { best.new ≡ least_from best.old (unless well span why) }
 {
     if !well {
-        note_at(best, spot, why);
+        note_at(best, span, why);
     }
 }

@@ -5,10 +5,10 @@ ghost use Rattle.c_check_expr.specs.Kinds.{cell_kind, compares, fits, is_same_ki
 ghost use Rattle.c_check_expr.specs.Least.{least_from};
 
 use crate::fault::{TypingFault, note_unless};
+use crate::meaning::{Entity, ExprKind, Meaning};
 use crate::scope::Scope;
-use crate::meaning::{ExprKind, Meaning, Entity};
+use c_grammar::terminal::Span;
 use c_grammar::tree::{Expr, Place};
-use c_grammar::word::Spot;
 use c_lex::Why;
 use c_names::kind::VariableKind;
 use c_names::predefined::Predefined;
@@ -91,7 +91,7 @@ pub fn kind_of(scope: &Scope, e: &Expr) -> ExprKind
 }
 
 #[tactic(auto, using(c_grammar::proofs::Viewed::views))]
-pub fn place_first_token(place: &Place) -> Spot
+pub fn place_first_token(place: &Place) -> Span
     ensures { result ≡ place_first_token (place_view place.now) }
 {
     match place {
@@ -101,7 +101,7 @@ pub fn place_first_token(place: &Place) -> Spot
 }
 
 #[tactic(auto, using(c_grammar::proofs::Viewed::views))]
-pub fn first_token(e: &Expr) -> Spot
+pub fn first_token(e: &Expr) -> Span
     ensures { result ≡ first_token (view e.now) }
 {
     match e {
@@ -124,14 +124,15 @@ pub fn fits(wanted: ExprKind, given: ExprKind) -> bool
         (_, ExprKind::Nothing) => true,
         (ExprKind::Of(VariableKind::Int), ExprKind::Of(VariableKind::Int)) => true,
         (ExprKind::Of(VariableKind::Status), ExprKind::Of(VariableKind::Status)) => true,
-        (ExprKind::Of(VariableKind::Communicator), ExprKind::Of(VariableKind::Communicator)) => true,
+        (ExprKind::Of(VariableKind::Communicator), ExprKind::Of(VariableKind::Communicator)) =>
+            true,
         (ExprKind::Of(VariableKind::Request), ExprKind::NullRequest) => true,
         _ => false,
     }
 }
 
 /// Something else than what is wanted.
-pub fn want_kind(best: &mut Option<TypingFault>, wanted: ExprKind, given: ExprKind, at: Spot)
+pub fn want_kind(best: &mut Option<TypingFault>, wanted: ExprKind, given: ExprKind, at: Span)
     ensures { best.new ≡ least_from best.old (kind_faults wanted given at) }
 {
     note_unless(best, fits(wanted, given), at, Why::WrongType);
@@ -142,7 +143,8 @@ pub fn compares(left: ExprKind, right: ExprKind) -> bool
     ensures { result ≡ compares left right }
 {
     match (left, right) {
-        (ExprKind::Of(VariableKind::Communicator), ExprKind::Of(VariableKind::Communicator)) => true,
+        (ExprKind::Of(VariableKind::Communicator), ExprKind::Of(VariableKind::Communicator)) =>
+            true,
         (ExprKind::Of(VariableKind::Communicator), ExprKind::Nothing) => true,
         (ExprKind::Nothing, ExprKind::Of(VariableKind::Communicator)) => true,
         (ExprKind::Of(VariableKind::Request), ExprKind::NullRequest) => true,

@@ -1,10 +1,10 @@
 //! What a name means where it stands, the kinds of expressions, constants, and their faults.
 #![tactic(auto)]
 
+pub mod comma_list;
 pub mod constant;
 pub mod expression;
 pub mod fault;
 pub mod kind;
 pub mod meaning;
-pub mod row;
 pub mod scope;

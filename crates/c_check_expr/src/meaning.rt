@@ -1,8 +1,8 @@
 //! What names stand for.
 ghost use Rattle.std.specs.Prelude.{◌≡◌};
-ghost use Rattle.c_check_expr.specs.Kinds.{kind_of_word};
+ghost use Rattle.c_check_expr.specs.Kinds.{kind_of_symbol};
 
-use c_grammar::word::Word;
+use c_grammar::terminal::Symbol;
 use c_names::kind::VariableKind;
 use c_names::predefined::Predefined;
 
@@ -46,13 +46,13 @@ pub enum ExprKind {
 }
 
 /// The word of a declaration.
-pub fn kind_of_word(word: Word) -> VariableKind
-    ensures { result ≡ kind_of_word word }
+pub fn kind_of_symbol(symbol: Symbol) -> VariableKind
+    ensures { result ≡ kind_of_symbol symbol }
 {
-    match word {
-        Word::Status => VariableKind::Status,
-        Word::Request => VariableKind::Request,
-        Word::Communicator => VariableKind::Communicator,
+    match symbol {
+        Symbol::Status => VariableKind::Status,
+        Symbol::Request => VariableKind::Request,
+        Symbol::Communicator => VariableKind::Communicator,
         _ => VariableKind::Int,
     }
 }

@@ -9,21 +9,21 @@ ghost use Rattle.c_check_expr.specs.Variables.{is_variable, variable};
 ghost use Rattle.c_check_expr.specs.Scopes.{closed, token_bytes, declare, declared_meaning, found, is_in_block, is_taken, meaning, meaning_of, name_faults, opened, twice_faults};
 
 use crate::fault::{TypingFault, note_at, note_unless};
-use crate::meaning::{Meaning, Entity};
+use crate::meaning::{Entity, Meaning};
 use c_grammar::statement::Head;
-use c_grammar::word::Spot;
+use c_grammar::terminal::Span;
 use c_lex::{Why, literal_value};
 use c_names::predefined::meaning_of;
 use std::alloc::{AllocError, Global};
 use std::marker::Model;
 
 /// The bytes of a token.
-pub fn token_bytes(text: &[u8], spot: Spot) -> &[u8]
-    ensures { result.now ≡ token_bytes text.now spot }
+pub fn token_bytes(text: &[u8], span: Span) -> &[u8]
+    ensures { result.now ≡ token_bytes text.now span }
 {
-    let from = text.len().min(spot.start as usize);
+    let from = text.len().min(span.start as usize);
     let rest = &text[from..];
-    let len = rest.len().min(spot.len as usize);
+    let len = rest.len().min(span.len as usize);
     &rest[..len]
 }
 
@@ -34,10 +34,10 @@ pub fn is_same(name: &[u8], other: &[u8]) -> bool
 }
 
 /// The number of a token; 0 for what is no literal.
-pub fn number_at(text: &[u8], spot: Spot) -> u32
-    ensures { result ≡ number_at text.now spot }
+pub fn number_at(text: &[u8], span: Span) -> u32
+    ensures { result ≡ number_at text.now span }
 {
-    literal_value(token_bytes(text, spot)).unwrap_or(0)
+    literal_value(token_bytes(text, span)).unwrap_or(0)
 }
 
 /// The begin of a block, or a declaration.
@@ -106,7 +106,7 @@ impl<'a> Scope<'a> {
         self.heads.get(number).copied()
     }
 
-    pub fn declare(&mut self, name: Spot, entity: Entity) -> Result<(), AllocError>
+    pub fn declare(&mut self, name: Span, entity: Entity) -> Result<(), AllocError>
         ensures { OnOk result (self.new ≡ declare self.old name entity) }
     {
         let name = token_bytes(self.text, name);
@@ -140,7 +140,11 @@ impl<'a> Scope<'a> {
     {
         let mut found = None;
         for placed in &self.placed {
-            if let Placed::Named { name: other, entity } = placed {
+            if let Placed::Named {
+                name: other,
+                entity,
+            } = placed
+            {
                 if is_same(other, name) {
                     found = Some(*entity);
                 }
@@ -150,10 +154,10 @@ impl<'a> Scope<'a> {
     }
 
     /// What a name means.
-    pub fn meaning(&self, spot: Spot) -> Meaning
-        ensures { result ≡ meaning self.now spot }
+    pub fn meaning(&self, span: Span) -> Meaning
+        ensures { result ≡ meaning self.now span }
     {
-        let name = token_bytes(self.text, spot);
+        let name = token_bytes(self.text, span);
         match meaning_of(name) {
             Some(known) => Meaning::Known(known),
             None => declared_meaning(name, self.find(name)),
@@ -162,14 +166,18 @@ impl<'a> Scope<'a> {
 
     #[tactic(auto, using(crate::proofs::Entries::entries_more))]
     /// How many variables of the function stand before this one.
-    pub fn variable(&self, spot: Spot) -> usize
-        ensures { result ≡ variable self.now spot }
+    pub fn variable(&self, span: Span) -> usize
+        ensures { result ≡ variable self.now span }
     {
-        let name = token_bytes(self.text, spot);
+        let name = token_bytes(self.text, span);
         let mut number = 0;
         let mut found = 0;
         for placed in &self.placed {
-            if let Placed::Named { name: other, entity } = placed {
+            if let Placed::Named {
+                name: other,
+                entity,
+            } = placed
+            {
                 if is_same(other, name) {
                     found = number;
                 }
@@ -194,12 +202,12 @@ impl<'a> Scope<'a> {
     }
 
     /// A name that may not be declared here.
-    pub fn want_free(&self, best: &mut Option<TypingFault>, spot: Spot)
-        ensures { best.new ≡ least_from best.old (twice_faults self.now spot) }
+    pub fn want_free(&self, best: &mut Option<TypingFault>, span: Span)
+        ensures { best.new ≡ least_from best.old (twice_faults self.now span) }
     {
-        let name = token_bytes(self.text, spot);
+        let name = token_bytes(self.text, span);
         let taken = meaning_of(name).is_some() || self.is_in_block(name);
-        note_unless(best, !taken, spot, Why::Twice);
+        note_unless(best, !taken, span, Why::Twice);
     }
 }
 
@@ -229,12 +237,12 @@ fn is_variable(entity: Entity) -> usize
 }
 
 /// A name without a meaning.
-pub fn want_meaning(best: &mut Option<TypingFault>, meaning: Meaning, spot: Spot)
-    ensures { best.new ≡ least_from best.old (name_faults meaning spot) }
+pub fn want_meaning(best: &mut Option<TypingFault>, meaning: Meaning, span: Span)
+    ensures { best.new ≡ least_from best.old (name_faults meaning span) }
 {
     match meaning {
-        Meaning::Unknown => note_at(best, spot, Why::Unknown),
-        Meaning::LeftOut => note_at(best, spot, Why::LeftOut),
+        Meaning::Unknown => note_at(best, span, Why::Unknown),
+        Meaning::LeftOut => note_at(best, span, Why::LeftOut),
         _ => {}
     }
 }

@@ -10,14 +10,14 @@ use crate::calls::Calls;
 use crate::flow::Flow;
 use crate::outcome::{Replies, Stop};
 use crate::perform::call_mpi;
-use c_run_cells::store::Store;
 use c_names::operator::Operator;
+use c_program::expr::{Expr, FunctionCall, Place, Right};
+use c_program::state::Passed;
+use c_program::statement::{ForStart, InitDeclarator, Initializer, Part, Simple, Stmt};
+use c_run_cells::store::Store;
 use c_run_parts::parts::{
     add, arguments_of, enter, function_at, print, put_assigned, put_values_of, take_step,
 };
-use c_program::expr::{Expr, FunctionCall, Place, Right};
-use c_program::state::Passed;
-use c_program::statement::{ForStart, Initial, Item, Part, Simple, Stmt};
 use mpi_call::call::Fault;
 
 // ---- what has one way out
@@ -146,7 +146,7 @@ fn run_simple<'p>(
 #[cycle(statements)]
 fn declare<'p>(
     calls: &Calls<'p>,
-    item: &'p Item,
+    item: &'p InitDeclarator,
     store: &mut Store<'p>,
     replies: &mut Replies,
 ) -> Result<(), Stop>
@@ -155,13 +155,13 @@ fn declare<'p>(
 {
     let cell = add(item, store)?;
     match &item.initial {
-        Initial::Nothing => Ok(()),
-        Initial::Right(right) => {
+        Initializer::Nothing => Ok(()),
+        Initializer::Right(right) => {
             let value = value_of(calls, right, store, replies)?;
             store.put(cell, value);
             Ok(())
         }
-        Initial::Values(expressions) => Ok(put_values_of(expressions, cell, store)?),
+        Initializer::Values(expressions) => Ok(put_values_of(expressions, cell, store)?),
     }
 }
 
@@ -169,7 +169,7 @@ fn declare<'p>(
 #[cycle(statements)]
 fn declare_all<'p>(
     calls: &Calls<'p>,
-    items: &'p [Item],
+    items: &'p [InitDeclarator],
     store: &mut Store<'p>,
     replies: &mut Replies,
 ) -> Result<(), Stop>

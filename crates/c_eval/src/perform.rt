@@ -6,10 +6,10 @@ ghost use Rattle.c_run_replies.specs.Questions.{asks, reached};
 ghost use Rattle.c_eval.specs.Evaluated.{Evaluated, Passes};
 
 use crate::outcome::{Replies, Stop};
-use c_run_cells::store::Store;
-use c_run_effects::effects::effect_of;
 use c_program::effect::{Effect, Rank};
 use c_program::mpi::MpiCall;
+use c_run_cells::store::Store;
+use c_run_effects::effects::effect_of;
 use c_run_replies::ask::ask;
 use c_run_replies::call::call_of;
 use c_run_replies::question::{Question, Reached};

@@ -1,22 +1,22 @@
 -- At a depth above 0.
 use Rattle.std.proofs.Common.{◌≡◌, ◌==◌, ◌-◌, ◌<◌, Bool, true, false, ℕ, zero, suc, List, Ok, ap, arith}
-use Rattle.c_grammar.specs.declared.word.Sign.{Sign}
+use Rattle.c_grammar.specs.declared.terminal.Terminal.{Terminal}
 use Rattle.c_grammar.specs.Tree as t
-use Rattle.c_grammar.specs.Words.{level_of}
+use Rattle.c_grammar.specs.Symbols.{level_of}
 use Rattle.c_grammar.specs.Reading.{◌>>=◌, Answer, bin_of, chained, choice_of, expr_at, link_of, many, unary_of}
 
-abbrev pub at_depth : (List Sign → Answer t.Expr) → (List Sign → Answer t.Expr) → Bool → List Sign → Answer t.Expr
+abbrev pub at_depth : (List Terminal → Answer t.Expr) → (List Terminal → Answer t.Expr) → Bool → List Terminal → Answer t.Expr
 at_depth full operand true = full
 at_depth full operand false = operand
 
-pub expr_more : (n : ℕ) (full : Bool) (ts : List Sign) → 0 < n
+pub expr_more : (n : ℕ) (full : Bool) (ts : List Terminal) → 0 < n
     → expr_at n full ts ≡ at_depth (choice_of (expr_at (n - 1))) (unary_of (expr_at (n - 1))) full ts
 unfolding expr_at
 expr_more zero full ts h = absurd (omega arith)
 expr_more (suc n) true ts h = ap (λ k. choice_of (expr_at k) ts) (let e : n ≡ suc n - 1 = omega arith in e)
 expr_more (suc n) false ts h = ap (λ k. unary_of (expr_at k) ts) (let e : n ≡ suc n - 1 = omega arith in e)
 
-pub bin_more : (operand : List Sign → Answer t.Expr) (k : ℕ) (ts : List Sign) → 0 < k
+pub bin_more : (operand : List Terminal → Answer t.Expr) (k : ℕ) (ts : List Terminal) → 0 < k
     → bin_of operand k ts
     ≡ (bin_of operand (k - 1) ts >>= λ e. many (λ x. level_of x == k) (link_of (bin_of operand (k - 1)) k) e.1 >>= λ ps. Ok (chained k e.0 ps.0, ps.1))
 unfolding bin_of

@@ -2,14 +2,14 @@
 ghost use Rattle.std.specs.Prelude.{◌≡◌, ◌==◌, ◌<◌, ◌≤◌, ◌-◌, ◌++◌, ◌∷◌, [], true, length, map, OnOk, IfOk};
 ghost use Rattle.c_grammar.specs.Tree as t;
 ghost use Rattle.c_grammar.specs.View.{piece, place_view, view};
-ghost use Rattle.c_grammar.specs.Words.{level_of, starts_expr};
+ghost use Rattle.c_grammar.specs.Symbols.{level_of, starts_expr};
 ghost use Rattle.c_grammar.specs.Reading.{bin_of, branches_of, chained, choice_of, expr_at, field_tail, link_of, many, number_of, paren_of, place_of, signed_of, too_deep, unary_of};
 ghost use Rattle.c_expr.specs.Gives.{Fails, Gives};
 
 use crate::read::{ReadError, expected, first_of, heads, one_of};
-use crate::words::{Class, starts_expr};
+use crate::symbols::{Class, starts_expr};
+use c_grammar::terminal::{Symbol, Terminal};
 use c_grammar::tree::{Expr, Link, Place};
-use c_grammar::word::{Sign, Word};
 use c_lex::Why;
 use std::alloc::{AllocError, Global};
 
@@ -23,28 +23,28 @@ pub fn expr(
     alloc: Global,
     left: u8,
     full: bool,
-    signs: &[Sign],
-) -> Result<(Expr, &[Sign]), ReadError>
-    ensures { Gives (λ x. (view x.0, x.1.now)) result (expr_at left full signs.now) }
+    terminals: &[Terminal],
+) -> Result<(Expr, &[Terminal]), ReadError>
+    ensures { Gives (λ x. (view x.0, x.1.now)) result (expr_at left full terminals.now) }
 {
     if left == 0 {
-        return Err(deep_fault(signs));
+        return Err(deep_fault(terminals));
     }
     if full {
-        choice(alloc, left, signs)
+        choice(alloc, left, terminals)
     } else {
-        unary(alloc, left, signs)
+        unary(alloc, left, terminals)
     }
 }
 
 #[cycle(expression)]
 #[tactic(auto, unfolding(c_grammar::specs::Reading::choice_of), using(c_grammar::proofs::Viewed::views))]
-fn choice(alloc: Global, left: u8, signs: &[Sign]) -> Result<(Expr, &[Sign]), ReadError>
+fn choice(alloc: Global, left: u8, terminals: &[Terminal]) -> Result<(Expr, &[Terminal]), ReadError>
     requires { 0 < left }
-    ensures { Gives (λ x. (view x.0, x.1.now)) result (choice_of (expr_at (left - 1)) signs.now) }
+    ensures { Gives (λ x. (view x.0, x.1.now)) result (choice_of (expr_at (left - 1)) terminals.now) }
 {
-    let (test, rest) = bin(alloc, left, LEVELS, signs)?;
-    if heads(rest, Class::Is(Word::Question)) {
+    let (test, rest) = bin(alloc, left, LEVELS, terminals)?;
+    if heads(rest, Class::Is(Symbol::Question)) {
         branches(alloc, left, test, rest)
     } else {
         Ok((test, rest))
@@ -58,15 +58,15 @@ fn branches(
     alloc: Global,
     left: u8,
     test: Expr,
-    signs: &[Sign],
-) -> Result<(Expr, &[Sign]), ReadError>
+    terminals: &[Terminal],
+) -> Result<(Expr, &[Terminal]), ReadError>
     requires { 0 < left }
-    ensures { Gives (λ x. (view x.0, x.1.now)) result (branches_of (expr_at (left - 1)) (view test) signs.now) }
+    ensures { Gives (λ x. (view x.0, x.1.now)) result (branches_of (expr_at (left - 1)) (view test) terminals.now) }
 {
     let test = boxed(alloc, test)?;
-    let (question, rest) = expected(signs, Word::Question)?;
+    let (question, rest) = expected(terminals, Symbol::Question)?;
     let (then, rest) = deeper(alloc, left, true, rest)?;
-    let (colon, rest) = expected(rest, Word::Colon)?;
+    let (colon, rest) = expected(rest, Symbol::Colon)?;
     let (other, rest) = deeper(alloc, left, true, rest)?;
     let choice = Expr::Choice {
         test,
@@ -84,12 +84,12 @@ fn deeper(
     alloc: Global,
     left: u8,
     full: bool,
-    signs: &[Sign],
-) -> Result<(Box<Expr>, &[Sign]), ReadError>
+    terminals: &[Terminal],
+) -> Result<(Box<Expr>, &[Terminal]), ReadError>
     requires { 0 < left }
-    ensures { Gives (λ x. (view x.0.value, x.1.now)) result (expr_at (left - 1) full signs.now) }
+    ensures { Gives (λ x. (view x.0.value, x.1.now)) result (expr_at (left - 1) full terminals.now) }
 {
-    let (tree, rest) = expr(alloc, left - 1, full, signs)?;
+    let (tree, rest) = expr(alloc, left - 1, full, terminals)?;
     let tree = boxed(alloc, tree)?;
     Ok((tree, rest))
 }
@@ -97,15 +97,20 @@ fn deeper(
 /// Operators up to a level and their operands.
 #[cycle(expression)]
 #[tactic(auto, unfolding(c_grammar::specs::Reading::bin_of), using(crate::proofs::Left::bin_more))]
-fn bin(alloc: Global, left: u8, most: u8, signs: &[Sign]) -> Result<(Expr, &[Sign]), ReadError>
+fn bin(
+    alloc: Global,
+    left: u8,
+    most: u8,
+    terminals: &[Terminal],
+) -> Result<(Expr, &[Terminal]), ReadError>
     requires left { 0 < left }
     requires most { most < 11 }
-    ensures { Gives (λ x. (view x.0, x.1.now)) result (bin_of (unary_of (expr_at (left - 1))) most signs.now) }
+    ensures { Gives (λ x. (view x.0, x.1.now)) result (bin_of (unary_of (expr_at (left - 1))) most terminals.now) }
 {
     if most == 0 {
-        return unary(alloc, left, signs);
+        return unary(alloc, left, terminals);
     }
-    let (first, rest) = bin(alloc, left, most - 1, signs)?;
+    let (first, rest) = bin(alloc, left, most - 1, terminals)?;
     let (links, rest) = links(alloc, left, most, rest)?;
     let chain = chain(alloc, most, first, links)?;
     Ok((chain, rest))
@@ -117,16 +122,16 @@ fn links(
     alloc: Global,
     left: u8,
     most: u8,
-    signs: &[Sign],
-) -> Result<(Vec<Link>, &[Sign]), ReadError>
+    terminals: &[Terminal],
+) -> Result<(Vec<Link>, &[Terminal]), ReadError>
     requires left { 0 < left }
     requires zero { 0 < most }
     requires most { most < 11 }
     ensures { Gives (λ x. (map piece x.0.items, x.1.now)) result
-        (many (λ x. level_of x == most) (link_of (bin_of (unary_of (expr_at (left - 1))) (most - 1)) most) signs.now) }
+        (many (λ x. level_of x == most) (link_of (bin_of (unary_of (expr_at (left - 1))) (most - 1)) most) terminals.now) }
 {
     let mut found = Vec::new(alloc);
-    let mut rest = signs;
+    let mut rest = terminals;
     while heads(rest, Class::Level(most)) {
         let (link, behind) = match link(alloc, left, most, rest) {
             Ok(read) => read,
@@ -139,17 +144,22 @@ fn links(
 }
 
 #[cycle(expression)]
-fn link(alloc: Global, left: u8, most: u8, signs: &[Sign]) -> Result<(Link, &[Sign]), ReadError>
+fn link(
+    alloc: Global,
+    left: u8,
+    most: u8,
+    terminals: &[Terminal],
+) -> Result<(Link, &[Terminal]), ReadError>
     requires left { 0 < left }
     requires zero { 0 < most }
     requires most { most < 11 }
-    ensures { Gives (λ x. (piece x.0, x.1.now)) result (link_of (bin_of (unary_of (expr_at (left - 1))) (most - 1)) most signs.now) }
+    ensures { Gives (λ x. (piece x.0, x.1.now)) result (link_of (bin_of (unary_of (expr_at (left - 1))) (most - 1)) most terminals.now) }
 {
-    let (operator, rest) = one_of(signs, Class::Level(most))?;
+    let (operator, rest) = one_of(terminals, Class::Level(most))?;
     let (operand, rest) = bin(alloc, left, most - 1, rest)?;
     let link = Link {
-        operator: operator.word,
-        at: operator.spot,
+        operator: operator.symbol,
+        at: operator.span,
         operand,
     };
     Ok((link, rest))
@@ -157,30 +167,30 @@ fn link(alloc: Global, left: u8, most: u8, signs: &[Sign]) -> Result<(Link, &[Si
 
 #[cycle(expression)]
 #[tactic(auto, unfolding(c_grammar::specs::Reading::unary_of), using(c_grammar::proofs::Viewed::views))]
-fn unary(alloc: Global, left: u8, signs: &[Sign]) -> Result<(Expr, &[Sign]), ReadError>
+fn unary(alloc: Global, left: u8, terminals: &[Terminal]) -> Result<(Expr, &[Terminal]), ReadError>
     requires { 0 < left }
-    ensures { Gives (λ x. (view x.0, x.1.now)) result (unary_of (expr_at (left - 1)) signs.now) }
+    ensures { Gives (λ x. (view x.0, x.1.now)) result (unary_of (expr_at (left - 1)) terminals.now) }
 {
-    match first_of(signs) {
-        Some(Word::Number) => number(signs),
-        Some(Word::Name) => {
-            let (place, rest) = place(alloc, left, signs)?;
+    match first_of(terminals) {
+        Some(Symbol::Number) => number(terminals),
+        Some(Symbol::Name) => {
+            let (place, rest) = place(alloc, left, terminals)?;
             field(place, rest)
         }
-        Some(Word::OpenParen) => paren(alloc, left, signs),
-        _ => signed(alloc, left, signs),
+        Some(Symbol::OpenParen) => paren(alloc, left, terminals),
+        _ => signed(alloc, left, terminals),
     }
 }
 
 #[cycle(expression)]
 #[tactic(auto, using(c_grammar::proofs::Viewed::views))]
-fn paren(alloc: Global, left: u8, signs: &[Sign]) -> Result<(Expr, &[Sign]), ReadError>
+fn paren(alloc: Global, left: u8, terminals: &[Terminal]) -> Result<(Expr, &[Terminal]), ReadError>
     requires { 0 < left }
-    ensures { Gives (λ x. (view x.0, x.1.now)) result (paren_of (expr_at (left - 1)) signs.now) }
+    ensures { Gives (λ x. (view x.0, x.1.now)) result (paren_of (expr_at (left - 1)) terminals.now) }
 {
-    let (opening, rest) = expected(signs, Word::OpenParen)?;
+    let (opening, rest) = expected(terminals, Symbol::OpenParen)?;
     let (inner, rest) = deeper(alloc, left, true, rest)?;
-    let (closing, rest) = expected(rest, Word::CloseParen)?;
+    let (closing, rest) = expected(rest, Symbol::CloseParen)?;
     let paren = Expr::Paren {
         opening,
         inner,
@@ -191,15 +201,15 @@ fn paren(alloc: Global, left: u8, signs: &[Sign]) -> Result<(Expr, &[Sign]), Rea
 
 #[cycle(expression)]
 #[tactic(auto, using(c_grammar::proofs::Viewed::views))]
-fn signed(alloc: Global, left: u8, signs: &[Sign]) -> Result<(Expr, &[Sign]), ReadError>
+fn signed(alloc: Global, left: u8, terminals: &[Terminal]) -> Result<(Expr, &[Terminal]), ReadError>
     requires { 0 < left }
-    ensures { Gives (λ x. (view x.0, x.1.now)) result (signed_of (expr_at (left - 1)) signs.now) }
+    ensures { Gives (λ x. (view x.0, x.1.now)) result (signed_of (expr_at (left - 1)) terminals.now) }
 {
-    let (sign, rest) = one_of(signs, Class::Sign)?;
+    let (sign, rest) = one_of(terminals, Class::Sign)?;
     let (operand, rest) = deeper(alloc, left, false, rest)?;
     let unary = Expr::Unary {
-        sign: sign.word,
-        at: sign.spot,
+        sign: sign.symbol,
+        at: sign.span,
         operand,
     };
     Ok((unary, rest))
@@ -208,15 +218,19 @@ fn signed(alloc: Global, left: u8, signs: &[Sign]) -> Result<(Expr, &[Sign]), Re
 /// A name, with an index in brackets or not.
 #[cycle(expression)]
 #[tactic(auto, unfolding(c_grammar::specs::Reading::place_of), using(c_grammar::proofs::Viewed::views))]
-pub fn place(alloc: Global, left: u8, signs: &[Sign]) -> Result<(Place, &[Sign]), ReadError>
+pub fn place(
+    alloc: Global,
+    left: u8,
+    terminals: &[Terminal],
+) -> Result<(Place, &[Terminal]), ReadError>
     requires { 0 < left }
-    ensures { Gives (λ x. (place_view x.0, x.1.now)) result (place_of (expr_at (left - 1) true) signs.now) }
+    ensures { Gives (λ x. (place_view x.0, x.1.now)) result (place_of (expr_at (left - 1) true) terminals.now) }
 {
-    let (name, rest) = expected(signs, Word::Name)?;
-    if heads(rest, Class::Is(Word::OpenBracket)) {
-        let (opening, rest) = expected(rest, Word::OpenBracket)?;
+    let (name, rest) = expected(terminals, Symbol::Name)?;
+    if heads(rest, Class::Is(Symbol::OpenBracket)) {
+        let (opening, rest) = expected(rest, Symbol::OpenBracket)?;
         let (index, rest) = deeper(alloc, left, true, rest)?;
-        let (closing, rest) = expected(rest, Word::CloseBracket)?;
+        let (closing, rest) = expected(rest, Symbol::CloseBracket)?;
         let cell = Place::Cell {
             name,
             opening,
@@ -230,41 +244,41 @@ pub fn place(alloc: Global, left: u8, signs: &[Sign]) -> Result<(Place, &[Sign])
 }
 
 #[tactic(auto, using(c_grammar::proofs::Viewed::views))]
-fn number(signs: &[Sign]) -> Result<(Expr, &[Sign]), ReadError>
-    ensures { Gives (λ x. (view x.0, x.1.now)) result (number_of signs.now) }
+fn number(terminals: &[Terminal]) -> Result<(Expr, &[Terminal]), ReadError>
+    ensures { Gives (λ x. (view x.0, x.1.now)) result (number_of terminals.now) }
 {
-    let (at, rest) = expected(signs, Word::Number)?;
+    let (at, rest) = expected(terminals, Symbol::Number)?;
     Ok((Expr::Number(at), rest))
 }
 
 /// What stands behind a place that is read.
 #[tactic(auto, using(c_grammar::proofs::Viewed::views))]
-fn field(place: Place, signs: &[Sign]) -> Result<(Expr, &[Sign]), ReadError>
-    ensures { Gives (λ x. (view x.0, x.1.now)) result (field_tail (place_view place) signs.now) }
+fn field(place: Place, terminals: &[Terminal]) -> Result<(Expr, &[Terminal]), ReadError>
+    ensures { Gives (λ x. (view x.0, x.1.now)) result (field_tail (place_view place) terminals.now) }
 {
-    if heads(signs, Class::Is(Word::Dot)) {
-        let (dot, rest) = expected(signs, Word::Dot)?;
-        let (name, rest) = expected(rest, Word::Name)?;
+    if heads(terminals, Class::Is(Symbol::Dot)) {
+        let (dot, rest) = expected(terminals, Symbol::Dot)?;
+        let (name, rest) = expected(rest, Symbol::Name)?;
         Ok((Expr::Field { place, dot, name }, rest))
     } else {
-        Ok((Expr::Read(place), signs))
+        Ok((Expr::Read(place), terminals))
     }
 }
 
 /// What stands too deep.
 #[tactic(auto, unfolding(c_grammar::specs::Reading::too_deep))]
-fn deep_fault(signs: &[Sign]) -> ReadError
-    ensures { Fails result (too_deep {A = t.Expr} starts_expr signs.now) }
+fn deep_fault(terminals: &[Terminal]) -> ReadError
+    ensures { Fails result (too_deep {A = t.Expr} starts_expr terminals.now) }
 {
-    match first_of(signs) {
-        Some(word) => {
-            if starts_expr(word) {
-                ReadError::At(Why::TooDeep, signs)
+    match first_of(terminals) {
+        Some(symbol) => {
+            if starts_expr(symbol) {
+                ReadError::At(Why::TooDeep, terminals)
             } else {
-                ReadError::At(Why::Unexpected, signs)
+                ReadError::At(Why::Unexpected, terminals)
             }
         }
-        None => ReadError::At(Why::Unexpected, signs),
+        None => ReadError::At(Why::Unexpected, terminals),
     }
 }
 

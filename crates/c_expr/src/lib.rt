@@ -3,4 +3,4 @@
 
 pub mod expression;
 pub mod read;
-pub mod words;
+pub mod symbols;

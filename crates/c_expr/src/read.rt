@@ -3,18 +3,18 @@ ghost use Rattle.std.specs.Prelude.{◌≡◌, IfErr, IfOk, Ok};
 ghost use Rattle.c_grammar.specs.Reading.{expect, first_of, heads, maybe, one_of};
 ghost use Rattle.c_expr.specs.Classes.{is_in};
 ghost use Rattle.c_expr.specs.Gives.{Gives, HasPlace, IsHead};
-ghost use Rattle.c_grammar.specs.Words.{is};
+ghost use Rattle.c_grammar.specs.Symbols.{is};
 
-use crate::words::{Class, is_in};
-use c_grammar::word::{Sign, Spot, Word};
+use crate::symbols::{Class, is_in};
+use c_grammar::terminal::{Span, Symbol, Terminal};
 use c_lex::Why;
 use std::alloc::AllocError;
 
-/// Why reading stopped, and the signs from there on.
+/// Why reading stopped, and the terminals from there on.
 #[derive(Drop)]
 pub enum ReadError<'a> {
     Memory,
-    At(Why, &'a [Sign]),
+    At(Why, &'a [Terminal]),
 }
 
 impl<'a> From<AllocError> for ReadError<'a> {
@@ -27,98 +27,98 @@ impl<'a> From<AllocError> for ReadError<'a> {
     }
 }
 
-/// The first sign and those behind it.
-fn head(signs: &[Sign]) -> Option<(Sign, &[Sign])>
-    ensures { IsHead signs.now result }
+/// The first terminal and those behind it.
+fn head(terminals: &[Terminal]) -> Option<(Terminal, &[Terminal])>
+    ensures { IsHead terminals.now result }
 {
-    match signs {
+    match terminals {
         [first, rest @ ..] => Some((*first, rest)),
         [] => None,
     }
 }
 
-/// The first word, where there is one.
-pub fn first_of(signs: &[Sign]) -> Option<Word>
-    ensures { result ≡ first_of signs.now }
+/// The first symbol, where there is one.
+pub fn first_of(terminals: &[Terminal]) -> Option<Symbol>
+    ensures { result ≡ first_of terminals.now }
 {
-    match head(signs) {
-        Some((first, _)) => Some(first.word),
+    match head(terminals) {
+        Some((first, _)) => Some(first.symbol),
         None => None,
     }
 }
 
-/// Whether the first word is of a class.
-pub fn heads(signs: &[Sign], class: Class) -> bool
-    ensures { result ≡ heads (is_in class) signs.now }
+/// Whether the first symbol is of a class.
+pub fn heads(terminals: &[Terminal], class: Class) -> bool
+    ensures { result ≡ heads (is_in class) terminals.now }
 {
-    match head(signs) {
-        Some((first, _)) => is_in(class, first.word),
+    match head(terminals) {
+        Some((first, _)) => is_in(class, first.symbol),
         None => false,
     }
 }
 
-/// The first sign, which has to be of a class. Takes no memory.
+/// The first terminal, which has to be of a class. Takes no memory.
 #[tactic(auto, unfolding(c_grammar::specs::Reading::one_of))]
-pub fn one_of(signs: &[Sign], class: Class) -> Result<(Sign, &[Sign]), ReadError>
-    ensures read { Gives (λ x. (x.0, x.1.now)) result (one_of (is_in class) signs.now) }
+pub fn one_of(terminals: &[Terminal], class: Class) -> Result<(Terminal, &[Terminal]), ReadError>
+    ensures read { Gives (λ x. (x.0, x.1.now)) result (one_of (is_in class) terminals.now) }
     ensures place { IfErr result HasPlace }
 {
-    match head(signs) {
+    match head(terminals) {
         Some((first, rest)) => {
-            if is_in(class, first.word) {
+            if is_in(class, first.symbol) {
                 Ok((first, rest))
             } else {
-                Err(ReadError::At(Why::Unexpected, signs))
+                Err(ReadError::At(Why::Unexpected, terminals))
             }
         }
-        None => Err(ReadError::At(Why::Unexpected, signs)),
+        None => Err(ReadError::At(Why::Unexpected, terminals)),
     }
 }
 
-/// The place of the first sign, which has to be this word. Takes no memory.
+/// The place of the first terminal, which has to be this symbol. Takes no memory.
 #[tactic(auto, unfolding(c_grammar::specs::Reading::expect))]
-pub fn expected(signs: &[Sign], word: Word) -> Result<(Spot, &[Sign]), ReadError>
-    ensures read { Gives (λ x. (x.0, x.1.now)) result (expect word signs.now) }
+pub fn expected(terminals: &[Terminal], symbol: Symbol) -> Result<(Span, &[Terminal]), ReadError>
+    ensures read { Gives (λ x. (x.0, x.1.now)) result (expect symbol terminals.now) }
     ensures place { IfErr result HasPlace }
 {
-    match head(signs) {
+    match head(terminals) {
         Some((first, rest)) => {
-            if is_in(Class::Is(word), first.word) {
-                Ok((first.spot, rest))
+            if is_in(Class::Is(symbol), first.symbol) {
+                Ok((first.span, rest))
             } else {
-                Err(ReadError::At(Why::Unexpected, signs))
+                Err(ReadError::At(Why::Unexpected, terminals))
             }
         }
-        None => Err(ReadError::At(Why::Unexpected, signs)),
+        None => Err(ReadError::At(Why::Unexpected, terminals)),
     }
 }
 
-/// A thing, and the place of the first sign behind it, which has to be this word. Takes no memory.
+/// A thing, and the place of the first terminal behind it, which has to be this symbol. Takes no memory.
 pub fn followed<T: Drop>(
     thing: T,
-    signs: &[Sign],
-    word: Word,
-) -> Result<((T, Spot), &[Sign]), ReadError>
+    terminals: &[Terminal],
+    symbol: Symbol,
+) -> Result<((T, Span), &[Terminal]), ReadError>
     ensures thing { IfOk result (λ x. x.0.0 ≡ thing) }
-    ensures read { Gives (λ x. (x.0.1, x.1.now)) result (expect word signs.now) }
+    ensures read { Gives (λ x. (x.0.1, x.1.now)) result (expect symbol terminals.now) }
 {
-    let (end, rest) = expected(signs, word)?;
+    let (end, rest) = expected(terminals, symbol)?;
     Ok(((thing, end), rest))
 }
 
-/// The place of the first sign, where it is this word, and the signs behind it.
+/// The place of the first terminal, where it is this symbol, and the terminals behind it.
 #[tactic(auto, unfolding(c_grammar::specs::Reading::expect))]
-pub fn optional(signs: &[Sign], word: Word) -> (Option<Spot>, &[Sign])
-    ensures { maybe (is word) (expect word) signs.now ≡ Ok (result.0, result.1.now) }
+pub fn optional(terminals: &[Terminal], symbol: Symbol) -> (Option<Span>, &[Terminal])
+    ensures { maybe (is symbol) (expect symbol) terminals.now ≡ Ok (result.0, result.1.now) }
 {
-    match head(signs) {
+    match head(terminals) {
         Some((first, rest)) => {
-            if is_in(Class::Is(word), first.word) {
-                (Some(first.spot), rest)
+            if is_in(Class::Is(symbol), first.symbol) {
+                (Some(first.span), rest)
             } else {
-                (None, signs)
+                (None, terminals)
             }
         }
-        None => (None, signs),
+        None => (None, terminals),
     }
 }

@@ -1,31 +1,31 @@
 -- The first fault of the grammar is where reading stops, so a text has one at most, and none where it has a tree.
 use Rattle.std.proofs.Common.{◌≡◌, inl, inr, ◌≤◌, List, [], ◌∷◌, ◌++◌, length, Option, Some, None, Ok, Err, refl, sym, ap, ◌∙◌, append_assoc, arith, length-append, IfSome}
-use Rattle.c_grammar.specs.declared.word.Sign.{Sign}
+use Rattle.c_grammar.specs.declared.terminal.Terminal.{Terminal}
 use Rattle.c_lex.specs.declared.fault.Why.{Why}
 use Rattle.c_lex.specs.declared.fault.Why.TheVariants.{Unexpected, TooDeep}
 use Rattle.c_grammar.specs.Reading.{Fault, Answer, refuse}
 use Rattle.c_grammar.specs.Faults.{NoneGoesOn, IsUnexpected, IsTooDeep}
-use Rattle.c_grammar.specs.StmtGrammar.{AreTops}
+use Rattle.c_grammar.specs.StmtGrammar.{AreExternals}
 use Rattle.c_grammar.specs.StmtReading.{program_of}
 use Rattle.c_grammar.specs.Programs.{spelling, deepest, IsFault}
 use Rattle.c_grammar.specs.Tree.{Tree}
 use Rattle.c_grammar.proofs.Local.{IsLocal}
 use Rattle.c_grammar.proofs.Laws.{outcome, GoesOn, HasHead, seen}
 use Rattle.c_grammar.proofs.Exact.{longer, same_fault, test_le}
-use Rattle.c_grammar.proofs.TopLaws.{program_laws}
+use Rattle.c_grammar.proofs.ExternalLaws.{program_laws}
 use Rattle.c_grammar.proofs.Programs.{complete, goes, read_tree}
 
--- the sign that is too deep, and what may stand behind it
-seen_head : (rest z : List Sign) (x : Sign) (r : List Sign) → rest ≡ x ∷ r → seen TooDeep rest ++ z ≡ x ∷ z
+-- the terminal that is too deep, and what may stand behind it
+seen_head : (rest z : List Terminal) (x : Terminal) (r : List Terminal) → rest ≡ x ∷ r → seen TooDeep rest ++ z ≡ x ∷ z
 seen_head [] z x r e = absurd (cc)
 seen_head (y ∷ rest) z x r e = let k : y ≡ x = cc in ap (λ v. v ∷ z) k
 
-nothing_behind : (v : List Sign) → v ++ [] ≡ v
+nothing_behind : (v : List Terminal) → v ++ [] ≡ v
 nothing_behind [] = refl
 nothing_behind (x ∷ v) = ap (λ z. x ∷ z) (nothing_behind v)
 
 -- two fronts of one list, behind which as much is left
-same_length : (front c z d : List Sign) → front ++ z ≡ c ++ d → length z ≡ length d → (front ≡ c) × (z ≡ d)
+same_length : (front c z d : List Terminal) → front ++ z ≡ c ++ d → length z ≡ length d → (front ≡ c) × (z ≡ d)
 same_length [] [] z d e l = (refl, e)
 same_length [] (y ∷ c) z d e l = absurd (let k = ap length e in omega (arith, length-append c d))
 same_length (x ∷ front) [] z d e l = absurd (let k = ap length e in omega (arith, length-append front z))
@@ -33,12 +33,12 @@ same_length (x ∷ front) (y ∷ c) z d e l =
     let k = same_length front c z d (cc) l in let h : x ≡ y = cc in
     (ap (λ v. v ∷ front) h ∙ ap (λ v. y ∷ v) k.0, k.1)
 
-module _ {A : Type 0} (spelled : A → List Sign) (Good : A → Type 0) (deepest : A → Option (List Sign)) (whole : List Sign → Answer A)
+module _ {A : Type 0} (spelled : A → List Terminal) (Good : A → Type 0) (deepest : A → Option (List Terminal)) (whole : List Terminal → Answer A)
     (local : IsLocal whole)
     (complete : (a : A) → Good a → whole (spelled a) ≡ outcome (deepest a) a [])
-    (goes : (ts : List Sign) (f : Fault) → whole ts ≡ Err f → GoesOn (λ a rest. spelled a) Good ts f)
-    (sound : (ts : List Sign) (y : A × List Sign) → whole ts ≡ Ok y → Good y.0 × (ts ≡ spelled y.0)) where
-  pub deep_read : (ts rest : List Sign) → IsTooDeep spelled Good deepest ts rest → whole ts ≡ refuse TooDeep rest
+    (goes : (ts : List Terminal) (f : Fault) → whole ts ≡ Err f → GoesOn (λ a rest. spelled a) Good ts f)
+    (sound : (ts : List Terminal) (y : A × List Terminal) → whole ts ≡ Ok y → Good y.0 × (ts ≡ spelled y.0)) where
+  pub deep_read : (ts rest : List Terminal) → IsTooDeep spelled Good deepest ts rest → whole ts ≡ refuse TooDeep rest
   deep_read ts rest h =
       let f : Fault = record { why = TooDeep; rest = h.head ∷ h.more } in
       let tree : whole (h.front ++ h.head ∷ h.more) ≡ Err f =
@@ -48,27 +48,27 @@ module _ {A : Type 0} (spelled : A → List Sign) (Good : A → Type 0) (deepest
       ∙ ap (λ v. refuse TooDeep v) (sym h.at)
 
   -- the text itself is none that no text goes on as
-  no_text_is : (front rest : List Sign) (a : A) → Good a → spelled a ≡ front ++ rest → NoneGoesOn spelled Good deepest front rest → ⊥
+  no_text_is : (front rest : List Terminal) (a : A) → Good a → spelled a ≡ front ++ rest → NoneGoesOn spelled Good deepest front rest → ⊥
   no_text_is front [] a g s none = none a g (s ∙ nothing_behind front)
   no_text_is front (x ∷ r) a g s none = none a r g s
 
-  -- reading goes on behind a sign that none goes on with
-  not_later : (front rest : List Sign) (x : Sign) (u z : List Sign) (a : A) → Good a → spelled a ≡ (front ++ x ∷ u) ++ z → (r : List Sign) → rest ≡ x ∷ r
+  -- reading goes on behind a terminal that none goes on with
+  not_later : (front rest : List Terminal) (x : Terminal) (u z : List Terminal) (a : A) → Good a → spelled a ≡ (front ++ x ∷ u) ++ z → (r : List Terminal) → rest ≡ x ∷ r
       → NoneGoesOn spelled Good deepest front rest → ⊥
   not_later front [] x u z a g s r is none = absurd (cc)
   not_later front (y ∷ rest) x u z a g s r is none =
       let e : y ≡ x = cc in
       none a (u ++ z) g (s ∙ append_assoc front (x ∷ u) z ∙ ap (λ v. front ++ v ∷ (u ++ z)) (sym e))
 
-  -- reading stops before a sign that some text goes on to, with nothing too deep
-  not_earlier : (front : List Sign) (x : Sign) (u rest z : List Sign) (f : Fault) (a : A) → whole (front ++ x ∷ (u ++ rest)) ≡ Err f → f.rest ≡ x ∷ (u ++ rest)
+  -- reading stops before a terminal that some text goes on to, with nothing too deep
+  not_earlier : (front : List Terminal) (x : Terminal) (u rest z : List Terminal) (f : Fault) (a : A) → whole (front ++ x ∷ (u ++ rest)) ≡ Err f → f.rest ≡ x ∷ (u ++ rest)
       → Good a → spelled a ≡ front ++ x ∷ (u ++ z) → IfSome (deepest a) (λ d. length d ≤ length z) → ⊥
   not_earlier front x u rest z f a h e g s below = go (deepest a) (complete a g) below
     where
       there : whole (spelled a) ≡ refuse f.why (x ∷ (u ++ z))
       there = ap whole s ∙ same_fault spelled Good deepest whole local complete goes front x (u ++ rest) (u ++ z) f h e
 
-      go : (o : Option (List Sign)) → whole (spelled a) ≡ outcome o a [] → IfSome o (λ d. length d ≤ length z) → ⊥
+      go : (o : Option (List Terminal)) → whole (spelled a) ≡ outcome o a [] → IfSome o (λ d. length d ≤ length z) → ⊥
       go None k l = absurd (let m : ◌≡◌ {A = Answer A} (refuse f.why (x ∷ (u ++ z))) (Ok (a, [])) = sym there ∙ k in cc)
       go (Some d) k l =
           let m : ◌≡◌ {A = Answer A} (refuse f.why (x ∷ (u ++ z))) (refuse TooDeep d) = sym there ∙ k in
@@ -76,18 +76,18 @@ module _ {A : Type 0} (spelled : A → List Sign) (Good : A → Type 0) (deepest
           let same : p ≡ q = cc in let rests = ap (λ (f : Fault). length f.rest) same in
           absurd (omega (arith, l, length-append u z))
 
-  not_there : (front rest : List Sign) (x : Sign) (z r : List Sign) (a : A) → Good a → spelled a ≡ front ++ x ∷ z → rest ≡ x ∷ r → NoneGoesOn spelled Good deepest front rest → ⊥
+  not_there : (front rest : List Terminal) (x : Terminal) (z r : List Terminal) (a : A) → Good a → spelled a ≡ front ++ x ∷ z → rest ≡ x ∷ r → NoneGoesOn spelled Good deepest front rest → ⊥
   not_there front rest x z r a g s is none = not_later front rest x [] z a g (s ∙ sym (append_assoc front (x ∷ []) z)) r is none
 
   -- reading stops there for another reason
-  no_other : (front rest : List Sign) (why : Why) → NoneGoesOn spelled Good deepest front rest → HasHead why rest
-      → (a : A) (z : List Sign) → Good a → spelled a ≡ front ++ (seen why rest ++ z) → refuse {A = A} why rest ≡ refuse Unexpected rest
+  no_other : (front rest : List Terminal) (why : Why) → NoneGoesOn spelled Good deepest front rest → HasHead why rest
+      → (a : A) (z : List Terminal) → Good a → spelled a ≡ front ++ (seen why rest ++ z) → refuse {A = A} why rest ≡ refuse Unexpected rest
   no_other front rest Unexpected none head a z g s = refl
   no_other front [] TooDeep none head a z g s = absurd head
   no_other front (x ∷ r) TooDeep none head a z g s = absurd (not_there front (x ∷ r) x z r a g s refl none)
   no_other front rest _ none head a z g s = absurd head
 
-  pub unexpected_read : (ts rest : List Sign) → IsUnexpected spelled Good deepest ts rest → whole ts ≡ refuse Unexpected rest
+  pub unexpected_read : (ts rest : List Terminal) → IsUnexpected spelled Good deepest ts rest → whole ts ≡ refuse Unexpected rest
   unexpected_read ts rest h = go (whole ts) refl
     where
       stopped : (f : Fault) → whole ts ≡ Err f → GoesOn (λ a rest. spelled a) Good ts f → whole ts ≡ refuse Unexpected rest
@@ -112,11 +112,11 @@ module _ {A : Type 0} (spelled : A → List Sign) (Good : A → Type 0) (deepest
       go (Ok y) k = let s = sound ts y k in absurd (no_text_is h.front rest y.0 s.0 (sym s.1 ∙ h.is) h.none)
       go (Err f) k = stopped f k (goes ts f k)
 
-is_tree : (ts : List Sign) (y : Tree × List Sign) → program_of ts ≡ Ok y → AreTops y.0 × (ts ≡ spelling y.0)
+is_tree : (ts : List Terminal) (y : Tree × List Terminal) → program_of ts ≡ Ok y → AreExternals y.0 × (ts ≡ spelling y.0)
 is_tree ts y h = let t = read_tree ts y.0 y.1 h in (t.0, t.1)
 
 -- the first fault is where reading stops
-pub fault_read : (ts : List Sign) (why : Why) (rest : List Sign) → IsFault ts why rest → program_of ts ≡ refuse why rest
-fault_read ts Unexpected rest h = unexpected_read spelling AreTops deepest program_of program_laws.local complete goes is_tree ts rest h
-fault_read ts TooDeep rest h = deep_read spelling AreTops deepest program_of program_laws.local complete goes is_tree ts rest h
+pub fault_read : (ts : List Terminal) (why : Why) (rest : List Terminal) → IsFault ts why rest → program_of ts ≡ refuse why rest
+fault_read ts Unexpected rest h = unexpected_read spelling AreExternals deepest program_of program_laws.local complete goes is_tree ts rest h
+fault_read ts TooDeep rest h = deep_read spelling AreExternals deepest program_of program_laws.local complete goes is_tree ts rest h
 fault_read ts _ rest h = absurd h

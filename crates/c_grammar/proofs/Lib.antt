@@ -10,7 +10,7 @@ pub mod Fork
 pub mod Calls
 pub mod Starts
 pub mod StmtLaws
-pub mod TopLaws
+pub mod ExternalLaws
 pub mod Exact
 pub mod Programs
 pub mod WorkedExamples

@@ -1,21 +1,21 @@
--- What may be missing, and things in a row.
+-- What may be missing, and things with commas between them.
 use Rattle.std.proofs.Common.{◌≡◌, inl, inr, Bool, true, false, ℕ, zero, suc, ◌<◌, ◌≤◌, List, [], ◌∷◌, ◌++◌, length, Option, Some, None, Ok, Err, refl, sym, ap, ◌∙◌, subst, arith, length-append}
-use Rattle.c_grammar.specs.declared.word.Word.{Word}
-use Rattle.c_grammar.specs.declared.word.Word.TheVariants as w
-use Rattle.c_grammar.specs.declared.word.Spot.{Spot}
-use Rattle.c_grammar.specs.declared.word.Sign.{Sign}
-use Rattle.c_grammar.specs.Tree.{Row, row}
-use Rattle.c_grammar.specs.Words.{is}
+use Rattle.c_grammar.specs.declared.terminal.Symbol.{Symbol}
+use Rattle.c_grammar.specs.declared.terminal.Symbol.TheVariants as w
+use Rattle.c_grammar.specs.declared.terminal.Span.{Span}
+use Rattle.c_grammar.specs.declared.terminal.Terminal.{Terminal}
+use Rattle.c_grammar.specs.Tree.{CommaList, comma_list}
+use Rattle.c_grammar.specs.Symbols.{is}
 use Rattle.c_grammar.specs.Grammar.{at, earlier}
-use Rattle.c_grammar.specs.StmtGrammar.{spell_maybe, IsMaybe, spell_list, AreAll, spell_word, spell_behind, spell_row, IsRow}
-use Rattle.c_grammar.specs.Depth.{deep_maybe, deep_list, deep_row}
+use Rattle.c_grammar.specs.StmtGrammar.{spell_maybe, IsMaybe, spell_list, AreAll, spell_symbol, spell_after_comma, spell_comma_list, IsCommaList}
+use Rattle.c_grammar.specs.Depth.{deep_maybe, deep_list, deep_comma_list}
 use Rattle.c_grammar.specs.Reading.{Fault, Answer, ◌>>=◌, expect, heads, maybe, turns, many, times}
-use Rattle.c_grammar.specs.StmtReading.{behind_of, row_of}
+use Rattle.c_grammar.specs.StmtReading.{after_comma_of, comma_list_of}
 use Rattle.c_grammar.proofs.Local.{Ends, Alike, here, bind_ends, bind_alike, stays, rest_of, test_cases}
 use Rattle.c_grammar.proofs.Laws.{Laws, Apart, GoesOn, within, outcome, last, bind_ok, bind_err}
 use Rattle.c_grammar.proofs.Sequence.{Seq, done, token, part, peek, Choice, tree, spells, Fits, laws_of, Chosen}
 
-pub pass : {A B : Type 0} (o : Option (List Sign)) (a : A) (ts : List Sign) (f : A × List Sign → Answer B) (b : B) (us : List Sign)
+pub pass : {A B : Type 0} (o : Option (List Terminal)) (a : A) (ts : List Terminal) (f : A × List Terminal → Answer B) (b : B) (us : List Terminal)
     → f (a, ts) ≡ Ok (b, us) → (outcome o a ts >>= f) ≡ outcome o b us
 pass None a ts f b us h = h
 pass (Some d) a ts f b us h = refl
@@ -24,34 +24,34 @@ pub plain : {A : Type 0} (a : Answer A) → a ≡ (a >>= λ p. Ok (p.0, p.1))
 plain (Ok x) = refl
 plain (Err e) = refl
 
-pub expect_laws : (x : Word) → Laws (expect x) (spell_word x) (λ p. Unit {0}) (λ p rest. None) (λ p rest. Unit {0})
+pub expect_laws : (x : Symbol) → Laws (expect x) (spell_symbol x) (λ p. Unit {0}) (λ p rest. None) (λ p rest. Unit {0})
 expect_laws x = laws_of (token x (λ p. done p)) (λ ts. plain (expect x ts)) (λ c rest. refl) (λ c g. tt)
     (λ p g. record { choice = (p, tt); of = refl; fits = tt; depth = λ rest. refl; follows = λ rest o. tt })
 
 -- behind what may be missing
-abbrev pub OverMaybe : {A : Type 0} → (Word → Bool) → (A → List Sign → Type 0) → Option A → List Sign → Type 0
+abbrev pub OverMaybe : {A : Type 0} → (Symbol → Bool) → (A → List Terminal → Type 0) → Option A → List Terminal → Type 0
 OverMaybe goes Over None rest = heads goes rest ≡ false
 OverMaybe goes Over (Some a) rest = Over a rest
 
 -- behind a list
-abbrev pub OverMany : {A : Type 0} → (Word → Bool) → (A → Type 0) → (A → List Sign → Type 0) → List Sign → Type 0
+abbrev pub OverMany : {A : Type 0} → (Symbol → Bool) → (A → Type 0) → (A → List Terminal → Type 0) → List Terminal → Type 0
 OverMany {A} goes Good Over rest = (heads goes rest ≡ false) × ((a : A) → Good a → Over a rest)
 
-module _ {A : Type 0} {one : List Sign → Answer A} {spelled : A → List Sign → List Sign} {Good : A → Type 0} {deeps : A → List Sign → Option (List Sign)}
-    {Over : A → List Sign → Type 0}
+module _ {A : Type 0} {one : List Terminal → Answer A} {spelled : A → List Terminal → List Terminal} {Good : A → Type 0} {deeps : A → List Terminal → Option (List Terminal)}
+    {Over : A → List Terminal → Type 0}
     (l : Laws one spelled Good deeps Over) where
-  abbrev maybe_seq : (Word → Bool) → Seq (Option A)
+  abbrev maybe_seq : (Symbol → Bool) → Seq (Option A)
   maybe_seq goes = peek goes (part l (λ a. done (Some a))) (done None)
 
-  maybe_spelling : (goes : Word → Bool) (c : Choice (maybe_seq goes)) (rest : List Sign) → spell_maybe spelled (tree (maybe_seq goes) c) rest ≡ spells (maybe_seq goes) c rest
+  maybe_spelling : (goes : Symbol → Bool) (c : Choice (maybe_seq goes)) (rest : List Terminal) → spell_maybe spelled (tree (maybe_seq goes) c) rest ≡ spells (maybe_seq goes) c rest
   maybe_spelling goes (inl c) rest = refl
   maybe_spelling goes (inr c) rest = refl
 
-  maybe_good : (goes : Word → Bool) (c : Choice (maybe_seq goes)) → Fits (maybe_seq goes) c → IsMaybe Good (tree (maybe_seq goes) c)
+  maybe_good : (goes : Symbol → Bool) (c : Choice (maybe_seq goes)) → Fits (maybe_seq goes) c → IsMaybe Good (tree (maybe_seq goes) c)
   maybe_good goes (inl c) g = g.0
   maybe_good goes (inr c) g = tt
 
-  pub maybe_laws : (goes : Word → Bool) → ((a : A) → Good a → (rest : List Sign) → heads goes (spelled a rest) ≡ true)
+  pub maybe_laws : (goes : Symbol → Bool) → ((a : A) → Good a → (rest : List Terminal) → heads goes (spelled a rest) ≡ true)
       → Laws (maybe goes one) (spell_maybe spelled) (IsMaybe Good) (deep_maybe deeps) (OverMaybe goes Over)
   maybe_laws goes starts = laws_of (maybe_seq goes) (λ ts. refl) (maybe_spelling goes) (maybe_good goes) chosen
     where
@@ -59,28 +59,28 @@ module _ {A : Type 0} {one : List Sign → Answer A} {spelled : A → List Sign 
       chosen None g = record { choice = inr tt; of = refl; fits = tt; depth = λ rest. refl; follows = λ rest o. (o, tt) }
       chosen (Some a) g = record { choice = inl (a, tt); of = refl; fits = (g, tt); depth = λ rest. last (deeps a rest); follows = λ rest o. (starts a g rest, (o, tt)) }
 
-  pub behind_laws : Laws (behind_of one) (spell_behind spelled) (λ b. Good b.1) (λ b rest. deeps b.1 rest) (λ b rest. Over b.1 rest)
-  behind_laws = laws_of (token w.Comma (λ p. part l (λ a. done (p, a)))) (λ ts. refl) (λ c rest. refl) (λ c g. g.0)
+  pub after_comma_laws : Laws (after_comma_of one) (spell_after_comma spelled) (λ b. Good b.1) (λ b rest. deeps b.1 rest) (λ b rest. Over b.1 rest)
+  after_comma_laws = laws_of (token w.Comma (λ p. part l (λ a. done (p, a)))) (λ ts. refl) (λ c rest. refl) (λ c g. g.0)
       (λ b g. record { choice = (b.0, (b.1, tt)); of = refl; fits = (g, tt); depth = λ rest. last (deeps b.1 rest); follows = λ rest o. (o, tt) })
 
-some_length : (goes : Word → Bool) (ts : List Sign) → heads goes ts ≡ true → 0 < length ts
+some_length : (goes : Symbol → Bool) (ts : List Terminal) → heads goes ts ≡ true → 0 < length ts
 some_length goes [] h = absurd (cc)
 some_length goes (t ∷ ts) h = omega arith
 
--- each thing takes a sign
-pub shortens : {A : Type 0} {one : List Sign → Answer A} {spelled : A → List Sign → List Sign} {Good : A → Type 0} {deeps : A → List Sign → Option (List Sign)} {Over : A → List Sign → Type 0}
-    → Laws one spelled Good deeps Over → (goes : Word → Bool) → ((a : A) → Good a → (rest : List Sign) → heads goes (spelled a rest) ≡ true)
-    → (ts : List Sign) (y : A × List Sign) → one ts ≡ Ok y → length y.1 < length ts
+-- each thing takes a terminal
+pub shortens : {A : Type 0} {one : List Terminal → Answer A} {spelled : A → List Terminal → List Terminal} {Good : A → Type 0} {deeps : A → List Terminal → Option (List Terminal)} {Over : A → List Terminal → Type 0}
+    → Laws one spelled Good deeps Over → (goes : Symbol → Bool) → ((a : A) → Good a → (rest : List Terminal) → heads goes (spelled a rest) ≡ true)
+    → (ts : List Terminal) (y : A × List Terminal) → one ts ≡ Ok y → length y.1 < length ts
 shortens {spelled = spelled} l goes starts ts y h =
     let s = l.sound ts y h in
     rw (s.0, s.2 [] y.1, length-append (spelled y.0 []) y.1) (omega (arith, some_length goes (spelled y.0 []) (starts y.0 s.1 [])))
 
-module _ {A : Type 0} {one : List Sign → Answer A} {spelled : A → List Sign → List Sign} {Good : A → Type 0} {deeps : A → List Sign → Option (List Sign)}
-    {Over : A → List Sign → Type 0}
-    (l : Laws one spelled Good deeps Over) (goes : Word → Bool)
-    (starts : (a : A) → Good a → (rest : List Sign) → heads goes (spelled a rest) ≡ true)
-    (next : (a b : A) → Good a → Good b → (rest : List Sign) → Over a (spelled b rest)) where
-  turns_ends : (n : ℕ) (ts : List Sign) → Ends ts (rest_of (turns goes one n ts))
+module _ {A : Type 0} {one : List Terminal → Answer A} {spelled : A → List Terminal → List Terminal} {Good : A → Type 0} {deeps : A → List Terminal → Option (List Terminal)}
+    {Over : A → List Terminal → Type 0}
+    (l : Laws one spelled Good deeps Over) (goes : Symbol → Bool)
+    (starts : (a : A) → Good a → (rest : List Terminal) → heads goes (spelled a rest) ≡ true)
+    (next : (a b : A) → Good a → Good b → (rest : List Terminal) → Over a (spelled b rest)) where
+  turns_ends : (n : ℕ) (ts : List Terminal) → Ends ts (rest_of (turns goes one n ts))
   turns_ends zero ts = here ts
   turns_ends (suc n) ts =
       elim (test_cases (heads goes ts)) [
@@ -88,11 +88,11 @@ module _ {A : Type 0} {one : List Sign → Answer A} {spelled : A → List Sign 
         | inr e ↦ rw e (here ts)
       ]
 
-  same_head : (v : List Sign) (x : Sign) (r r' : List Sign) → heads goes (v ++ x ∷ r) ≡ heads goes (v ++ x ∷ r')
+  same_head : (v : List Terminal) (x : Terminal) (r r' : List Terminal) → heads goes (v ++ x ∷ r) ≡ heads goes (v ++ x ∷ r')
   same_head [] x r r' = refl
   same_head (y ∷ v) x r r' = refl
 
-  turns_alike : (n m : ℕ) (v : List Sign) (x : Sign) (r r' : List Sign) → length (v ++ x ∷ r) ≤ n → length (v ++ x ∷ r') ≤ m
+  turns_alike : (n m : ℕ) (v : List Terminal) (x : Terminal) (r r' : List Terminal) → length (v ++ x ∷ r) ≤ n → length (v ++ x ∷ r') ≤ m
       → Alike x r r' (turns goes one n (v ++ x ∷ r)) (turns goes one m (v ++ x ∷ r'))
   turns_alike zero m v x r r' p q = absurd (omega (arith, p, length-append v (x ∷ r)))
   turns_alike (suc n) zero v x r r' p q = absurd (omega (arith, q, length-append v (x ∷ r')))
@@ -109,7 +109,7 @@ module _ {A : Type 0} {one : List Sign → Answer A} {spelled : A → List Sign 
         | inr e ↦ rw (e, sym (same_head v x r r') ∙ e) (stays (Ok ([], [])) v x r r')
       ]
 
-  turns_complete : (m : ℕ) (list : List A) (rest : List Sign) → AreAll Good list → OverMany goes Good Over rest → length (spell_list spelled list rest) ≤ m
+  turns_complete : (m : ℕ) (list : List A) (rest : List Terminal) → AreAll Good list → OverMany goes Good Over rest → length (spell_list spelled list rest) ≤ m
       → turns goes one m (spell_list spelled list rest) ≡ outcome (deep_list spelled deeps list rest) list rest
   turns_complete zero [] rest g o s = refl
   turns_complete (suc m) [] rest g o s = rw o.0 refl
@@ -117,32 +117,32 @@ module _ {A : Type 0} {one : List Sign → Answer A} {spelled : A → List Sign 
   turns_complete (suc m) (a ∷ more) rest g o s =
       rw (starts a g.0 us) (go (deeps a us) (l.complete a us g.0 (over more g.1)) (λ k. turns_complete m more rest g.1 o k))
     where
-      us : List Sign
+      us : List Terminal
       us = spell_list spelled more rest
 
       over : (more : List A) → AreAll Good more → Over a (spell_list spelled more rest)
       over [] h = o.1 a g.0
       over (b ∷ more) h = next a b g.0 h.0 (spell_list spelled more rest)
 
-      go : (d : Option (List Sign)) → one (spelled a us) ≡ outcome d a us → (length us ≤ m → turns goes one m us ≡ outcome (deep_list spelled deeps more rest) more rest)
+      go : (d : Option (List Terminal)) → one (spelled a us) ≡ outcome d a us → (length us ≤ m → turns goes one m us ≡ outcome (deep_list spelled deeps more rest) more rest)
           → (one (spelled a us) >>= λ a. turns goes one m a.1 >>= λ more. Ok (a.0 ∷ more.0, more.1)) ≡ outcome (earlier d (deep_list spelled deeps more rest)) (a ∷ more) rest
       go (Some d) k ih = rw k refl
       go None k ih =
           rw (k, ih (omega (arith, shortens l goes starts (spelled a us) (a, us) k, s)))
           (pass (deep_list spelled deeps more rest) more rest _ _ rest refl)
 
-  abbrev ReadList : List Sign → List A × List Sign → Type 0
+  abbrev ReadList : List Terminal → List A × List Terminal → Type 0
   ReadList ts y = (ts ≡ spell_list spelled y.0 y.1) × AreAll Good y.0 × Apart (spell_list spelled) y.0
 
-  same_list : (ts : List Sign) (x y : List A × List Sign) → ◌≡◌ {A = Answer (List A)} (Ok x) (Ok y) → ReadList ts x → ReadList ts y
+  same_list : (ts : List Terminal) (x y : List A × List Terminal) → ◌≡◌ {A = Answer (List A)} (Ok x) (Ok y) → ReadList ts x → ReadList ts y
   same_list ts x y h r = let q : x ≡ y = cc in subst (λ y. ReadList ts y) q r
 
-  one_more : (ts : List Sign) (a : A × List Sign) (b : List A × List Sign) → one ts ≡ Ok a → ReadList a.1 b → ReadList ts (a.0 ∷ b.0, b.1)
+  one_more : (ts : List Terminal) (a : A × List Terminal) (b : List A × List Terminal) → one ts ≡ Ok a → ReadList a.1 b → ReadList ts (a.0 ∷ b.0, b.1)
   one_more ts a b h r =
       let s = l.sound ts a h in
       (s.0 ∙ ap (λ z. spelled a.0 z) r.0, (s.1, r.1), λ xs ys. ap (λ z. spelled a.0 z) (r.2 xs ys) ∙ s.2 (spell_list spelled b.0 xs) ys)
 
-  turns_sound : (n : ℕ) (ts : List Sign) (y : List A × List Sign) → turns goes one n ts ≡ Ok y → ReadList ts y
+  turns_sound : (n : ℕ) (ts : List Terminal) (y : List A × List Terminal) → turns goes one n ts ≡ Ok y → ReadList ts y
   turns_sound zero ts y h = same_list ts ([], ts) y h (refl, tt, λ xs ys. refl)
   turns_sound (suc n) ts y h =
       elim (test_cases (heads goes ts)) [
@@ -153,7 +153,7 @@ module _ {A : Type 0} {one : List Sign → Answer A} {spelled : A → List Sign 
         | inr e ↦ let k : ◌≡◌ {A = Answer (List A)} (Ok ([], ts)) (Ok y) = rw e at h in same_list ts ([], ts) y k (refl, tt, λ xs ys. refl)
       ]
 
-  turns_goes : (n : ℕ) (ts : List Sign) (f : Fault) → turns goes one n ts ≡ Err f → GoesOn (spell_list spelled) (AreAll Good) ts f
+  turns_goes : (n : ℕ) (ts : List Terminal) (f : Fault) → turns goes one n ts ≡ Err f → GoesOn (spell_list spelled) (AreAll Good) ts f
   turns_goes zero ts f h = absurd (cc)
   turns_goes (suc n) ts f h =
       elim (test_cases (heads goes ts)) [
@@ -187,22 +187,22 @@ module _ {A : Type 0} {one : List Sign → Answer A} {spelled : A → List Sign 
   }
 
 -- what is always gone on with is read to its end
-module _ {A : Type 0} {one : List Sign → Answer A} {spelled : A → List Sign → List Sign} {Good : A → Type 0} {deeps : A → List Sign → Option (List Sign)}
-    {Over : A → List Sign → Type 0}
+module _ {A : Type 0} {one : List Terminal → Answer A} {spelled : A → List Terminal → List Terminal} {Good : A → Type 0} {deeps : A → List Terminal → Option (List Terminal)}
+    {Over : A → List Terminal → Type 0}
     (l : Laws one spelled Good deeps Over)
-    (starts : (a : A) → Good a → (rest : List Sign) → heads (λ x. true) (spelled a rest) ≡ true) where
-  gone_out : (ts : List Sign) → heads (λ x. true) ts ≡ false → ts ≡ []
+    (starts : (a : A) → Good a → (rest : List Terminal) → heads (λ x. true) (spelled a rest) ≡ true) where
+  gone_out : (ts : List Terminal) → heads (λ x. true) ts ≡ false → ts ≡ []
   gone_out [] h = refl
   gone_out (t ∷ ts) h = absurd (cc)
 
-  no_length : (ts : List Sign) → length ts ≤ 0 → ts ≡ []
+  no_length : (ts : List Terminal) → length ts ≤ 0 → ts ≡ []
   no_length [] h = refl
   no_length (t ∷ ts) h = absurd (omega arith)
 
-  same_end : (x y : List A × List Sign) → ◌≡◌ {A = Answer (List A)} (Ok x) (Ok y) → x.1 ≡ [] → y.1 ≡ []
-  same_end x y h e = let q : x ≡ y = cc in subst (λ (y : List A × List Sign). y.1 ≡ []) q e
+  same_end : (x y : List A × List Terminal) → ◌≡◌ {A = Answer (List A)} (Ok x) (Ok y) → x.1 ≡ [] → y.1 ≡ []
+  same_end x y h e = let q : x ≡ y = cc in subst (λ (y : List A × List Terminal). y.1 ≡ []) q e
 
-  pub turns_end : (n : ℕ) (ts : List Sign) (y : List A × List Sign) → length ts ≤ n → turns (λ x. true) one n ts ≡ Ok y → y.1 ≡ []
+  pub turns_end : (n : ℕ) (ts : List Terminal) (y : List A × List Terminal) → length ts ≤ n → turns (λ x. true) one n ts ≡ Ok y → y.1 ≡ []
   turns_end zero ts y s h = same_end ([], ts) y h (no_length ts s)
   turns_end (suc n) ts y s h =
       elim (test_cases (heads (λ x. true) ts)) [
@@ -214,35 +214,35 @@ module _ {A : Type 0} {one : List Sign → Answer A} {spelled : A → List Sign 
         | inr e ↦ let k : ◌≡◌ {A = Answer (List A)} (Ok ([], ts)) (Ok y) = rw e at h in same_end ([], ts) y k (gone_out ts e)
       ]
 
--- behind a row
-abbrev pub OverRow : {A : Type 0} → (A → Type 0) → (A → List Sign → Type 0) → Row A → List Sign → Type 0
-OverRow Good Over r rest = OverMany (is w.Comma) Good Over rest
+-- after a list with commas
+abbrev pub OverCommaList : {A : Type 0} → (A → Type 0) → (A → List Terminal → Type 0) → CommaList A → List Terminal → Type 0
+OverCommaList Good Over r rest = OverMany (is w.Comma) Good Over rest
 
-module _ {A : Type 0} {one : List Sign → Answer A} {spelled : A → List Sign → List Sign} {Good : A → Type 0} {deeps : A → List Sign → Option (List Sign)}
-    {Over : A → List Sign → Type 0}
+module _ {A : Type 0} {one : List Terminal → Answer A} {spelled : A → List Terminal → List Terminal} {Good : A → Type 0} {deeps : A → List Terminal → Option (List Terminal)}
+    {Over : A → List Terminal → Type 0}
     (l : Laws one spelled Good deeps Over)
-    (next : (a : A) (p : Spot) (rest : List Sign) → Good a → Over a (at w.Comma p ∷ rest)) where
-  more_laws : Laws (many (is w.Comma) (behind_of one)) (spell_list (spell_behind spelled)) (AreAll (λ b. Good b.1))
-      (deep_list (spell_behind spelled) (λ b rest. deeps b.1 rest)) (λ list rest. OverMany {A = Spot × A} (is w.Comma) (λ b. Good b.1) (λ b rest. Over b.1 rest) rest)
-  more_laws = many_laws (behind_laws l) (is w.Comma) (λ b g rest. refl) (λ a b g h rest. next a.1 b.0 (spelled b.1 rest) g)
+    (next : (a : A) (p : Span) (rest : List Terminal) → Good a → Over a (at w.Comma p ∷ rest)) where
+  more_laws : Laws (many (is w.Comma) (after_comma_of one)) (spell_list (spell_after_comma spelled)) (AreAll (λ b. Good b.1))
+      (deep_list (spell_after_comma spelled) (λ b rest. deeps b.1 rest)) (λ list rest. OverMany {A = Span × A} (is w.Comma) (λ b. Good b.1) (λ b rest. Over b.1 rest) rest)
+  more_laws = many_laws (after_comma_laws l) (is w.Comma) (λ b g rest. refl) (λ a b g h rest. next a.1 b.0 (spelled b.1 rest) g)
 
-  pub row_laws : Laws (row_of one) (spell_row spelled) (IsRow Good) (deep_row spelled deeps) (OverRow Good Over)
-  row_laws = laws_of (part l (λ a. part more_laws (λ more. done (row a more)))) (λ ts. refl) (λ c rest. refl) (λ c g. (g.0, g.1.0)) chosen
+  pub comma_list_laws : Laws (comma_list_of one) (spell_comma_list spelled) (IsCommaList Good) (deep_comma_list spelled deeps) (OverCommaList Good Over)
+  comma_list_laws = laws_of (part l (λ a. part more_laws (λ more. done (comma_list a more)))) (λ ts. refl) (λ c rest. refl) (λ c g. (g.0, g.1.0)) chosen
     where
-      over : (a : A) (more : List (Spot × A)) (rest : List Sign) → Good a → OverMany (is w.Comma) Good Over rest → Over a (spell_list (spell_behind spelled) more rest)
+      over : (a : A) (more : List (Span × A)) (rest : List Terminal) → Good a → OverMany (is w.Comma) Good Over rest → Over a (spell_list (spell_after_comma spelled) more rest)
       over a [] rest g o = o.1 a g
       over a (b ∷ more) rest g o = next a b.0 _ g
 
-      chosen : (r : Row A) → IsRow Good r → Chosen (part l (λ a. part more_laws (λ more. done (row a more)))) (deep_row spelled deeps) (OverRow Good Over) r
-      chosen (row a more) g = record {
+      chosen : (r : CommaList A) → IsCommaList Good r → Chosen (part l (λ a. part more_laws (λ more. done (comma_list a more)))) (deep_comma_list spelled deeps) (OverCommaList Good Over) r
+      chosen (comma_list a more) g = record {
         choice = (a, (more, tt));
         of = refl;
         fits = (g.0, (g.1, tt));
-        depth = λ rest. ap (λ z. earlier (deeps a (spell_list (spell_behind spelled) more rest)) z) (last (deep_list (spell_behind spelled) (λ b rest. deeps b.1 rest) more rest));
+        depth = λ rest. ap (λ z. earlier (deeps a (spell_list (spell_after_comma spelled) more rest)) z) (last (deep_list (spell_after_comma spelled) (λ b rest. deeps b.1 rest) more rest));
         follows = λ rest o. (over a more rest g.0 o, ((o.0, λ b h. o.1 b.1 h), tt));
       }
 
-module _ {A : Type 0} {one : List Sign → Answer A} {spelled : A → List Sign → List Sign} {Good : A → Type 0} {deeps : A → List Sign → Option (List Sign)}
+module _ {A : Type 0} {one : List Terminal → Answer A} {spelled : A → List Terminal → List Terminal} {Good : A → Type 0} {deeps : A → List Terminal → Option (List Terminal)}
     (l : Laws one spelled Good deeps (λ a rest. Unit {0})) where
   -- this many things
   abbrev TimesLaws : ℕ → Type 0

@@ -2,34 +2,34 @@
 use Rattle.std.proofs.Common.{◌≡◌, ◌⊎◌, inl, inr, Bool, true, false, List, [], ◌∷◌, ◌++◌, Option, None, Ok, Err, refl, sym, ap, ◌∙◌, subst, if◌then◌else◌}
 use Rattle.std.proofs.Math.Path.{fun_ext}
 use Rattle.c_lex.specs.declared.fault.Why.TheVariants.{Unexpected}
-use Rattle.c_grammar.specs.declared.word.Word.{Word}
-use Rattle.c_grammar.specs.declared.word.Spot.{Spot}
-use Rattle.c_grammar.specs.declared.word.Sign.{Sign}
-use Rattle.c_grammar.specs.Words.{is}
+use Rattle.c_grammar.specs.declared.terminal.Symbol.{Symbol}
+use Rattle.c_grammar.specs.declared.terminal.Span.{Span}
+use Rattle.c_grammar.specs.declared.terminal.Terminal.{Terminal}
+use Rattle.c_grammar.specs.Symbols.{is}
 use Rattle.c_grammar.specs.Grammar.{at, earlier}
 use Rattle.c_grammar.specs.Reading.{Fault, Answer, refuse, ◌>>=◌, expect, one_of, first_of, heads}
 use Rattle.c_grammar.proofs.Local.{IsLocal, ok_local, bind_local, refuse_local, choose_local, branch, branch_local, expect-local, one_of-local, test_cases}
-use Rattle.c_grammar.proofs.Laws.{Laws, Apart, GoesOn, within, missing, unexpected, outcome, pass_on, bind_ok, bind_err, not_both, expect-is, expect-ok, expect-err, one_of-is, one_of-ok, one_of-err, zero_spot}
+use Rattle.c_grammar.proofs.Laws.{Laws, Apart, GoesOn, within, missing, unexpected, outcome, pass_on, bind_ok, bind_err, not_both, expect-is, expect-ok, expect-err, one_of-is, one_of-ok, one_of-err, zero_span}
 
 -- how a production goes on
 pub data Seq (T : Type 0) : Type 1 where
   done : T → Seq T
-  token : Word → (Spot → Seq T) → Seq T
-  -- a sign of one of these words, of which x is one
-  pick : (test : Word → Bool) (x : Word) → test x ≡ true → (Sign → Seq T) → Seq T
-  part : {A : Type 0} {read : List Sign → Answer A} {spelled : A → List Sign → List Sign} {Good : A → Type 0}
-      {deeps : A → List Sign → Option (List Sign)} {Over : A → List Sign → Type 0} → Laws read spelled Good deeps Over → (A → Seq T) → Seq T
-  -- the word x behind it would be its own, where it is open; so one that goes on with x is not
-  split : {A : Type 0} {read : List Sign → Answer A} {spelled : A → List Sign → List Sign} {Good : A → Type 0}
-      {deeps : A → List Sign → Option (List Sign)} {Over : A → List Sign → Type 0} → Laws read spelled Good deeps Over
-      → (open_end : A → Bool) (x : Word) → ((ts : List Sign) (y : A × List Sign) → read ts ≡ Ok y → open_end y.0 ≡ true → heads (is x) y.1 ≡ false)
+  token : Symbol → (Span → Seq T) → Seq T
+  -- a terminal of one of these symbols, of which x is one
+  pick : (test : Symbol → Bool) (x : Symbol) → test x ≡ true → (Terminal → Seq T) → Seq T
+  part : {A : Type 0} {read : List Terminal → Answer A} {spelled : A → List Terminal → List Terminal} {Good : A → Type 0}
+      {deeps : A → List Terminal → Option (List Terminal)} {Over : A → List Terminal → Type 0} → Laws read spelled Good deeps Over → (A → Seq T) → Seq T
+  -- the symbol x behind it would be its own, where it is open; so one that goes on with x is not
+  split : {A : Type 0} {read : List Terminal → Answer A} {spelled : A → List Terminal → List Terminal} {Good : A → Type 0}
+      {deeps : A → List Terminal → Option (List Terminal)} {Over : A → List Terminal → Type 0} → Laws read spelled Good deeps Over
+      → (open_end : A → Bool) (x : Symbol) → ((ts : List Terminal) (y : A × List Terminal) → read ts ≡ Ok y → open_end y.0 ≡ true → heads (is x) y.1 ≡ false)
       → (A → Seq T) → (A → Seq T) → Seq T
-  peek : (Word → Bool) → Seq T → Seq T → Seq T
-  switch : (Option Word → Seq T) → Seq T
+  peek : (Symbol → Bool) → Seq T → Seq T → Seq T
+  switch : (Option Symbol → Seq T) → Seq T
   -- nothing is read, though a tree of this production may stand here
   refused : Seq T → Seq T
 
-abbrev pub run : {T : Type 0} → Seq T → List Sign → Answer T
+abbrev pub run : {T : Type 0} → Seq T → List Terminal → Answer T
 run (done t) ts = Ok (t, ts)
 run (token x k) ts = expect x ts >>= λ p. run (k p.0) p.1
 run (pick test x h k) ts = one_of test ts >>= λ s. run (k s.0) s.1
@@ -42,12 +42,12 @@ run (refused s) ts = refuse Unexpected ts
 -- the parts of a production that stand in a tree
 abbrev pub Choice : {T : Type 0} → Seq T → Type 0
 Choice (done t) = Unit {0}
-Choice (token x k) = (p : Spot) × Choice (k p)
-Choice (pick test x h k) = (s : Sign) × Choice (k s)
+Choice (token x k) = (p : Span) × Choice (k p)
+Choice (pick test x h k) = (s : Terminal) × Choice (k s)
 Choice (part {A = A} l k) = (a : A) × Choice (k a)
 Choice (split {A = A} l b x h k m) = (a : A) × (Choice (k a) ⊎ Choice (m a))
 Choice (peek test s r) = Choice s ⊎ Choice r
-Choice (switch f) = (o : Option Word) × Choice (f o)
+Choice (switch f) = (o : Option Symbol) × Choice (f o)
 Choice (refused s) = Choice s
 
 abbrev pub tree : {T : Type 0} (s : Seq T) → Choice s → T
@@ -62,7 +62,7 @@ tree (peek test s r) (inr c) = tree r c
 tree (switch f) c = tree (f c.0) c.1
 tree (refused s) c = tree s c
 
-abbrev pub spells : {T : Type 0} (s : Seq T) → Choice s → List Sign → List Sign
+abbrev pub spells : {T : Type 0} (s : Seq T) → Choice s → List Terminal → List Terminal
 spells (done t) c rest = rest
 spells (token x k) c rest = at x c.0 ∷ spells (k c.0) c.1 rest
 spells (pick test x h k) c rest = c.0 ∷ spells (k c.0) c.1 rest
@@ -77,7 +77,7 @@ spells (refused s) c rest = spells s c rest
 abbrev pub Fits : {T : Type 0} (s : Seq T) → Choice s → Type 0
 Fits (done t) c = Unit {0}
 Fits (token x k) c = Fits (k c.0) c.1
-Fits (pick test x h k) c = (test c.0.word ≡ true) × Fits (k c.0) c.1
+Fits (pick test x h k) c = (test c.0.symbol ≡ true) × Fits (k c.0) c.1
 Fits (part {Good = Good} l k) c = Good c.0 × Fits (k c.0) c.1
 Fits (split {Good = Good} l b x h k m) (a, inl c) = Good a × (b a ≡ false) × Fits (k a) c
 Fits (split {Good = Good} l b x h k m) (a, inr c) = Good a × Fits (m a) c
@@ -86,7 +86,7 @@ Fits (peek test s r) (inr c) = Fits r c
 Fits (switch f) c = Fits (f c.0) c.1
 Fits (refused s) c = Fits s c
 
-abbrev pub depths : {T : Type 0} (s : Seq T) → Choice s → List Sign → Option (List Sign)
+abbrev pub depths : {T : Type 0} (s : Seq T) → Choice s → List Terminal → Option (List Terminal)
 depths (done t) c rest = None
 depths (token x k) c rest = depths (k c.0) c.1 rest
 depths (pick test x h k) c rest = depths (k c.0) c.1 rest
@@ -99,7 +99,7 @@ depths (switch f) c rest = depths (f c.0) c.1 rest
 depths (refused s) c rest = None
 
 -- what is read is this choice
-abbrev pub Follows : {T : Type 0} (s : Seq T) → Choice s → List Sign → Type 0
+abbrev pub Follows : {T : Type 0} (s : Seq T) → Choice s → List Terminal → Type 0
 Follows (done t) c rest = Unit {0}
 Follows (token x k) c rest = Follows (k c.0) c.1 rest
 Follows (pick test x h k) c rest = Follows (k c.0) c.1 rest
@@ -113,8 +113,8 @@ Follows (refused s) c rest = ⊥
 
 pub seq_some : {T : Type 0} (s : Seq T) → (c : Choice s) × Fits s c
 seq_some (done t) = (tt, tt)
-seq_some (token x k) = let r = seq_some (k zero_spot) in ((zero_spot, r.0), r.1)
-seq_some (pick test x h k) = let t : Sign = at x zero_spot in let r = seq_some (k t) in ((t, r.0), (h, r.1))
+seq_some (token x k) = let r = seq_some (k zero_span) in ((zero_span, r.0), r.1)
+seq_some (pick test x h k) = let t : Terminal = at x zero_span in let r = seq_some (k t) in ((t, r.0), (h, r.1))
 seq_some (part l k) = let r = seq_some (k l.some) in ((l.some, r.0), (l.fine, r.1))
 seq_some (split l b x h k m) = let r = seq_some (m l.some) in ((l.some, inr r.0), (l.fine, r.1))
 seq_some (peek test s q) = let r = seq_some q in (inr r.0, r.1)
@@ -131,7 +131,7 @@ seq_local (peek test s r) = branch_local test (run s) (run r) (seq_local s) (seq
 seq_local (switch f) = choose_local (λ o. run (f o)) (λ o. seq_local (f o))
 seq_local (refused s) = refuse_local
 
-pub seq_complete : {T : Type 0} (s : Seq T) (c : Choice s) (rest : List Sign) → Fits s c → Follows s c rest → run s (spells s c rest) ≡ outcome (depths s c rest) (tree s c) rest
+pub seq_complete : {T : Type 0} (s : Seq T) (c : Choice s) (rest : List Terminal) → Fits s c → Follows s c rest → run s (spells s c rest) ≡ outcome (depths s c rest) (tree s c) rest
 seq_complete (done t) c rest g o = refl
 seq_complete (token x k) c rest g o = rw (expect-is x c.0 (spells (k c.0) c.1 rest)) (seq_complete (k c.0) c.1 rest g o)
 seq_complete (pick test x h k) c rest g o = rw (one_of-is test c.0 (spells (k c.0) c.1 rest) g.0) (seq_complete (k c.0) c.1 rest g.1 o)
@@ -154,7 +154,7 @@ closed false h q = refl
 closed true {c} h q = not_both c q (h refl)
 
 -- each part is what its reader read there
-abbrev pub Reads : {T : Type 0} (s : Seq T) → Choice s → List Sign → Type 0
+abbrev pub Reads : {T : Type 0} (s : Seq T) → Choice s → List Terminal → Type 0
 Reads (done t) c rest = Unit {0}
 Reads (token x k) c rest = Reads (k c.0) c.1 rest
 Reads (pick test x h k) c rest = Reads (k c.0) c.1 rest
@@ -166,7 +166,7 @@ Reads (peek test s r) (inr c) rest = Reads r c rest
 Reads (switch f) c rest = Reads (f c.0) c.1 rest
 Reads (refused s) c rest = ⊥
 
-pub record Sound {T : Type 0} (s : Seq T) (ts : List Sign) (y : T × List Sign) : Type 0 where
+pub record Sound {T : Type 0} (s : Seq T) (ts : List Terminal) (y : T × List Terminal) : Type 0 where
   pub choice : Choice s
   pub is : ts ≡ spells s choice y.1
   pub fits : Fits s choice
@@ -175,21 +175,21 @@ pub record Sound {T : Type 0} (s : Seq T) (ts : List Sign) (y : T × List Sign) 
   pub apart : Apart (spells s) choice
 
 -- a part, and what was read behind it
-module _ {A T : Type 0} {read : List Sign → Answer A} {spelled : A → List Sign → List Sign} {Good : A → Type 0} {deeps : A → List Sign → Option (List Sign)}
-    {Over : A → List Sign → Type 0}
-    (l : Laws read spelled Good deeps Over) (s : Seq T) (ts : List Sign) (x : A × List Sign) (y : T × List Sign) (h : read ts ≡ Ok x) (r : Sound s x.1 y) where
+module _ {A T : Type 0} {read : List Terminal → Answer A} {spelled : A → List Terminal → List Terminal} {Good : A → Type 0} {deeps : A → List Terminal → Option (List Terminal)}
+    {Over : A → List Terminal → Type 0}
+    (l : Laws read spelled Good deeps Over) (s : Seq T) (ts : List Terminal) (x : A × List Terminal) (y : T × List Terminal) (h : read ts ≡ Ok x) (r : Sound s x.1 y) where
   part_is : ts ≡ spelled x.0 (spells s r.choice y.1)
   part_is = (l.sound ts x h).0 ∙ ap (λ z. spelled x.0 z) r.is
 
   part_reads : read (spelled x.0 (spells s r.choice y.1)) ≡ Ok (x.0, spells s r.choice y.1)
   part_reads = ap read (sym part_is) ∙ h ∙ ap (λ z. Ok (x.0, z)) r.is
 
-  part_apart : (xs ys : List Sign) → spelled x.0 (spells s r.choice (xs ++ ys)) ≡ spelled x.0 (spells s r.choice xs) ++ ys
+  part_apart : (xs ys : List Terminal) → spelled x.0 (spells s r.choice (xs ++ ys)) ≡ spelled x.0 (spells s r.choice xs) ++ ys
   part_apart xs ys = ap (λ z. spelled x.0 z) (r.apart xs ys) ∙ (l.sound ts x h).2 (spells s r.choice xs) ys
 
-pub seq_sound : {T : Type 0} (s : Seq T) (ts : List Sign) (y : T × List Sign) → run s ts ≡ Ok y → Sound s ts y
+pub seq_sound : {T : Type 0} (s : Seq T) (ts : List Terminal) (y : T × List Terminal) → run s ts ≡ Ok y → Sound s ts y
 seq_sound {T} (done t) ts y h =
-    let p : T × List Sign = (t, ts) in let k : ◌≡◌ {A = Answer T} (Ok p) (Ok y) = h in let q : p ≡ y = cc in
+    let p : T × List Terminal = (t, ts) in let k : ◌≡◌ {A = Answer T} (Ok p) (Ok y) = h in let q : p ≡ y = cc in
     subst (λ y. Sound (done t) ts y) q (record { choice = tt; is = refl; fits = tt; of = refl; reads = tt; apart = λ xs ys. refl })
 seq_sound (token x k) ts y h =
     let a = bind_ok _ _ y h in
@@ -265,7 +265,7 @@ seq_sound (switch f) ts y h =
     record { choice = (first_of ts, q.choice); is = q.is; fits = q.fits; of = q.of; reads = q.reads; apart = q.apart }
 seq_sound (refused s) ts y h = absurd (cc)
 
-pub seq_goes : {T : Type 0} (s : Seq T) (ts : List Sign) (f : Fault) → run s ts ≡ Err f → GoesOn (spells s) (Fits s) ts f
+pub seq_goes : {T : Type 0} (s : Seq T) (ts : List Terminal) (f : Fault) → run s ts ≡ Err f → GoesOn (spells s) (Fits s) ts f
 seq_goes (done t) ts f h = absurd (cc)
 seq_goes (token x k) ts f h =
     elim (bind_err _ _ f h) [
@@ -326,18 +326,18 @@ seq_goes {T} (refused s) ts f h =
     missing (spells (refused s)) (Fits (refused s)) d.0 d.1 ts f (cc)
 
 -- a good tree is a choice
-pub record Chosen {T : Type 0} (s : Seq T) (deeps : T → List Sign → Option (List Sign)) (Over : T → List Sign → Type 0) (t : T) : Type 0 where
+pub record Chosen {T : Type 0} (s : Seq T) (deeps : T → List Terminal → Option (List Terminal)) (Over : T → List Terminal → Type 0) (t : T) : Type 0 where
   pub choice : Choice s
   pub of : tree s choice ≡ t
   pub fits : Fits s choice
-  pub depth : (rest : List Sign) → depths s choice rest ≡ deeps t rest
-  pub follows : (rest : List Sign) → Over t rest → Follows s choice rest
+  pub depth : (rest : List Terminal) → depths s choice rest ≡ deeps t rest
+  pub follows : (rest : List Terminal) → Over t rest → Follows s choice rest
 
 -- the reader of a production
-pub laws_of : {T : Type 0} {read : List Sign → Answer T} {spelled : T → List Sign → List Sign} {Good : T → Type 0}
-    {deeps : T → List Sign → Option (List Sign)} {Over : T → List Sign → Type 0}
-    → (s : Seq T) → ((ts : List Sign) → read ts ≡ run s ts)
-    → ((c : Choice s) (rest : List Sign) → spelled (tree s c) rest ≡ spells s c rest)
+pub laws_of : {T : Type 0} {read : List Terminal → Answer T} {spelled : T → List Terminal → List Terminal} {Good : T → Type 0}
+    {deeps : T → List Terminal → Option (List Terminal)} {Over : T → List Terminal → Type 0}
+    → (s : Seq T) → ((ts : List Terminal) → read ts ≡ run s ts)
+    → ((c : Choice s) (rest : List Terminal) → spelled (tree s c) rest ≡ spells s c rest)
     → ((c : Choice s) → Fits s c → Good (tree s c))
     → ((t : T) → Good t → Chosen s deeps Over t)
     → Laws read spelled Good deeps Over
@@ -356,5 +356,5 @@ laws_of {T} {read} {spelled} {Good} {deeps} {Over} s same spelling good chosen =
       fine = good (seq_some s).0 (seq_some s).1;
     })
   where
-    is : (t : T) (c : Chosen s deeps Over t) (rest : List Sign) → spelled t rest ≡ spells s c.choice rest
+    is : (t : T) (c : Chosen s deeps Over t) (rest : List Terminal) → spelled t rest ≡ spells s c.choice rest
     is t c rest = ap (λ z. spelled z rest) (sym c.of) ∙ spelling c.choice rest

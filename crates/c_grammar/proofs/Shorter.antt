@@ -1,13 +1,13 @@
 -- Reading stops at or behind where it began.
 use Rattle.std.proofs.Common.{◌≡◌, ◌-◌, ◌<◌, ◌≤◌, ℕ, zero, suc, true, List, Option, Ok, length, ap, subst, sym, arith}
-use Rattle.c_grammar.specs.declared.word.Spot.{Spot}
-use Rattle.c_grammar.specs.declared.word.Sign.{Sign}
-use Rattle.c_grammar.specs.declared.word.Word.{Word}
+use Rattle.c_grammar.specs.declared.terminal.Span.{Span}
+use Rattle.c_grammar.specs.declared.terminal.Terminal.{Terminal}
+use Rattle.c_grammar.specs.declared.terminal.Symbol.{Symbol}
 use Rattle.c_grammar.specs.Tree as t
 use Rattle.c_grammar.specs.View.{Piece}
 use Rattle.c_grammar.specs.Reading.{Answer, bin_of, expect, expr_at, link_of, unary_of}
-use Rattle.c_grammar.specs.Words.{starts_part}
-use Rattle.c_grammar.specs.StmtReading.{argument_of, behind_of, item_of, parameter_of, part_at, top_of}
+use Rattle.c_grammar.specs.Symbols.{starts_part}
+use Rattle.c_grammar.specs.StmtReading.{argument_of, after_comma_of, item_of, parameter_of, part_at, external_of}
 use Rattle.c_grammar.proofs.Local.{ends_shorter}
 use Rattle.c_grammar.proofs.Laws.{Laws, bind_ok, expect-ok, one_of-ok}
 use Rattle.c_grammar.proofs.ExprLaws.{bin_laws, expr_laws, unary_laws}
@@ -16,27 +16,27 @@ use Rattle.c_grammar.proofs.Calls.{argument_laws, item_laws}
 use Rattle.c_grammar.proofs.Lists.{shortens}
 use Rattle.c_grammar.proofs.Starts.{part_starts}
 use Rattle.c_grammar.proofs.StmtLaws.{stmts_laws}
-use Rattle.c_grammar.proofs.TopLaws.{parameter_laws, top_of_laws, top_starts}
+use Rattle.c_grammar.proofs.ExternalLaws.{parameter_laws, external_of_laws, external_starts}
 
-shorter : {A : Type 0} {read : List Sign → Answer A} {spelled : A → List Sign → List Sign} {Good : A → Type 0} {deeps : A → List Sign → Option (List Sign)} {Over : A → List Sign → Type 0}
-    → Laws read spelled Good deeps Over → (ts : List Sign) (y : A × List Sign) → read ts ≡ Ok y → length y.1 ≤ length ts
+shorter : {A : Type 0} {read : List Terminal → Answer A} {spelled : A → List Terminal → List Terminal} {Good : A → Type 0} {deeps : A → List Terminal → Option (List Terminal)} {Over : A → List Terminal → Type 0}
+    → Laws read spelled Good deeps Over → (ts : List Terminal) (y : A × List Terminal) → read ts ≡ Ok y → length y.1 ≤ length ts
 shorter l ts y h = ends_shorter (rw h at (l.local.ends ts))
 
-pub expect_shorter : (x : Word) (ts : List Sign) (y : Spot × List Sign) → expect x ts ≡ Ok y → length y.1 < length ts
+pub expect_shorter : (x : Symbol) (ts : List Terminal) (y : Span × List Terminal) → expect x ts ≡ Ok y → length y.1 < length ts
 expect_shorter x ts y h = omega (arith, ap length (expect-ok x ts y h))
 
-pub behind_shorter : {A : Type 0} (one : List Sign → Answer A) → ((ts : List Sign) (y : A × List Sign) → one ts ≡ Ok y → length y.1 ≤ length ts)
-    → (ts : List Sign) (y : (Spot × A) × List Sign) → behind_of one ts ≡ Ok y → length y.1 < length ts
-behind_shorter {A} one short ts y h =
+pub after_comma_shorter : {A : Type 0} (one : List Terminal → Answer A) → ((ts : List Terminal) (y : A × List Terminal) → one ts ≡ Ok y → length y.1 ≤ length ts)
+    → (ts : List Terminal) (y : (Span × A) × List Terminal) → after_comma_of one ts ≡ Ok y → length y.1 < length ts
+after_comma_shorter {A} one short ts y h =
     let a = bind_ok _ _ y h in let b = bind_ok _ _ y a.2 in
     let first = expect_shorter _ ts a.0 a.1 in let second = short a.0.1 b.0 b.1 in
     let same : b.0.1 ≡ y.1 = let k = b.2 in cc in
     rw (sym same) (omega arith)
 
-pub expr_shorter : (left : ℕ) (ts : List Sign) (y : t.Expr × List Sign) → 0 < left → expr_at left true ts ≡ Ok y → length y.1 ≤ length ts
+pub expr_shorter : (left : ℕ) (ts : List Terminal) (y : t.Expr × List Terminal) → 0 < left → expr_at left true ts ≡ Ok y → length y.1 ≤ length ts
 expr_shorter left ts y above h = shorter (expr_laws left).full ts y h
 
-pub link_shorter : (left k : ℕ) (ts : List Sign) (y : Piece × List Sign) → k < 11
+pub link_shorter : (left k : ℕ) (ts : List Terminal) (y : Piece × List Terminal) → k < 11
     → link_of (bin_of (unary_of (expr_at left)) (k - 1)) k ts ≡ Ok y → length y.1 < length ts
 link_shorter left k ts y low h =
     let l = expr_laws left in
@@ -46,7 +46,7 @@ link_shorter left k ts y low h =
     let same : b.0.1 ≡ y.1 = let k = b.2 in cc in
     rw (sym same) (omega arith)
 
-pub argument_shorter : (left : ℕ) (ts : List Sign) (y : t.Argument × List Sign) → 0 < left
+pub argument_shorter : (left : ℕ) (ts : List Terminal) (y : t.Argument × List Terminal) → 0 < left
     → argument_of (expr_at left true) (expr_at (left - 1) true) ts ≡ Ok y → length y.1 ≤ length ts
 argument_shorter zero ts y above h = absurd (omega arith)
 argument_shorter (suc n) ts y above h =
@@ -54,7 +54,7 @@ argument_shorter (suc n) ts y above h =
     shorter (argument_laws n (expr_at (suc n) true) (expr_at n true) (expr_laws (suc n)).full (expr_laws n).full (expr_takes n)) ts y
     (subst (λ k. argument_of (expr_at (suc n) true) (expr_at k true) ts ≡ Ok y) e h)
 
-pub item_shorter : (left : ℕ) (ts : List Sign) (y : t.Item × List Sign) → 0 < left
+pub item_shorter : (left : ℕ) (ts : List Terminal) (y : t.InitDeclarator × List Terminal) → 0 < left
     → item_of (expr_at left true) (expr_at (left - 1) true) ts ≡ Ok y → length y.1 ≤ length ts
 item_shorter zero ts y above h = absurd (omega arith)
 item_shorter (suc n) ts y above h =
@@ -62,11 +62,11 @@ item_shorter (suc n) ts y above h =
     shorter (item_laws n (expr_at (suc n) true) (expr_at n true) (expr_laws (suc n)).full (expr_laws n).full (expr_takes n)) ts y
     (subst (λ k. item_of (expr_at (suc n) true) (expr_at k true) ts ≡ Ok y) e h)
 
-pub parameter_shorter : (left : ℕ) (ts : List Sign) (y : t.Parameter × List Sign) → 0 < left → parameter_of (expr_at (left - 1) true) ts ≡ Ok y → length y.1 ≤ length ts
+pub parameter_shorter : (left : ℕ) (ts : List Terminal) (y : t.Parameter × List Terminal) → 0 < left → parameter_of (expr_at (left - 1) true) ts ≡ Ok y → length y.1 ≤ length ts
 parameter_shorter left ts y above h = shorter (parameter_laws (left - 1) (expr_at (left - 1) true) (expr_laws (left - 1)).full) ts y h
 
-pub part_shorter : (left : ℕ) (ts : List Sign) (y : t.Part × List Sign) → part_at left ts ≡ Ok y → length y.1 < length ts
+pub part_shorter : (left : ℕ) (ts : List Terminal) (y : t.Part × List Terminal) → part_at left ts ≡ Ok y → length y.1 < length ts
 part_shorter left ts y h = shortens (stmts_laws left).part starts_part part_starts ts y h
 
-pub top_shorter : (ts : List Sign) (y : t.Top × List Sign) → top_of ts ≡ Ok y → length y.1 < length ts
-top_shorter ts y h = shortens top_of_laws (λ x. true) top_starts ts y h
+pub external_shorter : (ts : List Terminal) (y : t.ExternalDeclaration × List Terminal) → external_of ts ≡ Ok y → length y.1 < length ts
+external_shorter ts y h = shortens external_of_laws (λ x. true) external_starts ts y h

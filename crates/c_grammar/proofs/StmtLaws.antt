@@ -1,18 +1,18 @@
 -- What the readers of statements keep.
 use Rattle.std.proofs.Common.{◌≡◌, inl, inr, true, false, ℕ, zero, suc, List, [], ◌∷◌, Option, Some, None, Ok, refl, sym, ap, ◌∙◌, arith}
-use Rattle.c_grammar.specs.declared.word.Word.{Word}
-use Rattle.c_grammar.specs.declared.word.Word.TheVariants as w
-use Rattle.c_grammar.specs.declared.word.Spot.{Spot}
-use Rattle.c_grammar.specs.declared.word.Sign.{Sign}
+use Rattle.c_grammar.specs.declared.terminal.Symbol.{Symbol}
+use Rattle.c_grammar.specs.declared.terminal.Symbol.TheVariants as w
+use Rattle.c_grammar.specs.declared.terminal.Span.{Span}
+use Rattle.c_grammar.specs.declared.terminal.Terminal.{Terminal}
 use Rattle.c_grammar.specs.Tree as t
-use Rattle.c_grammar.specs.Words.{is, isnt, is_kind, starts_expr, starts_stmt, starts_part}
+use Rattle.c_grammar.specs.Symbols.{is, isnt, is_kind, starts_expr, starts_stmt, starts_part}
 use Rattle.c_grammar.specs.Grammar.{at, spell, Is, earlier, deep}
 use Rattle.c_grammar.specs.StmtGrammar.{spell_maybe, IsMaybe, spell_list, AreAll, spell_right, IsRight, spell_simple, IsSimple, spell_stmt, spell_part, spell_parts, ends_open, IsStmt, IsPart, AreParts}
 use Rattle.c_grammar.specs.Depth.{deep_maybe, deep_list, deep_right, deep_simple, deep_declaration, deep_start, deep_stmt, deep_part, deep_parts}
 use Rattle.c_grammar.specs.StmtView.{parts_from}
 use Rattle.c_grammar.specs.Reading.{Answer, first_of, heads, maybe, many, expr_at}
 use Rattle.c_grammar.specs.StmtReading.{right_of, simple_of, stmt_by, stmt_of, part_of, part_with, stmt_at, part_at}
-use Rattle.c_grammar.proofs.Laws.{Laws, last, not_both, zero_spot}
+use Rattle.c_grammar.proofs.Laws.{Laws, last, not_both, zero_span}
 use Rattle.c_grammar.proofs.Sequence.{Seq, done, token, part, split, peek, switch, run, Choice, tree, spells, Fits, Reads, Chosen, laws_of, seq_sound}
 use Rattle.c_grammar.proofs.Lists.{maybe_laws, many_laws, OverMaybe, OverMany}
 use Rattle.c_grammar.proofs.TooDeep.{too_deep_laws, too_deep_no_ok}
@@ -22,16 +22,16 @@ use Rattle.c_grammar.proofs.Calls.{heads_isnt, heads_other, heads_implies, start
 use Rattle.c_grammar.proofs.Starts.{stmt_starts, stmt_kind, part_starts, stmt_begun, part_begun, OpenOk, Opens}
 
 -- an else behind a statement that ends open would be its own
-abbrev pub StmtOver : t.Stmt → List Sign → Type 0
+abbrev pub StmtOver : t.Stmt → List Terminal → Type 0
 StmtOver s rest = ends_open s ≡ true → heads (is w.Else) rest ≡ false
 
-abbrev pub PartOver : t.Part → List Sign → Type 0
+abbrev pub PartOver : t.Part → List Terminal → Type 0
 PartOver p rest = heads (is w.Else) rest ≡ false
 
-abbrev pub StmtLaws : ℕ → (List Sign → Answer t.Stmt) → Type 0
+abbrev pub StmtLaws : ℕ → (List Terminal → Answer t.Stmt) → Type 0
 StmtLaws n reader = Laws reader spell_stmt IsStmt (deep_stmt n) StmtOver
 
-abbrev pub PartLaws : ℕ → (List Sign → Answer t.Part) → Type 0
+abbrev pub PartLaws : ℕ → (List Terminal → Answer t.Part) → Type 0
 PartLaws n reader = Laws reader spell_part IsPart (deep_part n) PartOver
 
 -- the parts of a block as a list
@@ -43,7 +43,7 @@ pub parts_back : (ps : t.Parts) → parts_from (parts_list ps) ≡ ps
 parts_back t.no_part = refl
 parts_back (t.part p ps) = ap (λ z. t.part p z) (parts_back ps)
 
-pub parts_spell : (ps : List t.Part) (rest : List Sign) → spell_parts (parts_from ps) rest ≡ spell_list spell_part ps rest
+pub parts_spell : (ps : List t.Part) (rest : List Terminal) → spell_parts (parts_from ps) rest ≡ spell_list spell_part ps rest
 parts_spell [] rest = refl
 parts_spell (p ∷ ps) rest = ap (λ z. spell_part p z) (parts_spell ps rest)
 
@@ -55,22 +55,22 @@ pub parts_all : (ps : t.Parts) → AreParts ps → AreAll IsPart (parts_list ps)
 parts_all t.no_part g = tt
 parts_all (t.part p ps) g = (g.0, parts_all ps g.1)
 
-pub list_spell : (ps : t.Parts) (rest : List Sign) → spell_list spell_part (parts_list ps) rest ≡ spell_parts ps rest
+pub list_spell : (ps : t.Parts) (rest : List Terminal) → spell_list spell_part (parts_list ps) rest ≡ spell_parts ps rest
 list_spell ps rest = sym (parts_spell (parts_list ps) rest) ∙ ap (λ z. spell_parts z rest) (parts_back ps)
 
-pub parts_deep : (n : ℕ) (ps : t.Parts) (rest : List Sign) → deep_list spell_part (deep_part n) (parts_list ps) rest ≡ deep_parts n ps rest
+pub parts_deep : (n : ℕ) (ps : t.Parts) (rest : List Terminal) → deep_list spell_part (deep_part n) (parts_list ps) rest ≡ deep_parts n ps rest
 parts_deep n t.no_part rest = refl
 parts_deep n (t.part p ps) rest =
     ap (λ z. earlier (deep_part n p z) (deep_list spell_part (deep_part n) (parts_list ps) rest)) (list_spell ps rest)
     ∙ ap (λ z. earlier (deep_part n p (spell_parts ps rest)) z) (parts_deep n ps rest)
 
-pub parts_laws : (n : ℕ) (reader : List Sign → Answer t.Part) → PartLaws n reader
+pub parts_laws : (n : ℕ) (reader : List Terminal → Answer t.Part) → PartLaws n reader
     → Laws (many (isnt w.CloseBrace) reader) (spell_list spell_part) (AreAll IsPart) (deep_list spell_part (deep_part n)) (λ list rest. OverMany (isnt w.CloseBrace) IsPart PartOver rest)
 parts_laws n reader l = many_laws l (isnt w.CloseBrace) (λ p g rest. heads_other starts_part w.CloseBrace (spell_part p rest) (part_starts p g rest) refl)
     (λ p q g h rest. heads_isnt starts_part w.Else (spell_part q rest) (part_starts q h rest) refl)
 
-module _ (n : ℕ) (expr index : List Sign → Answer t.Expr) (le : ExprLaws (suc n) expr) (li : ExprLaws n index) (te : Takes expr)
-    (one : List Sign → Answer t.Stmt) (lo : StmtLaws n one) (opens : Opens one) (parts : List Sign → Answer t.Part) (lp : PartLaws n parts) where
+module _ (n : ℕ) (expr index : List Terminal → Answer t.Expr) (le : ExprLaws (suc n) expr) (li : ExprLaws n index) (te : Takes expr)
+    (one : List Terminal → Answer t.Stmt) (lo : StmtLaws n one) (opens : Opens one) (parts : List Terminal → Answer t.Part) (lp : PartLaws n parts) where
   value_laws : Laws (maybe (isnt w.Semicolon) (right_of expr index)) (spell_maybe spell_right) (IsMaybe IsRight) (deep_maybe (deep_right n)) (OverMaybe (isnt w.Semicolon) (λ r rest. Over 11 rest))
   value_laws = maybe_laws (right_laws n expr index le li te) (isnt w.Semicolon) (λ r g rest. heads_other starts_expr w.Semicolon (spell_right r rest) (right_starts r g rest) refl)
 
@@ -101,7 +101,7 @@ module _ (n : ℕ) (expr index : List Sign → Answer t.Expr) (le : ExprLaws (su
   abbrev plain_seq : Seq t.Stmt
   plain_seq = part (simple_laws n expr index le li te) (λ s. token w.Semicolon (λ p. done (t.simple s p)))
 
-  abbrev stmt_seq : Option Word → Seq t.Stmt
+  abbrev stmt_seq : Option Symbol → Seq t.Stmt
   stmt_seq (Some w.OpenBrace) = block_seq
   stmt_seq (Some w.Semicolon) = token w.Semicolon (λ p. done (t.empty p))
   stmt_seq (Some w.Break) = token w.Break (λ x. token w.Semicolon (λ p. done (t.break x p)))
@@ -113,7 +113,7 @@ module _ (n : ℕ) (expr index : List Sign → Answer t.Expr) (le : ExprLaws (su
   stmt_seq (Some w.For) = for_seq
   stmt_seq _ = plain_seq
 
-  stmt_runs : (o : Option Word) (ts : List Sign) → stmt_by expr index one parts ts o ≡ run (stmt_seq o) ts
+  stmt_runs : (o : Option Symbol) (ts : List Terminal) → stmt_by expr index one parts ts o ≡ run (stmt_seq o) ts
   stmt_runs (Some w.OpenBrace) ts = refl
   stmt_runs (Some w.Semicolon) ts = refl
   stmt_runs (Some w.Break) ts = refl
@@ -125,7 +125,7 @@ module _ (n : ℕ) (expr index : List Sign → Answer t.Expr) (le : ExprLaws (su
   stmt_runs (Some w.For) ts = refl
   stmt_runs _ ts = refl
 
-  stmt_spelling : (o : Option Word) (c : Choice (stmt_seq o)) (rest : List Sign) → spell_stmt (tree (stmt_seq o) c) rest ≡ spells (stmt_seq o) c rest
+  stmt_spelling : (o : Option Symbol) (c : Choice (stmt_seq o)) (rest : List Terminal) → spell_stmt (tree (stmt_seq o) c) rest ≡ spells (stmt_seq o) c rest
   stmt_spelling (Some w.OpenBrace) c rest = ap (λ z. at w.OpenBrace c.0 ∷ z) (parts_spell c.1.0 (at w.CloseBrace c.1.1.0 ∷ rest))
   stmt_spelling (Some w.Semicolon) c rest = refl
   stmt_spelling (Some w.Break) c rest = refl
@@ -138,7 +138,7 @@ module _ (n : ℕ) (expr index : List Sign → Answer t.Expr) (le : ExprLaws (su
   stmt_spelling (Some w.For) c rest = refl
   stmt_spelling _ c rest = refl
 
-  stmt_good : (o : Option Word) (c : Choice (stmt_seq o)) → Fits (stmt_seq o) c → IsStmt (tree (stmt_seq o) c)
+  stmt_good : (o : Option Symbol) (c : Choice (stmt_seq o)) → Fits (stmt_seq o) c → IsStmt (tree (stmt_seq o) c)
   stmt_good (Some w.OpenBrace) c g = parts_good c.1.0 g.0
   stmt_good (Some w.Semicolon) c g = tt
   stmt_good (Some w.Break) c g = tt
@@ -151,22 +151,22 @@ module _ (n : ℕ) (expr index : List Sign → Answer t.Expr) (le : ExprLaws (su
   stmt_good (Some w.For) c g = (g.0, g.1.0, g.1.1.0, g.1.1.1.0)
   stmt_good _ c g = g.0
 
-  test_over : (o : Option t.Expr) (q : Spot) (rest : List Sign) → OverMaybe (isnt w.Semicolon) (λ e rest. Over 11 rest) o (at w.Semicolon q ∷ rest)
+  test_over : (o : Option t.Expr) (q : Span) (rest : List Terminal) → OverMaybe (isnt w.Semicolon) (λ e rest. Over 11 rest) o (at w.Semicolon q ∷ rest)
   test_over None q rest = refl
   test_over (Some e) q rest = omega arith
 
-  value_over : (o : Option t.Right) (q : Spot) (rest : List Sign) → OverMaybe (isnt w.Semicolon) (λ e rest. Over 11 rest) o (at w.Semicolon q ∷ rest)
+  value_over : (o : Option t.Right) (q : Span) (rest : List Terminal) → OverMaybe (isnt w.Semicolon) (λ e rest. Over 11 rest) o (at w.Semicolon q ∷ rest)
   value_over None q rest = refl
   value_over (Some e) q rest = omega arith
 
-  step_over : (o : Option t.Simple) (q : Spot) (rest : List Sign) → OverMaybe (isnt w.CloseParen) (λ e rest. Over 11 rest) o (at w.CloseParen q ∷ rest)
+  step_over : (o : Option t.Simple) (q : Span) (rest : List Terminal) → OverMaybe (isnt w.CloseParen) (λ e rest. Over 11 rest) o (at w.CloseParen q ∷ rest)
   step_over None q rest = refl
   step_over (Some e) q rest = omega arith
 
-  abbrev plain_depth : t.Simple → Spot → List Sign → Option (List Sign)
+  abbrev plain_depth : t.Simple → Span → List Terminal → Option (List Terminal)
   plain_depth s p rest = deep_simple n s (at w.Semicolon p ∷ rest)
 
-  simple_chosen : (s : t.Simple) (p : Spot) → IsSimple s → Chosen (switch stmt_seq) (deep_stmt (suc n)) StmtOver (t.simple s p)
+  simple_chosen : (s : t.Simple) (p : Span) → IsSimple s → Chosen (switch stmt_seq) (deep_stmt (suc n)) StmtOver (t.simple s p)
   simple_chosen (t.assign place x q r) p g = record {
     choice = (Some w.Name, (t.assign place x q r, (p, tt)));
     of = refl;
@@ -262,18 +262,18 @@ module _ (n : ℕ) (expr index : List Sign → Answer t.Expr) (le : ExprLaws (su
   }
 
   -- no else behind a statement that was read and ends open
-  shut : (o : Option Word) → ((c : Choice (stmt_seq o)) → ends_open (tree (stmt_seq o) c) ≡ false) → (ts : List Sign) (y : t.Stmt × List Sign)
+  shut : (o : Option Symbol) → ((c : Choice (stmt_seq o)) → ends_open (tree (stmt_seq o) c) ≡ false) → (ts : List Terminal) (y : t.Stmt × List Terminal)
       → run (stmt_seq o) ts ≡ Ok y → OpenOk y
   shut o h ts y k = let c = seq_sound (stmt_seq o) ts y k in λ q. not_both (ends_open y.0) q (sym (ap ends_open c.of) ∙ h c.choice)
 
-  kept : (s : t.Stmt) (y : t.Stmt × List Sign) → s ≡ y.0 → OpenOk (s, y.1) → OpenOk y
+  kept : (s : t.Stmt) (y : t.Stmt × List Terminal) → s ≡ y.0 → OpenOk (s, y.1) → OpenOk y
   kept s y e o = λ q. o (ap ends_open e ∙ q)
 
-  if_open : (y : t.Stmt × List Sign) (c : Choice if_seq) → Reads if_seq c y.1 → OpenOk (tree if_seq c, y.1)
+  if_open : (y : t.Stmt × List Terminal) (c : Choice if_seq) → Reads if_seq c y.1 → OpenOk (tree if_seq c, y.1)
   if_open y (x, (o, (e, (c, (s, inl (q, (r, d))))))) g = opens _ _ g.1.2.0
   if_open y (x, (o, (e, (c, (s, inr d))))) g = λ q. g.1.1
 
-  stmt_open : (o : Option Word) (ts : List Sign) (y : t.Stmt × List Sign) → run (stmt_seq o) ts ≡ Ok y → OpenOk y
+  stmt_open : (o : Option Symbol) (ts : List Terminal) (y : t.Stmt × List Terminal) → run (stmt_seq o) ts ≡ Ok y → OpenOk y
   stmt_open (Some w.OpenBrace) ts y k = shut (Some w.OpenBrace) (λ c. refl) ts y k
   stmt_open (Some w.Semicolon) ts y k = shut (Some w.Semicolon) (λ c. refl) ts y k
   stmt_open (Some w.Break) ts y k = shut (Some w.Break) (λ c. refl) ts y k
@@ -293,12 +293,12 @@ module _ (n : ℕ) (expr index : List Sign → Answer t.Expr) (le : ExprLaws (su
   unfolding stmt_of
   stmt_laws = laws_of (switch stmt_seq) (λ ts. stmt_runs (first_of ts) ts) (λ c rest. stmt_spelling c.0 c.1 rest) (λ c g. stmt_good c.0 c.1 g) stmt_chosen
 
-module _ (n : ℕ) (expr index : List Sign → Answer t.Expr) (le : ExprLaws (suc n) expr) (li : ExprLaws n index) (te : Takes expr)
-    (stmt : List Sign → Answer t.Stmt) (ls : StmtLaws (suc n) stmt) where
+module _ (n : ℕ) (expr index : List Terminal → Answer t.Expr) (le : ExprLaws (suc n) expr) (li : ExprLaws n index) (te : Takes expr)
+    (stmt : List Terminal → Answer t.Stmt) (ls : StmtLaws (suc n) stmt) where
   abbrev part_seq : Seq t.Part
   part_seq = peek is_kind (part (declaration_laws n expr index le li te) (λ d. token w.Semicolon (λ p. done (t.declare d p)))) (part ls (λ s. done (t.stmt s)))
 
-  part_spelling : (c : Choice part_seq) (rest : List Sign) → spell_part (tree part_seq c) rest ≡ spells part_seq c rest
+  part_spelling : (c : Choice part_seq) (rest : List Terminal) → spell_part (tree part_seq c) rest ≡ spells part_seq c rest
   part_spelling (inl c) rest = refl
   part_spelling (inr c) rest = refl
 
@@ -334,8 +334,8 @@ pub record StmtsAt (n : ℕ) : Type 0 where
 pub stmts_laws : (n : ℕ) → StmtsAt n
 unfolding stmt_at part_with
 stmts_laws zero = record {
-  stmt = too_deep_laws starts_stmt spell_stmt IsStmt StmtOver stmt_starts stmt_begun (t.empty zero_spot) tt;
-  part = too_deep_laws starts_part spell_part IsPart PartOver part_starts part_begun (t.stmt (t.empty zero_spot)) tt;
+  stmt = too_deep_laws starts_stmt spell_stmt IsStmt StmtOver stmt_starts stmt_begun (t.empty zero_span) tt;
+  part = too_deep_laws starts_part spell_part IsPart PartOver part_starts part_begun (t.stmt (t.empty zero_span)) tt;
   opens = λ ts y h. absurd (too_deep_no_ok starts_stmt ts y h);
 }
 stmts_laws (suc n) =

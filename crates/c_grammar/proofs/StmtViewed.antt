@@ -3,7 +3,7 @@ use Rattle.std.proofs.Common.{◌≡◌, option_map, Option, sym, ap, ◌∙◌}
 use Rattle.std.specs.declared.alloc.Global.{Global}
 use Rattle.std.specs.declared.boxed.Box.{Box}
 use Rattle.std.specs.declared.vec.Vec.{Vec}
-use Rattle.c_grammar.specs.declared.word.Spot.{Spot}
+use Rattle.c_grammar.specs.declared.terminal.Span.{Span}
 use Rattle.c_grammar.specs.declared.tree.Expr.{Expr}
 use Rattle.c_grammar.specs.declared.statement.Declaration.{Declaration}
 use Rattle.c_grammar.specs.declared.statement.ForStart.{ForStart}
@@ -19,73 +19,73 @@ use Rattle.c_grammar.specs.Tree as t
 use Rattle.c_grammar.specs.View.{view}
 use Rattle.c_grammar.specs.StmtView.{declaration_view, part_step, part_view, parts_view, right_view, simple_view, start_view, stmt_step, stmt_view}
 
-pub view-block : (opening : Spot) (parts : Vec Part Global) (closing : Spot)
+pub view-block : (opening : Span) (parts : Vec Part Global) (closing : Span)
     → stmt_view (s.Block opening parts closing) ≡ t.block opening (parts_view parts.items) closing
 unfolding stmt_view part_view
 view-block opening parts closing =
     ap stmt_view (sym (s.rolls-Block opening parts closing)) ∙ fold-roll-Stmt _ _ part_step stmt_step (o.Block opening parts closing)
 
-pub view-empty : (at : Spot)
+pub view-empty : (at : Span)
     → stmt_view (s.Empty at) ≡ t.empty at
 unfolding stmt_view part_view
 view-empty at =
     ap stmt_view (sym (s.rolls-Empty at)) ∙ fold-roll-Stmt _ _ part_step stmt_step (o.Empty at)
 
-pub view-simple : (simple : Simple) (end : Spot)
+pub view-simple : (simple : Simple) (end : Span)
     → stmt_view (s.Simple simple end) ≡ t.simple (simple_view simple) end
 unfolding stmt_view part_view
 view-simple simple end =
     ap stmt_view (sym (s.rolls-Simple simple end)) ∙ fold-roll-Stmt _ _ part_step stmt_step (o.Simple simple end)
 
-pub view-break : (word end : Spot)
-    → stmt_view (s.Break word end) ≡ t.break word end
+pub view-break : (keyword end : Span)
+    → stmt_view (s.Break keyword end) ≡ t.break keyword end
 unfolding stmt_view part_view
-view-break word end =
-    ap stmt_view (sym (s.rolls-Break word end)) ∙ fold-roll-Stmt _ _ part_step stmt_step (o.Break word end)
+view-break keyword end =
+    ap stmt_view (sym (s.rolls-Break keyword end)) ∙ fold-roll-Stmt _ _ part_step stmt_step (o.Break keyword end)
 
-pub view-continue : (word end : Spot)
-    → stmt_view (s.Continue word end) ≡ t.continue word end
+pub view-continue : (keyword end : Span)
+    → stmt_view (s.Continue keyword end) ≡ t.continue keyword end
 unfolding stmt_view part_view
-view-continue word end =
-    ap stmt_view (sym (s.rolls-Continue word end)) ∙ fold-roll-Stmt _ _ part_step stmt_step (o.Continue word end)
+view-continue keyword end =
+    ap stmt_view (sym (s.rolls-Continue keyword end)) ∙ fold-roll-Stmt _ _ part_step stmt_step (o.Continue keyword end)
 
-pub view-return : (word : Spot) (value : Option Right) (end : Spot)
-    → stmt_view (s.Return word value end) ≡ t.return word (option_map right_view value) end
+pub view-return : (keyword : Span) (value : Option Right) (end : Span)
+    → stmt_view (s.Return keyword value end) ≡ t.return keyword (option_map right_view value) end
 unfolding stmt_view part_view
-view-return word value end =
-    ap stmt_view (sym (s.rolls-Return word value end)) ∙ fold-roll-Stmt _ _ part_step stmt_step (o.Return word value end)
+view-return keyword value end =
+    ap stmt_view (sym (s.rolls-Return keyword value end)) ∙ fold-roll-Stmt _ _ part_step stmt_step (o.Return keyword value end)
 
-pub view-if_only : (word opening : Spot) (test : Expr) (closing : Spot) (then : Box Stmt Global)
-    → stmt_view (s.If word opening test closing then) ≡ t.if_only word opening (view test) closing (stmt_view then.value)
+pub view-if_only : (keyword opening : Span) (test : Expr) (closing : Span) (then : Box Stmt Global)
+    → stmt_view (s.If keyword opening test closing then) ≡ t.if_only keyword opening (view test) closing (stmt_view then.value)
 unfolding stmt_view part_view
-view-if_only word opening test closing then =
-    ap stmt_view (sym (s.rolls-If word opening test closing then)) ∙ fold-roll-Stmt _ _ part_step stmt_step (o.If word opening test closing then)
+view-if_only keyword opening test closing then =
+    ap stmt_view (sym (s.rolls-If keyword opening test closing then)) ∙ fold-roll-Stmt _ _ part_step stmt_step (o.If keyword opening test closing then)
 
-pub view-if_else : (word opening : Spot) (test : Expr) (closing : Spot) (then : Box Stmt Global) (other_word : Spot) (other : Box Stmt Global)
-    → stmt_view (s.IfElse word opening test closing then other_word other) ≡ t.if_else word opening (view test) closing (stmt_view then.value) other_word (stmt_view other.value)
+pub view-if_else : (keyword opening : Span) (test : Expr) (closing : Span) (then : Box Stmt Global) (else_keyword : Span) (other : Box Stmt Global)
+    → stmt_view (s.IfElse keyword opening test closing then else_keyword other) ≡ t.if_else keyword opening (view test) closing (stmt_view then.value) else_keyword (stmt_view other.value)
 unfolding stmt_view part_view
-view-if_else word opening test closing then other_word other =
-    ap stmt_view (sym (s.rolls-IfElse word opening test closing then other_word other)) ∙ fold-roll-Stmt _ _ part_step stmt_step (o.IfElse word opening test closing then other_word other)
+view-if_else keyword opening test closing then else_keyword other =
+    ap stmt_view (sym (s.rolls-IfElse keyword opening test closing then else_keyword other)) ∙ fold-roll-Stmt _ _ part_step stmt_step (o.IfElse keyword opening test closing then else_keyword other)
 
-pub view-while : (word opening : Spot) (test : Expr) (closing : Spot) (body : Box Stmt Global)
-    → stmt_view (s.While word opening test closing body) ≡ t.while word opening (view test) closing (stmt_view body.value)
+pub view-while : (keyword opening : Span) (test : Expr) (closing : Span) (body : Box Stmt Global)
+    → stmt_view (s.While keyword opening test closing body) ≡ t.while keyword opening (view test) closing (stmt_view body.value)
 unfolding stmt_view part_view
-view-while word opening test closing body =
-    ap stmt_view (sym (s.rolls-While word opening test closing body)) ∙ fold-roll-Stmt _ _ part_step stmt_step (o.While word opening test closing body)
+view-while keyword opening test closing body =
+    ap stmt_view (sym (s.rolls-While keyword opening test closing body)) ∙ fold-roll-Stmt _ _ part_step stmt_step (o.While keyword opening test closing body)
 
-pub view-do_while : (word : Spot) (body : Box Stmt Global) (while_word opening : Spot) (test : Expr) (closing end : Spot)
-    → stmt_view (s.Do word body while_word opening test closing end) ≡ t.do_while word (stmt_view body.value) while_word opening (view test) closing end
+pub view-do_while : (keyword : Span) (body : Box Stmt Global) (while_keyword opening : Span) (test : Expr) (closing end : Span)
+    → stmt_view (s.Do keyword body while_keyword opening test closing end) ≡ t.do_while keyword (stmt_view body.value) while_keyword opening (view test) closing end
 unfolding stmt_view part_view
-view-do_while word body while_word opening test closing end =
-    ap stmt_view (sym (s.rolls-Do word body while_word opening test closing end)) ∙ fold-roll-Stmt _ _ part_step stmt_step (o.Do word body while_word opening test closing end)
+view-do_while keyword body while_keyword opening test closing end =
+    ap stmt_view (sym (s.rolls-Do keyword body while_keyword opening test closing end)) ∙ fold-roll-Stmt _ _ part_step stmt_step (o.Do keyword body while_keyword opening test closing end)
 
-pub view-for : (word opening : Spot) (start : ForStart) (start_end : Spot) (test : Option Expr) (test_end : Spot) (step : Option Simple) (closing : Spot) (body : Box Stmt Global)
-    → stmt_view (s.For word opening start start_end test test_end step closing body) ≡ t.for word opening (start_view start) start_end (option_map view test) test_end (option_map simple_view step) closing (stmt_view body.value)
+pub view-for : (keyword opening : Span) (start : ForStart) (start_end : Span) (test : Option Expr) (test_end : Span) (step : Option Simple) (closing : Span) (body : Box Stmt Global)
+    → stmt_view (s.For keyword opening start start_end test test_end step closing body) ≡ t.for keyword opening (start_view start) start_end (option_map view test) test_end (option_map simple_view step) closing (stmt_view body.value)
 unfolding stmt_view part_view
-view-for word opening start start_end test test_end step closing body =
-    ap stmt_view (sym (s.rolls-For word opening start start_end test test_end step closing body)) ∙ fold-roll-Stmt _ _ part_step stmt_step (o.For word opening start start_end test test_end step closing body)
+view-for keyword opening start start_end test test_end step closing body =
+    ap stmt_view (sym (s.rolls-For keyword opening start start_end test test_end step closing body)) ∙ fold-roll-Stmt _ _ part_step stmt_step (o.For keyword opening start start_end test test_end step closing body)
 
-pub view-declare : (declaration : Declaration) (end : Spot)
+pub view-declare : (declaration : Declaration) (end : Span)
     → part_view (p.Declaration declaration end) ≡ t.declare (declaration_view declaration) end
 unfolding part_view
 view-declare declaration end =

@@ -3,8 +3,8 @@ use Rattle.std.proofs.Common.{◌≡◌, ℕ, List, [], ◌∷◌, refl, sym, ap
 use Rattle.std.specs.declared.alloc.Global.{Global}
 use Rattle.std.specs.declared.boxed.Box.{Box}
 use Rattle.std.specs.declared.vec.Vec.{Vec}
-use Rattle.c_grammar.specs.declared.word.Word.{Word}
-use Rattle.c_grammar.specs.declared.word.Spot.{Spot}
+use Rattle.c_grammar.specs.declared.terminal.Symbol.{Symbol}
+use Rattle.c_grammar.specs.declared.terminal.Span.{Span}
 use Rattle.c_grammar.specs.declared.tree.Expr.{Expr}
 use Rattle.c_grammar.specs.declared.tree.Place.{Place}
 use Rattle.c_grammar.specs.declared.tree.Link.{Link}
@@ -16,7 +16,7 @@ use Rattle.c_grammar.specs.declared.tree.Link.{outs-Link'}
 use Rattle.c_grammar.specs.Tree as t
 use Rattle.c_grammar.specs.View.{view, place_view, piece, Piece, links_from, expr_step, place_step, link_step}
 
-pub view-number : (at : Spot) → view (v.Number at) ≡ t.number at
+pub view-number : (at : Span) → view (v.Number at) ≡ t.number at
 unfolding view
 view-number at = ap view (sym (v.rolls-Number at)) ∙ fold-roll-Expr _ _ _ expr_step place_step link_step (o.Number at)
 
@@ -24,34 +24,34 @@ pub view-read : (place : Place) → view (v.Read place) ≡ t.read (place_view p
 unfolding view place_view
 view-read place = ap view (sym (v.rolls-Read place)) ∙ fold-roll-Expr _ _ _ expr_step place_step link_step (o.Read place)
 
-pub view-field : (place : Place) (dot name : Spot) → view (v.Field place dot name) ≡ t.field (place_view place) dot name
+pub view-field : (place : Place) (dot name : Span) → view (v.Field place dot name) ≡ t.field (place_view place) dot name
 unfolding view place_view
 view-field place dot name = ap view (sym (v.rolls-Field place dot name)) ∙ fold-roll-Expr _ _ _ expr_step place_step link_step (o.Field place dot name)
 
-pub view-paren : (opening : Spot) (inner : Box Expr Global) (closing : Spot)
+pub view-paren : (opening : Span) (inner : Box Expr Global) (closing : Span)
     → view (v.Paren opening inner closing) ≡ t.paren opening (view inner.value) closing
 unfolding view
 view-paren opening inner closing =
     ap view (sym (v.rolls-Paren opening inner closing)) ∙ fold-roll-Expr _ _ _ expr_step place_step link_step (o.Paren opening inner closing)
 
-pub view-unary : (sign : Word) (at : Spot) (operand : Box Expr Global)
+pub view-unary : (sign : Symbol) (at : Span) (operand : Box Expr Global)
     → view (v.Unary sign at operand) ≡ t.unary sign at (view operand.value)
 unfolding view
 view-unary sign at operand =
     ap view (sym (v.rolls-Unary sign at operand)) ∙ fold-roll-Expr _ _ _ expr_step place_step link_step (o.Unary sign at operand)
 
-pub view-choice : (test : Box Expr Global) (question : Spot) (then : Box Expr Global) (colon : Spot) (other : Box Expr Global)
+pub view-choice : (test : Box Expr Global) (question : Span) (then : Box Expr Global) (colon : Span) (other : Box Expr Global)
     → view (v.Choice test question then colon other) ≡ t.choice (view test.value) question (view then.value) colon (view other.value)
 unfolding view
 view-choice test question then colon other =
     ap view (sym (v.rolls-Choice test question then colon other))
     ∙ fold-roll-Expr _ _ _ expr_step place_step link_step (o.Choice test question then colon other)
 
-pub view-whole : (name : Spot) → place_view (p.Whole name) ≡ t.whole name
+pub view-whole : (name : Span) → place_view (p.Whole name) ≡ t.whole name
 unfolding place_view
 view-whole name = ap place_view (sym (p.rolls-Whole name)) ∙ fold-roll-Place _ _ _ expr_step place_step link_step (o.Whole name)
 
-pub view-cell : (name opening : Spot) (index : Box Expr Global) (closing : Spot)
+pub view-cell : (name opening : Span) (index : Box Expr Global) (closing : Span)
     → place_view (p.Cell name opening index closing) ≡ t.cell name opening (view index.value) closing
 unfolding view place_view
 view-cell name opening index closing =

@@ -1,7 +1,7 @@
 pub mod Tree
 pub mod View
 pub mod StmtView
-pub mod Words
+pub mod Symbols
 pub mod Grammar
 pub mod StmtGrammar
 pub mod Depth

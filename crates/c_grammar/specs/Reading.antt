@@ -1,75 +1,75 @@
--- Reading expressions by descent: a tree and the signs after it, or the first fault. Each production is a function of the readers that it
+-- Reading expressions by descent: a tree and the terminals after it, or the first fault. Each production is a function of the readers that it
 -- stands on. The number of depths left is the recursion's own.
 use Rattle.std.specs.Prelude.{◌==◌, Bool, true, false, ℕ, zero, suc, List, [], ◌∷◌, length, Option, Some, None, Result, Ok, Err, if◌then◌else◌}
 use Rattle.c_lex.specs.declared.fault.Why.{Why}
 use Rattle.c_lex.specs.declared.fault.Why.TheVariants.{Unexpected, TooDeep}
-use Rattle.c_grammar.specs.declared.word.Word.{Word}
-use Rattle.c_grammar.specs.declared.word.Word.TheVariants as w
-use Rattle.c_grammar.specs.declared.word.Spot.{Spot}
-use Rattle.c_grammar.specs.declared.word.Sign.{Sign}
-use Rattle.c_grammar.specs.Words.{level_of, is_sign, is, starts_expr}
+use Rattle.c_grammar.specs.declared.terminal.Symbol.{Symbol}
+use Rattle.c_grammar.specs.declared.terminal.Symbol.TheVariants as w
+use Rattle.c_grammar.specs.declared.terminal.Span.{Span}
+use Rattle.c_grammar.specs.declared.terminal.Terminal.{Terminal}
+use Rattle.c_grammar.specs.Symbols.{level_of, is_sign, is, starts_expr}
 use Rattle.c_grammar.specs.Tree.{Expr, number, read, field, paren, unary, chain, choice, Place, whole, cell}
 use Rattle.c_grammar.specs.View.{Piece, links_from}
 
--- a refusal, and the signs from it on
+-- a refusal, and the terminals from it on
 pub record Fault : Type 0 where
   pub why : Why
-  pub rest : List Sign
+  pub rest : List Terminal
 
 abbrev pub Answer : Type 0 → Type 0
-Answer A = Result (A × List Sign) Fault
+Answer A = Result (A × List Terminal) Fault
 
-abbrev pub refuse : {A : Type 0} → Why → List Sign → Answer A
+abbrev pub refuse : {A : Type 0} → Why → List Terminal → Answer A
 refuse why rest = Err (record { why = why; rest = rest })
 
 infixl 10 ◌>>=◌
-abbrev pub ◌>>=◌ : {A B : Type 0} → Answer A → (A × List Sign → Answer B) → Answer B
+abbrev pub ◌>>=◌ : {A B : Type 0} → Answer A → (A × List Terminal → Answer B) → Answer B
 (Ok x) >>= f = f x
 (Err e) >>= f = Err e
 
--- the first word, where there is one
-abbrev pub first_of : List Sign → Option Word
+-- the first symbol, where there is one
+abbrev pub first_of : List Terminal → Option Symbol
 first_of [] = None
-first_of (t ∷ ts) = Some t.word
+first_of (t ∷ ts) = Some t.symbol
 
--- the first word is one of these
-abbrev pub heads : (Word → Bool) → List Sign → Bool
+-- the first symbol is one of these
+abbrev pub heads : (Symbol → Bool) → List Terminal → Bool
 heads test [] = false
-heads test (t ∷ ts) = test t.word
+heads test (t ∷ ts) = test t.symbol
 
--- the sign of this word
-unfoldable pub expect : Word → List Sign → Answer Spot
+-- the terminal of this symbol
+unfoldable pub expect : Symbol → List Terminal → Answer Span
 expect x [] = refuse Unexpected []
-expect x (t ∷ ts) = if is x t.word then Ok (t.spot, ts) else refuse Unexpected (t ∷ ts)
+expect x (t ∷ ts) = if is x t.symbol then Ok (t.span, ts) else refuse Unexpected (t ∷ ts)
 
--- a sign of one of these words
-unfoldable pub one_of : (Word → Bool) → List Sign → Answer Sign
+-- a terminal of one of these symbols
+unfoldable pub one_of : (Symbol → Bool) → List Terminal → Answer Terminal
 one_of test [] = refuse Unexpected []
-one_of test (t ∷ ts) = if test t.word then Ok (t, ts) else refuse Unexpected (t ∷ ts)
+one_of test (t ∷ ts) = if test t.symbol then Ok (t, ts) else refuse Unexpected (t ∷ ts)
 
 -- what stands too deep
-unfoldable pub too_deep : {A : Type 0} → (Word → Bool) → List Sign → Answer A
+unfoldable pub too_deep : {A : Type 0} → (Symbol → Bool) → List Terminal → Answer A
 too_deep starts [] = refuse Unexpected []
-too_deep starts (t ∷ ts) = if starts t.word then refuse TooDeep (t ∷ ts) else refuse Unexpected (t ∷ ts)
+too_deep starts (t ∷ ts) = if starts t.symbol then refuse TooDeep (t ∷ ts) else refuse Unexpected (t ∷ ts)
 
--- something that is there where its first word says so
-abbrev pub maybe : {A : Type 0} → (Word → Bool) → (List Sign → Answer A) → List Sign → Answer (Option A)
+-- something that is there where its first symbol says so
+abbrev pub maybe : {A : Type 0} → (Symbol → Bool) → (List Terminal → Answer A) → List Terminal → Answer (Option A)
 maybe goes one ts = if heads goes ts then (one ts >>= λ a. Ok (Some a.0, a.1)) else Ok (None, ts)
 
--- things as long as the first word says that one more is there; n bounds them
-abbrev pub turns : {A : Type 0} → (Word → Bool) → (List Sign → Answer A) → ℕ → List Sign → Answer (List A)
+-- things as long as the first symbol says that one more is there; n bounds them
+abbrev pub turns : {A : Type 0} → (Symbol → Bool) → (List Terminal → Answer A) → ℕ → List Terminal → Answer (List A)
 turns goes one zero ts = Ok ([], ts)
 turns goes one (suc n) ts =
     if heads goes ts
     then (one ts >>= λ a. turns goes one n a.1 >>= λ more. Ok (a.0 ∷ more.0, more.1))
     else Ok ([], ts)
 
--- all of them: each takes a sign at least, so their bound is the number of signs
-abbrev pub many : {A : Type 0} → (Word → Bool) → (List Sign → Answer A) → List Sign → Answer (List A)
+-- all of them: each takes a terminal at least, so their bound is the number of terminals
+abbrev pub many : {A : Type 0} → (Symbol → Bool) → (List Terminal → Answer A) → List Terminal → Answer (List A)
 many goes one ts = turns goes one (length ts) ts
 
 -- this many things
-abbrev pub times : {A : Type 0} → (List Sign → Answer A) → ℕ → List Sign → Answer (List A)
+abbrev pub times : {A : Type 0} → (List Terminal → Answer A) → ℕ → List Terminal → Answer (List A)
 times one zero ts = Ok ([], ts)
 times one (suc n) ts = do
   a ← one ts
@@ -77,76 +77,76 @@ times one (suc n) ts = do
   Ok (a.0 ∷ more.0, more.1)
 
 -- a name and an index in brackets, which `index` reads
-abbrev pub cell_of : (List Sign → Answer Expr) → Spot → List Sign → Answer Place
+abbrev pub cell_of : (List Terminal → Answer Expr) → Span → List Terminal → Answer Place
 cell_of index name ts = do
   opening ← expect w.OpenBracket ts
   inner ← index opening.1
   closing ← expect w.CloseBracket inner.1
   Ok (cell name opening.0 inner.0 closing.0, closing.1)
 
-abbrev pub place_tail : (List Sign → Answer Expr) → Spot → List Sign → Answer Place
+abbrev pub place_tail : (List Terminal → Answer Expr) → Span → List Terminal → Answer Place
 place_tail index name ts = if heads (is w.OpenBracket) ts then cell_of index name ts else Ok (whole name, ts)
 
-unfoldable pub place_of : (List Sign → Answer Expr) → List Sign → Answer Place
+unfoldable pub place_of : (List Terminal → Answer Expr) → List Terminal → Answer Place
 place_of index ts = do
   name ← expect w.Name ts
   place_tail index name.0 name.1
 
-abbrev pub field_of : Place → List Sign → Answer Expr
+abbrev pub field_of : Place → List Terminal → Answer Expr
 field_of place ts = do
   dot ← expect w.Dot ts
   name ← expect w.Name dot.1
   Ok (field place dot.0 name.0, name.1)
 
-abbrev pub field_tail : Place → List Sign → Answer Expr
+abbrev pub field_tail : Place → List Terminal → Answer Expr
 field_tail place ts = if heads (is w.Dot) ts then field_of place ts else Ok (read place, ts)
 
-abbrev pub named_of : (List Sign → Answer Expr) → List Sign → Answer Expr
+abbrev pub named_of : (List Terminal → Answer Expr) → List Terminal → Answer Expr
 named_of index ts = do
   place ← place_of index ts
   field_tail place.0 place.1
 
-abbrev pub number_of : List Sign → Answer Expr
+abbrev pub number_of : List Terminal → Answer Expr
 number_of ts = do
-  spot ← expect w.Number ts
-  Ok (number spot.0, spot.1)
+  span ← expect w.Number ts
+  Ok (number span.0, span.1)
 
 -- under true reads an expression one deeper, under false an operand with its signs
-abbrev pub paren_of : (Bool → List Sign → Answer Expr) → List Sign → Answer Expr
+abbrev pub paren_of : (Bool → List Terminal → Answer Expr) → List Terminal → Answer Expr
 paren_of under ts = do
   opening ← expect w.OpenParen ts
   inner ← under true opening.1
   closing ← expect w.CloseParen inner.1
   Ok (paren opening.0 inner.0 closing.0, closing.1)
 
-abbrev pub signed_of : (Bool → List Sign → Answer Expr) → List Sign → Answer Expr
+abbrev pub signed_of : (Bool → List Terminal → Answer Expr) → List Terminal → Answer Expr
 signed_of under ts = do
   sign ← one_of is_sign ts
   operand ← under false sign.1
-  Ok (unary sign.0.word sign.0.spot operand.0, operand.1)
+  Ok (unary sign.0.symbol sign.0.span operand.0, operand.1)
 
-abbrev pub unary_by : (Bool → List Sign → Answer Expr) → List Sign → Option Word → Answer Expr
+abbrev pub unary_by : (Bool → List Terminal → Answer Expr) → List Terminal → Option Symbol → Answer Expr
 unary_by under ts (Some w.Number) = number_of ts
 unary_by under ts (Some w.Name) = named_of (under true) ts
 unary_by under ts (Some w.OpenParen) = paren_of under ts
 unary_by under ts _ = signed_of under ts
 
-unfoldable pub unary_of : (Bool → List Sign → Answer Expr) → List Sign → Answer Expr
+unfoldable pub unary_of : (Bool → List Terminal → Answer Expr) → List Terminal → Answer Expr
 unary_of under ts = unary_by under ts (first_of ts)
 
 -- an operator of level k and its operand
-abbrev pub link_of : (List Sign → Answer Expr) → ℕ → List Sign → Answer Piece
+abbrev pub link_of : (List Terminal → Answer Expr) → ℕ → List Terminal → Answer Piece
 link_of below k ts = do
   operator ← one_of (λ x. level_of x == k) ts
   operand ← below operator.1
-  Ok (record { operator = operator.0.word; at = operator.0.spot; operand = operand.0 }, operand.1)
+  Ok (record { operator = operator.0.symbol; at = operator.0.span; operand = operand.0 }, operand.1)
 
 abbrev pub chained : ℕ → Expr → List Piece → Expr
 chained k first [] = first
 chained k first (p ∷ ps) = chain k first (links_from (p ∷ ps))
 
 -- an expression of operators up to level k
-unfoldable pub bin_of : (List Sign → Answer Expr) → ℕ → List Sign → Answer Expr
+unfoldable pub bin_of : (List Terminal → Answer Expr) → ℕ → List Terminal → Answer Expr
 bin_of operand zero ts = operand ts
 bin_of operand (suc k) ts = do
   first ← bin_of operand k ts
@@ -154,7 +154,7 @@ bin_of operand (suc k) ts = do
   Ok (chained (suc k) first.0 links.0, links.1)
 
 -- the two branches behind a test
-abbrev pub branches_of : (Bool → List Sign → Answer Expr) → Expr → List Sign → Answer Expr
+abbrev pub branches_of : (Bool → List Terminal → Answer Expr) → Expr → List Terminal → Answer Expr
 branches_of under test ts = do
   question ← expect w.Question ts
   branch ← under true question.1
@@ -162,16 +162,16 @@ branches_of under test ts = do
   other ← under true colon.1
   Ok (choice test question.0 branch.0 colon.0 other.0, other.1)
 
-abbrev pub choice_tail : (Bool → List Sign → Answer Expr) → Expr → List Sign → Answer Expr
+abbrev pub choice_tail : (Bool → List Terminal → Answer Expr) → Expr → List Terminal → Answer Expr
 choice_tail under test ts = if heads (is w.Question) ts then branches_of under test ts else Ok (test, ts)
 
-unfoldable pub choice_of : (Bool → List Sign → Answer Expr) → List Sign → Answer Expr
+unfoldable pub choice_of : (Bool → List Terminal → Answer Expr) → List Terminal → Answer Expr
 choice_of under ts = do
   test ← bin_of (unary_of under) 10 ts
   choice_tail under test.0 test.1
 
 -- an expression (true) or an operand with its signs (false), with n depths left
-unfoldable pub expr_at : ℕ → Bool → List Sign → Answer Expr
+unfoldable pub expr_at : ℕ → Bool → List Terminal → Answer Expr
 expr_at zero full = too_deep starts_expr
 expr_at (suc n) false = unary_of (expr_at n)
 expr_at (suc n) true = choice_of (expr_at n)

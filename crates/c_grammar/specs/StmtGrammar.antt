@@ -1,15 +1,15 @@
 -- The grammar of statements, functions and programs: what a tree spells. (ISO C, "Statements and blocks".)
 use Rattle.std.specs.Prelude.{◌≡◌, true, false, Bool, List, [], ◌∷◌, length, Option, Some, None, if◌then◌else◌}
-use Rattle.c_grammar.specs.declared.word.Word.{Word}
-use Rattle.c_grammar.specs.declared.word.Word.TheVariants as w
-use Rattle.c_grammar.specs.declared.word.Spot.{Spot}
-use Rattle.c_grammar.specs.declared.word.Sign.{Sign}
+use Rattle.c_grammar.specs.declared.terminal.Symbol.{Symbol}
+use Rattle.c_grammar.specs.declared.terminal.Symbol.TheVariants as w
+use Rattle.c_grammar.specs.declared.terminal.Span.{Span}
+use Rattle.c_grammar.specs.declared.terminal.Terminal.{Terminal}
 use Rattle.c_grammar.specs.Tree as t
 use Rattle.c_grammar.specs.Grammar.{at, spell, spell_place, Is, IsPlace}
-use Rattle.c_grammar.specs.Words.{is_assign, is_step, is_kind, is_result}
+use Rattle.c_grammar.specs.Symbols.{is_assign, is_step, is_kind, is_result}
 
 -- something that may be missing
-abbrev pub spell_maybe : {A : Type 0} → (A → List Sign → List Sign) → Option A → List Sign → List Sign
+abbrev pub spell_maybe : {A : Type 0} → (A → List Terminal → List Terminal) → Option A → List Terminal → List Terminal
 spell_maybe one None rest = rest
 spell_maybe one (Some a) rest = one a rest
 
@@ -18,7 +18,7 @@ IsMaybe Good None = Unit {0}
 IsMaybe Good (Some a) = Good a
 
 -- things one behind the other
-abbrev pub spell_list : {A : Type 0} → (A → List Sign → List Sign) → List A → List Sign → List Sign
+abbrev pub spell_list : {A : Type 0} → (A → List Terminal → List Terminal) → List A → List Terminal → List Terminal
 spell_list one [] rest = rest
 spell_list one (a ∷ more) rest = one a (spell_list one more rest)
 
@@ -26,42 +26,42 @@ abbrev pub AreAll : {A : Type 0} → (A → Type 0) → List A → Type 0
 AreAll Good [] = Unit {0}
 AreAll Good (a ∷ more) = Good a × AreAll Good more
 
--- a sign that has one word
-abbrev pub spell_word : Word → Spot → List Sign → List Sign
-spell_word x p rest = at x p ∷ rest
+-- a terminal that has one symbol
+abbrev pub spell_symbol : Symbol → Span → List Terminal → List Terminal
+spell_symbol x p rest = at x p ∷ rest
 
 -- a comma and what stands behind it
-abbrev pub spell_behind : {A : Type 0} → (A → List Sign → List Sign) → Spot × A → List Sign → List Sign
-spell_behind one b rest = at w.Comma b.0 ∷ one b.1 rest
+abbrev pub spell_after_comma : {A : Type 0} → (A → List Terminal → List Terminal) → Span × A → List Terminal → List Terminal
+spell_after_comma one b rest = at w.Comma b.0 ∷ one b.1 rest
 
--- row = thing { "," thing }
-abbrev pub spell_row : {A : Type 0} → (A → List Sign → List Sign) → t.Row A → List Sign → List Sign
-spell_row one (t.row a more) rest = one a (spell_list (spell_behind one) more rest)
+-- comma list = thing { "," thing }
+abbrev pub spell_comma_list : {A : Type 0} → (A → List Terminal → List Terminal) → t.CommaList A → List Terminal → List Terminal
+spell_comma_list one (t.comma_list a more) rest = one a (spell_list (spell_after_comma one) more rest)
 
-abbrev pub IsRow : {A : Type 0} → (A → Type 0) → t.Row A → Type 0
-IsRow Good (t.row a more) = Good a × AreAll (λ b. Good b.1) more
+abbrev pub IsCommaList : {A : Type 0} → (A → Type 0) → t.CommaList A → Type 0
+IsCommaList Good (t.comma_list a more) = Good a × AreAll (λ b. Good b.1) more
 
 -- argument = TEXT | "&" place | expression
-abbrev pub spell_argument : t.Argument → List Sign → List Sign
-spell_argument (t.text spot) rest = at w.Text spot ∷ rest
+abbrev pub spell_argument : t.Argument → List Terminal → List Terminal
+spell_argument (t.text span) rest = at w.Text span ∷ rest
 spell_argument (t.address mark place) rest = at w.And mark ∷ spell_place place rest
 spell_argument (t.value expr) rest = spell expr rest
 
 abbrev pub IsArgument : t.Argument → Type 0
-IsArgument (t.text spot) = Unit {0}
+IsArgument (t.text span) = Unit {0}
 IsArgument (t.address mark place) = IsPlace place
 IsArgument (t.value expr) = Is expr
 
 -- call = NAME "(" [ argument { "," argument } ] ")"
-abbrev pub spell_call : t.Call → List Sign → List Sign
+abbrev pub spell_call : t.Call → List Terminal → List Terminal
 spell_call call rest =
-    at w.Name call.name ∷ at w.OpenParen call.opening ∷ spell_maybe (spell_row spell_argument) call.arguments (at w.CloseParen call.closing ∷ rest)
+    at w.Name call.name ∷ at w.OpenParen call.opening ∷ spell_maybe (spell_comma_list spell_argument) call.arguments (at w.CloseParen call.closing ∷ rest)
 
 abbrev pub IsCall : t.Call → Type 0
-IsCall call = IsMaybe (IsRow IsArgument) call.arguments
+IsCall call = IsMaybe (IsCommaList IsArgument) call.arguments
 
 -- right side = call | expression
-abbrev pub spell_right : t.Right → List Sign → List Sign
+abbrev pub spell_right : t.Right → List Terminal → List Terminal
 spell_right (t.called call) rest = spell_call call rest
 spell_right (t.valued expr) rest = spell expr rest
 
@@ -70,44 +70,44 @@ IsRight (t.called call) = IsCall call
 IsRight (t.valued expr) = Is expr
 
 -- simple statement = place assignment right-side | place ("++" | "--") | ("++" | "--") place | call
-abbrev pub spell_simple : t.Simple → List Sign → List Sign
-spell_simple (t.assign place operator spot right) rest = spell_place place (at operator spot ∷ spell_right right rest)
-spell_simple (t.after place operator spot) rest = spell_place place (at operator spot ∷ rest)
-spell_simple (t.before operator spot place) rest = at operator spot ∷ spell_place place rest
+abbrev pub spell_simple : t.Simple → List Terminal → List Terminal
+spell_simple (t.assign place operator span right) rest = spell_place place (at operator span ∷ spell_right right rest)
+spell_simple (t.after place operator span) rest = spell_place place (at operator span ∷ rest)
+spell_simple (t.before operator span place) rest = at operator span ∷ spell_place place rest
 spell_simple (t.invoke call) rest = spell_call call rest
 
 abbrev pub IsSimple : t.Simple → Type 0
-IsSimple (t.assign place operator spot right) = IsPlace place × (is_assign operator ≡ true) × IsRight right
-IsSimple (t.after place operator spot) = IsPlace place × (is_step operator ≡ true)
-IsSimple (t.before operator spot place) = (is_step operator ≡ true) × IsPlace place
+IsSimple (t.assign place operator span right) = IsPlace place × (is_assign operator ≡ true) × IsRight right
+IsSimple (t.after place operator span) = IsPlace place × (is_step operator ≡ true)
+IsSimple (t.before operator span place) = (is_step operator ≡ true) × IsPlace place
 IsSimple (t.invoke call) = IsCall call
 
 -- initial value = "=" ( right-side | "{" expression { "," expression } "}" )
-abbrev pub spell_initial : t.Initial → List Sign → List Sign
+abbrev pub spell_initial : t.Initializer → List Terminal → List Terminal
 spell_initial (t.begun mark right) rest = at w.Assign mark ∷ spell_right right rest
 spell_initial (t.braced mark opening values closing) rest =
-    at w.Assign mark ∷ at w.OpenBrace opening ∷ spell_row spell values (at w.CloseBrace closing ∷ rest)
+    at w.Assign mark ∷ at w.OpenBrace opening ∷ spell_comma_list spell values (at w.CloseBrace closing ∷ rest)
 
-abbrev pub IsInitial : t.Initial → Type 0
-IsInitial (t.begun mark right) = IsRight right
-IsInitial (t.braced mark opening values closing) = IsRow Is values
+abbrev pub IsInitializer : t.Initializer → Type 0
+IsInitializer (t.begun mark right) = IsRight right
+IsInitializer (t.braced mark opening values closing) = IsCommaList Is values
 
 -- declared name = place [ initial value ]; a place with an index is an array with its length
-abbrev pub spell_item : t.Item → List Sign → List Sign
+abbrev pub spell_item : t.InitDeclarator → List Terminal → List Terminal
 spell_item item rest = spell_place item.place (spell_maybe spell_initial item.initial rest)
 
-abbrev pub IsItem : t.Item → Type 0
-IsItem item = IsPlace item.place × IsMaybe IsInitial item.initial
+abbrev pub IsItem : t.InitDeclarator → Type 0
+IsItem item = IsPlace item.place × IsMaybe IsInitializer item.initial
 
 -- declaration = ("int" | "MPI_Status" | "MPI_Request" | "MPI_Comm") item { "," item }
-abbrev pub spell_declaration : t.Declaration → List Sign → List Sign
-spell_declaration one rest = at one.kind one.at ∷ spell_row spell_item one.items rest
+abbrev pub spell_declaration : t.Declaration → List Terminal → List Terminal
+spell_declaration one rest = at one.kind one.at ∷ spell_comma_list spell_item one.items rest
 
 abbrev pub IsDeclaration : t.Declaration → Type 0
-IsDeclaration one = (is_kind one.kind ≡ true) × IsRow IsItem one.items
+IsDeclaration one = (is_kind one.kind ≡ true) × IsCommaList IsItem one.items
 
 -- how a for begins = [ declaration | simple statement ]
-abbrev pub spell_start : t.ForStart → List Sign → List Sign
+abbrev pub spell_start : t.ForStart → List Terminal → List Terminal
 spell_start t.no_start rest = rest
 spell_start (t.declared_start declaration) rest = spell_declaration declaration rest
 spell_start (t.simple_start simple) rest = spell_simple simple rest
@@ -122,39 +122,39 @@ IsStart (t.simple_start simple) = IsSimple simple
 -- | "do" statement "while" "(" expression ")" ";" | "for" "(" start ";" [ expression ] ";" [ simple ] ")" statement
 -- block = "{" { declaration ";" | statement } "}"
 abbrev mutual
-  pub spell_stmt : t.Stmt → List Sign → List Sign
+  pub spell_stmt : t.Stmt → List Terminal → List Terminal
   spell_stmt (t.block opening parts closing) rest = at w.OpenBrace opening ∷ spell_parts parts (at w.CloseBrace closing ∷ rest)
   spell_stmt (t.empty end) rest = at w.Semicolon end ∷ rest
   spell_stmt (t.simple simple end) rest = spell_simple simple (at w.Semicolon end ∷ rest)
-  spell_stmt (t.break word end) rest = at w.Break word ∷ at w.Semicolon end ∷ rest
-  spell_stmt (t.continue word end) rest = at w.Continue word ∷ at w.Semicolon end ∷ rest
-  spell_stmt (t.return word value end) rest = at w.Return word ∷ spell_maybe spell_right value (at w.Semicolon end ∷ rest)
-  spell_stmt (t.if_only word opening test closing branch) rest =
-      at w.If word ∷ at w.OpenParen opening ∷ spell test (at w.CloseParen closing ∷ spell_stmt branch rest)
-  spell_stmt (t.if_else word opening test closing branch other_word other) rest =
-      at w.If word ∷ at w.OpenParen opening ∷ spell test (at w.CloseParen closing ∷ spell_stmt branch (at w.Else other_word ∷ spell_stmt other rest))
-  spell_stmt (t.while word opening test closing body) rest =
-      at w.While word ∷ at w.OpenParen opening ∷ spell test (at w.CloseParen closing ∷ spell_stmt body rest)
-  spell_stmt (t.do_while word body while_word opening test closing end) rest =
-      at w.Do word ∷ spell_stmt body (at w.While while_word ∷ at w.OpenParen opening ∷ spell test (at w.CloseParen closing ∷ at w.Semicolon end ∷ rest))
-  spell_stmt (t.for word opening start start_end test test_end step closing body) rest =
-      at w.For word ∷ at w.OpenParen opening ∷ spell_start start (at w.Semicolon start_end ∷ spell_maybe spell test
+  spell_stmt (t.break keyword end) rest = at w.Break keyword ∷ at w.Semicolon end ∷ rest
+  spell_stmt (t.continue keyword end) rest = at w.Continue keyword ∷ at w.Semicolon end ∷ rest
+  spell_stmt (t.return keyword value end) rest = at w.Return keyword ∷ spell_maybe spell_right value (at w.Semicolon end ∷ rest)
+  spell_stmt (t.if_only keyword opening test closing branch) rest =
+      at w.If keyword ∷ at w.OpenParen opening ∷ spell test (at w.CloseParen closing ∷ spell_stmt branch rest)
+  spell_stmt (t.if_else keyword opening test closing branch else_keyword other) rest =
+      at w.If keyword ∷ at w.OpenParen opening ∷ spell test (at w.CloseParen closing ∷ spell_stmt branch (at w.Else else_keyword ∷ spell_stmt other rest))
+  spell_stmt (t.while keyword opening test closing body) rest =
+      at w.While keyword ∷ at w.OpenParen opening ∷ spell test (at w.CloseParen closing ∷ spell_stmt body rest)
+  spell_stmt (t.do_while keyword body while_keyword opening test closing end) rest =
+      at w.Do keyword ∷ spell_stmt body (at w.While while_keyword ∷ at w.OpenParen opening ∷ spell test (at w.CloseParen closing ∷ at w.Semicolon end ∷ rest))
+  spell_stmt (t.for keyword opening start start_end test test_end step closing body) rest =
+      at w.For keyword ∷ at w.OpenParen opening ∷ spell_start start (at w.Semicolon start_end ∷ spell_maybe spell test
       (at w.Semicolon test_end ∷ spell_maybe spell_simple step (at w.CloseParen closing ∷ spell_stmt body rest)))
 
-  pub spell_part : t.Part → List Sign → List Sign
+  pub spell_part : t.Part → List Terminal → List Terminal
   spell_part (t.declare declaration end) rest = spell_declaration declaration (at w.Semicolon end ∷ rest)
   spell_part (t.stmt inner) rest = spell_stmt inner rest
 
-  pub spell_parts : t.Parts → List Sign → List Sign
+  pub spell_parts : t.Parts → List Terminal → List Terminal
   spell_parts t.no_part rest = rest
   spell_parts (t.part first more) rest = spell_part first (spell_parts more rest)
 
 -- an else behind it would be its own
 abbrev pub ends_open : t.Stmt → Bool
-ends_open (t.if_only word opening test closing branch) = true
-ends_open (t.if_else word opening test closing branch other_word other) = ends_open other
-ends_open (t.while word opening test closing body) = ends_open body
-ends_open (t.for word opening start start_end test test_end step closing body) = ends_open body
+ends_open (t.if_only keyword opening test closing branch) = true
+ends_open (t.if_else keyword opening test closing branch else_keyword other) = ends_open other
+ends_open (t.while keyword opening test closing body) = ends_open body
+ends_open (t.for keyword opening start start_end test test_end step closing body) = ends_open body
 ends_open _ = false
 
 abbrev mutual
@@ -163,14 +163,14 @@ abbrev mutual
   IsStmt (t.block opening parts closing) = AreParts parts
   IsStmt (t.empty end) = Unit {0}
   IsStmt (t.simple simple end) = IsSimple simple
-  IsStmt (t.break word end) = Unit {0}
-  IsStmt (t.continue word end) = Unit {0}
-  IsStmt (t.return word value end) = IsMaybe IsRight value
-  IsStmt (t.if_only word opening test closing branch) = Is test × IsStmt branch
-  IsStmt (t.if_else word opening test closing branch other_word other) = Is test × IsStmt branch × (ends_open branch ≡ false) × IsStmt other
-  IsStmt (t.while word opening test closing body) = Is test × IsStmt body
-  IsStmt (t.do_while word body while_word opening test closing end) = IsStmt body × Is test
-  IsStmt (t.for word opening start start_end test test_end step closing body) = IsStart start × IsMaybe Is test × IsMaybe IsSimple step × IsStmt body
+  IsStmt (t.break keyword end) = Unit {0}
+  IsStmt (t.continue keyword end) = Unit {0}
+  IsStmt (t.return keyword value end) = IsMaybe IsRight value
+  IsStmt (t.if_only keyword opening test closing branch) = Is test × IsStmt branch
+  IsStmt (t.if_else keyword opening test closing branch else_keyword other) = Is test × IsStmt branch × (ends_open branch ≡ false) × IsStmt other
+  IsStmt (t.while keyword opening test closing body) = Is test × IsStmt body
+  IsStmt (t.do_while keyword body while_keyword opening test closing end) = IsStmt body × Is test
+  IsStmt (t.for keyword opening start start_end test test_end step closing body) = IsStart start × IsMaybe Is test × IsMaybe IsSimple step × IsStmt body
 
   pub IsPart : t.Part → Type 0
   IsPart (t.declare declaration end) = IsDeclaration declaration
@@ -180,46 +180,46 @@ abbrev mutual
   AreParts t.no_part = Unit {0}
   AreParts (t.part first more) = IsPart first × AreParts more
 
-abbrev pub spell_name : Option Spot → List Sign → List Sign
-spell_name = spell_maybe (spell_word w.Name)
+abbrev pub spell_name : Option Span → List Terminal → List Terminal
+spell_name = spell_maybe (spell_symbol w.Name)
 
 -- parameter = "int" [NAME] | "int" [NAME] "[" [expression] "]" | "int" "*" [NAME] | "MPI_Comm" [NAME]
 -- | "char" "*" "*" [NAME] | "char" "*" [NAME] "[" "]"
-abbrev pub spell_parameter : t.Parameter → List Sign → List Sign
-spell_parameter (t.int word name) rest = at w.Int word ∷ spell_name name rest
-spell_parameter (t.array word name opening length closing) rest =
-    at w.Int word ∷ spell_name name (at w.OpenBracket opening ∷ spell_maybe spell length (at w.CloseBracket closing ∷ rest))
-spell_parameter (t.pointer word star name) rest = at w.Int word ∷ at w.Times star ∷ spell_name name rest
-spell_parameter (t.communicator word name) rest = at w.Communicator word ∷ spell_name name rest
-spell_parameter (t.text_pointers word star second name) rest = at w.Char word ∷ at w.Times star ∷ at w.Times second ∷ spell_name name rest
-spell_parameter (t.text_array word star name opening closing) rest =
-    at w.Char word ∷ at w.Times star ∷ spell_name name (at w.OpenBracket opening ∷ at w.CloseBracket closing ∷ rest)
+abbrev pub spell_parameter : t.Parameter → List Terminal → List Terminal
+spell_parameter (t.int keyword name) rest = at w.Int keyword ∷ spell_name name rest
+spell_parameter (t.array keyword name opening length closing) rest =
+    at w.Int keyword ∷ spell_name name (at w.OpenBracket opening ∷ spell_maybe spell length (at w.CloseBracket closing ∷ rest))
+spell_parameter (t.pointer keyword star name) rest = at w.Int keyword ∷ at w.Times star ∷ spell_name name rest
+spell_parameter (t.communicator keyword name) rest = at w.Communicator keyword ∷ spell_name name rest
+spell_parameter (t.text_pointers keyword star second name) rest = at w.Char keyword ∷ at w.Times star ∷ at w.Times second ∷ spell_name name rest
+spell_parameter (t.text_array keyword star name opening closing) rest =
+    at w.Char keyword ∷ at w.Times star ∷ spell_name name (at w.OpenBracket opening ∷ at w.CloseBracket closing ∷ rest)
 
 abbrev pub IsParameter : t.Parameter → Type 0
-IsParameter (t.array word name opening length closing) = IsMaybe Is length
+IsParameter (t.array keyword name opening length closing) = IsMaybe Is length
 IsParameter _ = Unit {0}
 
 -- a parameter's name
-abbrev pub name_of : t.Parameter → Option Spot
-name_of (t.int word name) = name
-name_of (t.array word name opening length closing) = name
-name_of (t.pointer word star name) = name
-name_of (t.communicator word name) = name
-name_of (t.text_pointers word star second name) = name
-name_of (t.text_array word star name opening closing) = name
+abbrev pub name_of : t.Parameter → Option Span
+name_of (t.int keyword name) = name
+name_of (t.array keyword name opening length closing) = name
+name_of (t.pointer keyword star name) = name
+name_of (t.communicator keyword name) = name
+name_of (t.text_pointers keyword star second name) = name
+name_of (t.text_array keyword star name opening closing) = name
 
 -- parameters = [ "void" | parameter { "," parameter } ]
-abbrev pub spell_parameters : t.Parameters → List Sign → List Sign
+abbrev pub spell_parameters : t.Parameters → List Terminal → List Terminal
 spell_parameters t.no_parameter rest = rest
-spell_parameters (t.void word) rest = at w.Void word ∷ rest
-spell_parameters (t.parameters list) rest = spell_row spell_parameter list rest
+spell_parameters (t.void keyword) rest = at w.Void keyword ∷ rest
+spell_parameters (t.parameters list) rest = spell_comma_list spell_parameter list rest
 
 abbrev pub AreParameters : t.Parameters → Type 0
-AreParameters (t.parameters list) = IsRow IsParameter list
+AreParameters (t.parameters list) = IsCommaList IsParameter list
 AreParameters _ = Unit {0}
 
 -- head = ("int" | "void") NAME "(" parameters ")"
-abbrev pub spell_head : t.Head → List Sign → List Sign
+abbrev pub spell_head : t.Head → List Terminal → List Terminal
 spell_head head rest =
     at head.result head.at ∷ at w.Name head.name ∷ at w.OpenParen head.opening ∷ spell_parameters head.listed (at w.CloseParen head.closing ∷ rest)
 
@@ -230,39 +230,39 @@ abbrev pub has : {A : Type 0} → Option A → Bool
 has None = false
 has (Some a) = true
 
-abbrev pub are_named : List (Spot × t.Parameter) → Bool
+abbrev pub are_named : List (Span × t.Parameter) → Bool
 are_named [] = true
 are_named (first ∷ more) = if has (name_of first.1) then are_named more else false
 
 -- each parameter has a name
 abbrev pub is_named : t.Parameters → Bool
-is_named (t.parameters (t.row first more)) = if has (name_of first) then are_named more else false
+is_named (t.parameters (t.comma_list first more)) = if has (name_of first) then are_named more else false
 is_named _ = true
 
 -- value = NUMBER | "-" NUMBER | "(" value ")"
-abbrev pub spell_value : t.Value → List Sign → List Sign
+abbrev pub spell_value : t.Value → List Terminal → List Terminal
 spell_value value rest =
-    spell_list (spell_word w.OpenParen) value.opens (spell_maybe (spell_word w.Minus) value.minus
-    (at w.Number value.number ∷ spell_list (spell_word w.CloseParen) value.closes rest))
+    spell_list (spell_symbol w.OpenParen) value.opens (spell_maybe (spell_symbol w.Minus) value.minus
+    (at w.Number value.number ∷ spell_list (spell_symbol w.CloseParen) value.closes rest))
 
 -- as many closing parentheses as opening ones
 abbrev pub IsValue : t.Value → Type 0
 IsValue value = length value.closes ≡ length value.opens
 
 -- program = { DEFINE NAME value ENDLINE | head block | head ";" }
-abbrev pub spell_top : t.Top → List Sign → List Sign
-spell_top (t.define word name value end) rest = at w.Define word ∷ at w.Name name ∷ spell_value value (at w.EndLine end ∷ rest)
-spell_top (t.function head opening parts closing) rest = spell_head head (at w.OpenBrace opening ∷ spell_parts parts (at w.CloseBrace closing ∷ rest))
-spell_top (t.prototype head end) rest = spell_head head (at w.Semicolon end ∷ rest)
+abbrev pub spell_external : t.ExternalDeclaration → List Terminal → List Terminal
+spell_external (t.define keyword name value end) rest = at w.Define keyword ∷ at w.Name name ∷ spell_value value (at w.EndLine end ∷ rest)
+spell_external (t.function head opening parts closing) rest = spell_head head (at w.OpenBrace opening ∷ spell_parts parts (at w.CloseBrace closing ∷ rest))
+spell_external (t.prototype head end) rest = spell_head head (at w.Semicolon end ∷ rest)
 
 -- names of parameters may be missing only where the head ends with `;`
-abbrev pub IsTop : t.Top → Type 0
-IsTop (t.define word name value end) = IsValue value
-IsTop (t.function head opening parts closing) = IsHead head × (is_named head.listed ≡ true) × AreParts parts
-IsTop (t.prototype head end) = IsHead head
+abbrev pub IsExternal : t.ExternalDeclaration → Type 0
+IsExternal (t.define keyword name value end) = IsValue value
+IsExternal (t.function head opening parts closing) = IsHead head × (is_named head.listed ≡ true) × AreParts parts
+IsExternal (t.prototype head end) = IsHead head
 
-abbrev pub spell_tree : t.Tree → List Sign → List Sign
-spell_tree = spell_list spell_top
+abbrev pub spell_tree : t.Tree → List Terminal → List Terminal
+spell_tree = spell_list spell_external
 
-abbrev pub AreTops : t.Tree → Type 0
-AreTops = AreAll IsTop
+abbrev pub AreExternals : t.Tree → Type 0
+AreExternals = AreAll IsExternal

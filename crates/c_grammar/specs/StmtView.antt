@@ -7,10 +7,10 @@ use Rattle.c_grammar.specs.declared.statement.Declaration.{Declaration}
 use Rattle.c_grammar.specs.declared.statement.ForStart.{ForStart}
 use Rattle.c_grammar.specs.declared.statement.ForStart.TheVariants as start
 use Rattle.c_grammar.specs.declared.statement.Head.{Head}
-use Rattle.c_grammar.specs.declared.statement.Initial.{Initial}
-use Rattle.c_grammar.specs.declared.statement.Initial.TheVariants as initial
-use Rattle.c_grammar.specs.declared.statement.Item.{Item}
-use Rattle.c_grammar.specs.declared.statement.Listed.{Listed}
+use Rattle.c_grammar.specs.declared.statement.Initializer.{Initializer}
+use Rattle.c_grammar.specs.declared.statement.Initializer.TheVariants as initial
+use Rattle.c_grammar.specs.declared.statement.InitDeclarator.{InitDeclarator}
+use Rattle.c_grammar.specs.declared.statement.CommaList.{CommaList}
 use Rattle.c_grammar.specs.declared.statement.Parameter.{Parameter}
 use Rattle.c_grammar.specs.declared.statement.Parameter.TheVariants as parameter
 use Rattle.c_grammar.specs.declared.statement.Parameters.{Parameters}
@@ -23,15 +23,15 @@ use Rattle.c_grammar.specs.declared.statement.Simple.TheVariants as simple
 use Rattle.c_grammar.specs.declared.statement.Stmt.{Stmt}
 use Rattle.c_grammar.specs.declared.statement.Part.TheFolds.{fold-Stmt, fold-Part}
 use Rattle.c_grammar.specs.declared.statement.Part.TheOpen as o
-use Rattle.c_grammar.specs.declared.statement.Top.{Top}
-use Rattle.c_grammar.specs.declared.statement.Top.TheVariants as top
+use Rattle.c_grammar.specs.declared.statement.ExternalDeclaration.{ExternalDeclaration}
+use Rattle.c_grammar.specs.declared.statement.ExternalDeclaration.TheVariants as external
 use Rattle.c_grammar.specs.declared.statement.Tree.{Tree}
 use Rattle.c_grammar.specs.declared.statement.Value.{Value}
 use Rattle.c_grammar.specs.Tree as t
 use Rattle.c_grammar.specs.View.{view, place_view}
 
-abbrev pub row_view : {A B : Type 0} → (A → B) → Listed A → t.Row B
-row_view one list = t.row (one list.first) (map (λ behind. (behind.comma, one behind.item)) list.more.items)
+abbrev pub comma_list_view : {A B : Type 0} → (A → B) → CommaList A → t.CommaList B
+comma_list_view one list = t.comma_list (one list.first) (map (λ behind. (behind.comma, one behind.item)) list.more.items)
 
 abbrev pub argument_view : Argument → t.Argument
 argument_view (argument.Text at) = t.text at
@@ -42,7 +42,7 @@ abbrev pub call_view : Call → t.Call
 call_view call = record {
   name = call.name;
   opening = call.opening;
-  arguments = option_map (row_view argument_view) call.arguments;
+  arguments = option_map (comma_list_view argument_view) call.arguments;
   closing = call.closing;
 }
 
@@ -56,15 +56,15 @@ simple_view (simple.After place operator at) = t.after (place_view place) operat
 simple_view (simple.Before operator at place) = t.before operator at (place_view place)
 simple_view (simple.Call call) = t.invoke (call_view call)
 
-abbrev pub initial_view : Initial → t.Initial
+abbrev pub initial_view : Initializer → t.Initializer
 initial_view (initial.Right mark right) = t.begun mark (right_view right)
-initial_view (initial.Braced mark opening values closing) = t.braced mark opening (row_view view values) closing
+initial_view (initial.Braced mark opening values closing) = t.braced mark opening (comma_list_view view values) closing
 
-abbrev pub item_view : Item → t.Item
+abbrev pub item_view : InitDeclarator → t.InitDeclarator
 item_view item = record { place = place_view item.place; initial = option_map initial_view item.initial }
 
 abbrev pub declaration_view : Declaration → t.Declaration
-declaration_view one = record { kind = one.kind; at = one.at; items = row_view item_view one.items }
+declaration_view one = record { kind = one.kind; at = one.at; items = comma_list_view item_view one.items }
 
 abbrev pub start_view : ForStart → t.ForStart
 start_view start.Nothing = t.no_start
@@ -79,17 +79,17 @@ abbrev pub stmt_step : o.Stmt-F t.Part t.Stmt → t.Stmt
 stmt_step (o.Block opening parts closing) = t.block opening (parts_from parts.items) closing
 stmt_step (o.Empty at) = t.empty at
 stmt_step (o.Simple simple end) = t.simple (simple_view simple) end
-stmt_step (o.Break word end) = t.break word end
-stmt_step (o.Continue word end) = t.continue word end
-stmt_step (o.Return word value end) = t.return word (option_map right_view value) end
-stmt_step (o.If word opening test closing then) = t.if_only word opening (view test) closing then.value
-stmt_step (o.IfElse word opening test closing then other_word other) =
-    t.if_else word opening (view test) closing then.value other_word other.value
-stmt_step (o.While word opening test closing body) = t.while word opening (view test) closing body.value
-stmt_step (o.Do word body while_word opening test closing end) =
-    t.do_while word body.value while_word opening (view test) closing end
-stmt_step (o.For word opening start start_end test test_end step closing body) =
-    t.for word opening (start_view start) start_end (option_map view test) test_end (option_map simple_view step) closing body.value
+stmt_step (o.Break keyword end) = t.break keyword end
+stmt_step (o.Continue keyword end) = t.continue keyword end
+stmt_step (o.Return keyword value end) = t.return keyword (option_map right_view value) end
+stmt_step (o.If keyword opening test closing then) = t.if_only keyword opening (view test) closing then.value
+stmt_step (o.IfElse keyword opening test closing then else_keyword other) =
+    t.if_else keyword opening (view test) closing then.value else_keyword other.value
+stmt_step (o.While keyword opening test closing body) = t.while keyword opening (view test) closing body.value
+stmt_step (o.Do keyword body while_keyword opening test closing end) =
+    t.do_while keyword body.value while_keyword opening (view test) closing end
+stmt_step (o.For keyword opening start start_end test test_end step closing body) =
+    t.for keyword opening (start_view start) start_end (option_map view test) test_end (option_map simple_view step) closing body.value
 
 abbrev pub part_step : o.Part-F t.Part t.Stmt → t.Part
 part_step (o.Declaration declaration end) = t.declare (declaration_view declaration) end
@@ -105,17 +105,17 @@ abbrev pub parts_view : List Part → t.Parts
 parts_view parts = parts_from (map part_view parts)
 
 abbrev pub parameter_view : Parameter → t.Parameter
-parameter_view (parameter.Int word name) = t.int word name
-parameter_view (parameter.Array word name opening length closing) = t.array word name opening (option_map view length) closing
-parameter_view (parameter.Pointer word star name) = t.pointer word star name
-parameter_view (parameter.Communicator word name) = t.communicator word name
-parameter_view (parameter.TextPointers word star second name) = t.text_pointers word star second name
-parameter_view (parameter.TextArray word star name opening closing) = t.text_array word star name opening closing
+parameter_view (parameter.Int keyword name) = t.int keyword name
+parameter_view (parameter.Array keyword name opening length closing) = t.array keyword name opening (option_map view length) closing
+parameter_view (parameter.Pointer keyword star name) = t.pointer keyword star name
+parameter_view (parameter.Communicator keyword name) = t.communicator keyword name
+parameter_view (parameter.TextPointers keyword star second name) = t.text_pointers keyword star second name
+parameter_view (parameter.TextArray keyword star name opening closing) = t.text_array keyword star name opening closing
 
 abbrev pub parameters_view : Parameters → t.Parameters
 parameters_view parameters.Nothing = t.no_parameter
 parameters_view (parameters.Void at) = t.void at
-parameters_view (parameters.Listed list) = t.parameters (row_view parameter_view list)
+parameters_view (parameters.Listed list) = t.parameters (comma_list_view parameter_view list)
 
 abbrev pub head_view : Head → t.Head
 head_view head = record {
@@ -130,11 +130,11 @@ head_view head = record {
 abbrev pub value_view : Value → t.Value
 value_view value = record { opens = value.opens.items; minus = value.minus; number = value.number; closes = value.closes.items }
 
-abbrev pub top_view : Top → t.Top
-top_view (top.Define word name value end) = t.define word name (value_view value) end
-top_view (top.Function head opening parts closing) = t.function (head_view head) opening (parts_view parts.items) closing
-top_view (top.Prototype head end) = t.prototype (head_view head) end
+abbrev pub external_view : ExternalDeclaration → t.ExternalDeclaration
+external_view (external.Define keyword name value end) = t.define keyword name (value_view value) end
+external_view (external.Function head opening parts closing) = t.function (head_view head) opening (parts_view parts.items) closing
+external_view (external.Prototype head end) = t.prototype (head_view head) end
 
 -- a whole program
 abbrev pub tree_view : Tree → t.Tree
-tree_view tree = map top_view tree.tops.items
+tree_view tree = map external_view tree.externals.items

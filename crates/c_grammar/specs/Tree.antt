@@ -1,64 +1,64 @@
 -- Trees, one constructor for each production, with the place of each token. (ISO C, "Expressions", "Statements and blocks".)
 use Rattle.std.specs.Prelude.{ℕ, List, Option}
-use Rattle.c_grammar.specs.declared.word.Word.{Word}
-use Rattle.c_grammar.specs.declared.word.Spot.{Spot}
+use Rattle.c_grammar.specs.declared.terminal.Symbol.{Symbol}
+use Rattle.c_grammar.specs.declared.terminal.Span.{Span}
 
 mutual
   pub data Expr : Type 0 where
-    number : Spot → Expr
+    number : Span → Expr
     read : Place → Expr
-    field : Place → Spot → Spot → Expr
-    paren : Spot → Expr → Spot → Expr
-    unary : Word → Spot → Expr → Expr
+    field : Place → Span → Span → Expr
+    paren : Span → Expr → Span → Expr
+    unary : Symbol → Span → Expr → Expr
     -- operands of one level: the first, and the others with the operators before them
     chain : ℕ → Expr → Links → Expr
-    choice : Expr → Spot → Expr → Spot → Expr → Expr
+    choice : Expr → Span → Expr → Span → Expr → Expr
 
   pub data Place : Type 0 where
-    whole : Spot → Place
-    cell : Spot → Spot → Expr → Spot → Place
+    whole : Span → Place
+    cell : Span → Span → Expr → Span → Place
 
   pub data Links : Type 0 where
     no_link : Links
-    link : Word → Spot → Expr → Links → Links
+    link : Symbol → Span → Expr → Links → Links
 
 -- things with a comma between each two
-pub data Row (A : Type 0) : Type 0 where
-  row : A → List (Spot × A) → Row A
+pub data CommaList (A : Type 0) : Type 0 where
+  comma_list : A → List (Span × A) → CommaList A
 
 pub data Argument : Type 0 where
-  text : Spot → Argument
-  address : Spot → Place → Argument
+  text : Span → Argument
+  address : Span → Place → Argument
   value : Expr → Argument
 
 pub record Call : Type 0 where
-  pub name : Spot
-  pub opening : Spot
-  pub arguments : Option (Row Argument)
-  pub closing : Spot
+  pub name : Span
+  pub opening : Span
+  pub arguments : Option (CommaList Argument)
+  pub closing : Span
 
 pub data Right : Type 0 where
   called : Call → Right
   valued : Expr → Right
 
 pub data Simple : Type 0 where
-  assign : Place → Word → Spot → Right → Simple
-  after : Place → Word → Spot → Simple
-  before : Word → Spot → Place → Simple
+  assign : Place → Symbol → Span → Right → Simple
+  after : Place → Symbol → Span → Simple
+  before : Symbol → Span → Place → Simple
   invoke : Call → Simple
 
-pub data Initial : Type 0 where
-  begun : Spot → Right → Initial
-  braced : Spot → Spot → Row Expr → Spot → Initial
+pub data Initializer : Type 0 where
+  begun : Span → Right → Initializer
+  braced : Span → Span → CommaList Expr → Span → Initializer
 
-pub record Item : Type 0 where
+pub record InitDeclarator : Type 0 where
   pub place : Place
-  pub initial : Option Initial
+  pub initial : Option Initializer
 
 pub record Declaration : Type 0 where
-  pub kind : Word
-  pub at : Spot
-  pub items : Row Item
+  pub kind : Symbol
+  pub at : Span
+  pub items : CommaList InitDeclarator
 
 pub data ForStart : Type 0 where
   no_start : ForStart
@@ -67,20 +67,20 @@ pub data ForStart : Type 0 where
 
 mutual
   pub data Stmt : Type 0 where
-    block : Spot → Parts → Spot → Stmt
-    empty : Spot → Stmt
-    simple : Simple → Spot → Stmt
-    break : Spot → Spot → Stmt
-    continue : Spot → Spot → Stmt
-    return : Spot → Option Right → Spot → Stmt
-    if_only : Spot → Spot → Expr → Spot → Stmt → Stmt
-    if_else : Spot → Spot → Expr → Spot → Stmt → Spot → Stmt → Stmt
-    while : Spot → Spot → Expr → Spot → Stmt → Stmt
-    do_while : Spot → Stmt → Spot → Spot → Expr → Spot → Spot → Stmt
-    for : Spot → Spot → ForStart → Spot → Option Expr → Spot → Option Simple → Spot → Stmt → Stmt
+    block : Span → Parts → Span → Stmt
+    empty : Span → Stmt
+    simple : Simple → Span → Stmt
+    break : Span → Span → Stmt
+    continue : Span → Span → Stmt
+    return : Span → Option Right → Span → Stmt
+    if_only : Span → Span → Expr → Span → Stmt → Stmt
+    if_else : Span → Span → Expr → Span → Stmt → Span → Stmt → Stmt
+    while : Span → Span → Expr → Span → Stmt → Stmt
+    do_while : Span → Stmt → Span → Span → Expr → Span → Span → Stmt
+    for : Span → Span → ForStart → Span → Option Expr → Span → Option Simple → Span → Stmt → Stmt
 
   pub data Part : Type 0 where
-    declare : Declaration → Spot → Part
+    declare : Declaration → Span → Part
     stmt : Stmt → Part
 
   pub data Parts : Type 0 where
@@ -88,37 +88,37 @@ mutual
     part : Part → Parts → Parts
 
 pub data Parameter : Type 0 where
-  int : Spot → Option Spot → Parameter
-  array : Spot → Option Spot → Spot → Option Expr → Spot → Parameter
-  pointer : Spot → Spot → Option Spot → Parameter
-  communicator : Spot → Option Spot → Parameter
-  text_pointers : Spot → Spot → Spot → Option Spot → Parameter
-  text_array : Spot → Spot → Option Spot → Spot → Spot → Parameter
+  int : Span → Option Span → Parameter
+  array : Span → Option Span → Span → Option Expr → Span → Parameter
+  pointer : Span → Span → Option Span → Parameter
+  communicator : Span → Option Span → Parameter
+  text_pointers : Span → Span → Span → Option Span → Parameter
+  text_array : Span → Span → Option Span → Span → Span → Parameter
 
 pub data Parameters : Type 0 where
   no_parameter : Parameters
-  void : Spot → Parameters
-  parameters : Row Parameter → Parameters
+  void : Span → Parameters
+  parameters : CommaList Parameter → Parameters
 
 pub record Head : Type 0 where
-  pub result : Word
-  pub at : Spot
-  pub name : Spot
-  pub opening : Spot
+  pub result : Symbol
+  pub at : Span
+  pub name : Span
+  pub opening : Span
   pub listed : Parameters
-  pub closing : Spot
+  pub closing : Span
 
 pub record Value : Type 0 where
-  pub opens : List Spot
-  pub minus : Option Spot
-  pub number : Spot
-  pub closes : List Spot
+  pub opens : List Span
+  pub minus : Option Span
+  pub number : Span
+  pub closes : List Span
 
-pub data Top : Type 0 where
-  define : Spot → Spot → Value → Spot → Top
-  function : Head → Spot → Parts → Spot → Top
-  prototype : Head → Spot → Top
+pub data ExternalDeclaration : Type 0 where
+  define : Span → Span → Value → Span → ExternalDeclaration
+  function : Head → Span → Parts → Span → ExternalDeclaration
+  prototype : Head → Span → ExternalDeclaration
 
 -- a program
 abbrev pub Tree : Type 0
-Tree = List Top
+Tree = List ExternalDeclaration

@@ -1,7 +1,7 @@
 -- A tree without where it lies in memory.
 use Rattle.std.specs.Prelude.{List, [], ◌∷◌}
-use Rattle.c_grammar.specs.declared.word.Word.{Word}
-use Rattle.c_grammar.specs.declared.word.Spot.{Spot}
+use Rattle.c_grammar.specs.declared.terminal.Symbol.{Symbol}
+use Rattle.c_grammar.specs.declared.terminal.Span.{Span}
 use Rattle.c_grammar.specs.declared.tree.Expr.{Expr}
 use Rattle.c_grammar.specs.declared.tree.Place.{Place}
 use Rattle.c_grammar.specs.declared.tree.Link.{Link}
@@ -10,8 +10,8 @@ use Rattle.c_grammar.specs.declared.tree.Expr.TheFolds.{fold-Expr, fold-Place}
 use Rattle.c_grammar.specs.Tree as t
 
 pub record Piece : Type 0 where
-  pub operator : Word
-  pub at : Spot
+  pub operator : Symbol
+  pub at : Span
   pub operand : t.Expr
 
 abbrev pub links_from : List Piece → t.Links

@@ -1,6 +1,6 @@
-//! The grammar of the C subset: words, trees and what they spell.
+//! The grammar of the C subset: symbols, trees and what they spell.
 #![tactic(auto)]
 
 pub mod statement;
+pub mod terminal;
 pub mod tree;
-pub mod word;

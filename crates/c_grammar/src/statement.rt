@@ -1,37 +1,37 @@
 //! The trees of statements, functions and programs, with the places of all their tokens.
 
+use crate::terminal::{Span, Symbol};
 use crate::tree::{Expr, Place};
-use crate::word::{Spot, Word};
 
 /// Things with a comma between each two.
 #[derive(Drop)]
-pub struct Listed<T> {
+pub struct CommaList<T> {
     pub first: T,
-    pub more: Vec<Behind<T>>,
+    pub more: Vec<AfterComma<T>>,
 }
 
 /// A comma and the thing behind it.
 #[derive(Drop)]
-pub struct Behind<T> {
-    pub comma: Spot,
+pub struct AfterComma<T> {
+    pub comma: Span,
     pub item: T,
 }
 
 /// An argument of a call.
 #[derive(Drop)]
 pub enum Argument {
-    Text(Spot),
+    Text(Span),
     /// `&` and a place.
-    Address { mark: Spot, place: Place },
+    Address { mark: Span, place: Place },
     Value(Expr),
 }
 
 #[derive(Drop)]
 pub struct Call {
-    pub name: Spot,
-    pub opening: Spot,
-    pub arguments: Option<Listed<Argument>>,
-    pub closing: Spot,
+    pub name: Span,
+    pub opening: Span,
+    pub arguments: Option<CommaList<Argument>>,
+    pub closing: Span,
 }
 
 /// A right side.
@@ -46,20 +46,20 @@ pub enum Right {
 pub enum Simple {
     Assign {
         place: Place,
-        operator: Word,
-        at: Spot,
+        operator: Symbol,
+        at: Span,
         right: Right,
     },
     /// `place++` or `place--`.
     After {
         place: Place,
-        operator: Word,
-        at: Spot,
+        operator: Symbol,
+        at: Span,
     },
     /// `++place` or `--place`.
     Before {
-        operator: Word,
-        at: Spot,
+        operator: Symbol,
+        at: Span,
         place: Place,
     },
     Call(Call),
@@ -67,32 +67,32 @@ pub enum Simple {
 
 /// What a declared name begins with.
 #[derive(Drop)]
-pub enum Initial {
+pub enum Initializer {
     Right {
-        mark: Spot,
+        mark: Span,
         right: Right,
     },
     Braced {
-        mark: Spot,
-        opening: Spot,
-        values: Listed<Expr>,
-        closing: Spot,
+        mark: Span,
+        opening: Span,
+        values: CommaList<Expr>,
+        closing: Span,
     },
 }
 
 /// A declared name; an array has its length in brackets.
 #[derive(Drop)]
-pub struct Item {
+pub struct InitDeclarator {
     pub place: Place,
-    pub initial: Option<Initial>,
+    pub initial: Option<Initializer>,
 }
 
 /// A declaration without its `;`. `kind` is `Int`, `Status`, `Request` or `Communicator`.
 #[derive(Drop)]
 pub struct Declaration {
-    pub kind: Word,
-    pub at: Spot,
-    pub items: Listed<Item>,
+    pub kind: Symbol,
+    pub at: Span,
+    pub items: CommaList<InitDeclarator>,
 }
 
 /// How a `for` begins.
@@ -107,69 +107,69 @@ pub enum ForStart {
 #[derive(Drop)]
 pub enum Stmt {
     Block {
-        opening: Spot,
+        opening: Span,
         parts: Vec<Part>,
-        closing: Spot,
+        closing: Span,
     },
-    Empty(Spot),
+    Empty(Span),
     Simple {
         simple: Simple,
-        end: Spot,
+        end: Span,
     },
     Break {
-        word: Spot,
-        end: Spot,
+        keyword: Span,
+        end: Span,
     },
     Continue {
-        word: Spot,
-        end: Spot,
+        keyword: Span,
+        end: Span,
     },
     Return {
-        word: Spot,
+        keyword: Span,
         value: Option<Right>,
-        end: Spot,
+        end: Span,
     },
     If {
-        word: Spot,
-        opening: Spot,
+        keyword: Span,
+        opening: Span,
         test: Expr,
-        closing: Spot,
+        closing: Span,
         then: Box<Stmt>,
     },
     IfElse {
-        word: Spot,
-        opening: Spot,
+        keyword: Span,
+        opening: Span,
         test: Expr,
-        closing: Spot,
+        closing: Span,
         then: Box<Stmt>,
-        other_word: Spot,
+        else_keyword: Span,
         other: Box<Stmt>,
     },
     While {
-        word: Spot,
-        opening: Spot,
+        keyword: Span,
+        opening: Span,
         test: Expr,
-        closing: Spot,
+        closing: Span,
         body: Box<Stmt>,
     },
     Do {
-        word: Spot,
+        keyword: Span,
         body: Box<Stmt>,
-        while_word: Spot,
-        opening: Spot,
+        while_keyword: Span,
+        opening: Span,
         test: Expr,
-        closing: Spot,
-        end: Spot,
+        closing: Span,
+        end: Span,
     },
     For {
-        word: Spot,
-        opening: Spot,
+        keyword: Span,
+        opening: Span,
         start: ForStart,
-        start_end: Spot,
+        start_end: Span,
         test: Option<Expr>,
-        test_end: Spot,
+        test_end: Span,
         step: Option<Simple>,
-        closing: Spot,
+        closing: Span,
         body: Box<Stmt>,
     },
 }
@@ -178,7 +178,7 @@ pub enum Stmt {
 #[cycle(statement)]
 #[derive(Drop)]
 pub enum Part {
-    Declaration { declaration: Declaration, end: Spot },
+    Declaration { declaration: Declaration, end: Span },
     Stmt(Stmt),
 }
 
@@ -186,94 +186,94 @@ pub enum Part {
 #[derive(Drop)]
 pub enum Parameter {
     Int {
-        word: Spot,
-        name: Option<Spot>,
+        keyword: Span,
+        name: Option<Span>,
     },
     /// `int NAME[LENGTH]`.
     Array {
-        word: Spot,
-        name: Option<Spot>,
-        opening: Spot,
+        keyword: Span,
+        name: Option<Span>,
+        opening: Span,
         length: Option<Expr>,
-        closing: Spot,
+        closing: Span,
     },
     /// `int *NAME`.
     Pointer {
-        word: Spot,
-        star: Spot,
-        name: Option<Spot>,
+        keyword: Span,
+        star: Span,
+        name: Option<Span>,
     },
     Communicator {
-        word: Spot,
-        name: Option<Spot>,
+        keyword: Span,
+        name: Option<Span>,
     },
     /// `char **NAME`.
     TextPointers {
-        word: Spot,
-        star: Spot,
-        second: Spot,
-        name: Option<Spot>,
+        keyword: Span,
+        star: Span,
+        second: Span,
+        name: Option<Span>,
     },
     /// `char *NAME[]`.
     TextArray {
-        word: Spot,
-        star: Spot,
-        name: Option<Spot>,
-        opening: Spot,
-        closing: Spot,
+        keyword: Span,
+        star: Span,
+        name: Option<Span>,
+        opening: Span,
+        closing: Span,
     },
 }
 
 #[derive(Drop)]
 pub enum Parameters {
     Nothing,
-    Void(Spot),
-    Listed(Listed<Parameter>),
+    Void(Span),
+    Listed(CommaList<Parameter>),
 }
 
 /// A function's head. `result` is `Int` or `Void`.
 #[derive(Drop)]
 pub struct Head {
-    pub result: Word,
-    pub at: Spot,
-    pub name: Spot,
-    pub opening: Spot,
+    pub result: Symbol,
+    pub at: Span,
+    pub name: Span,
+    pub opening: Span,
     pub parameters: Parameters,
-    pub closing: Spot,
+    pub closing: Span,
 }
 
 /// The value of a define: a number, with a `-` or not, in any number of parentheses.
 #[derive(Drop)]
 pub struct Value {
-    pub opens: Vec<Spot>,
-    pub minus: Option<Spot>,
-    pub number: Spot,
-    pub closes: Vec<Spot>,
+    pub opens: Vec<Span>,
+    pub minus: Option<Span>,
+    pub number: Span,
+    pub closes: Vec<Span>,
 }
 
 /// What stands in a program.
 #[derive(Drop)]
-pub enum Top {
+pub enum ExternalDeclaration {
     Define {
-        word: Spot,
-        name: Spot,
+        directive: Span,
+        name: Span,
         value: Value,
-        end: Spot,
+        end: Span,
     },
     Function {
         head: Head,
-        opening: Spot,
+        opening: Span,
         parts: Vec<Part>,
-        closing: Spot,
+        closing: Span,
     },
     Prototype {
         head: Head,
-        end: Spot,
+        end: Span,
     },
 }
 
 /// A whole program.
 #[derive(Drop)]
 pub struct Tree {
-    pub tops: Vec<Top>,
+    pub externals: Vec<ExternalDeclaration>,
 }

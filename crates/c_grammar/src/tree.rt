@@ -1,28 +1,28 @@
 //! The trees of expressions, with the places of all their tokens.
 
-use crate::word::{Spot, Word};
+use crate::terminal::{Span, Symbol};
 
 /// An expression.
 #[cycle(expression)]
 #[derive(Drop)]
 pub enum Expr {
-    Number(Spot),
+    Number(Span),
     Read(Place),
     /// A place, a dot and the name of a field.
     Field {
         place: Place,
-        dot: Spot,
-        name: Spot,
+        dot: Span,
+        name: Span,
     },
     Paren {
-        opening: Spot,
+        opening: Span,
         inner: Box<Expr>,
-        closing: Spot,
+        closing: Span,
     },
     /// A sign (`-`, `+`, `!` or `~`) and its operand.
     Unary {
-        sign: Word,
-        at: Spot,
+        sign: Symbol,
+        at: Span,
         operand: Box<Expr>,
     },
     /// Operands with the operators of one level between them.
@@ -34,9 +34,9 @@ pub enum Expr {
     /// `test ? then : other`.
     Choice {
         test: Box<Expr>,
-        question: Spot,
+        question: Span,
         then: Box<Expr>,
-        colon: Spot,
+        colon: Span,
         other: Box<Expr>,
     },
 }
@@ -45,12 +45,12 @@ pub enum Expr {
 #[cycle(expression)]
 #[derive(Drop)]
 pub enum Place {
-    Whole(Spot),
+    Whole(Span),
     Cell {
-        name: Spot,
-        opening: Spot,
+        name: Span,
+        opening: Span,
         index: Box<Expr>,
-        closing: Spot,
+        closing: Span,
     },
 }
 
@@ -58,7 +58,7 @@ pub enum Place {
 #[cycle(expression)]
 #[derive(Drop)]
 pub struct Link {
-    pub operator: Word,
-    pub at: Spot,
+    pub operator: Symbol,
+    pub at: Span,
     pub operand: Expr,
 }

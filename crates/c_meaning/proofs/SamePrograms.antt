@@ -26,8 +26,8 @@ use Rattle.c_meaning.proofs.SameStatements.{same_parts}
 same_parameter : {text : List ℕ} {one : t.Parameter} {a b : Parameter} → IsParameter text one a → IsParameter text one b → a ≡ b
 same_parameter {text} {a = a} {b = b} one other =
     let g = one.named in let h = other.named in
-    let spot : one.name ≡ other.name = cc in
-    let name : a.name ≡ b.name = one.name_is ∙ ap (token_bytes text) spot ∙ sym other.name_is in
+    let span : one.name ≡ other.name = cc in
+    let name : a.name ≡ b.name = one.name_is ∙ ap (token_bytes text) span ∙ sym other.name_is in
     let kind : a.kind ≡ b.kind = one.kind_is ∙ sym other.kind_is in
     λ i. record { name = name i; kind = kind i }
 
@@ -45,16 +45,16 @@ module _ (rank : Rank) where
       (same_parts rank calls one.body other.body (m.with_parameters (parameters i) arguments (m.opened s)) (m.exits_to (stack_mark s) go) i)
       (trapped CellsFault s)
 
-  same_found : {env : Env} {tops : List t.Top} {xs ys : List Function} → AreFunctions env tops xs → AreFunctions env tops ys
+  same_found : {env : Env} {externals : List t.ExternalDeclaration} {xs ys : List Function} → AreFunctions env externals xs → AreFunctions env externals ys
       → (f : ℕ) (calls : Calls) (arguments : List Passed) (s : State) (go : ℤ → Onward)
       → m.run_function rank calls (slice_get xs f) arguments s go ≡ m.run_function rank calls (slice_get ys f) arguments s go
   same_found x.no_top x.no_top f calls arguments s go = refl
-  same_found (x.top x.define all) (x.top x.define both) f calls arguments s go = same_found all both f calls arguments s go
-  same_found (x.top x.prototype all) (x.top x.prototype both) f calls arguments s go = same_found all both f calls arguments s go
-  same_found (x.top (x.function {typed = a} one) all) (x.top (x.function {typed = b} other) both) zero calls arguments s go = same_run a b one other calls arguments s go
-  same_found (x.top (x.function one) all) (x.top (x.function other) both) (suc f) calls arguments s go = same_found all both f calls arguments s go
+  same_found (x.external x.define all) (x.external x.define both) f calls arguments s go = same_found all both f calls arguments s go
+  same_found (x.external x.prototype all) (x.external x.prototype both) f calls arguments s go = same_found all both f calls arguments s go
+  same_found (x.external (x.function {typed = a} one) all) (x.external (x.function {typed = b} other) both) zero calls arguments s go = same_run a b one other calls arguments s go
+  same_found (x.external (x.function one) all) (x.external (x.function other) both) (suc f) calls arguments s go = same_found all both f calls arguments s go
 
-  same_calls : {env : Env} {tops : List t.Top} {xs ys : List Function} → AreFunctions env tops xs → AreFunctions env tops ys
+  same_calls : {env : Env} {externals : List t.ExternalDeclaration} {xs ys : List Function} → AreFunctions env externals xs → AreFunctions env externals ys
       → (deep f : ℕ) (arguments : List Passed) (s : State) (go : ℤ → Onward) → call_at rank xs deep f arguments s go ≡ call_at rank ys deep f arguments s go
   same_calls all both zero f arguments s go = refl
   same_calls all both (suc deep) f arguments s go =

@@ -19,8 +19,8 @@ use Rattle.c_program.specs.declared.expr.Expr.{Expr}
 use Rattle.c_program.specs.declared.expr.Right.{Right}
 use Rattle.c_program.specs.declared.statement.Declaration.{Declaration}
 use Rattle.c_program.specs.declared.statement.ForStart.{ForStart}
-use Rattle.c_program.specs.declared.statement.Initial.{Initial}
-use Rattle.c_program.specs.declared.statement.Item.{Item}
+use Rattle.c_program.specs.declared.statement.Initializer.{Initializer}
+use Rattle.c_program.specs.declared.statement.InitDeclarator.{InitDeclarator}
 use Rattle.c_program.specs.declared.statement.Simple.{Simple}
 use Rattle.c_type_expr.specs.Calls as c
 use Rattle.c_type_expr.specs.Calls.{IsCall, IsRight}
@@ -28,7 +28,7 @@ use Rattle.c_type_mpi.specs.MpiCalls.{IsMpiCall}
 use Rattle.c_meaning.proofs.SameEffects.{same_effect}
 use Rattle.c_meaning.proofs.SameValues.{same_cell, same_function, same_given, same_passed, same_value}
 use Rattle.c_type_stmt.specs.Statements as x
-use Rattle.c_type_stmt.specs.Statements.{AreExprs, AreItems, AreValues, IsDeclaration, IsInitial, IsItem, IsReturn, IsSimple, IsStart, IsStep, IsTest, update_of}
+use Rattle.c_type_stmt.specs.Statements.{AreExprs, AreItems, AreValues, IsDeclaration, IsInitializer, IsItem, IsReturn, IsSimple, IsStart, IsStep, IsTest, update_of}
 
 module _ (rank : Rank) (calls : Calls) where
   -- ---- calls
@@ -96,13 +96,13 @@ module _ (rank : Rank) (calls : Calls) where
   same_exprs {env} (x.expr one all) (x.expr other both) cell s go =
       λ i. m.trying (same_value env one other s i) s (λ v. same_exprs all both (cell + 1) (put cell v s) go i)
 
-  same_initial : {env : Env} {begun : Option t.Initial} {a b : Initial} → IsInitial env begun a → IsInitial env begun b
+  same_initial : {env : Env} {begun : Option t.Initializer} {a b : Initializer} → IsInitializer env begun a → IsInitializer env begun b
       → (cell : ℕ) (s : State) (go : Onward) → m.begin calls a cell s go ≡ m.begin calls b cell s go
   same_initial x.nothing x.nothing cell s go = refl
   same_initial (x.begun one) (x.begun other) cell s go = same_right one other s (λ v s. go (put cell v s))
   same_initial (x.braced one) (x.braced other) cell s go = same_exprs one other cell s go
 
-  same_item : {env : Env} {kind : VariableKind} {item : t.Item} {a b : Item} → IsItem env kind item a → IsItem env kind item b
+  same_item : {env : Env} {kind : VariableKind} {item : t.InitDeclarator} {a b : InitDeclarator} → IsItem env kind item a → IsItem env kind item b
       → (s : State) (go : Onward) → m.declare calls a s go ≡ m.declare calls b s go
   same_item {a = a} {b = b} one other s go =
       let name : a.name ≡ b.name = one.name ∙ sym other.name in
@@ -113,7 +113,7 @@ module _ (rank : Rank) (calls : Calls) where
       (m.with_slot (name i) (m.length_or_one (long i)) (width_of (kind i)) (m.repeated (m.length_or_one (long i)) (first_cells (kind i))) s) go i)
       (trapped CellsFault s)
 
-  same_items : {kind : VariableKind} {env : Env} {items : List t.Item} {xs ys : List Item} → AreItems kind env items xs → AreItems kind env items ys
+  same_items : {kind : VariableKind} {env : Env} {items : List t.InitDeclarator} {xs ys : List InitDeclarator} → AreItems kind env items xs → AreItems kind env items ys
       → (s : State) (go : Onward) → m.declare_all calls xs s go ≡ m.declare_all calls ys s go
   same_items x.no_item x.no_item s go = refl
   same_items (x.item one all) (x.item other both) s go = λ i. same_item one other s (λ s. same_items all both s go i) i

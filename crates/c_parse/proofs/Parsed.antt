@@ -8,7 +8,7 @@ use Rattle.c_lex.specs.NoMemory.{no_memory}
 use Rattle.c_lex.specs.Places.{IsPlaceOf}
 use Rattle.c_lex.specs.Readings.{AreSlices}
 use Rattle.c_lex.proofs.Laws.{begin_one}
-use Rattle.c_grammar.specs.declared.word.Sign.{Sign}
+use Rattle.c_grammar.specs.declared.terminal.Terminal.{Terminal}
 use Rattle.c_grammar.specs.Tree.{Tree}
 use Rattle.c_grammar.specs.Programs as programs
 use Rattle.c_grammar.specs.Reading.{Answer, Fault, refuse}
@@ -18,23 +18,23 @@ use Rattle.c_grammar.proofs.Firsts.{fault_read}
 use Rattle.c_expr.specs.declared.read.ReadError.{ReadError}
 use Rattle.c_expr.specs.declared.read.ReadError.TheVariants.{Memory, At}
 use Rattle.c_expr.specs.Gives.{Fails}
-use Rattle.c_parse.specs.Signs.{sign_of}
-use Rattle.c_parse.specs.Parsing.{IsFirstFault, IsTree, place_of, signs_of}
+use Rattle.c_parse.specs.Terminals.{terminal_of}
+use Rattle.c_parse.specs.Parsing.{IsFirstFault, IsTree, place_of, terminals_of}
 use Rattle.c_parse.specs.Locating.{IsLocated, StandsWithin}
 
--- a fault's signs are the last ones of the text
-rest_is : (signs : List Sign) (why : Why) (rest : List Sign) → programs.IsFault signs why rest → (front : List Sign) × (signs ≡ front ++ rest)
-rest_is signs Unexpected rest h = (h.front, h.is)
-rest_is signs TooDeep rest h = (h.front, h.is)
-rest_is signs _ rest h = absurd h
+-- a fault's terminals are the last ones of the text
+rest_is : (terminals : List Terminal) (why : Why) (rest : List Terminal) → programs.IsFault terminals why rest → (front : List Terminal) × (terminals ≡ front ++ rest)
+rest_is terminals Unexpected rest h = (h.front, h.is)
+rest_is terminals TooDeep rest h = (h.front, h.is)
+rest_is terminals _ rest h = absurd h
 
-place_within : (text : List ℕ) (from : ℕ) (tokens : List Token) (front rest : List Sign) → AreSlices text from tokens → signs_of text tokens ≡ front ++ rest
+place_within : (text : List ℕ) (from : ℕ) (tokens : List Token) (front rest : List Terminal) → AreSlices text from tokens → terminals_of text tokens ≡ front ++ rest
     → place_of text rest ≤ length text
 place_within text from tokens [] [] slices is = omega arith
-place_within text from [] [] (sign ∷ rest) slices is = absurd (cc)
-place_within text from (token ∷ tokens) [] (sign ∷ rest) slices is =
-    let same : sign_of text token ≡ sign = cc in
-    let start : token.start ≡ sign.spot.start = ap (λ (s : Sign). s.spot.start) same in
+place_within text from [] [] (terminal ∷ rest) slices is = absurd (cc)
+place_within text from (token ∷ tokens) [] (terminal ∷ rest) slices is =
+    let same : terminal_of text token ≡ terminal = cc in
+    let start : token.start ≡ terminal.span.start = ap (λ (s : Terminal). s.span.start) same in
     omega (arith, slices.1)
 place_within text from [] (first ∷ front) rest slices is = absurd (cc)
 place_within text from (token ∷ tokens) (first ∷ front) rest slices is =
@@ -49,34 +49,34 @@ one_refusal text place first other why u v =
     let fault_of : ℕ → ℕ → Why → SourceFault = λ l c w. record { line = l; column = c; why = w } in
     ap (λ l. fault_of l first.column first.why) line ∙ ap (λ c. fault_of other.line c first.why) column ∙ ap (fault_of other.line other.column) why
 
-module _ (text : List ℕ) (tokens : List Token) (signs : List Sign) (same : signs ≡ signs_of text tokens) where
-  pub tree_is : (tree : Tree) → program_of signs ≡ Ok (tree, []) → IsTree text tokens tree
+module _ (text : List ℕ) (tokens : List Token) (terminals : List Terminal) (same : terminals ≡ terminals_of text tokens) where
+  pub tree_is : (tree : Tree) → program_of terminals ≡ Ok (tree, []) → IsTree text tokens tree
   tree_is tree read = read_tree _ tree [] (ap program_of (sym same) ∙ read)
 
-  pub only_tree : (found tree : Tree) → program_of signs ≡ Ok (found, []) → IsTree text tokens tree → found ≡ tree
+  pub only_tree : (found tree : Tree) → program_of terminals ≡ Ok (found, []) → IsTree text tokens tree → found ≡ tree
   only_tree found tree read is = one_tree _ found tree (tree_is found read) is
 
-  pub no_fault : (found : Tree) (first : SourceFault) → program_of signs ≡ Ok (found, []) → IsFirstFault text tokens first → ⊥
+  pub no_fault : (found : Tree) (first : SourceFault) → program_of terminals ≡ Ok (found, []) → IsFirstFault text tokens first → ⊥
   no_fault found first read is = tree_no_fault _ found first.why is.0 (tree_is found read) (fault_read _ first.why is.0 is.1)
 
-  there : (why : Why) (rest : List Sign) → program_of signs ≡ refuse why rest → programs.IsFault (signs_of text tokens) why rest
+  there : (why : Why) (rest : List Terminal) → program_of terminals ≡ refuse why rest → programs.IsFault (terminals_of text tokens) why rest
   there why rest read = read_fault _ why rest (ap program_of (sym same) ∙ read)
 
-  pub stands_within : (error : ReadError) → AreSlices text 0 tokens → Fails error (program_of signs) → StandsWithin text error
+  pub stands_within : (error : ReadError) → AreSlices text 0 tokens → Fails error (program_of terminals) → StandsWithin text error
   stands_within Memory slices read = tt
   stands_within (At why rest) slices read =
       let r = rest_is _ why rest.now (there why rest.now read) in place_within text 0 tokens r.0 rest.now slices r.1
 
-  pub fault_is : (error : ReadError) (fault : SourceFault) → Fails error (program_of signs) → IsLocated text error fault → (fault ≡ no_memory) ⊎ IsFirstFault text tokens fault
+  pub fault_is : (error : ReadError) (fault : SourceFault) → Fails error (program_of terminals) → IsLocated text error fault → (fault ≡ no_memory) ⊎ IsFirstFault text tokens fault
   fault_is Memory fault read is = inl is
   fault_is (At why rest) fault read is =
-      inr (rest.now, subst (λ w. programs.IsFault (signs_of text tokens) w rest.now) (sym is.0) (there why rest.now read), is.1)
+      inr (rest.now, subst (λ w. programs.IsFault (terminals_of text tokens) w rest.now) (sym is.0) (there why rest.now read), is.1)
 
-  pub no_tree : (error : ReadError) (fault : SourceFault) (tree : Tree) → Fails error (program_of signs) → IsLocated text error fault → IsTree text tokens tree → fault ≡ no_memory
+  pub no_tree : (error : ReadError) (fault : SourceFault) (tree : Tree) → Fails error (program_of terminals) → IsLocated text error fault → IsTree text tokens tree → fault ≡ no_memory
   no_tree Memory fault tree read is found = is
   no_tree (At why rest) fault tree read is found = absurd (tree_no_fault _ tree why rest.now found (ap program_of (sym same) ∙ read))
 
-  pub only_fault : (error : ReadError) (fault first : SourceFault) → Fails error (program_of signs) → IsLocated text error fault → IsFirstFault text tokens first
+  pub only_fault : (error : ReadError) (fault first : SourceFault) → Fails error (program_of terminals) → IsLocated text error fault → IsFirstFault text tokens first
       → (fault ≡ no_memory) ⊎ (fault ≡ first)
   only_fault Memory fault first read is one = inl is
   only_fault (At why rest) fault first read is one =

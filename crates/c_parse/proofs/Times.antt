@@ -1,6 +1,6 @@
 -- A loop that reads so many things: what it has read so far, and what is left.
 use Rattle.std.proofs.Common.{◌≡◌, ℕ, suc, List, [], ◌∷◌, ◌++◌, Ok, Err, refl, sym, ap, ◌∙◌, append_assoc}
-use Rattle.c_grammar.specs.declared.word.Sign.{Sign}
+use Rattle.c_grammar.specs.declared.terminal.Terminal.{Terminal}
 use Rattle.c_grammar.specs.Reading.{◌>>=◌, Answer, Fault, times}
 use Rattle.c_expr.specs.declared.read.ReadError.{ReadError}
 use Rattle.c_expr.specs.declared.read.ReadError.TheVariants as errors
@@ -20,26 +20,26 @@ no_more : {A : Type 0} (xs : List A) → xs ++ [] ≡ xs
 no_more [] = refl
 no_more (x ∷ xs) = ap (λ z. x ∷ z) (no_more xs)
 
-module _ {A : Type 0} (one : List Sign → Answer A) (count : ℕ) (signs : List Sign) where
-  pub record TimesSoFar (found : List A) (left : ℕ) (rest : List Sign) : Type 0 where
-    pub same : times one count signs ≡ after found (times one left rest)
+module _ {A : Type 0} (one : List Terminal → Answer A) (count : ℕ) (terminals : List Terminal) where
+  pub record TimesSoFar (found : List A) (left : ℕ) (rest : List Terminal) : Type 0 where
+    pub same : times one count terminals ≡ after found (times one left rest)
 
-  pub times-start : (left : ℕ) → left ≡ count → TimesSoFar [] left signs
-  times-start left is = record { same = rw is (none_before (times one count signs)) }
+  pub times-start : (left : ℕ) → left ≡ count → TimesSoFar [] left terminals
+  times-start left is = record { same = rw is (none_before (times one count terminals)) }
 
-  pub times-step : (found more : List A) (left next : ℕ) (a : A) (rest behind : List Sign)
+  pub times-step : (found more : List A) (left next : ℕ) (a : A) (rest behind : List Terminal)
       → left ≡ suc next → one rest ≡ Ok (a, behind) → more ≡ found ++ a ∷ [] → TimesSoFar found left rest → TimesSoFar more next behind
   times-step found more left next a rest behind is read pushed so =
       record { same = so.same ∙ rw (is, read, pushed) (one_more found a (times one next behind)) }
 
-  times-fails : (found : List A) (left next : ℕ) (rest : List Sign) (f : Fault)
-      → left ≡ suc next → one rest ≡ Err f → TimesSoFar found left rest → times one count signs ≡ Err f
+  times-fails : (found : List A) (left next : ℕ) (rest : List Terminal) (f : Fault)
+      → left ≡ suc next → one rest ≡ Err f → TimesSoFar found left rest → times one count terminals ≡ Err f
   times-fails found left next rest f is read so = so.same ∙ rw (is, read) refl
 
-  pub times-fault : (found : List A) (left next : ℕ) (rest : List Sign) (error : ReadError)
-      → left ≡ suc next → Fails error (one rest) → TimesSoFar found left rest → Fails error (times one count signs)
+  pub times-fault : (found : List A) (left next : ℕ) (rest : List Terminal) (error : ReadError)
+      → left ≡ suc next → Fails error (one rest) → TimesSoFar found left rest → Fails error (times one count terminals)
   times-fault found left next rest errors.Memory is read so = tt
   times-fault found left next rest (errors.At why at) is read so = times-fails found left next rest _ is read so
 
-  pub times-ends : (found : List A) (left : ℕ) (rest : List Sign) → left ≡ 0 → TimesSoFar found left rest → times one count signs ≡ Ok (found, rest)
+  pub times-ends : (found : List A) (left : ℕ) (rest : List Terminal) → left ≡ 0 → TimesSoFar found left rest → times one count terminals ≡ Ok (found, rest)
   times-ends found left rest is so = so.same ∙ rw is (ap (λ z. Ok (z, rest)) (no_more found))

@@ -5,18 +5,18 @@ use Rattle.std.specs.List.{list_any}
 use Rattle.c_lex.specs.Marks.{marks}
 use Rattle.c_lex.specs.declared.token.TokenKind.TheVariants as kinds
 use Rattle.c_lex.specs.declared.token.Token.{Token}
-use Rattle.c_grammar.specs.Words.{code_of}
-use Rattle.c_grammar.specs.declared.word.Word.TheVariants as w
-use Rattle.c_parse.specs.Signs.{spellings, word_among, word_of}
-use Rattle.c_parse.specs.Parsing.{place_of, signs_of}
+use Rattle.c_grammar.specs.Symbols.{code_of}
+use Rattle.c_grammar.specs.declared.terminal.Symbol.TheVariants as w
+use Rattle.c_parse.specs.Terminals.{spellings, symbol_among, symbol_of}
+use Rattle.c_parse.specs.Parsing.{place_of, terminals_of}
 
--- each mark of the tokens has a word, and none is a name
-marks_are_no_names : list_any (λ mark. code_of (word_among spellings mark) == code_of w.Name) marks ≡ false
+-- each mark of the tokens has a symbol, and none is a name
+marks_are_no_names : list_any (λ mark. code_of (symbol_among spellings mark) == code_of w.Name) marks ≡ false
 unfolding spellings marks
 marks_are_no_names = refl
 
--- the words of `int ints MPI_Comm MPI_Com`
-names : map (λ word. word_of kinds.Name word) (codes "int" ∷ codes "ints" ∷ codes "MPI_Comm" ∷ codes "MPI_Com" ∷ [])
+-- the symbols of `int ints MPI_Comm MPI_Com`
+names : map (λ word. symbol_of kinds.Name word) (codes "int" ∷ codes "ints" ∷ codes "MPI_Comm" ∷ codes "MPI_Com" ∷ [])
     ≡ w.Int ∷ w.Name ∷ w.Communicator ∷ w.Name ∷ []
 unfolding spellings
 names = refl
@@ -27,11 +27,11 @@ tokens =
     ∷ (record { kind = kinds.Number; start = 5; len = 1 }) ∷ []
 
 -- `x += 1` and its places; its end is a place too
-signs : signs_of (codes "x += 1") tokens
-    ≡ (record { word = w.Name; spot = record { start = 0; len = 1 } }) ∷ (record { word = w.PlusAssign; spot = record { start = 2; len = 2 } })
-    ∷ (record { word = w.Number; spot = record { start = 5; len = 1 } }) ∷ []
+terminals : terminals_of (codes "x += 1") tokens
+    ≡ (record { symbol = w.Name; span = record { start = 0; len = 1 } }) ∷ (record { symbol = w.PlusAssign; span = record { start = 2; len = 2 } })
+    ∷ (record { symbol = w.Number; span = record { start = 5; len = 1 } }) ∷ []
 unfolding spellings tokens
-signs = refl
+terminals = refl
 
 end_place : place_of (codes "x += 1") [] ≡ 6
 end_place = refl

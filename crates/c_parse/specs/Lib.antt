@@ -1,3 +1,3 @@
-pub mod Signs
+pub mod Terminals
 pub mod Parsing
 pub mod Locating

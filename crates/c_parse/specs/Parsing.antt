@@ -3,24 +3,24 @@ use Rattle.std.specs.Prelude.{ℕ, List, [], ◌∷◌, length, map}
 use Rattle.c_lex.specs.declared.fault.SourceFault.{SourceFault}
 use Rattle.c_lex.specs.declared.token.Token.{Token}
 use Rattle.c_lex.specs.Places.{IsPlaceOf}
-use Rattle.c_grammar.specs.declared.word.Sign.{Sign}
+use Rattle.c_grammar.specs.declared.terminal.Terminal.{Terminal}
 use Rattle.c_grammar.specs.Tree.{Tree}
 use Rattle.c_grammar.specs.Programs as programs
-use Rattle.c_parse.specs.Signs.{sign_of}
+use Rattle.c_parse.specs.Terminals.{terminal_of}
 
-abbrev pub signs_of : List ℕ → List Token → List Sign
-signs_of text tokens = map (sign_of text) tokens
+abbrev pub terminals_of : List ℕ → List Token → List Terminal
+terminals_of text tokens = map (terminal_of text) tokens
 
 -- the tokens are this tree's, and nothing in it stands too deep
 abbrev pub IsTree : List ℕ → List Token → Tree → Type 0
-IsTree text tokens tree = programs.IsTree (signs_of text tokens) tree
+IsTree text tokens tree = programs.IsTree (terminals_of text tokens) tree
 
--- where the first of these signs stands; behind the last one, the end of the text
-abbrev pub place_of : List ℕ → List Sign → ℕ
+-- where the first of these terminals stands; behind the last one, the end of the text
+abbrev pub place_of : List ℕ → List Terminal → ℕ
 place_of text [] = length text
-place_of text (sign ∷ signs) = sign.spot.start
+place_of text (terminal ∷ terminals) = terminal.span.start
 
 -- this is the first fault, by the grammar alone, with its line and column
 abbrev pub IsFirstFault : List ℕ → List Token → SourceFault → Type 0
 IsFirstFault text tokens first =
-    (rest : List Sign) × programs.IsFault (signs_of text tokens) first.why rest × IsPlaceOf text (place_of text rest) first.line first.column
+    (rest : List Terminal) × programs.IsFault (terminals_of text tokens) first.why rest × IsPlaceOf text (place_of text rest) first.line first.column

@@ -1,8 +1,8 @@
 //! From the tokens of a C source text to its tree.
 #![tactic(auto)]
 
+mod external;
 mod parser;
-mod signs;
-mod top;
+mod terminals;
 
 pub use parser::parse;

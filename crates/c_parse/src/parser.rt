@@ -8,11 +8,11 @@ ghost use Rattle.c_grammar.specs.StmtView.{tree_view};
 ghost use Rattle.c_parse.specs.Parsing.{IsFirstFault, IsTree, place_of};
 ghost use Rattle.c_parse.specs.Locating.{IsLocated, StandsWithin};
 
-use crate::signs::signs;
-use crate::top::program;
+use crate::external::program;
+use crate::terminals::terminals;
 use c_expr::read::ReadError;
 use c_grammar::statement::Tree;
-use c_grammar::word::Sign;
+use c_grammar::terminal::Terminal;
 use c_lex::{SourceFault, TokenList, fault_at};
 use std::alloc::{AllocError, Global};
 
@@ -27,8 +27,8 @@ pub fn parse(alloc: Global, text: &[u8], tokens: &TokenList) -> Result<Tree, Sou
     ensures only_fault { (first : SourceFault) → IsFirstFault text.now tokens.now first
         → MatchResult result (λ _. ⊥) (λ fault. (fault ≡ no_memory) ⊎ (fault ≡ first)) }
 {
-    let signs = signs(alloc, text, tokens)?;
-    match program(alloc, &signs) {
+    let terminals = terminals(alloc, text, tokens)?;
+    match program(alloc, &terminals) {
         Ok(tree) => Ok(tree),
         Err(error) => Err(located(text, error)),
     }
@@ -46,12 +46,12 @@ fn located(text: &[u8], error: ReadError) -> SourceFault
     }
 }
 
-/// Where the first of these signs stands; behind the last one, the end of the text.
-fn place_of(text: &[u8], signs: &[Sign]) -> usize
-    ensures { result ≡ place_of text.now signs.now }
+/// Where the first of these terminals stands; behind the last one, the end of the text.
+fn place_of(text: &[u8], terminals: &[Terminal]) -> usize
+    ensures { result ≡ place_of text.now terminals.now }
 {
-    match signs {
-        [first, ..] => first.spot.start as usize,
+    match terminals {
+        [first, ..] => first.span.start as usize,
         [] => text.len(),
     }
 }

@@ -2,8 +2,8 @@
 ghost use Rattle.std.specs.Prelude.{◌≡◌, ◌<◌, ◌-◌, true, Err, IfErr, IfOk, Ok, option_map};
 ghost use Rattle.c_grammar.specs.View.{view};
 ghost use Rattle.c_grammar.specs.StmtView.{simple_view, start_view};
-ghost use Rattle.c_grammar.specs.Words.{isnt};
-ghost use Rattle.c_grammar.specs.declared.word.Word.TheVariants as w;
+ghost use Rattle.c_grammar.specs.Symbols.{isnt};
+ghost use Rattle.c_grammar.specs.declared.terminal.Symbol.TheVariants as w;
 ghost use Rattle.c_grammar.specs.Reading.{expr_at, maybe};
 ghost use Rattle.c_grammar.specs.StmtReading.{simple_of, start_of};
 ghost use Rattle.c_expr.specs.Gives.{Gives};
@@ -12,35 +12,35 @@ ghost use Rattle.c_plain.specs.Heads.{test_head_of, test_head_view, ended_of, fo
 use c_expr::expression::expr;
 use c_expr::read::{ReadError, expected, followed};
 use c_grammar::statement::{ForStart, Simple};
+use c_grammar::terminal::{Span, Symbol, Terminal};
 use c_grammar::tree::Expr;
-use c_grammar::word::{Sign, Spot, Word};
 use c_simple::pieces::{for_start, for_step, for_test};
 use std::alloc::Global;
 
-/// A word and the test in parentheses behind it.
+/// A keyword and the test in parentheses behind it.
 #[derive(Drop)]
 pub struct TestHead {
-    pub word: Spot,
-    pub opening: Spot,
+    pub keyword: Span,
+    pub opening: Span,
     pub test: Expr,
-    pub closing: Spot,
+    pub closing: Span,
 }
 
-/// What stands before the statement of a `for`: each piece with the place of the sign behind it.
+/// What stands before the statement of a `for`: each piece with the place of the terminal behind it.
 #[derive(Drop)]
 pub struct ForHead {
-    pub word: Spot,
-    pub opening: Spot,
-    pub start: (ForStart, Spot),
-    pub test: (Option<Expr>, Spot),
-    pub step: (Option<Simple>, Spot),
+    pub keyword: Span,
+    pub opening: Span,
+    pub start: (ForStart, Span),
+    pub test: (Option<Expr>, Span),
+    pub step: (Option<Simple>, Span),
 }
 
 /// A thing, and what was read behind it.
 pub fn both<'a, A: Drop, B: Drop>(
     first: A,
-    read: Result<(B, &'a [Sign]), ReadError<'a>>,
-) -> Result<((A, B), &'a [Sign]), ReadError<'a>>
+    read: Result<(B, &'a [Terminal]), ReadError<'a>>,
+) -> Result<((A, B), &'a [Terminal]), ReadError<'a>>
     ensures first { IfOk result (λ all. all.0.0 ≡ first) }
     ensures second { IfOk result (λ all. read.entry ≡ Ok (all.0.1, all.1)) }
     ensures error { IfErr result (λ error. read.entry ≡ Err error) }
@@ -49,22 +49,22 @@ pub fn both<'a, A: Drop, B: Drop>(
     Ok(((first, second), rest))
 }
 
-/// A word and the test in parentheses behind it.
+/// A keyword and the test in parentheses behind it.
 #[tactic(auto, unfolding(crate::specs::Heads::test_head_of))]
 pub fn test_head(
     alloc: Global,
     left: u8,
-    word: Word,
-    signs: &[Sign],
-) -> Result<(TestHead, &[Sign]), ReadError>
-    ensures { Gives (λ x. (test_head_view x.0, x.1.now)) result (test_head_of (expr_at left true) word signs.now) }
+    symbol: Symbol,
+    terminals: &[Terminal],
+) -> Result<(TestHead, &[Terminal]), ReadError>
+    ensures { Gives (λ x. (test_head_view x.0, x.1.now)) result (test_head_of (expr_at left true) symbol terminals.now) }
 {
-    let (word, rest) = expected(signs, word)?;
-    let (opening, rest) = expected(rest, Word::OpenParen)?;
+    let (keyword, rest) = expected(terminals, symbol)?;
+    let (opening, rest) = expected(rest, Symbol::OpenParen)?;
     let (test, rest) = expr(alloc, left, true, rest)?;
-    let ((test, closing), rest) = followed(test, rest, Word::CloseParen)?;
+    let ((test, closing), rest) = followed(test, rest, Symbol::CloseParen)?;
     let head = TestHead {
-        word,
+        keyword,
         opening,
         test,
         closing,
@@ -77,28 +77,32 @@ pub fn test_head(
 pub fn until(
     alloc: Global,
     left: u8,
-    signs: &[Sign],
-) -> Result<((TestHead, Spot), &[Sign]), ReadError>
+    terminals: &[Terminal],
+) -> Result<((TestHead, Span), &[Terminal]), ReadError>
     ensures { Gives (λ x. ((test_head_view x.0.0, x.0.1), x.1.now)) result
-        (ended_of (test_head_of (expr_at left true) w.While) w.Semicolon signs.now) }
+        (ended_of (test_head_of (expr_at left true) w.While) w.Semicolon terminals.now) }
 {
-    let (head, rest) = test_head(alloc, left, Word::While, signs)?;
-    followed(head, rest, Word::Semicolon)
+    let (head, rest) = test_head(alloc, left, Symbol::While, terminals)?;
+    followed(head, rest, Symbol::Semicolon)
 }
 
 /// What stands before the statement of a `for`.
 #[tactic(auto, unfolding(crate::specs::Heads::for_head_of))]
-pub fn for_head(alloc: Global, left: u8, signs: &[Sign]) -> Result<(ForHead, &[Sign]), ReadError>
+pub fn for_head(
+    alloc: Global,
+    left: u8,
+    terminals: &[Terminal],
+) -> Result<(ForHead, &[Terminal]), ReadError>
     requires { 0 < left }
-    ensures { Gives (λ x. (for_head_view x.0, x.1.now)) result (for_head_of (expr_at left true) (expr_at (left - 1) true) signs.now) }
+    ensures { Gives (λ x. (for_head_view x.0, x.1.now)) result (for_head_of (expr_at left true) (expr_at (left - 1) true) terminals.now) }
 {
-    let (word, rest) = expected(signs, Word::For)?;
-    let (opening, rest) = expected(rest, Word::OpenParen)?;
+    let (keyword, rest) = expected(terminals, Symbol::For)?;
+    let (opening, rest) = expected(rest, Symbol::OpenParen)?;
     let (start, rest) = start(alloc, left, rest)?;
     let ((start, test), rest) = both(start, test(alloc, left, rest))?;
     let (((start, test), step), rest) = both((start, test), step(alloc, left, rest))?;
     let head = ForHead {
-        word,
+        keyword,
         opening,
         start,
         test,
@@ -109,13 +113,17 @@ pub fn for_head(alloc: Global, left: u8, signs: &[Sign]) -> Result<(ForHead, &[S
 
 /// How a `for` begins, and its `;`.
 #[tactic(auto, unfolding(crate::specs::Heads::ended_of))]
-fn start(alloc: Global, left: u8, signs: &[Sign]) -> Result<((ForStart, Spot), &[Sign]), ReadError>
+fn start(
+    alloc: Global,
+    left: u8,
+    terminals: &[Terminal],
+) -> Result<((ForStart, Span), &[Terminal]), ReadError>
     requires { 0 < left }
     ensures { Gives (λ x. ((start_view x.0.0, x.0.1), x.1.now)) result
-        (ended_of (start_of (expr_at left true) (expr_at (left - 1) true)) w.Semicolon signs.now) }
+        (ended_of (start_of (expr_at left true) (expr_at (left - 1) true)) w.Semicolon terminals.now) }
 {
-    let (start, rest) = for_start(alloc, left, signs)?;
-    followed(start, rest, Word::Semicolon)
+    let (start, rest) = for_start(alloc, left, terminals)?;
+    followed(start, rest, Symbol::Semicolon)
 }
 
 /// The test of a `for`, if any, and its `;`.
@@ -123,14 +131,14 @@ fn start(alloc: Global, left: u8, signs: &[Sign]) -> Result<((ForStart, Spot), &
 fn test(
     alloc: Global,
     left: u8,
-    signs: &[Sign],
-) -> Result<((Option<Expr>, Spot), &[Sign]), ReadError>
+    terminals: &[Terminal],
+) -> Result<((Option<Expr>, Span), &[Terminal]), ReadError>
     requires { 0 < left }
     ensures { Gives (λ x. ((option_map view x.0.0, x.0.1), x.1.now)) result
-        (ended_of (maybe (isnt w.Semicolon) (expr_at left true)) w.Semicolon signs.now) }
+        (ended_of (maybe (isnt w.Semicolon) (expr_at left true)) w.Semicolon terminals.now) }
 {
-    let (test, rest) = for_test(alloc, left, signs)?;
-    followed(test, rest, Word::Semicolon)
+    let (test, rest) = for_test(alloc, left, terminals)?;
+    followed(test, rest, Symbol::Semicolon)
 }
 
 /// The step of a `for`, if any, and the `)` behind it.
@@ -138,12 +146,12 @@ fn test(
 fn step(
     alloc: Global,
     left: u8,
-    signs: &[Sign],
-) -> Result<((Option<Simple>, Spot), &[Sign]), ReadError>
+    terminals: &[Terminal],
+) -> Result<((Option<Simple>, Span), &[Terminal]), ReadError>
     requires { 0 < left }
     ensures { Gives (λ x. ((option_map simple_view x.0.0, x.0.1), x.1.now)) result
-        (ended_of (maybe (isnt w.CloseParen) (simple_of (expr_at left true) (expr_at (left - 1) true))) w.CloseParen signs.now) }
+        (ended_of (maybe (isnt w.CloseParen) (simple_of (expr_at left true) (expr_at (left - 1) true))) w.CloseParen terminals.now) }
 {
-    let (step, rest) = for_step(alloc, left, signs)?;
-    followed(step, rest, Word::CloseParen)
+    let (step, rest) = for_step(alloc, left, terminals)?;
+    followed(step, rest, Symbol::CloseParen)
 }

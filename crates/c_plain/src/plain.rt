@@ -7,55 +7,70 @@ ghost use Rattle.c_expr.specs.Gives.{Gives};
 
 use c_expr::read::{ReadError, expected, followed};
 use c_grammar::statement::Stmt;
-use c_grammar::word::{Sign, Word};
+use c_grammar::terminal::{Symbol, Terminal};
 use c_simple::pieces::value;
 use c_simple::simple::simple;
 use std::alloc::Global;
 
 #[tactic(auto, using(c_grammar::proofs::StmtViewed::stmt_views))]
-pub fn empty(signs: &[Sign]) -> Result<(Stmt, &[Sign]), ReadError>
-    ensures { Gives (λ x. (stmt_view x.0, x.1.now)) result (empty_of signs.now) }
+pub fn empty(terminals: &[Terminal]) -> Result<(Stmt, &[Terminal]), ReadError>
+    ensures { Gives (λ x. (stmt_view x.0, x.1.now)) result (empty_of terminals.now) }
 {
-    let (at, rest) = expected(signs, Word::Semicolon)?;
+    let (at, rest) = expected(terminals, Symbol::Semicolon)?;
     Ok((Stmt::Empty(at), rest))
 }
 
 #[tactic(auto, using(c_grammar::proofs::StmtViewed::stmt_views))]
-pub fn break_word(signs: &[Sign]) -> Result<(Stmt, &[Sign]), ReadError>
-    ensures { Gives (λ x. (stmt_view x.0, x.1.now)) result (break_of signs.now) }
+pub fn break_statement(terminals: &[Terminal]) -> Result<(Stmt, &[Terminal]), ReadError>
+    ensures { Gives (λ x. (stmt_view x.0, x.1.now)) result (break_of terminals.now) }
 {
-    let (word, rest) = expected(signs, Word::Break)?;
-    let (end, rest) = expected(rest, Word::Semicolon)?;
-    Ok((Stmt::Break { word, end }, rest))
+    let (keyword, rest) = expected(terminals, Symbol::Break)?;
+    let (end, rest) = expected(rest, Symbol::Semicolon)?;
+    Ok((Stmt::Break { keyword, end }, rest))
 }
 
 #[tactic(auto, using(c_grammar::proofs::StmtViewed::stmt_views))]
-pub fn continue_word(signs: &[Sign]) -> Result<(Stmt, &[Sign]), ReadError>
-    ensures { Gives (λ x. (stmt_view x.0, x.1.now)) result (continue_of signs.now) }
+pub fn continue_statement(terminals: &[Terminal]) -> Result<(Stmt, &[Terminal]), ReadError>
+    ensures { Gives (λ x. (stmt_view x.0, x.1.now)) result (continue_of terminals.now) }
 {
-    let (word, rest) = expected(signs, Word::Continue)?;
-    let (end, rest) = expected(rest, Word::Semicolon)?;
-    Ok((Stmt::Continue { word, end }, rest))
+    let (keyword, rest) = expected(terminals, Symbol::Continue)?;
+    let (end, rest) = expected(rest, Symbol::Semicolon)?;
+    Ok((Stmt::Continue { keyword, end }, rest))
 }
 
 #[tactic(auto, using(c_grammar::proofs::StmtViewed::stmt_views))]
-pub fn return_word(alloc: Global, left: u8, signs: &[Sign]) -> Result<(Stmt, &[Sign]), ReadError>
+pub fn return_statement(
+    alloc: Global,
+    left: u8,
+    terminals: &[Terminal],
+) -> Result<(Stmt, &[Terminal]), ReadError>
     requires { 0 < left }
-    ensures { Gives (λ x. (stmt_view x.0, x.1.now)) result (return_of (expr_at left true) (expr_at (left - 1) true) signs.now) }
+    ensures { Gives (λ x. (stmt_view x.0, x.1.now)) result (return_of (expr_at left true) (expr_at (left - 1) true) terminals.now) }
 {
-    let (word, rest) = expected(signs, Word::Return)?;
+    let (keyword, rest) = expected(terminals, Symbol::Return)?;
     let (value, rest) = value(alloc, left, rest)?;
-    let ((value, end), rest) = followed(value, rest, Word::Semicolon)?;
-    Ok((Stmt::Return { word, value, end }, rest))
+    let ((value, end), rest) = followed(value, rest, Symbol::Semicolon)?;
+    Ok((
+        Stmt::Return {
+            keyword,
+            value,
+            end,
+        },
+        rest,
+    ))
 }
 
 /// A simple statement and its `;`.
 #[tactic(auto, using(c_grammar::proofs::StmtViewed::stmt_views))]
-pub fn plain(alloc: Global, left: u8, signs: &[Sign]) -> Result<(Stmt, &[Sign]), ReadError>
+pub fn plain(
+    alloc: Global,
+    left: u8,
+    terminals: &[Terminal],
+) -> Result<(Stmt, &[Terminal]), ReadError>
     requires { 0 < left }
-    ensures { Gives (λ x. (stmt_view x.0, x.1.now)) result (plain_of (expr_at left true) (expr_at (left - 1) true) signs.now) }
+    ensures { Gives (λ x. (stmt_view x.0, x.1.now)) result (plain_of (expr_at left true) (expr_at (left - 1) true) terminals.now) }
 {
-    let (simple, rest) = simple(alloc, left, signs)?;
-    let ((simple, end), rest) = followed(simple, rest, Word::Semicolon)?;
+    let (simple, rest) = simple(alloc, left, terminals)?;
+    let ((simple, end), rest) = followed(simple, rest, Symbol::Semicolon)?;
     Ok((Stmt::Simple { simple, end }, rest))
 }

@@ -18,9 +18,9 @@ use Rattle.c_program.specs.declared.program.ParameterKind.TheVariants.{Array as 
 use Rattle.c_program.specs.declared.statement.Declaration.{Declaration}
 use Rattle.c_program.specs.declared.statement.ForStart.{ForStart}
 use Rattle.c_program.specs.declared.statement.ForStart.TheVariants.{Nothing as NoStart, Declaration as DeclaredStart, Simple as SimpleStart}
-use Rattle.c_program.specs.declared.statement.Initial.{Initial}
-use Rattle.c_program.specs.declared.statement.Initial.TheVariants.{Nothing as NoInitial, Right as RightInitial, Values}
-use Rattle.c_program.specs.declared.statement.Item.{Item}
+use Rattle.c_program.specs.declared.statement.Initializer.{Initializer}
+use Rattle.c_program.specs.declared.statement.Initializer.TheVariants.{Nothing as NoInitial, Right as RightInitial, Values}
+use Rattle.c_program.specs.declared.statement.InitDeclarator.{InitDeclarator}
 use Rattle.c_program.specs.declared.statement.Simple.{Simple}
 use Rattle.c_program.specs.declared.statement.Simple.TheVariants.{Set, Update, Call as CallSimple, Mpi, Print, Flush}
 use Rattle.c_program.specs.declared.statement.Stmt.{Stmt, Block', Empty, Simple as SimpleStmt, Break, Continue, Return, If', IfElse', While', Do', For', Row_of-Part, end_of-Part, more_of-Part}
@@ -132,7 +132,7 @@ abbrev pub repeated : ℕ → List ℤ → List ℤ
 repeated zero cells = []
 repeated (suc n) cells = cells ++ repeated n cells
 
-abbrev pub item_cells : Item → List ℤ
+abbrev pub item_cells : InitDeclarator → List ℤ
 item_cells item = repeated (length_or_one item.length) (first_cells item.kind)
 
 -- one variable more, on cells of its own
@@ -155,18 +155,18 @@ abbrev pub put_values : List Expr → ℕ → Passing
 put_values [] cell s go = go s
 put_values (e ∷ es) cell s go = trying (value e s) s (λ v. put_values es (cell + 1) (put cell v s) go)
 
-abbrev pub begin : Calls → Initial → ℕ → Passing
+abbrev pub begin : Calls → Initializer → ℕ → Passing
 begin calls NoInitial cell s go = go s
 begin calls (RightInitial given_right) cell s go = right calls given_right s (λ v s. go (put cell v s))
 begin calls (Values es) cell s go = put_values es.items cell s go
 
-abbrev pub declare : Calls → Item → Passing
+abbrev pub declare : Calls → InitDeclarator → Passing
 declare calls item s go =
     choose (has_room (length (item_cells item)) s)
     (begin calls item.initial (length s.cells) (with_slot item.name (length_or_one item.length) (width_of item.kind) (item_cells item) s) go)
     (trapped CellsFault s)
 
-abbrev pub declare_all : Calls → List Item → Passing
+abbrev pub declare_all : Calls → List InitDeclarator → Passing
 declare_all calls [] s go = go s
 declare_all calls (item ∷ items) s go = declare calls item s (λ s. declare_all calls items s go)
 

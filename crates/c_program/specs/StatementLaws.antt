@@ -21,9 +21,9 @@ use Rattle.c_program.specs.declared.program.ParameterKind.TheVariants.{Int as In
 use Rattle.c_program.specs.declared.statement.Declaration.{Declaration}
 use Rattle.c_program.specs.declared.statement.ForStart.{ForStart}
 use Rattle.c_program.specs.declared.statement.ForStart.TheVariants.{Nothing as NoStart, Declaration as DeclaredStart, Simple as SimpleStart}
-use Rattle.c_program.specs.declared.statement.Initial.{Initial}
-use Rattle.c_program.specs.declared.statement.Initial.TheVariants.{Nothing as NoInitial, Right as RightInitial, Values}
-use Rattle.c_program.specs.declared.statement.Item.{Item}
+use Rattle.c_program.specs.declared.statement.Initializer.{Initializer}
+use Rattle.c_program.specs.declared.statement.Initializer.TheVariants.{Nothing as NoInitial, Right as RightInitial, Values}
+use Rattle.c_program.specs.declared.statement.InitDeclarator.{InitDeclarator}
 use Rattle.c_program.specs.declared.statement.Simple.{Simple}
 use Rattle.c_program.specs.declared.statement.Simple.TheVariants.{Set, Update, Call as CallSimple, Mpi, Print, Flush}
 use Rattle.c_program.specs.declared.statement.Stmt.{Stmt, Block', Empty, Simple as SimpleStmt, Break, Continue, Return, If', IfElse', While', Do', For', Row_of-Part, end_of-Part, more_of-Part}
@@ -206,7 +206,7 @@ module _ (n me : ℕ) where
       let others : count ≤ length (m.repeated count cells) = repeated_length count cells some in
       omega (arith, length-append cells (m.repeated count cells))
 
-  item_fits : (item : Item) (s : State) → m.has_room (length (m.item_cells item)) s ≡ true → m.length_or_one item.length ≤ 262144
+  item_fits : (item : InitDeclarator) (s : State) → m.has_room (length (m.item_cells item)) s ≡ true → m.length_or_one item.length ≤ 262144
   item_fits item s room =
       let all : length s.cells + length (m.item_cells item) ≤ 262144 = leb-true (length s.cells + length (m.item_cells item)) 262144 room in
       let these : m.length_or_one item.length ≤ length (m.item_cells item) = repeated_length (m.length_or_one item.length) (first_cells item.kind) (kind_has_cells item.kind) in
@@ -225,20 +225,20 @@ module _ (n me : ℕ) where
     right_keeps (ValueRight e) own s go good keep = trying_keeps own (value e s) s (λ v. go v s) (λ v is. keep v own s good)
     right_keeps (CallRight call) own s go good keep = invoke_keeps call own s go good keep
 
-    begin_keeps : (initial : Initial) (cell : ℕ) → KeepPassing n me (m.begin calls initial cell)
+    begin_keeps : (initial : Initializer) (cell : ℕ) → KeepPassing n me (m.begin calls initial cell)
     begin_keeps NoInitial cell own s go good keep = keep own s good
     begin_keeps (RightInitial given_right) cell own s go good keep =
         right_keeps given_right own s (λ v s. go (put cell v s)) good (λ v own s good. keep own (put cell v s) (good_put n me own cell v s good))
     begin_keeps (Values es) cell own s go good keep = put_values_keep es.items cell own s go good keep
 
-    declare_keeps : (item : Item) → KeepPassing n me (m.declare calls item)
+    declare_keeps : (item : InitDeclarator) → KeepPassing n me (m.declare calls item)
     declare_keeps item own s go good keep =
         let more : State = m.with_slot item.name (m.length_or_one item.length) (width_of item.kind) (m.item_cells item) s in
         choose_keeps own (m.has_room (length (m.item_cells item)) s) s.printed (m.begin calls item.initial (length s.cells) more go) (trapped CellsFault s)
         (λ room. begin_keeps item.initial (length s.cells) own more go (good_with_slot own item.name (m.length_or_one item.length) (width_of item.kind) (m.item_cells item) s (item_fits item s room) good) keep)
         (keeps_trapped n me own CellsFault s)
 
-    declare_all_keeps : (items : List Item) → KeepPassing n me (m.declare_all calls items)
+    declare_all_keeps : (items : List InitDeclarator) → KeepPassing n me (m.declare_all calls items)
     declare_all_keeps [] own s go good keep = keep own s good
     declare_all_keeps (item ∷ items) own s go good keep =
         declare_keeps item own s (λ s. m.declare_all calls items s go) good (λ own s good. declare_all_keeps items own s go good keep)

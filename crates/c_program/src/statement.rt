@@ -33,7 +33,7 @@ pub enum Simple {
 
 /// How a variable begins: as nothing of its kind, as a right side, or with some ints and then 0.
 #[derive(Drop)]
-pub enum Initial {
+pub enum Initializer {
     Nothing,
     Right(Right),
     Values(Vec<Expr>),
@@ -41,16 +41,16 @@ pub enum Initial {
 
 /// A variable that is declared; `length` is that of an array.
 #[derive(Drop)]
-pub struct Item {
+pub struct InitDeclarator {
     pub name: Bytes,
     pub kind: VariableKind,
     pub length: Option<u32>,
-    pub initial: Initial,
+    pub initial: Initializer,
 }
 
 #[derive(Drop)]
 pub struct Declaration {
-    pub items: Vec<Item>,
+    pub items: Vec<InitDeclarator>,
 }
 
 #[derive(Drop)]

@@ -5,7 +5,7 @@ use Rattle.c_names.specs.declared.operator.Operator.{Operator}
 use Rattle.c_program.specs.declared.effect.Rank.{Rank}
 use Rattle.c_program.specs.declared.mpi.MpiCall.{MpiCall}
 use Rattle.c_program.specs.declared.program.Function.{Function}
-use Rattle.c_program.specs.declared.statement.Item.{Item}
+use Rattle.c_program.specs.declared.statement.InitDeclarator.{InitDeclarator}
 use Rattle.c_program.specs.declared.state.Passed.{Passed}
 use Rattle.c_program.specs.Courses.{Course, trapped}
 use Rattle.c_program.specs.Effects.{effect_of}
@@ -15,7 +15,7 @@ use Rattle.c_program.specs.State.{State, cell_at, put, width_of}
 use Rattle.c_program.specs.Values.{operated}
 
 -- the variable of an item, not yet begun, and its first cell
-abbrev pub added : Item → State → (ℕ → Onward) → Course
+abbrev pub added : InitDeclarator → State → (ℕ → Onward) → Course
 added item s go =
     choose (has_room (length (item_cells item)) s)
     (go (length s.cells) (with_slot item.name (length_or_one item.length) (width_of item.kind) (item_cells item) s))

@@ -9,15 +9,15 @@ ghost use Rattle.c_run_parts.specs.Comes.{Comes, Does, Gives};
 ghost use Rattle.c_run_parts.specs.Parts.{added, assigned, entered};
 
 use crate::fail::Fail;
-use c_run_cells::print::text_of;
-use c_run_cells::store::{Store, width_of};
-use c_run_cells::values::operated;
 use c_names::format::FormatPiece;
 use c_names::operator::Operator;
 use c_program::expr::{Argument, Expr};
 use c_program::program::{Function, Parameter, ParameterKind};
 use c_program::state::Passed;
-use c_program::statement::Item;
+use c_program::statement::InitDeclarator;
+use c_run_cells::print::text_of;
+use c_run_cells::store::{Store, width_of};
+use c_run_cells::values::operated;
 use mpi_call::call::Fault;
 use mpi_call::lists::Ints;
 use std::alloc::{AllocError, Global};
@@ -123,7 +123,7 @@ pub fn put_assigned(
 
 /// The variable of an item, not yet begun; gives its first cell.
 #[tactic(auto, using(c_run_cells::proofs::StoreLaws::cells_counted))]
-pub fn add<'p>(item: &'p Item, store: &mut Store<'p>) -> Result<u32, Fail>
+pub fn add<'p>(item: &'p InitDeclarator, store: &mut Store<'p>) -> Result<u32, Fail>
     ensures { Gives (added item.now) store.old result store.new }
 {
     let elements = elements_of(item);
@@ -136,7 +136,7 @@ pub fn add<'p>(item: &'p Item, store: &mut Store<'p>) -> Result<u32, Fail>
 }
 
 /// How many elements the variable of an item has.
-fn elements_of(item: &Item) -> u32
+fn elements_of(item: &InitDeclarator) -> u32
     ensures { result ≡ length_or_one item.now.length }
 {
     match item.length {

@@ -1,13 +1,13 @@
 -- Reading a declaration and its `;`, as a part of a block.
 use Rattle.std.specs.Prelude.{List, Ok}
-use Rattle.c_grammar.specs.declared.word.Word.TheVariants.{Semicolon}
-use Rattle.c_grammar.specs.declared.word.Sign.{Sign}
+use Rattle.c_grammar.specs.declared.terminal.Symbol.TheVariants.{Semicolon}
+use Rattle.c_grammar.specs.declared.terminal.Terminal.{Terminal}
 use Rattle.c_grammar.specs.Tree as t
 use Rattle.c_grammar.specs.Reading.{Answer, ◌>>=◌, expect}
 use Rattle.c_grammar.specs.StmtReading.{declaration_of}
 
 -- `expr` reads an expression at the depth of the part, `index` one that is a depth below it
-abbrev pub declared_of : (List Sign → Answer t.Expr) → (List Sign → Answer t.Expr) → List Sign → Answer t.Part
+abbrev pub declared_of : (List Terminal → Answer t.Expr) → (List Terminal → Answer t.Expr) → List Terminal → Answer t.Part
 declared_of expr index ts = do
   one ← declaration_of expr index ts
   end ← expect Semicolon one.1

@@ -3,35 +3,39 @@ ghost use Rattle.std.specs.Prelude.{◌≡◌, ◌<◌, ◌-◌, true, option_ma
 ghost use Rattle.c_grammar.specs.Tree as t;
 ghost use Rattle.c_grammar.specs.View.{view};
 ghost use Rattle.c_grammar.specs.StmtView.{head_view, parameter_view, parameters_view};
-ghost use Rattle.c_grammar.specs.Words.{isnt};
-ghost use Rattle.c_grammar.specs.declared.word.Word.TheVariants as w;
+ghost use Rattle.c_grammar.specs.Symbols.{isnt};
+ghost use Rattle.c_grammar.specs.declared.terminal.Symbol.TheVariants as w;
 ghost use Rattle.c_grammar.specs.Reading.{expr_at, first_of, maybe};
 ghost use Rattle.c_grammar.specs.StmtReading.{array_tail, char_tail, head_of, int_tail, parameter_of, parameters_by};
 ghost use Rattle.c_expr.specs.Gives.{Gives};
 
-use crate::row::{InRow, row};
+use crate::comma_list::{InCommaList, comma_list};
 use c_expr::expression::expr;
 use c_expr::read::{ReadError, expected, first_of, followed, heads, one_of, optional};
-use c_expr::words::Class;
+use c_expr::symbols::Class;
 use c_grammar::statement::{Head, Parameter, Parameters};
+use c_grammar::terminal::{Span, Symbol, Terminal};
 use c_grammar::tree::Expr;
-use c_grammar::word::{Sign, Spot, Word};
 use std::alloc::Global;
 
 /// A function's head with `left` depths left; the lengths of its arrays stand one deeper.
 #[tactic(auto, unfolding(c_grammar::specs::StmtReading::head_of))]
-pub fn head(alloc: Global, left: u8, signs: &[Sign]) -> Result<(Head, &[Sign]), ReadError>
+pub fn head(
+    alloc: Global,
+    left: u8,
+    terminals: &[Terminal],
+) -> Result<(Head, &[Terminal]), ReadError>
     requires { 0 < left }
-    ensures { Gives (λ x. (head_view x.0, x.1.now)) result (head_of (expr_at (left - 1) true) signs.now) }
+    ensures { Gives (λ x. (head_view x.0, x.1.now)) result (head_of (expr_at (left - 1) true) terminals.now) }
 {
-    let (result, rest) = one_of(signs, Class::Outcome)?;
-    let (name, rest) = expected(rest, Word::Name)?;
-    let (opening, rest) = expected(rest, Word::OpenParen)?;
+    let (result, rest) = one_of(terminals, Class::Outcome)?;
+    let (name, rest) = expected(rest, Symbol::Name)?;
+    let (opening, rest) = expected(rest, Symbol::OpenParen)?;
     let (parameters, rest) = parameters(alloc, left, rest)?;
-    let ((parameters, closing), rest) = followed(parameters, rest, Word::CloseParen)?;
+    let ((parameters, closing), rest) = followed(parameters, rest, Symbol::CloseParen)?;
     let head = Head {
-        result: result.word,
-        at: result.spot,
+        result: result.symbol,
+        at: result.span,
         name,
         opening,
         parameters,
@@ -40,24 +44,28 @@ pub fn head(alloc: Global, left: u8, signs: &[Sign]) -> Result<(Head, &[Sign]), 
     Ok((head, rest))
 }
 
-fn parameters(alloc: Global, left: u8, signs: &[Sign]) -> Result<(Parameters, &[Sign]), ReadError>
+fn parameters(
+    alloc: Global,
+    left: u8,
+    terminals: &[Terminal],
+) -> Result<(Parameters, &[Terminal]), ReadError>
     requires { 0 < left }
-    ensures { Gives (λ x. (parameters_view x.0, x.1.now)) result (parameters_by (expr_at (left - 1) true) signs.now (first_of signs.now)) }
+    ensures { Gives (λ x. (parameters_view x.0, x.1.now)) result (parameters_by (expr_at (left - 1) true) terminals.now (first_of terminals.now)) }
 {
-    match first_of(signs) {
-        Some(Word::CloseParen) => Ok((Parameters::Nothing, signs)),
-        Some(Word::Void) => {
-            let (at, rest) = expected(signs, Word::Void)?;
+    match first_of(terminals) {
+        Some(Symbol::CloseParen) => Ok((Parameters::Nothing, terminals)),
+        Some(Symbol::Void) => {
+            let (at, rest) = expected(terminals, Symbol::Void)?;
             Ok((Parameters::Void(at), rest))
         }
         _ => {
-            let (list, rest) = row(alloc, left, signs)?;
+            let (list, rest) = comma_list(alloc, left, terminals)?;
             Ok((Parameters::Listed(list), rest))
         }
     }
 }
 
-impl InRow for Parameter {
+impl InCommaList for Parameter {
     ghost use Rattle.c_grammar.proofs.Shorter.{parameter_shorter};
 
     ghost Tree = { t.Parameter };
@@ -72,22 +80,22 @@ impl InRow for Parameter {
     fn read<'a>(
         alloc: Global,
         left: u8,
-        signs: &'a [Sign],
-    ) -> Result<(Self, &'a [Sign]), ReadError<'a>> {
-        match first_of(signs) {
-            Some(Word::Int) => {
-                let (word, rest) = expected(signs, Word::Int)?;
-                int_parameter(alloc, left, word, rest)
+        terminals: &'a [Terminal],
+    ) -> Result<(Self, &'a [Terminal]), ReadError<'a>> {
+        match first_of(terminals) {
+            Some(Symbol::Int) => {
+                let (keyword, rest) = expected(terminals, Symbol::Int)?;
+                int_parameter(alloc, left, keyword, rest)
             }
-            Some(Word::Communicator) => {
-                let (word, rest) = expected(signs, Word::Communicator)?;
-                let (name, rest) = optional(rest, Word::Name);
-                Ok((Parameter::Communicator { word, name }, rest))
+            Some(Symbol::Communicator) => {
+                let (keyword, rest) = expected(terminals, Symbol::Communicator)?;
+                let (name, rest) = optional(rest, Symbol::Name);
+                Ok((Parameter::Communicator { keyword, name }, rest))
             }
             _ => {
-                let (word, rest) = expected(signs, Word::Char)?;
-                let (star, rest) = expected(rest, Word::Times)?;
-                char_parameter(word, star, rest)
+                let (keyword, rest) = expected(terminals, Symbol::Char)?;
+                let (star, rest) = expected(rest, Symbol::Times)?;
+                char_parameter(keyword, star, rest)
             }
         }
     }
@@ -97,19 +105,26 @@ impl InRow for Parameter {
 fn int_parameter(
     alloc: Global,
     left: u8,
-    word: Spot,
-    signs: &[Sign],
-) -> Result<(Parameter, &[Sign]), ReadError>
+    keyword: Span,
+    terminals: &[Terminal],
+) -> Result<(Parameter, &[Terminal]), ReadError>
     requires { 0 < left }
-    ensures { Gives (λ x. (parameter_view x.0, x.1.now)) result (int_tail (expr_at (left - 1) true) word signs.now) }
+    ensures { Gives (λ x. (parameter_view x.0, x.1.now)) result (int_tail (expr_at (left - 1) true) keyword terminals.now) }
 {
-    if heads(signs, Class::Is(Word::Times)) {
-        let (star, rest) = expected(signs, Word::Times)?;
-        let (name, rest) = optional(rest, Word::Name);
-        Ok((Parameter::Pointer { word, star, name }, rest))
+    if heads(terminals, Class::Is(Symbol::Times)) {
+        let (star, rest) = expected(terminals, Symbol::Times)?;
+        let (name, rest) = optional(rest, Symbol::Name);
+        Ok((
+            Parameter::Pointer {
+                keyword,
+                star,
+                name,
+            },
+            rest,
+        ))
     } else {
-        let (name, rest) = optional(signs, Word::Name);
-        array_parameter(alloc, left, word, name, rest)
+        let (name, rest) = optional(terminals, Symbol::Name);
+        array_parameter(alloc, left, keyword, name, rest)
     }
 }
 
@@ -117,19 +132,19 @@ fn int_parameter(
 fn array_parameter(
     alloc: Global,
     left: u8,
-    word: Spot,
-    name: Option<Spot>,
-    signs: &[Sign],
-) -> Result<(Parameter, &[Sign]), ReadError>
+    keyword: Span,
+    name: Option<Span>,
+    terminals: &[Terminal],
+) -> Result<(Parameter, &[Terminal]), ReadError>
     requires { 0 < left }
-    ensures { Gives (λ x. (parameter_view x.0, x.1.now)) result (array_tail (expr_at (left - 1) true) word name signs.now) }
+    ensures { Gives (λ x. (parameter_view x.0, x.1.now)) result (array_tail (expr_at (left - 1) true) keyword name terminals.now) }
 {
-    if heads(signs, Class::Is(Word::OpenBracket)) {
-        let (opening, rest) = expected(signs, Word::OpenBracket)?;
+    if heads(terminals, Class::Is(Symbol::OpenBracket)) {
+        let (opening, rest) = expected(terminals, Symbol::OpenBracket)?;
         let (length, rest) = length(alloc, left, rest)?;
-        let ((length, closing), rest) = followed(length, rest, Word::CloseBracket)?;
+        let ((length, closing), rest) = followed(length, rest, Symbol::CloseBracket)?;
         let array = Parameter::Array {
-            word,
+            keyword,
             name,
             opening,
             length,
@@ -137,43 +152,51 @@ fn array_parameter(
         };
         Ok((array, rest))
     } else {
-        Ok((Parameter::Int { word, name }, signs))
+        Ok((Parameter::Int { keyword, name }, terminals))
     }
 }
 
 /// The length of an array in a head, if any.
-fn length(alloc: Global, left: u8, signs: &[Sign]) -> Result<(Option<Expr>, &[Sign]), ReadError>
+fn length(
+    alloc: Global,
+    left: u8,
+    terminals: &[Terminal],
+) -> Result<(Option<Expr>, &[Terminal]), ReadError>
     requires { 0 < left }
-    ensures { Gives (λ x. (option_map view x.0, x.1.now)) result (maybe (isnt w.CloseBracket) (expr_at (left - 1) true) signs.now) }
+    ensures { Gives (λ x. (option_map view x.0, x.1.now)) result (maybe (isnt w.CloseBracket) (expr_at (left - 1) true) terminals.now) }
 {
-    if heads(signs, Class::Isnt(Word::CloseBracket)) {
-        let (length, rest) = expr(alloc, left - 1, true, signs)?;
+    if heads(terminals, Class::Isnt(Symbol::CloseBracket)) {
+        let (length, rest) = expr(alloc, left - 1, true, terminals)?;
         Ok((Some(length), rest))
     } else {
-        Ok((None, signs))
+        Ok((None, terminals))
     }
 }
 
 /// A parameter behind `char *`.
-fn char_parameter(word: Spot, star: Spot, signs: &[Sign]) -> Result<(Parameter, &[Sign]), ReadError>
-    ensures { Gives (λ x. (parameter_view x.0, x.1.now)) result (char_tail word star signs.now) }
+fn char_parameter(
+    keyword: Span,
+    star: Span,
+    terminals: &[Terminal],
+) -> Result<(Parameter, &[Terminal]), ReadError>
+    ensures { Gives (λ x. (parameter_view x.0, x.1.now)) result (char_tail keyword star terminals.now) }
 {
-    if heads(signs, Class::Is(Word::Times)) {
-        let (second, rest) = expected(signs, Word::Times)?;
-        let (name, rest) = optional(rest, Word::Name);
+    if heads(terminals, Class::Is(Symbol::Times)) {
+        let (second, rest) = expected(terminals, Symbol::Times)?;
+        let (name, rest) = optional(rest, Symbol::Name);
         let texts = Parameter::TextPointers {
-            word,
+            keyword,
             star,
             second,
             name,
         };
         Ok((texts, rest))
     } else {
-        let (name, rest) = optional(signs, Word::Name);
-        let (opening, rest) = expected(rest, Word::OpenBracket)?;
-        let (closing, rest) = expected(rest, Word::CloseBracket)?;
+        let (name, rest) = optional(terminals, Symbol::Name);
+        let (opening, rest) = expected(rest, Symbol::OpenBracket)?;
+        let (closing, rest) = expected(rest, Symbol::CloseBracket)?;
         let array = Parameter::TextArray {
-            word,
+            keyword,
             star,
             name,
             opening,

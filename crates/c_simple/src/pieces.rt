@@ -2,8 +2,8 @@
 ghost use Rattle.std.specs.Prelude.{◌≡◌, ◌<◌, ◌-◌, true, option_map};
 ghost use Rattle.c_grammar.specs.View.{view};
 ghost use Rattle.c_grammar.specs.StmtView.{part_view, right_view, simple_view, start_view};
-ghost use Rattle.c_grammar.specs.Words.{isnt};
-ghost use Rattle.c_grammar.specs.declared.word.Word.TheVariants as w;
+ghost use Rattle.c_grammar.specs.Symbols.{isnt};
+ghost use Rattle.c_grammar.specs.declared.terminal.Symbol.TheVariants as w;
 ghost use Rattle.c_grammar.specs.Reading.{expr_at, maybe};
 ghost use Rattle.c_grammar.specs.StmtReading.{right_of, simple_of, start_of};
 ghost use Rattle.c_expr.specs.Gives.{Gives};
@@ -12,25 +12,29 @@ ghost use Rattle.c_simple.specs.PartReading.{declared_of};
 use crate::simple::{declaration, right, simple};
 use c_expr::expression::expr;
 use c_expr::read::{ReadError, followed, heads};
-use c_expr::words::Class;
+use c_expr::symbols::Class;
 use c_grammar::statement::{ForStart, Part, Right, Simple};
+use c_grammar::terminal::{Symbol, Terminal};
 use c_grammar::tree::Expr;
-use c_grammar::word::{Sign, Word};
 use std::alloc::Global;
 
 /// How a `for` begins.
 #[tactic(auto, unfolding(c_grammar::specs::StmtReading::start_of))]
-pub fn for_start(alloc: Global, left: u8, signs: &[Sign]) -> Result<(ForStart, &[Sign]), ReadError>
+pub fn for_start(
+    alloc: Global,
+    left: u8,
+    terminals: &[Terminal],
+) -> Result<(ForStart, &[Terminal]), ReadError>
     requires { 0 < left }
-    ensures { Gives (λ x. (start_view x.0, x.1.now)) result (start_of (expr_at left true) (expr_at (left - 1) true) signs.now) }
+    ensures { Gives (λ x. (start_view x.0, x.1.now)) result (start_of (expr_at left true) (expr_at (left - 1) true) terminals.now) }
 {
-    if heads(signs, Class::Is(Word::Semicolon)) {
-        Ok((ForStart::Nothing, signs))
-    } else if heads(signs, Class::Kind) {
-        let (declaration, rest) = declaration(alloc, left, signs)?;
+    if heads(terminals, Class::Is(Symbol::Semicolon)) {
+        Ok((ForStart::Nothing, terminals))
+    } else if heads(terminals, Class::Kind) {
+        let (declaration, rest) = declaration(alloc, left, terminals)?;
         Ok((ForStart::Declaration(declaration), rest))
     } else {
-        let (simple, rest) = simple(alloc, left, signs)?;
+        let (simple, rest) = simple(alloc, left, terminals)?;
         Ok((ForStart::Simple(simple), rest))
     }
 }
@@ -39,16 +43,16 @@ pub fn for_start(alloc: Global, left: u8, signs: &[Sign]) -> Result<(ForStart, &
 pub fn for_test(
     alloc: Global,
     left: u8,
-    signs: &[Sign],
-) -> Result<(Option<Expr>, &[Sign]), ReadError>
+    terminals: &[Terminal],
+) -> Result<(Option<Expr>, &[Terminal]), ReadError>
     requires { 0 < left }
-    ensures { Gives (λ x. (option_map view x.0, x.1.now)) result (maybe (isnt w.Semicolon) (expr_at left true) signs.now) }
+    ensures { Gives (λ x. (option_map view x.0, x.1.now)) result (maybe (isnt w.Semicolon) (expr_at left true) terminals.now) }
 {
-    if heads(signs, Class::Isnt(Word::Semicolon)) {
-        let (test, rest) = expr(alloc, left, true, signs)?;
+    if heads(terminals, Class::Isnt(Symbol::Semicolon)) {
+        let (test, rest) = expr(alloc, left, true, terminals)?;
         Ok((Some(test), rest))
     } else {
-        Ok((None, signs))
+        Ok((None, terminals))
     }
 }
 
@@ -56,41 +60,49 @@ pub fn for_test(
 pub fn for_step(
     alloc: Global,
     left: u8,
-    signs: &[Sign],
-) -> Result<(Option<Simple>, &[Sign]), ReadError>
+    terminals: &[Terminal],
+) -> Result<(Option<Simple>, &[Terminal]), ReadError>
     requires { 0 < left }
     ensures { Gives (λ x. (option_map simple_view x.0, x.1.now)) result
-        (maybe (isnt w.CloseParen) (simple_of (expr_at left true) (expr_at (left - 1) true)) signs.now) }
+        (maybe (isnt w.CloseParen) (simple_of (expr_at left true) (expr_at (left - 1) true)) terminals.now) }
 {
-    if heads(signs, Class::Isnt(Word::CloseParen)) {
-        let (step, rest) = simple(alloc, left, signs)?;
+    if heads(terminals, Class::Isnt(Symbol::CloseParen)) {
+        let (step, rest) = simple(alloc, left, terminals)?;
         Ok((Some(step), rest))
     } else {
-        Ok((None, signs))
+        Ok((None, terminals))
     }
 }
 
 /// What a function returns, if anything.
-pub fn value(alloc: Global, left: u8, signs: &[Sign]) -> Result<(Option<Right>, &[Sign]), ReadError>
+pub fn value(
+    alloc: Global,
+    left: u8,
+    terminals: &[Terminal],
+) -> Result<(Option<Right>, &[Terminal]), ReadError>
     requires { 0 < left }
     ensures { Gives (λ x. (option_map right_view x.0, x.1.now)) result
-        (maybe (isnt w.Semicolon) (right_of (expr_at left true) (expr_at (left - 1) true)) signs.now) }
+        (maybe (isnt w.Semicolon) (right_of (expr_at left true) (expr_at (left - 1) true)) terminals.now) }
 {
-    if heads(signs, Class::Isnt(Word::Semicolon)) {
-        let (right, rest) = right(alloc, left, signs)?;
+    if heads(terminals, Class::Isnt(Symbol::Semicolon)) {
+        let (right, rest) = right(alloc, left, terminals)?;
         Ok((Some(right), rest))
     } else {
-        Ok((None, signs))
+        Ok((None, terminals))
     }
 }
 
 /// A declaration and its `;`.
 #[tactic(auto, using(c_grammar::proofs::StmtViewed::stmt_views))]
-pub fn declared(alloc: Global, left: u8, signs: &[Sign]) -> Result<(Part, &[Sign]), ReadError>
+pub fn declared(
+    alloc: Global,
+    left: u8,
+    terminals: &[Terminal],
+) -> Result<(Part, &[Terminal]), ReadError>
     requires { 0 < left }
-    ensures { Gives (λ x. (part_view x.0, x.1.now)) result (declared_of (expr_at left true) (expr_at (left - 1) true) signs.now) }
+    ensures { Gives (λ x. (part_view x.0, x.1.now)) result (declared_of (expr_at left true) (expr_at (left - 1) true) terminals.now) }
 {
-    let (declaration, rest) = declaration(alloc, left, signs)?;
-    let ((declaration, end), rest) = followed(declaration, rest, Word::Semicolon)?;
+    let (declaration, rest) = declaration(alloc, left, terminals)?;
+    let ((declaration, end), rest) = followed(declaration, rest, Symbol::Semicolon)?;
     Ok((Part::Declaration { declaration, end }, rest))
 }

@@ -2,23 +2,25 @@
 ghost use Rattle.std.specs.Prelude.{◌≡◌, ◌<◌, ◌-◌, true, option_map, map};
 ghost use Rattle.c_grammar.specs.Tree as t;
 ghost use Rattle.c_grammar.specs.View.{place_view, view};
-ghost use Rattle.c_grammar.specs.StmtView.{argument_view, call_view, declaration_view, initial_view, item_view, right_view, row_view, simple_view};
-ghost use Rattle.c_grammar.specs.Words.{is, isnt};
-ghost use Rattle.c_grammar.specs.declared.word.Word.TheVariants as w;
+ghost use Rattle.c_grammar.specs.StmtView.{argument_view, call_view, declaration_view, initial_view, item_view, right_view, comma_list_view, simple_view};
+ghost use Rattle.c_grammar.specs.Symbols.{is, isnt};
+ghost use Rattle.c_grammar.specs.declared.terminal.Symbol.TheVariants as w;
 ghost use Rattle.c_grammar.specs.Reading.{expr_at, maybe};
-ghost use Rattle.c_grammar.specs.StmtReading.{argument_of, before_of, call_of, calls, change_of, declaration_of, initial_of, initial_tail, item_of, right_of, row_of, simple_of, simple_tail};
+ghost use Rattle.c_grammar.specs.StmtReading.{argument_of, before_of, call_of, calls, change_of, declaration_of, initial_of, initial_tail, item_of, right_of, comma_list_of, simple_of, simple_tail};
 ghost use Rattle.c_expr.specs.Gives.{Gives};
 
-use crate::row::{InRow, row};
+use crate::comma_list::{InCommaList, comma_list};
 use c_expr::expression::{expr, place};
 use c_expr::read::{ReadError, expected, first_of, followed, heads, one_of};
-use c_expr::words::{Class, is_in};
-use c_grammar::statement::{Argument, Call, Declaration, Initial, Item, Listed, Right, Simple};
+use c_expr::symbols::{Class, is_in};
+use c_grammar::statement::{
+    Argument, Call, CommaList, Declaration, InitDeclarator, Initializer, Right, Simple,
+};
+use c_grammar::terminal::{Span, Symbol, Terminal};
 use c_grammar::tree::{Expr, Place};
-use c_grammar::word::{Sign, Spot, Word};
 use std::alloc::Global;
 
-impl InRow for Argument {
+impl InCommaList for Argument {
     ghost use Rattle.c_grammar.proofs.Shorter.{argument_shorter};
 
     ghost Tree = { t.Argument };
@@ -33,27 +35,27 @@ impl InRow for Argument {
     fn read<'a>(
         alloc: Global,
         left: u8,
-        signs: &'a [Sign],
-    ) -> Result<(Self, &'a [Sign]), ReadError<'a>> {
-        match first_of(signs) {
-            Some(Word::Text) => {
-                let (text, rest) = expected(signs, Word::Text)?;
+        terminals: &'a [Terminal],
+    ) -> Result<(Self, &'a [Terminal]), ReadError<'a>> {
+        match first_of(terminals) {
+            Some(Symbol::Text) => {
+                let (text, rest) = expected(terminals, Symbol::Text)?;
                 Ok((Argument::Text(text), rest))
             }
-            Some(Word::And) => {
-                let (mark, rest) = expected(signs, Word::And)?;
+            Some(Symbol::And) => {
+                let (mark, rest) = expected(terminals, Symbol::And)?;
                 let (place, rest) = place(alloc, left, rest)?;
                 Ok((Argument::Address { mark, place }, rest))
             }
             _ => {
-                let (value, rest) = expr(alloc, left, true, signs)?;
+                let (value, rest) = expr(alloc, left, true, terminals)?;
                 Ok((Argument::Value(value), rest))
             }
         }
     }
 }
 
-impl InRow for Expr {
+impl InCommaList for Expr {
     ghost use Rattle.c_grammar.proofs.Shorter.{expr_shorter};
 
     ghost Tree = { t.Expr };
@@ -67,16 +69,16 @@ impl InRow for Expr {
     fn read<'a>(
         alloc: Global,
         left: u8,
-        signs: &'a [Sign],
-    ) -> Result<(Self, &'a [Sign]), ReadError<'a>> {
-        expr(alloc, left, true, signs)
+        terminals: &'a [Terminal],
+    ) -> Result<(Self, &'a [Terminal]), ReadError<'a>> {
+        expr(alloc, left, true, terminals)
     }
 }
 
-impl InRow for Item {
+impl InCommaList for InitDeclarator {
     ghost use Rattle.c_grammar.proofs.Shorter.{item_shorter};
 
-    ghost Tree = { t.Item };
+    ghost Tree = { t.InitDeclarator };
 
     ghost view = { item_view };
 
@@ -88,35 +90,36 @@ impl InRow for Item {
     fn read<'a>(
         alloc: Global,
         left: u8,
-        signs: &'a [Sign],
-    ) -> Result<(Self, &'a [Sign]), ReadError<'a>> {
-        let (place, rest) = place(alloc, left, signs)?;
+        terminals: &'a [Terminal],
+    ) -> Result<(Self, &'a [Terminal]), ReadError<'a>> {
+        let (place, rest) = place(alloc, left, terminals)?;
         let (initial, rest) = maybe_initial(alloc, left, rest)?;
-        Ok((Item { place, initial }, rest))
+        Ok((InitDeclarator { place, initial }, rest))
     }
 }
 
 /// Whether a name and `(` stand first.
-fn calls(signs: &[Sign]) -> bool
-    ensures { result ≡ calls signs.now }
+fn calls(terminals: &[Terminal]) -> bool
+    ensures { result ≡ calls terminals.now }
 {
-    match signs {
+    match terminals {
         [first, rest @ ..] => {
-            is_in(Class::Is(Word::Name), first.word) && heads(rest, Class::Is(Word::OpenParen))
+            is_in(Class::Is(Symbol::Name), first.symbol)
+                && heads(rest, Class::Is(Symbol::OpenParen))
         }
         [] => false,
     }
 }
 
 #[tactic(auto, unfolding(c_grammar::specs::StmtReading::call_of))]
-fn call(alloc: Global, left: u8, signs: &[Sign]) -> Result<(Call, &[Sign]), ReadError>
+fn call(alloc: Global, left: u8, terminals: &[Terminal]) -> Result<(Call, &[Terminal]), ReadError>
     requires { 0 < left }
-    ensures { Gives (λ x. (call_view x.0, x.1.now)) result (call_of (expr_at left true) (expr_at (left - 1) true) signs.now) }
+    ensures { Gives (λ x. (call_view x.0, x.1.now)) result (call_of (expr_at left true) (expr_at (left - 1) true) terminals.now) }
 {
-    let (name, rest) = expected(signs, Word::Name)?;
-    let (opening, rest) = expected(rest, Word::OpenParen)?;
+    let (name, rest) = expected(terminals, Symbol::Name)?;
+    let (opening, rest) = expected(rest, Symbol::OpenParen)?;
     let (arguments, rest) = arguments(alloc, left, rest)?;
-    let ((arguments, closing), rest) = followed(arguments, rest, Word::CloseParen)?;
+    let ((arguments, closing), rest) = followed(arguments, rest, Symbol::CloseParen)?;
     let call = Call {
         name,
         opening,
@@ -129,66 +132,78 @@ fn call(alloc: Global, left: u8, signs: &[Sign]) -> Result<(Call, &[Sign]), Read
 fn arguments(
     alloc: Global,
     left: u8,
-    signs: &[Sign],
-) -> Result<(Option<Listed<Argument>>, &[Sign]), ReadError>
+    terminals: &[Terminal],
+) -> Result<(Option<CommaList<Argument>>, &[Terminal]), ReadError>
     requires { 0 < left }
-    ensures { Gives (λ x. (option_map (row_view argument_view) x.0, x.1.now)) result
-        (maybe (isnt w.CloseParen) (row_of (argument_of (expr_at left true) (expr_at (left - 1) true))) signs.now) }
+    ensures { Gives (λ x. (option_map (comma_list_view argument_view) x.0, x.1.now)) result
+        (maybe (isnt w.CloseParen) (comma_list_of (argument_of (expr_at left true) (expr_at (left - 1) true))) terminals.now) }
 {
-    if heads(signs, Class::Isnt(Word::CloseParen)) {
-        let (list, rest) = row(alloc, left, signs)?;
+    if heads(terminals, Class::Isnt(Symbol::CloseParen)) {
+        let (list, rest) = comma_list(alloc, left, terminals)?;
         Ok((Some(list), rest))
     } else {
-        Ok((None, signs))
+        Ok((None, terminals))
     }
 }
 
 /// A right side.
 #[tactic(auto, unfolding(c_grammar::specs::StmtReading::right_of))]
-pub fn right(alloc: Global, left: u8, signs: &[Sign]) -> Result<(Right, &[Sign]), ReadError>
+pub fn right(
+    alloc: Global,
+    left: u8,
+    terminals: &[Terminal],
+) -> Result<(Right, &[Terminal]), ReadError>
     requires { 0 < left }
-    ensures { Gives (λ x. (right_view x.0, x.1.now)) result (right_of (expr_at left true) (expr_at (left - 1) true) signs.now) }
+    ensures { Gives (λ x. (right_view x.0, x.1.now)) result (right_of (expr_at left true) (expr_at (left - 1) true) terminals.now) }
 {
-    if calls(signs) {
-        let (call, rest) = call(alloc, left, signs)?;
+    if calls(terminals) {
+        let (call, rest) = call(alloc, left, terminals)?;
         Ok((Right::Call(call), rest))
     } else {
-        let (value, rest) = expr(alloc, left, true, signs)?;
+        let (value, rest) = expr(alloc, left, true, terminals)?;
         Ok((Right::Value(value), rest))
     }
 }
 
 /// A statement that needs a `;`, without it.
 #[tactic(auto, unfolding(c_grammar::specs::StmtReading::simple_of))]
-pub fn simple(alloc: Global, left: u8, signs: &[Sign]) -> Result<(Simple, &[Sign]), ReadError>
+pub fn simple(
+    alloc: Global,
+    left: u8,
+    terminals: &[Terminal],
+) -> Result<(Simple, &[Terminal]), ReadError>
     requires { 0 < left }
-    ensures { Gives (λ x. (simple_view x.0, x.1.now)) result (simple_of (expr_at left true) (expr_at (left - 1) true) signs.now) }
+    ensures { Gives (λ x. (simple_view x.0, x.1.now)) result (simple_of (expr_at left true) (expr_at (left - 1) true) terminals.now) }
 {
-    if calls(signs) {
-        let (call, rest) = call(alloc, left, signs)?;
+    if calls(terminals) {
+        let (call, rest) = call(alloc, left, terminals)?;
         Ok((Simple::Call(call), rest))
     } else {
-        change(alloc, left, signs)
+        change(alloc, left, terminals)
     }
 }
 
 /// An assignment, or `++` or `--` before or behind a place.
 #[tactic(auto, unfolding(c_grammar::specs::StmtReading::change_of))]
-fn change(alloc: Global, left: u8, signs: &[Sign]) -> Result<(Simple, &[Sign]), ReadError>
+fn change(
+    alloc: Global,
+    left: u8,
+    terminals: &[Terminal],
+) -> Result<(Simple, &[Terminal]), ReadError>
     requires { 0 < left }
-    ensures { Gives (λ x. (simple_view x.0, x.1.now)) result (change_of (expr_at left true) (expr_at (left - 1) true) signs.now) }
+    ensures { Gives (λ x. (simple_view x.0, x.1.now)) result (change_of (expr_at left true) (expr_at (left - 1) true) terminals.now) }
 {
-    if heads(signs, Class::Step) {
-        let (operator, rest) = one_of(signs, Class::Step)?;
+    if heads(terminals, Class::Step) {
+        let (operator, rest) = one_of(terminals, Class::Step)?;
         let (place, rest) = place(alloc, left, rest)?;
         let before = Simple::Before {
-            operator: operator.word,
-            at: operator.spot,
+            operator: operator.symbol,
+            at: operator.span,
             place,
         };
         Ok((before, rest))
     } else {
-        let (place, rest) = place(alloc, left, signs)?;
+        let (place, rest) = place(alloc, left, terminals)?;
         changed(alloc, left, place, rest)
     }
 }
@@ -198,27 +213,27 @@ fn changed(
     alloc: Global,
     left: u8,
     place: Place,
-    signs: &[Sign],
-) -> Result<(Simple, &[Sign]), ReadError>
+    terminals: &[Terminal],
+) -> Result<(Simple, &[Terminal]), ReadError>
     requires { 0 < left }
     ensures { Gives (λ x. (simple_view x.0, x.1.now)) result
-        (simple_tail (expr_at left true) (expr_at (left - 1) true) (place_view place) signs.now) }
+        (simple_tail (expr_at left true) (expr_at (left - 1) true) (place_view place) terminals.now) }
 {
-    if heads(signs, Class::Step) {
-        let (operator, rest) = one_of(signs, Class::Step)?;
+    if heads(terminals, Class::Step) {
+        let (operator, rest) = one_of(terminals, Class::Step)?;
         let after = Simple::After {
             place,
-            operator: operator.word,
-            at: operator.spot,
+            operator: operator.symbol,
+            at: operator.span,
         };
         Ok((after, rest))
     } else {
-        let (operator, rest) = one_of(signs, Class::Assign)?;
+        let (operator, rest) = one_of(terminals, Class::Assign)?;
         let (right, rest) = right(alloc, left, rest)?;
         let assign = Simple::Assign {
             place,
-            operator: operator.word,
-            at: operator.spot,
+            operator: operator.symbol,
+            at: operator.span,
             right,
         };
         Ok((assign, rest))
@@ -229,31 +244,35 @@ fn changed(
 fn maybe_initial(
     alloc: Global,
     left: u8,
-    signs: &[Sign],
-) -> Result<(Option<Initial>, &[Sign]), ReadError>
+    terminals: &[Terminal],
+) -> Result<(Option<Initializer>, &[Terminal]), ReadError>
     requires { 0 < left }
     ensures { Gives (λ x. (option_map initial_view x.0, x.1.now)) result
-        (maybe (is w.Assign) (initial_of (expr_at left true) (expr_at (left - 1) true)) signs.now) }
+        (maybe (is w.Assign) (initial_of (expr_at left true) (expr_at (left - 1) true)) terminals.now) }
 {
-    if heads(signs, Class::Is(Word::Assign)) {
-        let (initial, rest) = initial(alloc, left, signs)?;
+    if heads(terminals, Class::Is(Symbol::Assign)) {
+        let (initial, rest) = initial(alloc, left, terminals)?;
         Ok((Some(initial), rest))
     } else {
-        Ok((None, signs))
+        Ok((None, terminals))
     }
 }
 
 #[tactic(auto, unfolding(c_grammar::specs::StmtReading::initial_of))]
-fn initial(alloc: Global, left: u8, signs: &[Sign]) -> Result<(Initial, &[Sign]), ReadError>
+fn initial(
+    alloc: Global,
+    left: u8,
+    terminals: &[Terminal],
+) -> Result<(Initializer, &[Terminal]), ReadError>
     requires { 0 < left }
-    ensures { Gives (λ x. (initial_view x.0, x.1.now)) result (initial_of (expr_at left true) (expr_at (left - 1) true) signs.now) }
+    ensures { Gives (λ x. (initial_view x.0, x.1.now)) result (initial_of (expr_at left true) (expr_at (left - 1) true) terminals.now) }
 {
-    let (mark, rest) = expected(signs, Word::Assign)?;
-    if heads(rest, Class::Is(Word::OpenBrace)) {
-        let (opening, rest) = expected(rest, Word::OpenBrace)?;
-        let (values, rest) = row(alloc, left, rest)?;
-        let ((values, closing), rest) = followed(values, rest, Word::CloseBrace)?;
-        let braced = Initial::Braced {
+    let (mark, rest) = expected(terminals, Symbol::Assign)?;
+    if heads(rest, Class::Is(Symbol::OpenBrace)) {
+        let (opening, rest) = expected(rest, Symbol::OpenBrace)?;
+        let (values, rest) = comma_list(alloc, left, rest)?;
+        let ((values, closing), rest) = followed(values, rest, Symbol::CloseBrace)?;
+        let braced = Initializer::Braced {
             mark,
             opening,
             values,
@@ -262,7 +281,7 @@ fn initial(alloc: Global, left: u8, signs: &[Sign]) -> Result<(Initial, &[Sign])
         Ok((braced, rest))
     } else {
         let (right, rest) = right(alloc, left, rest)?;
-        Ok((Initial::Right { mark, right }, rest))
+        Ok((Initializer::Right { mark, right }, rest))
     }
 }
 
@@ -271,16 +290,16 @@ fn initial(alloc: Global, left: u8, signs: &[Sign]) -> Result<(Initial, &[Sign])
 pub fn declaration(
     alloc: Global,
     left: u8,
-    signs: &[Sign],
-) -> Result<(Declaration, &[Sign]), ReadError>
+    terminals: &[Terminal],
+) -> Result<(Declaration, &[Terminal]), ReadError>
     requires { 0 < left }
-    ensures { Gives (λ x. (declaration_view x.0, x.1.now)) result (declaration_of (expr_at left true) (expr_at (left - 1) true) signs.now) }
+    ensures { Gives (λ x. (declaration_view x.0, x.1.now)) result (declaration_of (expr_at left true) (expr_at (left - 1) true) terminals.now) }
 {
-    let (kind, rest) = one_of(signs, Class::Kind)?;
-    let (items, rest) = row(alloc, left, rest)?;
+    let (kind, rest) = one_of(terminals, Class::Kind)?;
+    let (items, rest) = comma_list(alloc, left, rest)?;
     let declaration = Declaration {
-        kind: kind.word,
-        at: kind.spot,
+        kind: kind.symbol,
+        at: kind.span,
         items,
     };
     Ok((declaration, rest))

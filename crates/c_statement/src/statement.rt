@@ -3,19 +3,19 @@ ghost use Rattle.std.specs.Prelude.{◌≡◌, ◌<◌, ◌-◌, ◌++◌, ◌�
 ghost use Rattle.c_grammar.specs.Tree as t;
 ghost use Rattle.c_grammar.specs.View.{view};
 ghost use Rattle.c_grammar.specs.StmtView.{part_view, stmt_view};
-ghost use Rattle.c_grammar.specs.Words.{isnt, starts_part, starts_stmt};
-ghost use Rattle.c_grammar.specs.declared.word.Word.TheVariants as w;
+ghost use Rattle.c_grammar.specs.Symbols.{isnt, starts_part, starts_stmt};
+ghost use Rattle.c_grammar.specs.declared.terminal.Symbol.TheVariants as w;
 ghost use Rattle.c_grammar.specs.Reading.{expr_at, many, too_deep};
 ghost use Rattle.c_grammar.specs.StmtReading.{block_of, do_of, else_of, for_of, if_of, part_at, part_of, stmt_at, stmt_of, while_of};
 ghost use Rattle.c_expr.specs.Gives.{Fails, Gives};
 
 use c_expr::read::{ReadError, expected, first_of, followed, heads};
-use c_expr::words::{Class, starts_part, starts_stmt};
+use c_expr::symbols::{Class, starts_part, starts_stmt};
 use c_grammar::statement::{Part, Stmt};
-use c_grammar::word::{Sign, Word};
+use c_grammar::terminal::{Symbol, Terminal};
 use c_lex::Why;
 use c_plain::heads::{TestHead, both, for_head, test_head, until};
-use c_plain::plain::{break_word, continue_word, empty, plain, return_word};
+use c_plain::plain::{break_statement, continue_statement, empty, plain, return_statement};
 use c_simple::pieces::declared;
 use std::alloc::{AllocError, Global};
 
@@ -29,56 +29,60 @@ struct Branch {
 /// A statement with `left` depths left.
 #[cycle(statement)]
 #[tactic(auto, unfolding(c_grammar::specs::StmtReading::stmt_at), using(crate::proofs::Left::stmt_more))]
-fn stmt(alloc: Global, left: u8, signs: &[Sign]) -> Result<(Stmt, &[Sign]), ReadError>
-    ensures { Gives (λ x. (stmt_view x.0, x.1.now)) result (stmt_at left signs.now) }
+fn stmt(alloc: Global, left: u8, terminals: &[Terminal]) -> Result<(Stmt, &[Terminal]), ReadError>
+    ensures { Gives (λ x. (stmt_view x.0, x.1.now)) result (stmt_at left terminals.now) }
 {
     if left == 0 {
-        return Err(deep_stmt(signs));
+        return Err(deep_stmt(terminals));
     }
-    body(alloc, left, signs)
+    body(alloc, left, terminals)
 }
 
 /// A statement one depth deeper.
 #[cycle(statement)]
-fn inner(alloc: Global, left: u8, signs: &[Sign]) -> Result<(Box<Stmt>, &[Sign]), ReadError>
+fn inner(
+    alloc: Global,
+    left: u8,
+    terminals: &[Terminal],
+) -> Result<(Box<Stmt>, &[Terminal]), ReadError>
     requires { 0 < left }
-    ensures { Gives (λ x. (stmt_view x.0.value, x.1.now)) result (stmt_at (left - 1) signs.now) }
+    ensures { Gives (λ x. (stmt_view x.0.value, x.1.now)) result (stmt_at (left - 1) terminals.now) }
 {
-    let (tree, rest) = stmt(alloc, left - 1, signs)?;
+    let (tree, rest) = stmt(alloc, left - 1, terminals)?;
     let tree = boxed(alloc, tree)?;
     Ok((tree, rest))
 }
 
 #[cycle(statement)]
 #[tactic(auto, unfolding(c_grammar::specs::StmtReading::stmt_of))]
-fn body(alloc: Global, left: u8, signs: &[Sign]) -> Result<(Stmt, &[Sign]), ReadError>
+fn body(alloc: Global, left: u8, terminals: &[Terminal]) -> Result<(Stmt, &[Terminal]), ReadError>
     requires { 0 < left }
     ensures { Gives (λ x. (stmt_view x.0, x.1.now)) result
-        (stmt_of (expr_at left true) (expr_at (left - 1) true) (stmt_at (left - 1)) (part_at (left - 1)) signs.now) }
+        (stmt_of (expr_at left true) (expr_at (left - 1) true) (stmt_at (left - 1)) (part_at (left - 1)) terminals.now) }
 {
-    match first_of(signs) {
-        Some(Word::OpenBrace) => block(alloc, left, signs),
-        Some(Word::Semicolon) => empty(signs),
-        Some(Word::Break) => break_word(signs),
-        Some(Word::Continue) => continue_word(signs),
-        Some(Word::Return) => return_word(alloc, left, signs),
-        Some(Word::If) => if_word(alloc, left, signs),
-        Some(Word::While) => while_word(alloc, left, signs),
-        Some(Word::Do) => do_word(alloc, left, signs),
-        Some(Word::For) => for_word(alloc, left, signs),
-        _ => plain(alloc, left, signs),
+    match first_of(terminals) {
+        Some(Symbol::OpenBrace) => block(alloc, left, terminals),
+        Some(Symbol::Semicolon) => empty(terminals),
+        Some(Symbol::Break) => break_statement(terminals),
+        Some(Symbol::Continue) => continue_statement(terminals),
+        Some(Symbol::Return) => return_statement(alloc, left, terminals),
+        Some(Symbol::If) => if_statement(alloc, left, terminals),
+        Some(Symbol::While) => while_statement(alloc, left, terminals),
+        Some(Symbol::Do) => do_statement(alloc, left, terminals),
+        Some(Symbol::For) => for_statement(alloc, left, terminals),
+        _ => plain(alloc, left, terminals),
     }
 }
 
 #[cycle(statement)]
 #[tactic(auto, using(c_grammar::proofs::StmtViewed::stmt_views))]
-fn block(alloc: Global, left: u8, signs: &[Sign]) -> Result<(Stmt, &[Sign]), ReadError>
+fn block(alloc: Global, left: u8, terminals: &[Terminal]) -> Result<(Stmt, &[Terminal]), ReadError>
     requires { 0 < left }
-    ensures { Gives (λ x. (stmt_view x.0, x.1.now)) result (block_of (part_at (left - 1)) signs.now) }
+    ensures { Gives (λ x. (stmt_view x.0, x.1.now)) result (block_of (part_at (left - 1)) terminals.now) }
 {
-    let (opening, rest) = expected(signs, Word::OpenBrace)?;
+    let (opening, rest) = expected(terminals, Symbol::OpenBrace)?;
     let (parts, rest) = parts(alloc, left - 1, rest)?;
-    let ((parts, closing), rest) = followed(parts, rest, Word::CloseBrace)?;
+    let ((parts, closing), rest) = followed(parts, rest, Symbol::CloseBrace)?;
     let block = Stmt::Block {
         opening,
         parts,
@@ -89,12 +93,16 @@ fn block(alloc: Global, left: u8, signs: &[Sign]) -> Result<(Stmt, &[Sign]), Rea
 
 /// What stands in a block, up to its `}`, with `left` depths left.
 #[cycle(statement)]
-pub fn parts(alloc: Global, left: u8, signs: &[Sign]) -> Result<(Vec<Part>, &[Sign]), ReadError>
-    ensures { Gives (λ x. (map part_view x.0.items, x.1.now)) result (many (isnt w.CloseBrace) (part_at left) signs.now) }
+pub fn parts(
+    alloc: Global,
+    left: u8,
+    terminals: &[Terminal],
+) -> Result<(Vec<Part>, &[Terminal]), ReadError>
+    ensures { Gives (λ x. (map part_view x.0.items, x.1.now)) result (many (isnt w.CloseBrace) (part_at left) terminals.now) }
 {
     let mut found = Vec::new(alloc);
-    let mut rest = signs;
-    while heads(rest, Class::Isnt(Word::CloseBrace)) {
+    let mut rest = terminals;
+    while heads(rest, Class::Isnt(Symbol::CloseBrace)) {
         let (one, behind) = match part(alloc, left, rest) {
             Ok(read) => read,
             Err(error) => return Err(error),
@@ -107,27 +115,31 @@ pub fn parts(alloc: Global, left: u8, signs: &[Sign]) -> Result<(Vec<Part>, &[Si
 
 #[cycle(statement)]
 #[tactic(auto, unfolding(c_grammar::specs::StmtReading::part_with, c_grammar::specs::StmtReading::part_of), using(crate::proofs::Left::part_more, c_grammar::proofs::StmtViewed::stmt_views))]
-fn part(alloc: Global, left: u8, signs: &[Sign]) -> Result<(Part, &[Sign]), ReadError>
-    ensures { Gives (λ x. (part_view x.0, x.1.now)) result (part_at left signs.now) }
+fn part(alloc: Global, left: u8, terminals: &[Terminal]) -> Result<(Part, &[Terminal]), ReadError>
+    ensures { Gives (λ x. (part_view x.0, x.1.now)) result (part_at left terminals.now) }
 {
     if left == 0 {
-        return Err(deep_part(signs));
+        return Err(deep_part(terminals));
     }
-    if heads(signs, Class::Kind) {
-        declared(alloc, left, signs)
+    if heads(terminals, Class::Kind) {
+        declared(alloc, left, terminals)
     } else {
-        let (inner, rest) = stmt(alloc, left, signs)?;
+        let (inner, rest) = stmt(alloc, left, terminals)?;
         Ok((Part::Stmt(inner), rest))
     }
 }
 
 #[cycle(statement)]
 #[tactic(auto, using(crate::proofs::ByHead::if_by_head))]
-fn if_word(alloc: Global, left: u8, signs: &[Sign]) -> Result<(Stmt, &[Sign]), ReadError>
+fn if_statement(
+    alloc: Global,
+    left: u8,
+    terminals: &[Terminal],
+) -> Result<(Stmt, &[Terminal]), ReadError>
     requires { 0 < left }
-    ensures { Gives (λ x. (stmt_view x.0, x.1.now)) result (if_of (expr_at left true) (stmt_at (left - 1)) signs.now) }
+    ensures { Gives (λ x. (stmt_view x.0, x.1.now)) result (if_of (expr_at left true) (stmt_at (left - 1)) terminals.now) }
 {
-    let (head, rest) = test_head(alloc, left, Word::If, signs)?;
+    let (head, rest) = test_head(alloc, left, Symbol::If, terminals)?;
     let ((head, then), rest) = both(head, inner(alloc, left, rest))?;
     otherwise(alloc, left, Branch { head, then }, rest)
 }
@@ -139,50 +151,54 @@ fn otherwise(
     alloc: Global,
     left: u8,
     branch: Branch,
-    signs: &[Sign],
-) -> Result<(Stmt, &[Sign]), ReadError>
+    terminals: &[Terminal],
+) -> Result<(Stmt, &[Terminal]), ReadError>
     requires { 0 < left }
     ensures { Gives (λ x. (stmt_view x.0, x.1.now)) result
-        (else_of (stmt_at (left - 1)) branch.head.word branch.head.opening (view branch.head.test) branch.head.closing
-        (stmt_view branch.then.value) signs.now) }
+        (else_of (stmt_at (left - 1)) branch.head.keyword branch.head.opening (view branch.head.test) branch.head.closing
+        (stmt_view branch.then.value) terminals.now) }
 {
-    if heads(signs, Class::Is(Word::Else)) {
-        let ((branch, other_word), rest) = followed(branch, signs, Word::Else)?;
+    if heads(terminals, Class::Is(Symbol::Else)) {
+        let ((branch, else_keyword), rest) = followed(branch, terminals, Symbol::Else)?;
         let ((branch, other), rest) = both(branch, inner(alloc, left, rest))?;
         let Branch { head, then } = branch;
         let full = Stmt::IfElse {
-            word: head.word,
+            keyword: head.keyword,
             opening: head.opening,
             test: head.test,
             closing: head.closing,
             then,
-            other_word,
+            else_keyword,
             other,
         };
         Ok((full, rest))
     } else {
         let Branch { head, then } = branch;
         let alone = Stmt::If {
-            word: head.word,
+            keyword: head.keyword,
             opening: head.opening,
             test: head.test,
             closing: head.closing,
             then,
         };
-        Ok((alone, signs))
+        Ok((alone, terminals))
     }
 }
 
 #[cycle(statement)]
 #[tactic(auto, using(crate::proofs::ByHead::while_by_head, c_grammar::proofs::StmtViewed::stmt_views))]
-fn while_word(alloc: Global, left: u8, signs: &[Sign]) -> Result<(Stmt, &[Sign]), ReadError>
+fn while_statement(
+    alloc: Global,
+    left: u8,
+    terminals: &[Terminal],
+) -> Result<(Stmt, &[Terminal]), ReadError>
     requires { 0 < left }
-    ensures { Gives (λ x. (stmt_view x.0, x.1.now)) result (while_of (expr_at left true) (stmt_at (left - 1)) signs.now) }
+    ensures { Gives (λ x. (stmt_view x.0, x.1.now)) result (while_of (expr_at left true) (stmt_at (left - 1)) terminals.now) }
 {
-    let (head, rest) = test_head(alloc, left, Word::While, signs)?;
+    let (head, rest) = test_head(alloc, left, Symbol::While, terminals)?;
     let ((head, body), rest) = both(head, inner(alloc, left, rest))?;
     let repeat = Stmt::While {
-        word: head.word,
+        keyword: head.keyword,
         opening: head.opening,
         test: head.test,
         closing: head.closing,
@@ -193,17 +209,21 @@ fn while_word(alloc: Global, left: u8, signs: &[Sign]) -> Result<(Stmt, &[Sign])
 
 #[cycle(statement)]
 #[tactic(auto, using(crate::proofs::ByHead::do_by_head, c_grammar::proofs::StmtViewed::stmt_views))]
-fn do_word(alloc: Global, left: u8, signs: &[Sign]) -> Result<(Stmt, &[Sign]), ReadError>
+fn do_statement(
+    alloc: Global,
+    left: u8,
+    terminals: &[Terminal],
+) -> Result<(Stmt, &[Terminal]), ReadError>
     requires { 0 < left }
-    ensures { Gives (λ x. (stmt_view x.0, x.1.now)) result (do_of (expr_at left true) (stmt_at (left - 1)) signs.now) }
+    ensures { Gives (λ x. (stmt_view x.0, x.1.now)) result (do_of (expr_at left true) (stmt_at (left - 1)) terminals.now) }
 {
-    let (word, rest) = expected(signs, Word::Do)?;
+    let (keyword, rest) = expected(terminals, Symbol::Do)?;
     let (body, rest) = inner(alloc, left, rest)?;
     let ((body, (head, end)), rest) = both(body, until(alloc, left, rest))?;
     let repeat = Stmt::Do {
-        word,
+        keyword,
         body,
-        while_word: head.word,
+        while_keyword: head.keyword,
         opening: head.opening,
         test: head.test,
         closing: head.closing,
@@ -214,15 +234,19 @@ fn do_word(alloc: Global, left: u8, signs: &[Sign]) -> Result<(Stmt, &[Sign]), R
 
 #[cycle(statement)]
 #[tactic(auto, using(crate::proofs::ByHead::for_by_head, c_grammar::proofs::StmtViewed::stmt_views))]
-fn for_word(alloc: Global, left: u8, signs: &[Sign]) -> Result<(Stmt, &[Sign]), ReadError>
+fn for_statement(
+    alloc: Global,
+    left: u8,
+    terminals: &[Terminal],
+) -> Result<(Stmt, &[Terminal]), ReadError>
     requires { 0 < left }
     ensures { Gives (λ x. (stmt_view x.0, x.1.now)) result
-        (for_of (expr_at left true) (expr_at (left - 1) true) (stmt_at (left - 1)) signs.now) }
+        (for_of (expr_at left true) (expr_at (left - 1) true) (stmt_at (left - 1)) terminals.now) }
 {
-    let (head, rest) = for_head(alloc, left, signs)?;
+    let (head, rest) = for_head(alloc, left, terminals)?;
     let ((head, body), rest) = both(head, inner(alloc, left, rest))?;
     let repeat = Stmt::For {
-        word: head.word,
+        keyword: head.keyword,
         opening: head.opening,
         start: head.start.0,
         start_end: head.start.1,
@@ -237,35 +261,35 @@ fn for_word(alloc: Global, left: u8, signs: &[Sign]) -> Result<(Stmt, &[Sign]), 
 
 /// A statement that stands too deep.
 #[tactic(auto, unfolding(c_grammar::specs::Reading::too_deep))]
-fn deep_stmt(signs: &[Sign]) -> ReadError
-    ensures { Fails result (too_deep {A = t.Stmt} starts_stmt signs.now) }
+fn deep_stmt(terminals: &[Terminal]) -> ReadError
+    ensures { Fails result (too_deep {A = t.Stmt} starts_stmt terminals.now) }
 {
-    match first_of(signs) {
-        Some(word) => {
-            if starts_stmt(word) {
-                ReadError::At(Why::TooDeep, signs)
+    match first_of(terminals) {
+        Some(symbol) => {
+            if starts_stmt(symbol) {
+                ReadError::At(Why::TooDeep, terminals)
             } else {
-                ReadError::At(Why::Unexpected, signs)
+                ReadError::At(Why::Unexpected, terminals)
             }
         }
-        None => ReadError::At(Why::Unexpected, signs),
+        None => ReadError::At(Why::Unexpected, terminals),
     }
 }
 
 /// What stands too deep in a block.
 #[tactic(auto, unfolding(c_grammar::specs::Reading::too_deep))]
-fn deep_part(signs: &[Sign]) -> ReadError
-    ensures { Fails result (too_deep {A = t.Part} starts_part signs.now) }
+fn deep_part(terminals: &[Terminal]) -> ReadError
+    ensures { Fails result (too_deep {A = t.Part} starts_part terminals.now) }
 {
-    match first_of(signs) {
-        Some(word) => {
-            if starts_part(word) {
-                ReadError::At(Why::TooDeep, signs)
+    match first_of(terminals) {
+        Some(symbol) => {
+            if starts_part(symbol) {
+                ReadError::At(Why::TooDeep, terminals)
             } else {
-                ReadError::At(Why::Unexpected, signs)
+                ReadError::At(Why::Unexpected, terminals)
             }
         }
-        None => ReadError::At(Why::Unexpected, signs),
+        None => ReadError::At(Why::Unexpected, terminals),
     }
 }
 

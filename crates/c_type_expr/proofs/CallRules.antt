@@ -1,10 +1,10 @@
 -- Each rule of typed references and values at the variants of the tree.
 use Rattle.std.proofs.Common.{◌≡◌, ◌⊎◌, inl, inr, ℕ, Bool, true, false, Option, Some, None, refl, sym, ap, subst}
-use Rattle.c_grammar.specs.declared.word.Word.{Word}
+use Rattle.c_grammar.specs.declared.terminal.Symbol.{Symbol}
 use Rattle.std.specs.Option.{is_some}
 use Rattle.std.specs.declared.alloc.Global.{Global}
 use Rattle.std.specs.declared.boxed.Box.{Box}
-use Rattle.c_grammar.specs.declared.word.Spot.{Spot}
+use Rattle.c_grammar.specs.declared.terminal.Span.{Span}
 use Rattle.c_grammar.specs.declared.statement.Argument.{Argument}
 use Rattle.c_grammar.specs.declared.statement.Argument.TheVariants as ta
 use Rattle.c_grammar.specs.declared.tree.Expr as source
@@ -26,17 +26,17 @@ use Rattle.c_type_expr.specs.Calls.{IsReference, IsValue}
 use Rattle.c_type_expr.specs.Exprs.{IsExpr}
 use Rattle.c_type_expr.specs.Shapes.{is_reference, is_reference_by}
 
-pub address_rule : (env : Env) (mark : Spot) (place : source_place.Place) (name : Spot) (number : ℕ) → place ≡ tp.Whole name → number ≡ variable env name
+pub address_rule : (env : Env) (mark : Span) (place : source_place.Place) (name : Span) (number : ℕ) → place ≡ tp.Whole name → number ≡ variable env name
     → IsReference env (t.address mark (place_view place)) (r.Whole number)
 address_rule env mark place name number s n = rw (s, view-whole, n) y.address
 
-pub address_from_rule : (env : Env) (mark : Spot) (place : source_place.Place) (name opening : Spot) (index : Box source.Expr Global) (closing : Spot) (number : ℕ) (typed : Expr)
+pub address_from_rule : (env : Env) (mark : Span) (place : source_place.Place) (name opening : Span) (index : Box source.Expr Global) (closing : Span) (number : ℕ) (typed : Expr)
     → place ≡ tp.Cell name opening index closing → number ≡ variable env name → IsExpr env (view index.value) typed
     → IsReference env (t.address mark (place_view place)) (r.From number typed)
 address_from_rule env mark place name opening index closing number typed s n h = rw (s, view-cell, n) (y.address_from h)
 
 -- what is a name alone
-pub name_tells : (e : t.Expr) (name : Spot) → name_alone e ≡ Some name → e ≡ t.read (t.whole name)
+pub name_tells : (e : t.Expr) (name : Span) → name_alone e ≡ Some name → e ≡ t.read (t.whole name)
 name_tells (t.number at) name h = cc
 name_tells (t.read (t.whole other)) name h = let q : other ≡ name = cc in ap (λ one. t.read (t.whole one)) q
 name_tells (t.read (t.cell other opening index closing)) name h = cc
@@ -46,7 +46,7 @@ name_tells (t.unary sign at operand) name h = cc
 name_tells (t.chain level first links) name h = cc
 name_tells (t.choice test question taken colon spared) name h = cc
 
-pub array_rule : (env : Env) (e : t.Expr) (name : Spot) (number : ℕ) → Some name ≡ name_alone e → number ≡ variable env name → predefined_of env (t.value e) ≡ None
+pub array_rule : (env : Env) (e : t.Expr) (name : Span) (number : ℕ) → Some name ≡ name_alone e → number ≡ variable env name → predefined_of env (t.value e) ≡ None
     → IsReference env (t.value e) (r.Whole number)
 array_rule env e name number h n w =
     let P : t.Expr → Type 0 = λ one. predefined_of env (t.value one) ≡ None → IsReference env (t.value one) (r.Whole number) in
@@ -79,9 +79,9 @@ pub value_rule : (env : Env) (argument : Argument) (e : source.Expr) (typed : Ex
 value_rule env argument e typed s h = rw s (y.value h)
 
 -- what is a name and an operand added to it
-record SumOf (found : Option Spot) (links : t.Links) (name : Spot) (operand : t.Expr) : Type 0 where
-  operator : Word
-  at : Spot
+record SumOf (found : Option Span) (links : t.Links) (name : Span) (operand : t.Expr) : Type 0 where
+  operator : Symbol
+  at : Span
   name_is : found ≡ Some name
   links_are : links ≡ t.link operator at operand t.no_link
   plus : is_plus operator ≡ true
@@ -90,25 +90,25 @@ cases : (b : Bool) → (b ≡ true) ⊎ (b ≡ false)
 cases true = inl refl
 cases false = inr refl
 
-base_tells : (found : Option Spot) (links : t.Links) (name : Spot) (operand : t.Expr) → sum_base found links ≡ Some (name, operand) → SumOf found links name operand
+base_tells : (found : Option Span) (links : t.Links) (name : Span) (operand : t.Expr) → sum_base found links ≡ Some (name, operand) → SumOf found links name operand
 base_tells None links name operand h = absurd (let z : ⊥ = cc in z)
 base_tells (Some n) t.no_link name operand h = absurd (let z : ⊥ = cc in z)
 base_tells (Some n) (t.link operator at o (t.link p a q rest)) name operand h = absurd (let z : ⊥ = cc in z)
 base_tells (Some n) (t.link operator at o t.no_link) name operand h = elim (cases (is_plus operator)) [
   | inl e ↦
       let g = rw e at h in
-      let pair : ◌≡◌ {A = Spot × t.Expr} (n, o) (name, operand) = cc g in
+      let pair : ◌≡◌ {A = Span × t.Expr} (n, o) (name, operand) = cc g in
       record {
         operator = operator;
         at = at;
-        name_is = ap (λ (x : Spot × t.Expr). Some x.0) pair;
-        links_are = ap (λ (x : Spot × t.Expr). t.link operator at x.1 t.no_link) pair;
+        name_is = ap (λ (x : Span × t.Expr). Some x.0) pair;
+        links_are = ap (λ (x : Span × t.Expr). t.link operator at x.1 t.no_link) pair;
         plus = e;
       }
   | inr e ↦ let g = rw e at h in absurd (let z : ⊥ = cc g in z)
 ]
 
-pub sum_rule : (env : Env) (e : t.Expr) (name : Spot) (operand : t.Expr) (number : ℕ) (typed : Expr) → Some (name, operand) ≡ array_sum e
+pub sum_rule : (env : Env) (e : t.Expr) (name : Span) (operand : t.Expr) (number : ℕ) (typed : Expr) → Some (name, operand) ≡ array_sum e
     → number ≡ variable env name → IsExpr env operand typed → IsReference env (t.value e) (r.From number typed)
 sum_rule env (t.chain level first links) name operand number typed h n k =
     let s = base_tells (name_alone first) links name operand (sym h) in

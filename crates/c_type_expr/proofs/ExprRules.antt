@@ -5,8 +5,8 @@ use Rattle.c_check_expr.proofs.Lists.{drop_at, drop_past}
 use Rattle.std.specs.declared.alloc.Global.{Global}
 use Rattle.std.specs.declared.boxed.Box.{Box}
 use Rattle.std.specs.declared.vec.Vec.{Vec}
-use Rattle.c_grammar.specs.declared.word.Spot.{Spot}
-use Rattle.c_grammar.specs.declared.word.Word.{Word}
+use Rattle.c_grammar.specs.declared.terminal.Span.{Span}
+use Rattle.c_grammar.specs.declared.terminal.Symbol.{Symbol}
 use Rattle.c_grammar.specs.declared.tree.Expr.TheVariants as te
 use Rattle.c_grammar.specs.declared.tree.Place.TheVariants as tp
 use Rattle.c_grammar.specs.View.{links_from, piece, place_view, view}
@@ -28,7 +28,7 @@ use Rattle.c_program.specs.declared.expr.Link.{Link, out-Link}
 use Rattle.c_program.specs.declared.expr.Place.{Place}
 use Rattle.c_program.specs.declared.expr.Place.TheVariants as q
 
-pub number_rule : (env : Env) (e : source.Expr) (at : Spot) (value : ℤ) → e ≡ te.Number at → value ≡ pos (number_at env.text at) → IsExpr env (view e) (v.Number value)
+pub number_rule : (env : Env) (e : source.Expr) (at : Span) (value : ℤ) → e ≡ te.Number at → value ≡ pos (number_at env.text at) → IsExpr env (view e) (v.Number value)
 number_rule env e at value s n = rw (s, view-number, n) x.number
 
 pub value_rule : (env : Env) (e : source.Expr) (place : source_place.Place) (value meant : ℤ) → e ≡ te.Read place → value ≡ meant
@@ -39,15 +39,15 @@ pub read_rule : (env : Env) (e : source.Expr) (place : source_place.Place) (type
     → None ≡ value_of_place env (place_view place) → IsPlace env (place_view place) typed → IsExpr env (view e) (v.Read typed)
 read_rule env e place typed s h p = rw (s, view-read) (x.read (sym h) p)
 
-pub field_rule : (env : Env) (e : source.Expr) (place : source_place.Place) (dot name : Spot) (typed : Place) (field : Field) → e ≡ te.Field place dot name
+pub field_rule : (env : Env) (e : source.Expr) (place : source_place.Place) (dot name : Span) (typed : Place) (field : Field) → e ≡ te.Field place dot name
     → field ≡ field_of (token_bytes env.text name) → IsPlace env (place_view place) typed → IsExpr env (view e) (v.Field typed field)
 field_rule env e place dot name typed field s f p = rw (s, view-field, f) (x.field p)
 
-pub paren_rule : (env : Env) (e : source.Expr) (opening : Spot) (inner : Box source.Expr Global) (closing : Spot) (typed : Expr)
+pub paren_rule : (env : Env) (e : source.Expr) (opening : Span) (inner : Box source.Expr Global) (closing : Span) (typed : Expr)
     → e ≡ te.Paren opening inner closing → IsExpr env (view inner.value) typed → IsExpr env (view e) typed
 paren_rule env e opening inner closing typed s h = rw (s, view-paren) (x.paren h)
 
-pub signed_rule : (env : Env) (e : source.Expr) (sign : Word) (at : Spot) (operand : Box source.Expr Global) (meant : UnaryOperator) (typed : Box Expr Global)
+pub signed_rule : (env : Env) (e : source.Expr) (sign : Symbol) (at : Span) (operand : Box source.Expr Global) (meant : UnaryOperator) (typed : Box Expr Global)
     → e ≡ te.Unary sign at operand → meant ≡ unary_of sign → IsExpr env (view operand.value) typed.value → IsExpr env (view e) (v.Signed meant typed)
 signed_rule env e sign at operand meant typed s m h = rw (s, view-unary, m) (x.signed h)
 
@@ -56,16 +56,16 @@ pub chain_rule : (env : Env) (e : source.Expr) (level : ℕ) (first : Box source
     → IsExpr env (view e) (v.Chain typed others)
 chain_rule env e level first links typed others s h l = rw (s, view-chain) (x.chain others h l)
 
-pub choice_rule : (env : Env) (e : source.Expr) (test : Box source.Expr Global) (question : Spot) (then : Box source.Expr Global) (colon : Spot) (other : Box source.Expr Global)
+pub choice_rule : (env : Env) (e : source.Expr) (test : Box source.Expr Global) (question : Span) (then : Box source.Expr Global) (colon : Span) (other : Box source.Expr Global)
     (a b c : Box Expr Global) → e ≡ te.Choice test question then colon other
     → IsExpr env (view test.value) a.value → IsExpr env (view then.value) b.value → IsExpr env (view other.value) c.value → IsExpr env (view e) (v.Choice a b c)
 choice_rule env e test question then colon other a b c s f g h = rw (s, view-choice) (x.choice f g h)
 
-pub whole_rule : (env : Env) (place : source_place.Place) (name : Spot) (number : ℕ) → place ≡ tp.Whole name → number ≡ variable env name
+pub whole_rule : (env : Env) (place : source_place.Place) (name : Span) (number : ℕ) → place ≡ tp.Whole name → number ≡ variable env name
     → IsPlace env (place_view place) (q.Whole number)
 whole_rule env place name number s n = rw (s, view-whole, n) x.whole
 
-pub element_rule : (env : Env) (place : source_place.Place) (name opening : Spot) (index : Box source.Expr Global) (closing : Spot) (number : ℕ) (typed : Box Expr Global)
+pub element_rule : (env : Env) (place : source_place.Place) (name opening : Span) (index : Box source.Expr Global) (closing : Span) (number : ℕ) (typed : Box Expr Global)
     → place ≡ tp.Cell name opening index closing → number ≡ variable env name → IsExpr env (view index.value) typed.value
     → IsPlace env (place_view place) (q.Element number typed)
 element_rule env place name opening index closing number typed s n h = rw (s, view-cell, n) (x.element h)

@@ -4,7 +4,7 @@ use Rattle.std.specs.Option.{is_some}
 use Rattle.std.proofs.lemmas.Bool.{eqb-true}
 use Rattle.c_lex.specs.declared.fault.Why.{Why}
 use Rattle.c_lex.specs.declared.fault.Why.TheVariants.{WrongType}
-use Rattle.c_grammar.specs.declared.word.Spot.{Spot}
+use Rattle.c_grammar.specs.declared.terminal.Span.{Span}
 use Rattle.c_grammar.specs.Tree as t
 use Rattle.c_names.specs.Functions.{accepts, arguments}
 use Rattle.c_names.specs.declared.function.ArgumentKind.{ArgumentKind}
@@ -43,13 +43,13 @@ pub none_behind : {A : Type 0} (xs ys : List A) → xs ++ ys ≡ [] → ys ≡ [
 none_behind [] ys h = h
 none_behind (x ∷ xs) ys h = cc
 
-pub unless_tells : (b : Bool) (at : Spot) (why : Why) → unless b at why ≡ [] → b ≡ true
+pub unless_tells : (b : Bool) (at : Span) (why : Why) → unless b at why ≡ [] → b ≡ true
 unless_tells true at why h = refl
 unless_tells false at why h = cc
 
 -- ---- nothing is of no kind at all
 
-whole_named : (meant : Meaning) (at : Spot) → whole_kind meant ≡ Nothing → name_faults meant at ≡ [] → ⊥
+whole_named : (meant : Meaning) (at : Span) → whole_kind meant ≡ Nothing → name_faults meant at ≡ [] → ⊥
 whole_named m.LeftOut at k n = cc
 whole_named m.Unknown at k n = cc
 whole_named (m.Known (p.Number value)) at k n = cc
@@ -72,7 +72,7 @@ whole_named (m.Declared d.ArrayParameter) at k n = cc
 whole_named (m.Declared d.ArgumentCount) at k n = cc
 whole_named (m.Declared d.ArgumentTexts) at k n = cc
 
-cell_named : (meant : Meaning) (at : Spot) → cell_kind meant ≡ Nothing → name_faults meant at ≡ [] → takes_index meant ≡ true → ⊥
+cell_named : (meant : Meaning) (at : Span) → cell_kind meant ≡ Nothing → name_faults meant at ≡ [] → takes_index meant ≡ true → ⊥
 cell_named m.LeftOut at k n i = cc
 cell_named m.Unknown at k n i = cc
 cell_named (m.Known known) at k n i = cc
@@ -90,10 +90,10 @@ other_fits NullRequest h = cc
 other_fits Other h = cc
 other_fits Nothing h = refl
 
-other_kind : (fs : List TypingFault) (given : ExprKind) (at : Spot) → fs ++ kind_faults Other given at ≡ [] → given ≡ Nothing
+other_kind : (fs : List TypingFault) (given : ExprKind) (at : Span) → fs ++ kind_faults Other given at ≡ [] → given ≡ Nothing
 other_kind fs given at h = other_fits given (unless_tells (fits Other given) at WrongType (none_behind fs (kind_faults Other given at) h))
 
-other_int : (fs : List TypingFault) (at : Spot) → fs ++ kind_faults Other (Of Int) at ≡ [] → ⊥
+other_int : (fs : List TypingFault) (at : Span) → fs ++ kind_faults Other (Of Int) at ≡ [] → ⊥
 other_int fs at h = let e : Of Int ≡ Nothing = other_kind fs (Of Int) at h in cc
 
 -- an expression that is no value is at fault
@@ -138,7 +138,7 @@ array_word wanted m.Unknown h = refl
 array_word wanted (m.Known known) h = cc
 array_word wanted (m.Declared entity) h = refl
 
-sum_shape : (env : Env) (wanted : VariableKind) (e : t.Expr) (sum : Option (Spot × t.Expr)) → sum_faults env wanted e sum ≡ [] → is_some sum ≡ true
+sum_shape : (env : Env) (wanted : VariableKind) (e : t.Expr) (sum : Option (Span × t.Expr)) → sum_faults env wanted e sum ≡ [] → is_some sum ≡ true
 sum_shape env wanted e None h = absurd (other_never env e h)
 sum_shape env wanted e (Some sum) h = refl
 
@@ -307,25 +307,25 @@ pub record IsCounted (env : Env) (kinds : List ArgumentKind) (given : List t.Arg
   pub count : length given ≡ length kinds
   pub faults : arguments_faults env kinds given ≡ []
 
-pub counted : (env : Env) (name : Spot) (kinds : List ArgumentKind) (given : List t.Argument) → counted_faults env name (Some kinds) given ≡ []
+pub counted : (env : Env) (name : Span) (kinds : List ArgumentKind) (given : List t.Argument) → counted_faults env name (Some kinds) given ≡ []
     → IsCounted env kinds given
 counted env name kinds given h = elim (cases (length given == length kinds)) [
   | inl e ↦ record { count = eqb-true (length given) (length kinds) e; faults = rw e at h }
   | inr e ↦ let g = rw e at h in absurd (let z : ⊥ = cc g in z)
 ]
 
-fitting : (env : Env) (name : Spot) (function : MpiFunction) (given : List t.Argument) → counted_faults env name (Some (arguments function)) given ≡ []
+fitting : (env : Env) (name : Span) (function : MpiFunction) (given : List t.Argument) → counted_faults env name (Some (arguments function)) given ≡ []
     → Fits env function given
 fitting env name function given h =
     let k = counted env name (arguments function) given h in
     record { count = k.count; shapes = shapes env (arguments function) given k.count k.faults }
 
-init_count : (env : Env) (name : Spot) (given : List t.Argument) (null : Bool)
+init_count : (env : Env) (name : Span) (given : List t.Argument) (null : Bool)
     → counted_faults env name (Some (if null then a.NoReference ∷ a.NoReference ∷ [] else a.ArgumentCount ∷ a.ArgumentTexts ∷ [])) given ≡ [] → length given ≡ 2
 init_count env name given true h = (counted env name (a.NoReference ∷ a.NoReference ∷ []) given h).count
 init_count env name given false h = (counted env name (a.ArgumentCount ∷ a.ArgumentTexts ∷ []) given h).count
 
-taken : (env : Env) (name : Spot) (function : MpiFunction) (given : List t.Argument) → counted_faults env name (Some (mpi_takes env function given)) given ≡ []
+taken : (env : Env) (name : Span) (function : MpiFunction) (given : List t.Argument) → counted_faults env name (Some (mpi_takes env function given)) given ≡ []
     → Fits env function given
 taken env name f.Init given h = record { count = init_count env name given (first_is_null env given) h; shapes = (refl, (refl, tt)) }
 taken env name f.Finalize given h = fitting env name f.Finalize given h
@@ -373,7 +373,7 @@ text_fits env call number e h = counted env call.name (signature_takes (slice_ge
 
 -- ---- a right side calls a function of the text
 
-calls_function : (env : Env) (wanted : ExprKind) (name : Spot) (meant : Meaning) (given : List t.Argument) → meant_faults env name meant given ≡ []
+calls_function : (env : Env) (wanted : ExprKind) (name : Span) (meant : Meaning) (given : List t.Argument) → meant_faults env name meant given ≡ []
     → result_faults env wanted meant name ≡ [] → (number : ℕ) × (meant ≡ m.Declared (d.Function number))
 calls_function env wanted name (m.Declared (d.Function number)) given h k = (number, refl)
 calls_function env wanted name m.LeftOut given h k = absurd (let z : ⊥ = cc in z)

@@ -1,7 +1,7 @@
 -- Which typed calls are those of the tree.
 use Rattle.std.specs.Prelude.{◌≡◌, ℕ, Bool, true, List, [], ◌∷◌, Option, Some, None}
-use Rattle.c_grammar.specs.declared.word.Spot.{Spot}
-use Rattle.c_grammar.specs.declared.word.Word.{Word}
+use Rattle.c_grammar.specs.declared.terminal.Span.{Span}
+use Rattle.c_grammar.specs.declared.terminal.Symbol.{Symbol}
 use Rattle.c_grammar.specs.Tree as t
 use Rattle.c_names.specs.declared.function.ArgumentKind.{ArgumentKind}
 use Rattle.c_names.specs.declared.function.ArgumentKind.TheVariants as k
@@ -27,12 +27,12 @@ pub data IsValue (env : Env) : t.Argument → Expr → Type 0 where
 
 pub data IsReference (env : Env) : t.Argument → Reference → Type 0 where
   null : {argument : t.Argument} → predefined_of env argument ≡ Some p.NoReference → IsReference env argument r.Nothing
-  address : {mark name : Spot} → IsReference env (t.address mark (t.whole name)) (r.Whole (variable env name))
-  address_from : {mark name opening closing : Spot} {index : t.Expr} {typed : Expr} → IsExpr env index typed
+  address : {mark name : Span} → IsReference env (t.address mark (t.whole name)) (r.Whole (variable env name))
+  address_from : {mark name opening closing : Span} {index : t.Expr} {typed : Expr} → IsExpr env index typed
       → IsReference env (t.address mark (t.cell name opening index closing)) (r.From (variable env name) typed)
-  array : {name : Spot} → predefined_of env (t.value (t.read (t.whole name))) ≡ None
+  array : {name : Span} → predefined_of env (t.value (t.read (t.whole name))) ≡ None
       → IsReference env (t.value (t.read (t.whole name))) (r.Whole (variable env name))
-  sum : {level : ℕ} {name at : Spot} {operator : Word} {operand : t.Expr} {typed : Expr} → is_plus operator ≡ true → IsExpr env operand typed
+  sum : {level : ℕ} {name at : Span} {operator : Symbol} {operand : t.Expr} {typed : Expr} → is_plus operator ≡ true → IsExpr env operand typed
       → IsReference env (t.value (t.chain level (t.read (t.whole name)) (t.link operator at operand t.no_link))) (r.From (variable env name) typed)
 
 -- an argument of a function of the text, by what it takes

@@ -4,8 +4,8 @@ use Rattle.std.specs.Str.{bytes_eq}
 use Rattle.std.specs.declared.alloc.Global.{Global}
 use Rattle.std.specs.declared.boxed.Box.{Box}
 use Rattle.std.specs.declared.vec.Vec.{Vec}
-use Rattle.c_grammar.specs.declared.word.Spot.{Spot}
-use Rattle.c_grammar.specs.declared.word.Word.{Word}
+use Rattle.c_grammar.specs.declared.terminal.Span.{Span}
+use Rattle.c_grammar.specs.declared.terminal.Symbol.{Symbol}
 use Rattle.c_grammar.specs.Tree as t
 use Rattle.c_program.specs.declared.expr.Expr.{Expr}
 use Rattle.c_program.specs.declared.expr.Expr.TheVariants as v
@@ -29,27 +29,27 @@ value_of_place env (t.cell name opening index closing) = None
 -- parentheses are gone, names are values or variables
 mutual
   pub data IsExpr (env : Env) : t.Expr → Expr → Type 0 where
-    number : {at : Spot} → IsExpr env (t.number at) (v.Number (pos (number_at env.text at)))
+    number : {at : Span} → IsExpr env (t.number at) (v.Number (pos (number_at env.text at)))
     value : {place : t.Place} {value : ℤ} → value_of_place env place ≡ Some value → IsExpr env (t.read place) (v.Number value)
     read : {place : t.Place} {typed : Place} → value_of_place env place ≡ None → IsPlace env place typed → IsExpr env (t.read place) (v.Read typed)
-    field : {place : t.Place} {typed : Place} {dot name : Spot} → IsPlace env place typed
+    field : {place : t.Place} {typed : Place} {dot name : Span} → IsPlace env place typed
         → IsExpr env (t.field place dot name) (v.Field typed (field_of (token_bytes env.text name)))
-    paren : {opening closing : Spot} {inner : t.Expr} {typed : Expr} → IsExpr env inner typed → IsExpr env (t.paren opening inner closing) typed
-    signed : {sign : Word} {at : Spot} {operand : t.Expr} {typed : Box Expr Global} → IsExpr env operand typed.value
+    paren : {opening closing : Span} {inner : t.Expr} {typed : Expr} → IsExpr env inner typed → IsExpr env (t.paren opening inner closing) typed
+    signed : {sign : Symbol} {at : Span} {operand : t.Expr} {typed : Box Expr Global} → IsExpr env operand typed.value
         → IsExpr env (t.unary sign at operand) (v.Signed (unary_of sign) typed)
     chain : {level : ℕ} {first : t.Expr} {links : t.Links} {typed : Box Expr Global} (others : Vec Link Global)
         → IsExpr env first typed.value → AreLinks env links others.items → IsExpr env (t.chain level first links) (v.Chain typed others)
-    choice : {test taken spared : t.Expr} {question colon : Spot} {a b c : Box Expr Global}
+    choice : {test taken spared : t.Expr} {question colon : Span} {a b c : Box Expr Global}
         → IsExpr env test a.value → IsExpr env taken b.value → IsExpr env spared c.value
         → IsExpr env (t.choice test question taken colon spared) (v.Choice a b c)
 
   pub data IsPlace (env : Env) : t.Place → Place → Type 0 where
-    whole : {name : Spot} → IsPlace env (t.whole name) (q.Whole (variable env name))
-    element : {name opening closing : Spot} {index : t.Expr} {typed : Box Expr Global} → IsExpr env index typed.value
+    whole : {name : Span} → IsPlace env (t.whole name) (q.Whole (variable env name))
+    element : {name opening closing : Span} {index : t.Expr} {typed : Box Expr Global} → IsExpr env index typed.value
         → IsPlace env (t.cell name opening index closing) (q.Element (variable env name) typed)
 
   pub data AreLinks (env : Env) : t.Links → List Link → Type 0 where
     no_link : AreLinks env t.no_link []
-    link : {operator : Word} {at : Spot} {operand : t.Expr} {rest : t.Links} {typed : Link} {others : List Link}
+    link : {operator : Symbol} {at : Span} {operand : t.Expr} {rest : t.Links} {typed : Link} {others : List Link}
         → (out-Link typed).operator ≡ operator_of operator → IsExpr env operand (out-Link typed).operand → AreLinks env rest others
         → AreLinks env (t.link operator at operand rest) (typed ∷ others)

@@ -18,11 +18,11 @@ use crate::expr_of::expr_of;
 use c_check::call::{
     argument_at, argument_count, array_sum, name_alone, parameter_at, predefined_of,
 };
-use c_grammar::word::Spot;
+use c_check_expr::meaning::{Entity, Meaning};
+use c_check_expr::scope::Scope;
+use c_grammar::terminal::Span;
 use c_grammar::{statement, tree};
 use c_program::expr::{Argument, Expr, FunctionCall, Reference, Right};
-use c_check_expr::scope::Scope;
-use c_check_expr::meaning::{Meaning, Entity};
 use std::alloc::{AllocError, Global};
 
 /// What is added to the name of an array.
@@ -61,7 +61,7 @@ fn array_of(alloc: Global, scope: &Scope, e: &tree::Expr) -> Result<Reference, A
 fn address_of(
     alloc: Global,
     scope: &Scope,
-    mark: Spot,
+    mark: Span,
     place: &tree::Place,
 ) -> Result<Reference, AllocError>
     ensures { IfOk result (λ typed. IsReference scope.now (t.address mark (place_view place.now)) typed) }
@@ -199,7 +199,7 @@ pub fn call_of(
 }
 
 /// The number of the function of the text that a name means.
-fn function_at(scope: &Scope, name: Spot) -> usize
+fn function_at(scope: &Scope, name: Span) -> usize
     requires { (number : ℕ) × (meaning scope.now name ≡ m.Declared (d.Function number)) }
     ensures { meaning scope.now name ≡ m.Declared (d.Function result) }
 {

@@ -5,12 +5,12 @@ ghost use Rattle.c_grammar.specs.View.{links_from, piece, place_view, view};
 ghost use Rattle.c_check_expr.specs.Variables.{value_meant};
 ghost use Rattle.c_type_expr.specs.Exprs.{AreLinks, IsExpr, IsPlace, field_of, value_of_place};
 
+use c_check_expr::constant::{operator_of, unary_of};
+use c_check_expr::meaning::{Entity, Meaning};
+use c_check_expr::scope::{Scope, is_same, number_at, token_bytes};
 use c_grammar::tree;
 use c_names::predefined::Predefined;
 use c_program::expr::{Expr, Field, Link, Place};
-use c_check_expr::constant::{operator_of, unary_of};
-use c_check_expr::scope::{Scope, token_bytes, is_same, number_at};
-use c_check_expr::meaning::{Meaning, Entity};
 use std::alloc::{AllocError, Global};
 
 fn boxed(alloc: Global, e: Expr) -> Result<Box<Expr>, AllocError>

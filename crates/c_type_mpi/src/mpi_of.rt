@@ -12,9 +12,8 @@ ghost use Rattle.c_type_expr.specs.Given.{Fits, argument, given_of, is_operation
 ghost use Rattle.c_type_mpi.specs.MpiCalls.{IsBuffer, IsIncoming, IsMpiCall, IsOperation, IsOutgoing, IsReduction, IsSeveral, IsStatus};
 ghost use Rattle.c_type_expr.specs.Shapes.{is_reference, is_value};
 
-use c_type_expr::call_of::{reference_of, value_of};
-use c_type_expr::results::{both, five, four, three};
 use c_check::call::{argument_at, predefined_of};
+use c_check_expr::scope::Scope;
 use c_grammar::statement::{Argument, Call};
 use c_names::function::MpiFunction;
 use c_names::predefined::Predefined;
@@ -23,7 +22,8 @@ use c_program::mpi::{
     Buffer, CollectiveCall, CommunicatorCall, CompletionCall, Incoming, MessageCall, MpiCall,
     Outgoing, ProbeCall, Reduction, SomeRequests,
 };
-use c_check_expr::scope::Scope;
+use c_type_expr::call_of::{reference_of, value_of};
+use c_type_expr::results::{both, five, four, three};
 use mpi_call::call::Op;
 use std::alloc::{AllocError, Global};
 

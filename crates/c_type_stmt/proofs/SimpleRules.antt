@@ -4,8 +4,8 @@ use Rattle.std.specs.Option.{is_some, option_map}
 use Rattle.c_lex.specs.declared.fault.Why.TheVariants.{BadFormat, WrongType}
 use Rattle.std.specs.declared.alloc.Global.{Global}
 use Rattle.std.specs.declared.vec.Vec.{Vec}
-use Rattle.c_grammar.specs.declared.word.Spot.{Spot}
-use Rattle.c_grammar.specs.declared.word.Word.{Word}
+use Rattle.c_grammar.specs.declared.terminal.Span.{Span}
+use Rattle.c_grammar.specs.declared.terminal.Symbol.{Symbol}
 use Rattle.c_grammar.specs.Tree as t
 use Rattle.c_names.specs.Formats.{ints_in, pieces_of}
 use Rattle.c_names.specs.declared.format.FormatPiece.{FormatPiece}
@@ -37,12 +37,12 @@ use Rattle.c_type_stmt.proofs.Growing.{ended, grown, none_left, none_right}
 
 -- ---- `++` and `--`
 
-pub after_rule : (env : Env) (place : t.Place) (operator : Word) (meant : Operator) (goal : Place) → meant ≡ update_of operator → IsPlace env place goal
-    → (at : Spot) → IsSimple env (t.after place operator at) (l.Update goal meant one)
+pub after_rule : (env : Env) (place : t.Place) (operator : Symbol) (meant : Operator) (goal : Place) → meant ≡ update_of operator → IsPlace env place goal
+    → (at : Span) → IsSimple env (t.after place operator at) (l.Update goal meant one)
 after_rule env place operator meant goal e h at = rw e (x.after h)
 
-pub before_rule : (env : Env) (place : t.Place) (operator : Word) (meant : Operator) (goal : Place) → meant ≡ update_of operator → IsPlace env place goal
-    → (at : Spot) → IsSimple env (t.before operator at place) (l.Update goal meant one)
+pub before_rule : (env : Env) (place : t.Place) (operator : Symbol) (meant : Operator) (goal : Place) → meant ≡ update_of operator → IsPlace env place goal
+    → (at : Span) → IsSimple env (t.before operator at place) (l.Update goal meant one)
 before_rule env place operator meant goal e h at = rw e (x.before h)
 
 -- ---- `printf`
@@ -54,7 +54,7 @@ value_shape env wanted (t.address mark place) e = absurd (cc)
 value_shape env wanted (t.value inner) e = refl
 
 -- no expression is of no kind
-misfit_whole : (meant : Meaning) (name at : Spot) → name_faults meant name ++ kind_faults Other (whole_kind meant) at ≡ [] → ⊥
+misfit_whole : (meant : Meaning) (name at : Span) → name_faults meant name ++ kind_faults Other (whole_kind meant) at ≡ [] → ⊥
 misfit_whole m.LeftOut name at e = cc
 misfit_whole m.Unknown name at e = cc
 misfit_whole (m.Known (p.Number value)) name at e = cc
@@ -77,7 +77,7 @@ misfit_whole (m.Declared d.ArrayParameter) name at e = cc
 misfit_whole (m.Declared d.ArgumentCount) name at e = cc
 misfit_whole (m.Declared d.ArgumentTexts) name at e = cc
 
-misfit_cell : (meant : Meaning) (name at : Spot) (others : List TypingFault)
+misfit_cell : (meant : Meaning) (name at : Span) (others : List TypingFault)
     → ((name_faults meant name ++ unless (takes_index meant) name WrongType) ++ others) ++ kind_faults Other (cell_kind meant) at ≡ [] → ⊥
 misfit_cell meant name at others e =
     by_meaning meant (none_left _ _ (none_left _ _ e)) (none_right ((name_faults meant name ++ unless (takes_index meant) name WrongType) ++ others) _ e)
@@ -106,19 +106,19 @@ no_misfit env (t.choice test question taken colon spared) h = let k = none_right
 
 -- `printf` without faults
 pub record IsPrint (env : Env) (given : List t.Argument) : Type 0 where
-  pub at : Spot
+  pub at : Span
   pub first : slice_get given 0 ≡ Some (t.text at)
   pub format : is_some (pieces_of (inside (token_bytes env.text at))) ≡ true
   pub numbers : numbers_faults env (drop 1 given) ≡ []
 
-format_shape : (env : Env) (at : Spot) (count : ℕ) → format_faults env at count ≡ [] → is_some (pieces_of (inside (token_bytes env.text at))) ≡ true
+format_shape : (env : Env) (at : Span) (count : ℕ) → format_faults env at count ≡ [] → is_some (pieces_of (inside (token_bytes env.text at))) ≡ true
 format_shape env at count e = by_pieces (pieces_of (inside (token_bytes env.text at))) e
   where
     by_pieces : (found : Option (List FormatPiece)) → unless (is_format count (option_map ints_in found)) at BadFormat ≡ [] → is_some found ≡ true
     by_pieces None e = absurd (cc)
     by_pieces (Some found) e = refl
 
-print_shape : (env : Env) (name : Spot) (given : List t.Argument) → print_faults env name given ≡ [] → IsPrint env given
+print_shape : (env : Env) (name : Span) (given : List t.Argument) → print_faults env name given ≡ [] → IsPrint env given
 print_shape env name [] e = absurd (cc)
 print_shape env name (t.text at ∷ others) e = record {
   at = at;
@@ -132,14 +132,14 @@ print_shape env name (t.value inner ∷ others) e = absurd (no_misfit env inner 
 pub print_tells : (env : Env) (call : t.Call) → meaning env call.name ≡ m.Known p.Printf → call_faults env call ≡ [] → IsPrint env (arguments_of call)
 print_tells env call h e = print_shape env call.name (arguments_of call) (rw h at e)
 
-pub format_tells : (env : Env) (given : List t.Argument) (at : Spot) → IsPrint env given → slice_get given 0 ≡ Some (t.text at)
+pub format_tells : (env : Env) (given : List t.Argument) (at : Span) → IsPrint env given → slice_get given 0 ≡ Some (t.text at)
     → is_some (pieces_of (inside (token_bytes env.text at))) ≡ true
 format_tells env given at h first =
     let same : Some (t.text h.at) ≡ Some (t.text at) = sym h.first ∙ first in
     let one : h.at ≡ at = cc in
     subst (λ z. is_some (pieces_of (inside (token_bytes env.text z))) ≡ true) one h.format
 
-pub print_rule : (env : Env) (call : t.Call) (at : Spot) (format : Vec FormatPiece Global) (typed : Vec Expr Global)
+pub print_rule : (env : Env) (call : t.Call) (at : Span) (format : Vec FormatPiece Global) (typed : Vec Expr Global)
     → meaning env call.name ≡ m.Known p.Printf → slice_get (arguments_of call) 0 ≡ Some (t.text at)
     → pieces_of (inside (token_bytes env.text at)) ≡ Some format.items → AreValues env (drop 1 (arguments_of call)) typed.items
     → IsSimple env (t.invoke call) (l.Print format typed)
@@ -174,7 +174,7 @@ numbers_end env given i typed past so_far =
 
 -- ---- assignments
 
-pub assign_right : (env : Env) (place : t.Place) (operator : Word) (at : Spot) (right : t.Right) → simple_faults env (t.assign place operator at right) ≡ []
+pub assign_right : (env : Env) (place : t.Place) (operator : Symbol) (at : Span) (right : t.Right) → simple_faults env (t.assign place operator at right) ≡ []
     → (wanted : ExprKind) × (right_faults env wanted right ≡ [])
 assign_right env place operator at right e = by_test (is_assign operator) e
   where

@@ -3,11 +3,11 @@ use Rattle.std.proofs.Common.{◌≡◌, ◌++◌, ◌+◌, ◌≤◌, ◌<◌, 
 use Rattle.std.specs.declared.alloc.Global.{Global}
 use Rattle.std.specs.declared.boxed.Box.{Box}
 use Rattle.std.specs.declared.vec.Vec.{Vec}
-use Rattle.c_grammar.specs.declared.word.Spot.{Spot}
-use Rattle.c_grammar.specs.declared.statement.Behind.{Behind}
+use Rattle.c_grammar.specs.declared.terminal.Span.{Span}
+use Rattle.c_grammar.specs.declared.statement.AfterComma.{AfterComma}
 use Rattle.c_grammar.specs.declared.statement.Declaration as source_declaration
 use Rattle.c_grammar.specs.declared.statement.ForStart as source_start
-use Rattle.c_grammar.specs.declared.statement.Item as source_item
+use Rattle.c_grammar.specs.declared.statement.InitDeclarator as source_item
 use Rattle.c_grammar.specs.declared.statement.Part as source_part
 use Rattle.c_grammar.specs.declared.statement.Right as source_right
 use Rattle.c_grammar.specs.declared.statement.Simple as source_simple
@@ -30,7 +30,7 @@ use Rattle.c_check_expr.specs.declared.meaning.ExprKind.TheVariants.{Of, Nothing
 use Rattle.c_check_expr.specs.declared.meaning.Entity.{Entity}
 use Rattle.c_check_expr.proofs.Lists.{drop_at, drop_past}
 use Rattle.c_check.proofs.More.{after_items_next, after_parts_next}
-use Rattle.c_check_expr.proofs.Rows.{behind_viewed}
+use Rattle.c_check_expr.proofs.Rows.{after_comma_viewed}
 use Rattle.c_lex.specs.declared.fault.Why.TheVariants.{WrongType}
 use Rattle.c_names.specs.declared.kind.VariableKind.{VariableKind}
 use Rattle.c_names.specs.declared.kind.VariableKind.TheVariants.{Int}
@@ -38,7 +38,7 @@ use Rattle.c_program.specs.declared.expr.Expr.{Expr}
 use Rattle.c_program.specs.declared.expr.Right.{Right}
 use Rattle.c_program.specs.declared.statement.Declaration.{Declaration}
 use Rattle.c_program.specs.declared.statement.ForStart.{ForStart}
-use Rattle.c_program.specs.declared.statement.Item.{Item}
+use Rattle.c_program.specs.declared.statement.InitDeclarator.{InitDeclarator}
 use Rattle.c_program.specs.declared.statement.Part.{Part}
 use Rattle.c_program.specs.declared.statement.Part.TheVariants as q
 use Rattle.c_program.specs.declared.statement.Simple.{Simple}
@@ -51,82 +51,82 @@ use Rattle.c_type_stmt.proofs.Growing.{ended, grown, none_left, none_right}
 
 -- ---- values in braces
 
-pub exprs_more : (env : Env) (values : List (Behind source_expr.Expr)) (i : ℕ) (value : Behind source_expr.Expr) (whole : List t.Expr) (before after : List Expr) (typed : Expr)
+pub exprs_more : (env : Env) (values : List (AfterComma source_expr.Expr)) (i : ℕ) (value : AfterComma source_expr.Expr) (whole : List t.Expr) (before after : List Expr) (typed : Expr)
     → after ≡ before ++ typed ∷ [] → i < length values → value ≡ get_or values i value → IsExpr env (view value.item) typed
-    → ((more : List Expr) → AreExprs env (behind_viewed view (drop i values)) more → AreExprs env whole (before ++ more))
-    → (more : List Expr) → AreExprs env (behind_viewed view (drop (i + 1) values)) more → AreExprs env whole (after ++ more)
+    → ((more : List Expr) → AreExprs env (after_comma_viewed view (drop i values)) more → AreExprs env whole (before ++ more))
+    → (more : List Expr) → AreExprs env (after_comma_viewed view (drop (i + 1) values)) more → AreExprs env whole (after ++ more)
 exprs_more env values i value whole before after typed e less is h =
-    let P : List (Behind source_expr.Expr) → List Expr → Type 0 = λ left all. AreExprs env (behind_viewed view left) all in
+    let P : List (AfterComma source_expr.Expr) → List Expr → Type 0 = λ left all. AreExprs env (after_comma_viewed view left) all in
     grown (P (drop i values)) (P (drop (i + 1) values)) (λ all. AreExprs env whole all) before after typed e
     (λ more rest. subst (λ left. P left (typed ∷ more)) (sym (drop_at values i value less is)) (x.expr h rest))
 
-pub exprs_begin : (env : Env) (first : t.Expr) (values all : List (Behind source_expr.Expr)) (after : List Expr) (typed : Expr)
+pub exprs_begin : (env : Env) (first : t.Expr) (values all : List (AfterComma source_expr.Expr)) (after : List Expr) (typed : Expr)
     → values ≡ all → IsExpr env first typed → after ≡ typed ∷ []
-    → (more : List Expr) → AreExprs env (behind_viewed view values) more → AreExprs env (first ∷ behind_viewed view all) (after ++ more)
+    → (more : List Expr) → AreExprs env (after_comma_viewed view values) more → AreExprs env (first ∷ after_comma_viewed view all) (after ++ more)
 exprs_begin env first values all after typed v h e more rest = rw e (x.expr h (rw v at rest))
 
-pub exprs_end : (env : Env) (values : List (Behind source_expr.Expr)) (i : ℕ) (whole : List t.Expr) (typed : List Expr) → length values ≤ i
-    → ((more : List Expr) → AreExprs env (behind_viewed view (drop i values)) more → AreExprs env whole (typed ++ more)) → AreExprs env whole typed
+pub exprs_end : (env : Env) (values : List (AfterComma source_expr.Expr)) (i : ℕ) (whole : List t.Expr) (typed : List Expr) → length values ≤ i
+    → ((more : List Expr) → AreExprs env (after_comma_viewed view (drop i values)) more → AreExprs env whole (typed ++ more)) → AreExprs env whole typed
 exprs_end env values i whole typed past so_far =
-    let P : List (Behind source_expr.Expr) → List Expr → Type 0 = λ left all. AreExprs env (behind_viewed view left) all in
+    let P : List (AfterComma source_expr.Expr) → List Expr → Type 0 = λ left all. AreExprs env (after_comma_viewed view left) all in
     ended (P (drop i values)) (λ all. AreExprs env whole all) typed (subst (λ left. P left []) (sym (drop_past values i past)) x.no_expr) so_far
 
 -- ---- declarations
 
-pub begun_right : (env : Env) (name mark : Spot) (entity : Entity) (right : t.Right) → initial_faults env name entity (Some (t.begun mark right)) ≡ []
+pub begun_right : (env : Env) (name mark : Span) (entity : Entity) (right : t.Right) → initial_faults env name entity (Some (t.begun mark right)) ≡ []
     → (wanted : ExprKind) × (right_faults env wanted right ≡ [])
 begun_right env name mark entity right e = (begun_takes (begins_with entity), none_right (unless (can_begin (begins_with entity)) name WrongType) _ e)
 
-pub item_initial : (env now : Env) (kind : VariableKind) (item : t.Item) → now ≡ after_item env kind item → item_faults env kind item ≡ []
-    → (name : Spot) × (entity : Entity) × (initial_faults now name entity item.initial ≡ [])
+pub item_initial : (env now : Env) (kind : VariableKind) (item : t.InitDeclarator) → now ≡ after_item env kind item → item_faults env kind item ≡ []
+    → (name : Span) × (entity : Entity) × (initial_faults now name entity item.initial ≡ [])
 item_initial env now kind item n e =
     rw n (place_first_token item.place, declared_entity env kind item.place, none_right (place_length_faults env item.place ++ twice_faults env (place_first_token item.place)) _ e)
 
-pub items_first : (env : Env) (kind meant : VariableKind) (item : t.Item) (items : List t.Item) → kind ≡ meant → items_faults env meant (item ∷ items) ≡ [] → item_faults env kind item ≡ []
+pub items_first : (env : Env) (kind meant : VariableKind) (item : t.InitDeclarator) (items : List t.InitDeclarator) → kind ≡ meant → items_faults env meant (item ∷ items) ≡ [] → item_faults env kind item ≡ []
 items_first env kind meant item items k e = rw k (none_left (item_faults env meant item) _ e)
 
-pub items_start : (env now : Env) (kind meant : VariableKind) (first : t.Item) (items all : List (Behind source_item.Item)) → kind ≡ meant → items ≡ all → now ≡ after_item env kind first
-    → items_faults env meant (first ∷ behind_viewed item_view all) ≡ [] → items_faults now kind (behind_viewed item_view items) ≡ []
+pub items_start : (env now : Env) (kind meant : VariableKind) (first : t.InitDeclarator) (items all : List (AfterComma source_item.InitDeclarator)) → kind ≡ meant → items ≡ all → now ≡ after_item env kind first
+    → items_faults env meant (first ∷ after_comma_viewed item_view all) ≡ [] → items_faults now kind (after_comma_viewed item_view items) ≡ []
 items_start env now kind meant first items all k v n e = rw (n, v, k) (none_right (item_faults env meant first) _ e)
 
-pub item_next : (env : Env) (kind : VariableKind) (items : List (Behind source_item.Item)) (i : ℕ) (item : Behind source_item.Item) → i < length items → item ≡ get_or items i item
-    → items_faults env kind (behind_viewed item_view (drop i items)) ≡ [] → item_faults env kind (item_view item.item) ≡ []
+pub item_next : (env : Env) (kind : VariableKind) (items : List (AfterComma source_item.InitDeclarator)) (i : ℕ) (item : AfterComma source_item.InitDeclarator) → i < length items → item ≡ get_or items i item
+    → items_faults env kind (after_comma_viewed item_view (drop i items)) ≡ [] → item_faults env kind (item_view item.item) ≡ []
 item_next env kind items i item less is e =
-    let all : items_faults env kind (item_view item.item ∷ behind_viewed item_view (drop (i + 1) items)) ≡ [] = rw (drop_at items i item less is) at e in
+    let all : items_faults env kind (item_view item.item ∷ after_comma_viewed item_view (drop (i + 1) items)) ≡ [] = rw (drop_at items i item less is) at e in
     none_left (item_faults env kind (item_view item.item)) _ all
 
-pub items_next : (env now : Env) (kind : VariableKind) (items : List (Behind source_item.Item)) (i : ℕ) (item : Behind source_item.Item) → i < length items → item ≡ get_or items i item
-    → now ≡ after_item env kind (item_view item.item) → items_faults env kind (behind_viewed item_view (drop i items)) ≡ []
-    → items_faults now kind (behind_viewed item_view (drop (i + 1) items)) ≡ []
+pub items_next : (env now : Env) (kind : VariableKind) (items : List (AfterComma source_item.InitDeclarator)) (i : ℕ) (item : AfterComma source_item.InitDeclarator) → i < length items → item ≡ get_or items i item
+    → now ≡ after_item env kind (item_view item.item) → items_faults env kind (after_comma_viewed item_view (drop i items)) ≡ []
+    → items_faults now kind (after_comma_viewed item_view (drop (i + 1) items)) ≡ []
 items_next env now kind items i item less is n e =
-    let all : items_faults env kind (item_view item.item ∷ behind_viewed item_view (drop (i + 1) items)) ≡ [] = rw (drop_at items i item less is) at e in
+    let all : items_faults env kind (item_view item.item ∷ after_comma_viewed item_view (drop (i + 1) items)) ≡ [] = rw (drop_at items i item less is) at e in
     rw n (none_right (item_faults env kind (item_view item.item)) _ all)
 
-pub items_after : (env now last : Env) (kind : VariableKind) (items : List (Behind source_item.Item)) (i : ℕ) (item : Behind source_item.Item) → i < length items → item ≡ get_or items i item
-    → now ≡ after_item env kind (item_view item.item) → after_items env kind (behind_viewed item_view (drop i items)) ≡ last
-    → after_items now kind (behind_viewed item_view (drop (i + 1) items)) ≡ last
+pub items_after : (env now last : Env) (kind : VariableKind) (items : List (AfterComma source_item.InitDeclarator)) (i : ℕ) (item : AfterComma source_item.InitDeclarator) → i < length items → item ≡ get_or items i item
+    → now ≡ after_item env kind (item_view item.item) → after_items env kind (after_comma_viewed item_view (drop i items)) ≡ last
+    → after_items now kind (after_comma_viewed item_view (drop (i + 1) items)) ≡ last
 items_after env now last kind items i item less is n e = rw n (sym (after_items_next env kind items i item less is) ∙ e)
 
-pub items_more : (env start now : Env) (kind : VariableKind) (items : List (Behind source_item.Item)) (i : ℕ) (item : Behind source_item.Item) (whole : List t.Item)
-    (before after : List Item) (typed : Item) → after ≡ before ++ typed ∷ [] → i < length items → item ≡ get_or items i item
+pub items_more : (env start now : Env) (kind : VariableKind) (items : List (AfterComma source_item.InitDeclarator)) (i : ℕ) (item : AfterComma source_item.InitDeclarator) (whole : List t.InitDeclarator)
+    (before after : List InitDeclarator) (typed : InitDeclarator) → after ≡ before ++ typed ∷ [] → i < length items → item ≡ get_or items i item
     → IsItem env kind (item_view item.item) typed → now ≡ after_item env kind (item_view item.item)
-    → ((more : List Item) → AreItems kind env (behind_viewed item_view (drop i items)) more → AreItems kind start whole (before ++ more))
-    → (more : List Item) → AreItems kind now (behind_viewed item_view (drop (i + 1) items)) more → AreItems kind start whole (after ++ more)
+    → ((more : List InitDeclarator) → AreItems kind env (after_comma_viewed item_view (drop i items)) more → AreItems kind start whole (before ++ more))
+    → (more : List InitDeclarator) → AreItems kind now (after_comma_viewed item_view (drop (i + 1) items)) more → AreItems kind start whole (after ++ more)
 items_more env start now kind items i item whole before after typed e less is h n =
-    let P : Env → List (Behind source_item.Item) → List Item → Type 0 = λ here left all. AreItems kind here (behind_viewed item_view left) all in
+    let P : Env → List (AfterComma source_item.InitDeclarator) → List InitDeclarator → Type 0 = λ here left all. AreItems kind here (after_comma_viewed item_view left) all in
     grown (P env (drop i items)) (P now (drop (i + 1) items)) (λ all. AreItems kind start whole all) before after typed e
     (λ more rest. subst (λ left. P env left (typed ∷ more)) (sym (drop_at items i item less is))
     (x.item h (subst (λ here. P here (drop (i + 1) items) more) n rest)))
 
-pub items_begin : (env now : Env) (kind : VariableKind) (first : t.Item) (items all : List (Behind source_item.Item)) (after : List Item) (typed : Item)
+pub items_begin : (env now : Env) (kind : VariableKind) (first : t.InitDeclarator) (items all : List (AfterComma source_item.InitDeclarator)) (after : List InitDeclarator) (typed : InitDeclarator)
     → items ≡ all → IsItem env kind first typed → now ≡ after_item env kind first → after ≡ typed ∷ []
-    → (more : List Item) → AreItems kind now (behind_viewed item_view items) more → AreItems kind env (first ∷ behind_viewed item_view all) (after ++ more)
+    → (more : List InitDeclarator) → AreItems kind now (after_comma_viewed item_view items) more → AreItems kind env (first ∷ after_comma_viewed item_view all) (after ++ more)
 items_begin env now kind first items all after typed v h n e more rest = rw e (x.item h (rw (v, n) at rest))
 
-pub items_end : (env start : Env) (kind meant : VariableKind) (items : List (Behind source_item.Item)) (i : ℕ) (whole : List t.Item) (typed : List Item) → kind ≡ meant → length items ≤ i
-    → ((more : List Item) → AreItems kind env (behind_viewed item_view (drop i items)) more → AreItems kind start whole (typed ++ more)) → AreItems meant start whole typed
+pub items_end : (env start : Env) (kind meant : VariableKind) (items : List (AfterComma source_item.InitDeclarator)) (i : ℕ) (whole : List t.InitDeclarator) (typed : List InitDeclarator) → kind ≡ meant → length items ≤ i
+    → ((more : List InitDeclarator) → AreItems kind env (after_comma_viewed item_view (drop i items)) more → AreItems kind start whole (typed ++ more)) → AreItems meant start whole typed
 items_end env start kind meant items i whole typed k past so_far =
-    let P : List (Behind source_item.Item) → List Item → Type 0 = λ left all. AreItems kind env (behind_viewed item_view left) all in
+    let P : List (AfterComma source_item.InitDeclarator) → List InitDeclarator → Type 0 = λ left all. AreItems kind env (after_comma_viewed item_view left) all in
     subst (λ (one : VariableKind). AreItems one start whole typed) k
     (ended (P (drop i items)) (λ all. AreItems kind start whole all) typed (subst (λ left. P left []) (sym (drop_past items i past)) x.no_item) so_far)
 
@@ -148,98 +148,98 @@ IsFaultlessPart env part = (gives : Bool) × (loops : Bool) × (part_faults env 
 abbrev pub AreFaultless : Env → t.Parts → Type 0
 AreFaultless env parts = (gives : Bool) × (loops : Bool) × (parts_faults env gives loops parts ≡ [])
 
-pub block_parts : (env : Env) (stmt : source.Stmt) (opening : Spot) (parts : Vec source_part.Part Global) (closing : Spot)
+pub block_parts : (env : Env) (stmt : source.Stmt) (opening : Span) (parts : Vec source_part.Part Global) (closing : Span)
     → stmt ≡ ts.Block opening parts closing → IsFaultless env (stmt_view stmt) → AreFaultless (opened env) (parts_view parts.items)
 block_parts env stmt opening parts closing is f =
     let g : IsFaultless env (t.block opening (parts_view parts.items) closing) = rw (is, view-block) at f in g
 
-pub block_rule : (env : Env) (stmt : source.Stmt) (opening : Spot) (parts : Vec source_part.Part Global) (closing : Spot) (typed : Vec Part Global)
+pub block_rule : (env : Env) (stmt : source.Stmt) (opening : Span) (parts : Vec source_part.Part Global) (closing : Span) (typed : Vec Part Global)
     → stmt ≡ ts.Block opening parts closing → AreParts (opened env) (parts_view parts.items) typed.items → IsStmt env (stmt_view stmt) (s.Block typed)
 block_rule env stmt opening parts closing typed is h = rw (is, view-block) (x.block typed h)
 
-pub empty_rule : (env : Env) (stmt : source.Stmt) (at : Spot) → stmt ≡ ts.Empty at → IsStmt env (stmt_view stmt) s.Empty
+pub empty_rule : (env : Env) (stmt : source.Stmt) (at : Span) → stmt ≡ ts.Empty at → IsStmt env (stmt_view stmt) s.Empty
 empty_rule env stmt at is = rw (is, view-empty) x.empty
 
-pub simple_faultless : (env : Env) (stmt : source.Stmt) (simple : source_simple.Simple) (end : Spot) → stmt ≡ ts.Simple simple end
+pub simple_faultless : (env : Env) (stmt : source.Stmt) (simple : source_simple.Simple) (end : Span) → stmt ≡ ts.Simple simple end
     → IsFaultless env (stmt_view stmt) → simple_faults env (simple_view simple) ≡ []
 simple_faultless env stmt simple end is f =
     let g : IsFaultless env (t.simple (simple_view simple) end) = rw (is, view-simple) at f in g.2
 
-pub simple_rule : (env : Env) (stmt : source.Stmt) (simple : source_simple.Simple) (end : Spot) (typed : Simple) → stmt ≡ ts.Simple simple end
+pub simple_rule : (env : Env) (stmt : source.Stmt) (simple : source_simple.Simple) (end : Span) (typed : Simple) → stmt ≡ ts.Simple simple end
     → IsSimple env (simple_view simple) typed → IsStmt env (stmt_view stmt) (s.Simple typed)
 simple_rule env stmt simple end typed is h = rw (is, view-simple) (x.simple h)
 
-pub break_rule : (env : Env) (stmt : source.Stmt) (word end : Spot) → stmt ≡ ts.Break word end → IsStmt env (stmt_view stmt) s.Break
-break_rule env stmt word end is = rw (is, view-break) x.break
+pub break_rule : (env : Env) (stmt : source.Stmt) (keyword end : Span) → stmt ≡ ts.Break keyword end → IsStmt env (stmt_view stmt) s.Break
+break_rule env stmt keyword end is = rw (is, view-break) x.break
 
-pub continue_rule : (env : Env) (stmt : source.Stmt) (word end : Spot) → stmt ≡ ts.Continue word end → IsStmt env (stmt_view stmt) s.Continue
-continue_rule env stmt word end is = rw (is, view-continue) x.continue
+pub continue_rule : (env : Env) (stmt : source.Stmt) (keyword end : Span) → stmt ≡ ts.Continue keyword end → IsStmt env (stmt_view stmt) s.Continue
+continue_rule env stmt keyword end is = rw (is, view-continue) x.continue
 
-pub return_faultless : (env : Env) (stmt : source.Stmt) (word : Spot) (value : Option source_right.Right) (end : Spot) → stmt ≡ ts.Return word value end
+pub return_faultless : (env : Env) (stmt : source.Stmt) (keyword : Span) (value : Option source_right.Right) (end : Span) → stmt ≡ ts.Return keyword value end
     → IsFaultless env (stmt_view stmt) → (gives : Bool) × (return_faults env gives (option_map right_view value) ≡ [])
-return_faultless env stmt word value end is f =
-    let g : IsFaultless env (t.return word (option_map right_view value) end) = rw (is, view-return) at f in (g.0, g.2)
+return_faultless env stmt keyword value end is f =
+    let g : IsFaultless env (t.return keyword (option_map right_view value) end) = rw (is, view-return) at f in (g.0, g.2)
 
-pub return_rule : (env : Env) (stmt : source.Stmt) (word : Spot) (value : Option source_right.Right) (end : Spot) (typed : Option Right) → stmt ≡ ts.Return word value end
+pub return_rule : (env : Env) (stmt : source.Stmt) (keyword : Span) (value : Option source_right.Right) (end : Span) (typed : Option Right) → stmt ≡ ts.Return keyword value end
     → IsReturn env (option_map right_view value) typed → IsStmt env (stmt_view stmt) (s.Return typed)
-return_rule env stmt word value end typed is h = rw (is, view-return) (x.return h)
+return_rule env stmt keyword value end typed is h = rw (is, view-return) (x.return h)
 
-pub if_taken : (env : Env) (stmt : source.Stmt) (word opening : Spot) (test : source_expr.Expr) (closing : Spot) (then : Box source.Stmt Global)
-    → stmt ≡ ts.If word opening test closing then → IsFaultless env (stmt_view stmt) → IsFaultless env (stmt_view then.value)
-if_taken env stmt word opening test closing then is f =
-    let g : IsFaultless env (t.if_only word opening (view test) closing (stmt_view then.value)) = rw (is, view-if_only) at f in
+pub if_taken : (env : Env) (stmt : source.Stmt) (keyword opening : Span) (test : source_expr.Expr) (closing : Span) (then : Box source.Stmt Global)
+    → stmt ≡ ts.If keyword opening test closing then → IsFaultless env (stmt_view stmt) → IsFaultless env (stmt_view then.value)
+if_taken env stmt keyword opening test closing then is f =
+    let g : IsFaultless env (t.if_only keyword opening (view test) closing (stmt_view then.value)) = rw (is, view-if_only) at f in
     (g.0, g.1, none_right (int_faults env (view test)) _ g.2)
 
-pub if_rule : (env : Env) (stmt : source.Stmt) (word opening : Spot) (test : source_expr.Expr) (closing : Spot) (then : Box source.Stmt Global) (e : Expr) (a : Box Stmt Global)
-    → stmt ≡ ts.If word opening test closing then → IsExpr env (view test) e → IsStmt env (stmt_view then.value) a.value → IsStmt env (stmt_view stmt) (s.If e a)
-if_rule env stmt word opening test closing then e a is h k = rw (is, view-if_only) (x.if_only h k)
+pub if_rule : (env : Env) (stmt : source.Stmt) (keyword opening : Span) (test : source_expr.Expr) (closing : Span) (then : Box source.Stmt Global) (e : Expr) (a : Box Stmt Global)
+    → stmt ≡ ts.If keyword opening test closing then → IsExpr env (view test) e → IsStmt env (stmt_view then.value) a.value → IsStmt env (stmt_view stmt) (s.If e a)
+if_rule env stmt keyword opening test closing then e a is h k = rw (is, view-if_only) (x.if_only h k)
 
-pub both_taken : (env : Env) (stmt : source.Stmt) (word opening : Spot) (test : source_expr.Expr) (closing : Spot) (then : Box source.Stmt Global) (other_word : Spot) (other : Box source.Stmt Global)
-    → stmt ≡ ts.IfElse word opening test closing then other_word other → IsFaultless env (stmt_view stmt) → IsFaultless env (stmt_view then.value)
-both_taken env stmt word opening test closing then other_word other is f =
-    let g : IsFaultless env (t.if_else word opening (view test) closing (stmt_view then.value) other_word (stmt_view other.value)) = rw (is, view-if_else) at f in
+pub both_taken : (env : Env) (stmt : source.Stmt) (keyword opening : Span) (test : source_expr.Expr) (closing : Span) (then : Box source.Stmt Global) (else_keyword : Span) (other : Box source.Stmt Global)
+    → stmt ≡ ts.IfElse keyword opening test closing then else_keyword other → IsFaultless env (stmt_view stmt) → IsFaultless env (stmt_view then.value)
+both_taken env stmt keyword opening test closing then else_keyword other is f =
+    let g : IsFaultless env (t.if_else keyword opening (view test) closing (stmt_view then.value) else_keyword (stmt_view other.value)) = rw (is, view-if_else) at f in
     (g.0, g.1, none_right (int_faults env (view test)) _ (none_left _ _ g.2))
 
-pub both_spared : (env now : Env) (stmt : source.Stmt) (word opening : Spot) (test : source_expr.Expr) (closing : Spot) (then : Box source.Stmt Global) (other_word : Spot) (other : Box source.Stmt Global)
-    → stmt ≡ ts.IfElse word opening test closing then other_word other → now ≡ env → IsFaultless env (stmt_view stmt) → IsFaultless now (stmt_view other.value)
-both_spared env now stmt word opening test closing then other_word other is n f =
-    let g : IsFaultless env (t.if_else word opening (view test) closing (stmt_view then.value) other_word (stmt_view other.value)) = rw (is, view-if_else) at f in
+pub both_spared : (env now : Env) (stmt : source.Stmt) (keyword opening : Span) (test : source_expr.Expr) (closing : Span) (then : Box source.Stmt Global) (else_keyword : Span) (other : Box source.Stmt Global)
+    → stmt ≡ ts.IfElse keyword opening test closing then else_keyword other → now ≡ env → IsFaultless env (stmt_view stmt) → IsFaultless now (stmt_view other.value)
+both_spared env now stmt keyword opening test closing then else_keyword other is n f =
+    let g : IsFaultless env (t.if_else keyword opening (view test) closing (stmt_view then.value) else_keyword (stmt_view other.value)) = rw (is, view-if_else) at f in
     rw n (g.0, g.1, none_right (int_faults env (view test) ++ stmt_faults env g.0 g.1 (stmt_view then.value)) _ g.2)
 
-pub both_rule : (env now : Env) (stmt : source.Stmt) (word opening : Spot) (test : source_expr.Expr) (closing : Spot) (then : Box source.Stmt Global) (other_word : Spot) (other : Box source.Stmt Global)
-    (e : Expr) (a b : Box Stmt Global) → stmt ≡ ts.IfElse word opening test closing then other_word other → now ≡ env
+pub both_rule : (env now : Env) (stmt : source.Stmt) (keyword opening : Span) (test : source_expr.Expr) (closing : Span) (then : Box source.Stmt Global) (else_keyword : Span) (other : Box source.Stmt Global)
+    (e : Expr) (a b : Box Stmt Global) → stmt ≡ ts.IfElse keyword opening test closing then else_keyword other → now ≡ env
     → IsExpr env (view test) e → IsStmt env (stmt_view then.value) a.value → IsStmt now (stmt_view other.value) b.value → IsStmt env (stmt_view stmt) (s.IfElse e a b)
-both_rule env now stmt word opening test closing then other_word other e a b is n h k l = rw (is, view-if_else) (x.if_else h k (rw n at l))
+both_rule env now stmt keyword opening test closing then else_keyword other e a b is n h k l = rw (is, view-if_else) (x.if_else h k (rw n at l))
 
-pub while_body : (env : Env) (stmt : source.Stmt) (word opening : Spot) (test : source_expr.Expr) (closing : Spot) (body : Box source.Stmt Global)
-    → stmt ≡ ts.While word opening test closing body → IsFaultless env (stmt_view stmt) → IsFaultless env (stmt_view body.value)
-while_body env stmt word opening test closing body is f =
-    let g : IsFaultless env (t.while word opening (view test) closing (stmt_view body.value)) = rw (is, view-while) at f in
+pub while_body : (env : Env) (stmt : source.Stmt) (keyword opening : Span) (test : source_expr.Expr) (closing : Span) (body : Box source.Stmt Global)
+    → stmt ≡ ts.While keyword opening test closing body → IsFaultless env (stmt_view stmt) → IsFaultless env (stmt_view body.value)
+while_body env stmt keyword opening test closing body is f =
+    let g : IsFaultless env (t.while keyword opening (view test) closing (stmt_view body.value)) = rw (is, view-while) at f in
     (g.0, true, none_right (int_faults env (view test)) _ g.2)
 
-pub while_rule : (env : Env) (stmt : source.Stmt) (word opening : Spot) (test : source_expr.Expr) (closing : Spot) (body : Box source.Stmt Global) (e : Expr) (a : Box Stmt Global)
-    → stmt ≡ ts.While word opening test closing body → IsExpr env (view test) e → IsStmt env (stmt_view body.value) a.value → IsStmt env (stmt_view stmt) (s.While e a)
-while_rule env stmt word opening test closing body e a is h k = rw (is, view-while) (x.while h k)
+pub while_rule : (env : Env) (stmt : source.Stmt) (keyword opening : Span) (test : source_expr.Expr) (closing : Span) (body : Box source.Stmt Global) (e : Expr) (a : Box Stmt Global)
+    → stmt ≡ ts.While keyword opening test closing body → IsExpr env (view test) e → IsStmt env (stmt_view body.value) a.value → IsStmt env (stmt_view stmt) (s.While e a)
+while_rule env stmt keyword opening test closing body e a is h k = rw (is, view-while) (x.while h k)
 
-pub do_body : (env : Env) (stmt : source.Stmt) (word : Spot) (body : Box source.Stmt Global) (while_word opening : Spot) (test : source_expr.Expr) (closing end : Spot)
-    → stmt ≡ ts.Do word body while_word opening test closing end → IsFaultless env (stmt_view stmt) → IsFaultless env (stmt_view body.value)
-do_body env stmt word body while_word opening test closing end is f =
-    let g : IsFaultless env (t.do_while word (stmt_view body.value) while_word opening (view test) closing end) = rw (is, view-do_while) at f in
+pub do_body : (env : Env) (stmt : source.Stmt) (keyword : Span) (body : Box source.Stmt Global) (while_keyword opening : Span) (test : source_expr.Expr) (closing end : Span)
+    → stmt ≡ ts.Do keyword body while_keyword opening test closing end → IsFaultless env (stmt_view stmt) → IsFaultless env (stmt_view body.value)
+do_body env stmt keyword body while_keyword opening test closing end is f =
+    let g : IsFaultless env (t.do_while keyword (stmt_view body.value) while_keyword opening (view test) closing end) = rw (is, view-do_while) at f in
     (g.0, true, none_left _ _ g.2)
 
-pub do_rule : (env : Env) (stmt : source.Stmt) (word : Spot) (body : Box source.Stmt Global) (while_word opening : Spot) (test : source_expr.Expr) (closing end : Spot) (e : Expr) (a : Box Stmt Global)
-    → stmt ≡ ts.Do word body while_word opening test closing end → IsStmt env (stmt_view body.value) a.value → IsExpr env (view test) e
+pub do_rule : (env : Env) (stmt : source.Stmt) (keyword : Span) (body : Box source.Stmt Global) (while_keyword opening : Span) (test : source_expr.Expr) (closing end : Span) (e : Expr) (a : Box Stmt Global)
+    → stmt ≡ ts.Do keyword body while_keyword opening test closing end → IsStmt env (stmt_view body.value) a.value → IsExpr env (view test) e
     → IsStmt env (stmt_view stmt) (s.Do a e)
-do_rule env stmt word body while_word opening test closing end e a is h k = rw (is, view-do_while) (x.do_while h k)
+do_rule env stmt keyword body while_keyword opening test closing end e a is h k = rw (is, view-do_while) (x.do_while h k)
 
 -- a `for` and its parts
-module _ (env : Env) (stmt : source.Stmt) (word opening : Spot) (start : source_start.ForStart) (start_end : Spot) (test : Option source_expr.Expr) (test_end : Spot)
-    (step : Option source_simple.Simple) (closing : Spot) (body : Box source.Stmt Global) (is : stmt ≡ ts.For word opening start start_end test test_end step closing body) where
+module _ (env : Env) (stmt : source.Stmt) (keyword opening : Span) (start : source_start.ForStart) (start_end : Span) (test : Option source_expr.Expr) (test_end : Span)
+    (step : Option source_simple.Simple) (closing : Span) (body : Box source.Stmt Global) (is : stmt ≡ ts.For keyword opening start start_end test test_end step closing body) where
   abbrev inside : Env
   inside = after_start (opened env) (start_view start)
 
   abbrev whole : t.Stmt
-  whole = t.for word opening (start_view start) start_end (option_map view test) test_end (option_map simple_view step) closing (stmt_view body.value)
+  whole = t.for keyword opening (start_view start) start_end (option_map view test) test_end (option_map simple_view step) closing (stmt_view body.value)
 
   pub for_start : IsFaultless env (stmt_view stmt) → start_faults (opened env) (start_view start) ≡ []
   for_start f = let g : IsFaultless env whole = rw (is, view-for) at f in none_left _ _ (none_left _ _ (none_left _ _ g.2))
@@ -265,20 +265,20 @@ pub for_typed : (env first now : Env) (start : source_start.ForStart) (test : Op
     (typed_start : ForStart) (typed_test : Option Expr) (typed_step : Option Simple) (a : Box Stmt Global)
     → first ≡ opened env → now ≡ after_start first (start_view start)
     → IsStart first (start_view start) typed_start → IsTest now (option_map view test) typed_test → IsStep now (option_map simple_view step) typed_step
-    → IsStmt now (stmt_view body) a.value → (word opening start_end test_end closing : Spot)
-    → IsStmt env (t.for word opening (start_view start) start_end (option_map view test) test_end (option_map simple_view step) closing (stmt_view body)) (s.For typed_start typed_test typed_step a)
-for_typed env first now start test step body typed_start typed_test typed_step a o n b d k h word opening start_end test_end closing =
+    → IsStmt now (stmt_view body) a.value → (keyword opening start_end test_end closing : Span)
+    → IsStmt env (t.for keyword opening (start_view start) start_end (option_map view test) test_end (option_map simple_view step) closing (stmt_view body)) (s.For typed_start typed_test typed_step a)
+for_typed env first now start test step body typed_start typed_test typed_step a o n b d k h keyword opening start_end test_end closing =
     let m : now ≡ after_start (opened env) (start_view start) = n ∙ ap (λ one. after_start one (start_view start)) o in
     x.for (rw o at b) (rw m at d) (rw m at k) (rw m at h)
 
 -- ---- parts
 
-pub declare_faultless : (env : Env) (part : source_part.Part) (declaration : source_declaration.Declaration) (end : Spot) → part ≡ tp.Declaration declaration end
+pub declare_faultless : (env : Env) (part : source_part.Part) (declaration : source_declaration.Declaration) (end : Span) → part ≡ tp.Declaration declaration end
     → IsFaultlessPart env (part_view part) → declaration_faults env (declaration_view declaration) ≡ []
 declare_faultless env part declaration end is f =
     let g : IsFaultlessPart env (t.declare (declaration_view declaration) end) = rw (is, view-declare) at f in g.2
 
-pub declare_rule : (env : Env) (part : source_part.Part) (declaration : source_declaration.Declaration) (end : Spot) (typed : Declaration) → part ≡ tp.Declaration declaration end
+pub declare_rule : (env : Env) (part : source_part.Part) (declaration : source_declaration.Declaration) (end : Span) (typed : Declaration) → part ≡ tp.Declaration declaration end
     → IsDeclaration env (declaration_view declaration) typed → IsPart env (part_view part) (q.Declaration typed)
 declare_rule env part declaration end typed is h = rw (is, view-declare) (x.declare h)
 

@@ -3,9 +3,9 @@ use Rattle.std.specs.Prelude.{◌≡◌, ℕ, ℤ, pos, Bool, true, false, List,
 use Rattle.std.specs.declared.alloc.Global.{Global}
 use Rattle.std.specs.declared.boxed.Box.{Box}
 use Rattle.std.specs.declared.vec.Vec.{Vec}
-use Rattle.c_grammar.specs.declared.word.Spot.{Spot}
-use Rattle.c_grammar.specs.declared.word.Word.{Word}
-use Rattle.c_grammar.specs.declared.word.Word.TheVariants as w
+use Rattle.c_grammar.specs.declared.terminal.Span.{Span}
+use Rattle.c_grammar.specs.declared.terminal.Symbol.{Symbol}
+use Rattle.c_grammar.specs.declared.terminal.Symbol.TheVariants as w
 use Rattle.c_grammar.specs.Tree as t
 use Rattle.c_names.specs.Formats.{pieces_of}
 use Rattle.c_names.specs.declared.format.FormatPiece.{FormatPiece}
@@ -24,9 +24,9 @@ use Rattle.c_program.specs.declared.mpi.MpiCall.{MpiCall}
 use Rattle.c_program.specs.declared.statement.Declaration.{Declaration}
 use Rattle.c_program.specs.declared.statement.ForStart.{ForStart}
 use Rattle.c_program.specs.declared.statement.ForStart.TheVariants as b
-use Rattle.c_program.specs.declared.statement.Initial.{Initial}
-use Rattle.c_program.specs.declared.statement.Initial.TheVariants as i
-use Rattle.c_program.specs.declared.statement.Item.{Item}
+use Rattle.c_program.specs.declared.statement.Initializer.{Initializer}
+use Rattle.c_program.specs.declared.statement.Initializer.TheVariants as i
+use Rattle.c_program.specs.declared.statement.InitDeclarator.{InitDeclarator}
 use Rattle.c_program.specs.declared.statement.Part.{Part}
 use Rattle.c_program.specs.declared.statement.Part.TheVariants as q
 use Rattle.c_program.specs.declared.statement.Simple.{Simple}
@@ -35,7 +35,7 @@ use Rattle.c_program.specs.declared.statement.Stmt.{Stmt}
 use Rattle.c_program.specs.declared.statement.Stmt.TheVariants as s
 use Rattle.c_check.specs.Calls.{arguments_of, inside}
 use Rattle.c_check_expr.specs.Constants.{length_of}
-use Rattle.c_check_expr.specs.Kinds.{kind_of_word, place_first_token}
+use Rattle.c_check_expr.specs.Kinds.{kind_of_symbol, place_first_token}
 use Rattle.c_check_expr.specs.Scopes.{Env, token_bytes, meaning, opened}
 use Rattle.c_check_expr.specs.Signatures.{listed}
 use Rattle.c_check.specs.Statements.{after_item, after_part, after_start, is_assign}
@@ -46,8 +46,8 @@ use Rattle.c_type_mpi.specs.MpiCalls.{IsMpiCall}
 
 -- ---- assignments and calls
 
--- the operator of `operator=`, `++` or `--`; no other word stands there
-abbrev pub update_of : Word → Operator
+-- the operator of `operator=`, `++` or `--`; no other keyword stands there
+abbrev pub update_of : Symbol → Operator
 update_of w.PlusAssign = o.Plus
 update_of w.Increment = o.Plus
 update_of w.MinusAssign = o.Minus
@@ -70,20 +70,20 @@ pub data AreValues (env : Env) : List t.Argument → List Expr → Type 0 where
       → IsValue env given typed → AreValues env more others → AreValues env (given ∷ more) (typed ∷ others)
 
 pub data IsSimple (env : Env) : t.Simple → Simple → Type 0 where
-  set : {place : t.Place} {operator : Word} {at : Spot} {right : t.Right} {goal : Place} {typed : Right}
+  set : {place : t.Place} {operator : Symbol} {at : Span} {right : t.Right} {goal : Place} {typed : Right}
       → is_assign operator ≡ true → IsPlace env place goal → IsRight env right typed
       → IsSimple env (t.assign place operator at right) (l.Set goal typed)
-  update : {place : t.Place} {operator : Word} {at : Spot} {right : t.Right} {goal : Place} {typed : Right}
+  update : {place : t.Place} {operator : Symbol} {at : Span} {right : t.Right} {goal : Place} {typed : Right}
       → is_assign operator ≡ false → IsPlace env place goal → IsRight env right typed
       → IsSimple env (t.assign place operator at right) (l.Update goal (update_of operator) typed)
-  after : {place : t.Place} {operator : Word} {at : Spot} {goal : Place} → IsPlace env place goal
+  after : {place : t.Place} {operator : Symbol} {at : Span} {goal : Place} → IsPlace env place goal
       → IsSimple env (t.after place operator at) (l.Update goal (update_of operator) one)
-  before : {place : t.Place} {operator : Word} {at : Spot} {goal : Place} → IsPlace env place goal
+  before : {place : t.Place} {operator : Symbol} {at : Span} {goal : Place} → IsPlace env place goal
       → IsSimple env (t.before operator at place) (l.Update goal (update_of operator) one)
   call : {call : t.Call} {typed : FunctionCall} → IsCall env call typed → IsSimple env (t.invoke call) (l.Call typed)
   mpi : {call : t.Call} {function : MpiFunction} {typed : Box MpiCall Global} → meaning env call.name ≡ m.Known (p.Mpi function)
       → IsMpiCall env function (arguments_of call) typed.value → IsSimple env (t.invoke call) (l.Mpi typed)
-  print : {call : t.Call} {at : Spot} {more : List t.Argument} {format : Vec FormatPiece Global} {typed : Vec Expr Global}
+  print : {call : t.Call} {at : Span} {more : List t.Argument} {format : Vec FormatPiece Global} {typed : Vec Expr Global}
       → meaning env call.name ≡ m.Known p.Printf → arguments_of call ≡ t.text at ∷ more
       → pieces_of (inside (token_bytes env.text at)) ≡ Some format.items → AreValues env more typed.items
       → IsSimple env (t.invoke call) (l.Print format typed)
@@ -96,30 +96,30 @@ pub data AreExprs (env : Env) : List t.Expr → List Expr → Type 0 where
   expr : {e : t.Expr} {es : List t.Expr} {typed : Expr} {others : List Expr} → IsExpr env e typed → AreExprs env es others
       → AreExprs env (e ∷ es) (typed ∷ others)
 
-pub data IsInitial (env : Env) : Option t.Initial → Initial → Type 0 where
-  nothing : IsInitial env None i.Nothing
-  begun : {mark : Spot} {right : t.Right} {typed : Right} → IsRight env right typed → IsInitial env (Some (t.begun mark right)) (i.Right typed)
-  braced : {mark opening closing : Spot} {values : t.Row t.Expr} {typed : Vec Expr Global} → AreExprs env (listed values) typed.items
-      → IsInitial env (Some (t.braced mark opening values closing)) (i.Values typed)
+pub data IsInitializer (env : Env) : Option t.Initializer → Initializer → Type 0 where
+  nothing : IsInitializer env None i.Nothing
+  begun : {mark : Span} {right : t.Right} {typed : Right} → IsRight env right typed → IsInitializer env (Some (t.begun mark right)) (i.Right typed)
+  braced : {mark opening closing : Span} {values : t.CommaList t.Expr} {typed : Vec Expr Global} → AreExprs env (listed values) typed.items
+      → IsInitializer env (Some (t.braced mark opening values closing)) (i.Values typed)
 
 abbrev pub length_in : Env → t.Place → Option ℕ
 length_in env (t.whole name) = None
 length_in env (t.cell name opening length closing) = Some (length_of env length)
 
 -- a name stands in its own initializer
-pub record IsItem (env : Env) (kind : VariableKind) (item : t.Item) (typed : Item) : Type 0 where
+pub record IsItem (env : Env) (kind : VariableKind) (item : t.InitDeclarator) (typed : InitDeclarator) : Type 0 where
   pub name : typed.name ≡ token_bytes env.text (place_first_token item.place)
   pub kind_is : typed.kind ≡ kind
   pub length : typed.length ≡ length_in env item.place
-  pub initial : IsInitial (after_item env kind item) item.initial typed.initial
+  pub initial : IsInitializer (after_item env kind item) item.initial typed.initial
 
-pub data AreItems (kind : VariableKind) : Env → List t.Item → List Item → Type 0 where
+pub data AreItems (kind : VariableKind) : Env → List t.InitDeclarator → List InitDeclarator → Type 0 where
   no_item : {env : Env} → AreItems kind env [] []
-  item : {env : Env} {item : t.Item} {more : List t.Item} {typed : Item} {others : List Item}
+  item : {env : Env} {item : t.InitDeclarator} {more : List t.InitDeclarator} {typed : InitDeclarator} {others : List InitDeclarator}
       → IsItem env kind item typed → AreItems kind (after_item env kind item) more others → AreItems kind env (item ∷ more) (typed ∷ others)
 
 abbrev pub IsDeclaration : Env → t.Declaration → Declaration → Type 0
-IsDeclaration env declaration typed = AreItems (kind_of_word declaration.kind) env (listed declaration.items) typed.items.items
+IsDeclaration env declaration typed = AreItems (kind_of_symbol declaration.kind) env (listed declaration.items) typed.items.items
 
 -- ---- statements
 
@@ -143,31 +143,31 @@ pub data IsStep (env : Env) : Option t.Simple → Option Simple → Type 0 where
 
 mutual
   pub data IsStmt : Env → t.Stmt → Stmt → Type 0 where
-    block : {env : Env} {opening closing : Spot} {parts : t.Parts} (typed : Vec Part Global) → AreParts (opened env) parts typed.items
+    block : {env : Env} {opening closing : Span} {parts : t.Parts} (typed : Vec Part Global) → AreParts (opened env) parts typed.items
         → IsStmt env (t.block opening parts closing) (s.Block typed)
-    empty : {env : Env} {at : Spot} → IsStmt env (t.empty at) s.Empty
-    simple : {env : Env} {simple : t.Simple} {end : Spot} {typed : Simple} → IsSimple env simple typed → IsStmt env (t.simple simple end) (s.Simple typed)
-    break : {env : Env} {word end : Spot} → IsStmt env (t.break word end) s.Break
-    continue : {env : Env} {word end : Spot} → IsStmt env (t.continue word end) s.Continue
-    return : {env : Env} {word end : Spot} {value : Option t.Right} {typed : Option Right} → IsReturn env value typed
-        → IsStmt env (t.return word value end) (s.Return typed)
-    if_only : {env : Env} {word opening closing : Spot} {test : t.Expr} {taken : t.Stmt} {e : Expr} {a : Box Stmt Global}
-        → IsExpr env test e → IsStmt env taken a.value → IsStmt env (t.if_only word opening test closing taken) (s.If e a)
-    if_else : {env : Env} {word opening closing other_word : Spot} {test : t.Expr} {taken spared : t.Stmt} {e : Expr} {a c : Box Stmt Global}
+    empty : {env : Env} {at : Span} → IsStmt env (t.empty at) s.Empty
+    simple : {env : Env} {simple : t.Simple} {end : Span} {typed : Simple} → IsSimple env simple typed → IsStmt env (t.simple simple end) (s.Simple typed)
+    break : {env : Env} {keyword end : Span} → IsStmt env (t.break keyword end) s.Break
+    continue : {env : Env} {keyword end : Span} → IsStmt env (t.continue keyword end) s.Continue
+    return : {env : Env} {keyword end : Span} {value : Option t.Right} {typed : Option Right} → IsReturn env value typed
+        → IsStmt env (t.return keyword value end) (s.Return typed)
+    if_only : {env : Env} {keyword opening closing : Span} {test : t.Expr} {taken : t.Stmt} {e : Expr} {a : Box Stmt Global}
+        → IsExpr env test e → IsStmt env taken a.value → IsStmt env (t.if_only keyword opening test closing taken) (s.If e a)
+    if_else : {env : Env} {keyword opening closing else_keyword : Span} {test : t.Expr} {taken spared : t.Stmt} {e : Expr} {a c : Box Stmt Global}
         → IsExpr env test e → IsStmt env taken a.value → IsStmt env spared c.value
-        → IsStmt env (t.if_else word opening test closing taken other_word spared) (s.IfElse e a c)
-    while : {env : Env} {word opening closing : Spot} {test : t.Expr} {body : t.Stmt} {e : Expr} {a : Box Stmt Global}
-        → IsExpr env test e → IsStmt env body a.value → IsStmt env (t.while word opening test closing body) (s.While e a)
-    do_while : {env : Env} {word while_word opening closing end : Spot} {test : t.Expr} {body : t.Stmt} {e : Expr} {a : Box Stmt Global}
-        → IsStmt env body a.value → IsExpr env test e → IsStmt env (t.do_while word body while_word opening test closing end) (s.Do a e)
-    for : {env : Env} {word opening start_end test_end closing : Spot} {start : t.ForStart} {test : Option t.Expr} {step : Option t.Simple} {body : t.Stmt}
+        → IsStmt env (t.if_else keyword opening test closing taken else_keyword spared) (s.IfElse e a c)
+    while : {env : Env} {keyword opening closing : Span} {test : t.Expr} {body : t.Stmt} {e : Expr} {a : Box Stmt Global}
+        → IsExpr env test e → IsStmt env body a.value → IsStmt env (t.while keyword opening test closing body) (s.While e a)
+    do_while : {env : Env} {keyword while_keyword opening closing end : Span} {test : t.Expr} {body : t.Stmt} {e : Expr} {a : Box Stmt Global}
+        → IsStmt env body a.value → IsExpr env test e → IsStmt env (t.do_while keyword body while_keyword opening test closing end) (s.Do a e)
+    for : {env : Env} {keyword opening start_end test_end closing : Span} {start : t.ForStart} {test : Option t.Expr} {step : Option t.Simple} {body : t.Stmt}
         {typed_start : ForStart} {typed_test : Option Expr} {typed_step : Option Simple} {a : Box Stmt Global}
         → IsStart (opened env) start typed_start → IsTest (after_start (opened env) start) test typed_test
         → IsStep (after_start (opened env) start) step typed_step → IsStmt (after_start (opened env) start) body a.value
-        → IsStmt env (t.for word opening start start_end test test_end step closing body) (s.For typed_start typed_test typed_step a)
+        → IsStmt env (t.for keyword opening start start_end test test_end step closing body) (s.For typed_start typed_test typed_step a)
 
   pub data IsPart : Env → t.Part → Part → Type 0 where
-    declare : {env : Env} {declaration : t.Declaration} {end : Spot} {typed : Declaration} → IsDeclaration env declaration typed
+    declare : {env : Env} {declaration : t.Declaration} {end : Span} {typed : Declaration} → IsDeclaration env declaration typed
         → IsPart env (t.declare declaration end) (q.Declaration typed)
     stmt : {env : Env} {inner : t.Stmt} {typed : Stmt} → IsStmt env inner typed → IsPart env (t.stmt inner) (q.Stmt typed)
 

@@ -1,8 +1,8 @@
 //! Typed statements and declarations.
 ghost use Rattle.std.specs.Prelude.{◌≡◌, ◌++◌, ◌∷◌, Bool, [], IfOk, Ok, OnOk, Some, drop, map, option_map, slice_get, true};
 ghost use Rattle.std.specs.Option.{is_some};
-ghost use Rattle.c_grammar.specs.declared.word.Spot.{Spot};
-ghost use Rattle.c_grammar.specs.StmtView.{argument_view, call_view, declaration_view, initial_view, item_view, part_view, parts_view, right_view, row_view, simple_view, start_view, stmt_view};
+ghost use Rattle.c_grammar.specs.declared.terminal.Span.{Span};
+ghost use Rattle.c_grammar.specs.StmtView.{argument_view, call_view, declaration_view, initial_view, item_view, part_view, parts_view, right_view, comma_list_view, simple_view, start_view, stmt_view};
 ghost use Rattle.c_grammar.specs.Tree as t;
 ghost use Rattle.c_grammar.specs.View.{place_view, view};
 ghost use Rattle.c_names.specs.Formats.{pieces_of};
@@ -16,43 +16,45 @@ ghost use Rattle.c_check.specs.Statements.{after_declaration, after_item, after_
 ghost use Rattle.c_check_expr.specs.declared.meaning.Meaning.TheVariants as m;
 ghost use Rattle.c_check_expr.specs.declared.meaning.Entity.{Entity};
 ghost use Rattle.c_type_expr.specs.Exprs.{IsExpr};
-ghost use Rattle.c_type_stmt.specs.Statements.{AreExprs, AreParts, AreValues, IsDeclaration, IsInitial, IsItem, IsPart, IsReturn, IsSimple, IsStart, IsStep, IsStmt, IsTest, length_in, update_of};
+ghost use Rattle.c_type_stmt.specs.Statements.{AreExprs, AreParts, AreValues, IsDeclaration, IsInitializer, IsItem, IsPart, IsReturn, IsSimple, IsStart, IsStep, IsStmt, IsTest, length_in, update_of};
 
-use c_type_expr::call_of::{call_of, right_of, value_of};
-use c_type_expr::expr_of::{expr_of, place_of};
-use c_type_expr::results::{both, boxed, held, three};
 use c_check::call::{argument_at, argument_count, inside};
-use c_type_mpi::mpi_of::mpi_call_of;
 use c_check::statement::{declared_entity, is_assign};
-use c_grammar::word::{Spot, Word};
+use c_check_expr::constant::length_of;
+use c_check_expr::kind::place_first_token;
+use c_check_expr::meaning::{Entity, Meaning, kind_of_symbol};
+use c_check_expr::scope::{Scope, token_bytes};
+use c_grammar::terminal::{Span, Symbol};
 use c_grammar::{statement, tree};
 use c_names::format::{FormatPiece, pieces};
 use c_names::kind::VariableKind;
 use c_names::operator::Operator;
 use c_names::predefined::Predefined;
 use c_program::expr::{Expr, Right};
-use c_program::statement::{Declaration, ForStart, Initial, Item, Part, Simple, Stmt};
-use c_check_expr::constant::length_of;
-use c_check_expr::kind::place_first_token;
-use c_check_expr::scope::{Scope, token_bytes};
-use c_check_expr::meaning::{Meaning, Entity, kind_of_word};
+use c_program::statement::{
+    Declaration, ForStart, InitDeclarator, Initializer, Part, Simple, Stmt,
+};
+use c_type_expr::call_of::{call_of, right_of, value_of};
+use c_type_expr::expr_of::{expr_of, place_of};
+use c_type_expr::results::{both, boxed, held, three};
+use c_type_mpi::mpi_of::mpi_call_of;
 use std::alloc::{AllocError, Global};
 use wiz_base::Bytes;
 
 /// The operator of `operator=`, `++` or `--`.
-fn update_of(word: Word) -> Operator
-    ensures { result ≡ update_of word }
+fn update_of(symbol: Symbol) -> Operator
+    ensures { result ≡ update_of symbol }
 {
-    match word {
-        Word::PlusAssign | Word::Increment => Operator::Plus,
-        Word::MinusAssign | Word::Decrement => Operator::Minus,
-        Word::TimesAssign => Operator::Times,
-        Word::DivideAssign => Operator::Divide,
-        Word::RemainderAssign => Operator::Remainder,
-        Word::AndAssign => Operator::And,
-        Word::OrAssign => Operator::Or,
-        Word::XorAssign => Operator::Xor,
-        Word::ShiftLeftAssign => Operator::ShiftLeft,
+    match symbol {
+        Symbol::PlusAssign | Symbol::Increment => Operator::Plus,
+        Symbol::MinusAssign | Symbol::Decrement => Operator::Minus,
+        Symbol::TimesAssign => Operator::Times,
+        Symbol::DivideAssign => Operator::Divide,
+        Symbol::RemainderAssign => Operator::Remainder,
+        Symbol::AndAssign => Operator::And,
+        Symbol::OrAssign => Operator::Or,
+        Symbol::XorAssign => Operator::Xor,
+        Symbol::ShiftLeftAssign => Operator::ShiftLeft,
         _ => Operator::ShiftRight,
     }
 }
@@ -62,10 +64,10 @@ fn step_of(
     alloc: Global,
     scope: &Scope,
     place: &tree::Place,
-    operator: Word,
+    operator: Symbol,
 ) -> Result<Simple, AllocError>
-    ensures after { IfOk result (λ typed. (at : Spot) → IsSimple scope.now (t.after (place_view place.now) operator at) typed) }
-    ensures before { IfOk result (λ typed. (at : Spot) → IsSimple scope.now (t.before operator at (place_view place.now)) typed) }
+    ensures after { IfOk result (λ typed. (at : Span) → IsSimple scope.now (t.after (place_view place.now) operator at) typed) }
+    ensures before { IfOk result (λ typed. (at : Span) → IsSimple scope.now (t.before operator at (place_view place.now)) typed) }
 {
     Ok(Simple::Update {
         place: place_of(alloc, scope, place)?,
@@ -75,7 +77,7 @@ fn step_of(
 }
 
 /// The text that an argument is.
-fn text_at(argument: &statement::Argument) -> Spot
+fn text_at(argument: &statement::Argument) -> Span
     requires { argument_view argument.now ≡ t.text (checked.argument_first_token (argument_view argument.now)) }
     ensures { argument_view argument.now ≡ t.text result }
 {
@@ -87,8 +89,8 @@ fn text_at(argument: &statement::Argument) -> Spot
 }
 
 /// The text that stands first in a call.
-fn first_text(call: &statement::Call) -> Spot
-    requires { (at : Spot) × (slice_get (arguments_of (call_view call.now)) 0 ≡ Some (t.text at)) }
+fn first_text(call: &statement::Call) -> Span
+    requires { (at : Span) × (slice_get (arguments_of (call_view call.now)) 0 ≡ Some (t.text at)) }
     ensures { slice_get (arguments_of (call_view call.now)) 0 ≡ Some (t.text result) }
 {
     match argument_at(call, 0) {
@@ -98,7 +100,7 @@ fn first_text(call: &statement::Call) -> Spot
 }
 
 /// The pieces of a text that is a format.
-fn format_of(alloc: Global, scope: &Scope, at: Spot) -> Result<Vec<FormatPiece>, AllocError>
+fn format_of(alloc: Global, scope: &Scope, at: Span) -> Result<Vec<FormatPiece>, AllocError>
     requires { is_some (pieces_of (checked.inside (scopes.token_bytes scope.now.text at))) ≡ true }
     ensures { IfOk result (λ format. pieces_of (checked.inside (scopes.token_bytes scope.now.text at)) ≡ Some format.items) }
 {
@@ -197,9 +199,9 @@ fn simple_of(alloc: Global, scope: &Scope, simple: &statement::Simple) -> Result
 fn values_of(
     alloc: Global,
     scope: &Scope,
-    values: &statement::Listed<tree::Expr>,
+    values: &statement::CommaList<tree::Expr>,
 ) -> Result<Vec<Expr>, AllocError>
-    ensures { IfOk result (λ typed. AreExprs scope.now (listed (row_view view values.now)) typed.items) }
+    ensures { IfOk result (λ typed. AreExprs scope.now (listed (comma_list_view view values.now)) typed.items) }
 {
     let mut typed = Vec::new(alloc);
     typed.push(expr_of(alloc, scope, &values.first)?)?;
@@ -212,17 +214,17 @@ fn values_of(
 fn begun_of(
     alloc: Global,
     scope: &Scope,
-    initial: &statement::Initial,
-) -> Result<Initial, AllocError>
-    requires { (name : Spot) × (entity : Entity) × (initial_faults scope.now name entity (Some (initial_view initial.now)) ≡ []) }
-    ensures { IfOk result (λ typed. IsInitial scope.now (Some (initial_view initial.now)) typed) }
+    initial: &statement::Initializer,
+) -> Result<Initializer, AllocError>
+    requires { (name : Span) × (entity : Entity) × (initial_faults scope.now name entity (Some (initial_view initial.now)) ≡ []) }
+    ensures { IfOk result (λ typed. IsInitializer scope.now (Some (initial_view initial.now)) typed) }
 {
     match initial {
-        statement::Initial::Right { right, .. } => {
-            Ok(Initial::Right(right_of(alloc, scope, right)?))
+        statement::Initializer::Right { right, .. } => {
+            Ok(Initializer::Right(right_of(alloc, scope, right)?))
         }
-        statement::Initial::Braced { values, .. } => {
-            Ok(Initial::Values(values_of(alloc, scope, values)?))
+        statement::Initializer::Braced { values, .. } => {
+            Ok(Initializer::Values(values_of(alloc, scope, values)?))
         }
     }
 }
@@ -230,13 +232,13 @@ fn begun_of(
 fn initial_of(
     alloc: Global,
     scope: &Scope,
-    initial: &Option<statement::Initial>,
-) -> Result<Initial, AllocError>
-    requires { (name : Spot) × (entity : Entity) × (initial_faults scope.now name entity (option_map initial_view initial.now) ≡ []) }
-    ensures { IfOk result (λ typed. IsInitial scope.now (option_map initial_view initial.now) typed) }
+    initial: &Option<statement::Initializer>,
+) -> Result<Initializer, AllocError>
+    requires { (name : Span) × (entity : Entity) × (initial_faults scope.now name entity (option_map initial_view initial.now) ≡ []) }
+    ensures { IfOk result (λ typed. IsInitializer scope.now (option_map initial_view initial.now) typed) }
 {
     match initial {
-        None => Ok(Initial::Nothing),
+        None => Ok(Initializer::Nothing),
         Some(initial) => {
             let typed = begun_of(alloc, scope, initial)?;
             Ok(typed)
@@ -259,19 +261,19 @@ fn item_of(
     alloc: Global,
     scope: &mut Scope,
     kind: VariableKind,
-    item: &statement::Item,
-) -> Result<Item, AllocError>
+    item: &statement::InitDeclarator,
+) -> Result<InitDeclarator, AllocError>
     requires { item_faults scope.old kind (item_view item.now) ≡ [] }
     ensures typed { IfOk result (λ typed. IsItem scope.old kind (item_view item.now) typed) }
     ensures scope { OnOk result (scope.new ≡ after_item scope.old kind (item_view item.now)) }
 {
-    let spot = place_first_token(&item.place);
-    let name = Bytes::from_slice(alloc, token_bytes(scope.text(), spot))?;
+    let span = place_first_token(&item.place);
+    let name = Bytes::from_slice(alloc, token_bytes(scope.text(), span))?;
     let length = length_in(scope, &item.place);
     let entity = declared_entity(scope, kind, &item.place);
-    scope.declare(spot, entity)?;
+    scope.declare(span, entity)?;
     let initial = initial_of(alloc, scope, &item.initial)?;
-    Ok(Item {
+    Ok(InitDeclarator {
         name,
         kind,
         length,
@@ -288,7 +290,7 @@ fn declaration_of(
     ensures typed { IfOk result (λ typed. IsDeclaration scope.old (declaration_view declaration.now) typed) }
     ensures scope { OnOk result (scope.new ≡ after_declaration scope.old (declaration_view declaration.now)) }
 {
-    let kind = kind_of_word(declaration.kind);
+    let kind = kind_of_symbol(declaration.kind);
     let mut items = Vec::new(alloc);
     items.push(item_of(alloc, scope, kind, &declaration.items.first)?)?;
     for behind in &declaration.items.more {
@@ -452,7 +454,7 @@ fn for_of(
     requires start { start_faults (opened scope.old) (start_view start.now) ≡ [] }
     requires step { step_faults (after_start (opened scope.old) (start_view start.now)) (option_map simple_view step.now) ≡ [] }
     requires body { (gives : Bool) × (loops : Bool) × (stmt_faults (after_start (opened scope.old) (start_view start.now)) gives loops (stmt_view body.now) ≡ []) }
-    ensures typed { IfOk result (λ typed. (word opening start_end test_end closing : Spot) → IsStmt scope.old (t.for word opening (start_view start.now) start_end (option_map view test.now) test_end (option_map simple_view step.now) closing (stmt_view body.now)) typed) }
+    ensures typed { IfOk result (λ typed. (keyword opening start_end test_end closing : Span) → IsStmt scope.old (t.for keyword opening (start_view start.now) start_end (option_map view test.now) test_end (option_map simple_view step.now) closing (stmt_view body.now)) typed) }
     ensures scope { OnOk result (scope.new ≡ scope.old) }
 {
     scope.open()?;

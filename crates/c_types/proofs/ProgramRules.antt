@@ -2,12 +2,12 @@
 use Rattle.std.proofs.Common.{◌≡◌, ◌++◌, ◌+◌, ◌≤◌, ◌<◌, ℕ, zero, suc, cond, if◌then◌else◌, ◌||◌, Bool, true, false, List, [], ◌∷◌, length, map, drop, get_or, slice_get, Option, Some, None, refl, sym, subst, ap, ◌∙◌, append_assoc, arith}
 use Rattle.std.specs.List.{list_any, position_from}
 use Rattle.std.specs.Option.{is_some, option_to_list}
-use Rattle.c_grammar.specs.declared.word.Spot.{Spot}
-use Rattle.c_grammar.specs.declared.statement.Top as source_top
-use Rattle.c_grammar.specs.StmtGrammar.{AreTops, IsTop, are_named, has, is_named, name_of}
-use Rattle.c_grammar.specs.StmtView.{top_view}
+use Rattle.c_grammar.specs.declared.terminal.Span.{Span}
+use Rattle.c_grammar.specs.declared.statement.ExternalDeclaration as source_external
+use Rattle.c_grammar.specs.StmtGrammar.{AreExternals, IsExternal, are_named, has, is_named, name_of}
+use Rattle.c_grammar.specs.StmtView.{external_view}
 use Rattle.c_grammar.specs.Tree as t
-use Rattle.c_check.specs.Programs.{after_parameter, after_parameters, after_top, declare_optional, function_faults, heads_of, is_main, main_faults, parameter_name, parameter_entity, parameters_faults, text_env, top_faults, top_twice_faults, tops_faults, with_head}
+use Rattle.c_check.specs.Programs.{after_parameter, after_parameters, after_external, declare_optional, function_faults, heads_of, is_main, main_faults, parameter_name, parameter_entity, parameters_faults, text_env, external_faults, external_twice_faults, externals_faults, with_head}
 use Rattle.c_check_expr.specs.Scopes.{Env, token_bytes, opened}
 use Rattle.c_check_expr.specs.declared.fault.TypingFault.{TypingFault}
 use Rattle.c_check_expr.specs.declared.meaning.Entity.{Entity}
@@ -26,24 +26,24 @@ use Rattle.c_type_stmt.proofs.Growing.{ended, grown, none_left, none_right}
 -- ---- parameters
 
 has_name : (one : t.Parameter) → has (name_of one) ≡ true → is_some (parameter_name one) ≡ true
-has_name (t.int word (Some name)) e = refl
-has_name (t.int word None) e = cc
-has_name (t.array word (Some name) opening length closing) e = refl
-has_name (t.array word None opening length closing) e = cc
-has_name (t.pointer word star (Some name)) e = refl
-has_name (t.pointer word star None) e = cc
-has_name (t.communicator word (Some name)) e = refl
-has_name (t.communicator word None) e = cc
-has_name (t.text_pointers word star second (Some name)) e = refl
-has_name (t.text_pointers word star second None) e = cc
-has_name (t.text_array word star (Some name) opening closing) e = refl
-has_name (t.text_array word star None opening closing) e = cc
+has_name (t.int keyword (Some name)) e = refl
+has_name (t.int keyword None) e = cc
+has_name (t.array keyword (Some name) opening length closing) e = refl
+has_name (t.array keyword None opening length closing) e = cc
+has_name (t.pointer keyword star (Some name)) e = refl
+has_name (t.pointer keyword star None) e = cc
+has_name (t.communicator keyword (Some name)) e = refl
+has_name (t.communicator keyword None) e = cc
+has_name (t.text_pointers keyword star second (Some name)) e = refl
+has_name (t.text_pointers keyword star second None) e = cc
+has_name (t.text_array keyword star (Some name) opening closing) e = refl
+has_name (t.text_array keyword star None opening closing) e = cc
 
 both : (b c : Bool) → (if b then c else false) ≡ true → (b ≡ true) × (c ≡ true)
 both true c e = (refl, e)
 both false c e = absurd (cc)
 
-more_named : (more : List (Spot × t.Parameter)) (i : ℕ) (one : t.Parameter) → are_named more ≡ true → slice_get (map (λ behind. behind.1) more) i ≡ Some one
+more_named : (more : List (Span × t.Parameter)) (i : ℕ) (one : t.Parameter) → are_named more ≡ true → slice_get (map (λ behind. behind.1) more) i ≡ Some one
     → is_some (parameter_name one) ≡ true
 more_named [] i one n e = absurd (cc)
 more_named (first ∷ more) zero one n e =
@@ -55,15 +55,15 @@ pub each_named : (parameters : t.Parameters) (i : ℕ) (one : t.Parameter) → i
     → is_some (parameter_name one) ≡ true
 each_named t.no_parameter i one n e = absurd (cc)
 each_named (t.void at) i one n e = absurd (cc)
-each_named (t.parameters (t.row first more)) zero one n e =
+each_named (t.parameters (t.comma_list first more)) zero one n e =
     let b = both (has (name_of first)) (are_named more) n in let q : first ≡ one = cc in
     subst (λ z. is_some (parameter_name z) ≡ true) q (has_name first b.0)
-each_named (t.parameters (t.row first more)) (suc i) one n e = more_named more i one (both (has (name_of first)) (are_named more) n).1 e
+each_named (t.parameters (t.comma_list first more)) (suc i) one n e = more_named more i one (both (has (name_of first)) (are_named more) n).1 e
 
 after_text : (env : Env) (main : Bool) (one : t.Parameter) → (after_parameter env main one).text ≡ env.text
 after_text env main one = by_name (parameter_name one) (parameter_entity main one)
   where
-    by_name : (name : Option Spot) (entity : Entity) → (declare_optional env name entity).text ≡ env.text
+    by_name : (name : Option Span) (entity : Entity) → (declare_optional env name entity).text ≡ env.text
     by_name None entity = refl
     by_name (Some name) entity = refl
 
@@ -107,59 +107,59 @@ function_rule env first now main head parts typed o m n name gives parameters bo
   body = rw (n, o, m) at body;
 }
 
-pub function_faultless : (env : Env) (seen : List (List ℕ)) (head : t.Head) (opening : Spot) (parts : t.Parts) (closing : Spot)
-    → top_faults env seen (t.function head opening parts closing) ≡ [] → function_faults env head parts ≡ []
-function_faultless env seen head opening parts closing e = none_right (top_twice_faults env.text seen head.name) _ e
+pub function_faultless : (env : Env) (seen : List (List ℕ)) (head : t.Head) (opening : Span) (parts : t.Parts) (closing : Span)
+    → external_faults env seen (t.function head opening parts closing) ≡ [] → function_faults env head parts ≡ []
+function_faultless env seen head opening parts closing e = none_right (external_twice_faults env.text seen head.name) _ e
 
-pub tops_first : (tops : List source_top.Top) (i : ℕ) (one : source_top.Top) → i < length tops → one ≡ get_or tops i one
-    → AreTops (map top_view (drop i tops)) → IsTop (top_view one)
-tops_first tops i one less is g =
-    let h : AreTops (top_view one ∷ map top_view (drop (i + 1) tops)) = rw (drop_at tops i one less is) at g in h.0
+pub externals_first : (externals : List source_external.ExternalDeclaration) (i : ℕ) (one : source_external.ExternalDeclaration) → i < length externals → one ≡ get_or externals i one
+    → AreExternals (map external_view (drop i externals)) → IsExternal (external_view one)
+externals_first externals i one less is g =
+    let h : AreExternals (external_view one ∷ map external_view (drop (i + 1) externals)) = rw (drop_at externals i one less is) at g in h.0
 
-pub tops_rest : (tops : List source_top.Top) (i : ℕ) (one : source_top.Top) → i < length tops → one ≡ get_or tops i one
-    → AreTops (map top_view (drop i tops)) → AreTops (map top_view (drop (i + 1) tops))
-tops_rest tops i one less is g =
-    let h : AreTops (top_view one ∷ map top_view (drop (i + 1) tops)) = rw (drop_at tops i one less is) at g in h.1
+pub externals_rest : (externals : List source_external.ExternalDeclaration) (i : ℕ) (one : source_external.ExternalDeclaration) → i < length externals → one ≡ get_or externals i one
+    → AreExternals (map external_view (drop i externals)) → AreExternals (map external_view (drop (i + 1) externals))
+externals_rest externals i one less is g =
+    let h : AreExternals (external_view one ∷ map external_view (drop (i + 1) externals)) = rw (drop_at externals i one less is) at g in h.1
 
-pub top_faultless : (env : Env) (tops : List source_top.Top) (i : ℕ) (one : source_top.Top) → i < length tops → one ≡ get_or tops i one
-    → (seen : List (List ℕ)) × (tops_faults env seen (map top_view (drop i tops)) ≡ []) → (seen : List (List ℕ)) × (top_faults env seen (top_view one) ≡ [])
-top_faultless env tops i one less is f =
-    let e : tops_faults env f.0 (top_view one ∷ map top_view (drop (i + 1) tops)) ≡ [] = rw (drop_at tops i one less is) at f.1 in
+pub external_faultless : (env : Env) (externals : List source_external.ExternalDeclaration) (i : ℕ) (one : source_external.ExternalDeclaration) → i < length externals → one ≡ get_or externals i one
+    → (seen : List (List ℕ)) × (externals_faults env seen (map external_view (drop i externals)) ≡ []) → (seen : List (List ℕ)) × (external_faults env seen (external_view one) ≡ [])
+external_faultless env externals i one less is f =
+    let e : externals_faults env f.0 (external_view one ∷ map external_view (drop (i + 1) externals)) ≡ [] = rw (drop_at externals i one less is) at f.1 in
     (f.0, none_left _ _ e)
 
-pub tops_faultless : (env now : Env) (tops : List source_top.Top) (i : ℕ) (one : source_top.Top) → i < length tops → one ≡ get_or tops i one
-    → now ≡ after_top env (top_view one)
-    → (seen : List (List ℕ)) × (tops_faults env seen (map top_view (drop i tops)) ≡ []) → (seen : List (List ℕ)) × (tops_faults now seen (map top_view (drop (i + 1) tops)) ≡ [])
-tops_faultless env now tops i one less is n f =
-    let e : tops_faults env f.0 (top_view one ∷ map top_view (drop (i + 1) tops)) ≡ [] = rw (drop_at tops i one less is) at f.1 in
-    rw n (_, none_right (top_faults env f.0 (top_view one)) _ e)
+pub externals_faultless : (env now : Env) (externals : List source_external.ExternalDeclaration) (i : ℕ) (one : source_external.ExternalDeclaration) → i < length externals → one ≡ get_or externals i one
+    → now ≡ after_external env (external_view one)
+    → (seen : List (List ℕ)) × (externals_faults env seen (map external_view (drop i externals)) ≡ []) → (seen : List (List ℕ)) × (externals_faults now seen (map external_view (drop (i + 1) externals)) ≡ [])
+externals_faultless env now externals i one less is n f =
+    let e : externals_faults env f.0 (external_view one ∷ map external_view (drop (i + 1) externals)) ≡ [] = rw (drop_at externals i one less is) at f.1 in
+    rw n (_, none_right (external_faults env f.0 (external_view one)) _ e)
 
-pub functions_more : (env start now : Env) (tops : List source_top.Top) (i : ℕ) (one : source_top.Top) (before after : List Function) (typed : Option Function)
-    → after ≡ before ++ option_to_list typed → i < length tops → one ≡ get_or tops i one
-    → IsFunctionOf env (top_view one) typed → now ≡ after_top env (top_view one)
-    → ((more : List Function) → AreFunctions env (map top_view (drop i tops)) more → AreFunctions start (map top_view tops) (before ++ more))
-    → (more : List Function) → AreFunctions now (map top_view (drop (i + 1) tops)) more → AreFunctions start (map top_view tops) (after ++ more)
-functions_more env start now tops i one before after typed e less is h n so_far more rest =
-    let P : Env → List source_top.Top → List Function → Type 0 = λ here left all. AreFunctions here (map top_view left) all in
+pub functions_more : (env start now : Env) (externals : List source_external.ExternalDeclaration) (i : ℕ) (one : source_external.ExternalDeclaration) (before after : List Function) (typed : Option Function)
+    → after ≡ before ++ option_to_list typed → i < length externals → one ≡ get_or externals i one
+    → IsFunctionOf env (external_view one) typed → now ≡ after_external env (external_view one)
+    → ((more : List Function) → AreFunctions env (map external_view (drop i externals)) more → AreFunctions start (map external_view externals) (before ++ more))
+    → (more : List Function) → AreFunctions now (map external_view (drop (i + 1) externals)) more → AreFunctions start (map external_view externals) (after ++ more)
+functions_more env start now externals i one before after typed e less is h n so_far more rest =
+    let P : Env → List source_external.ExternalDeclaration → List Function → Type 0 = λ here left all. AreFunctions here (map external_view left) all in
     let joined : before ++ (option_to_list typed ++ more) ≡ after ++ more =
     sym (append_assoc before (option_to_list typed) more) ∙ ap (λ all. all ++ more) (sym e) in
-    subst (P start tops) joined
+    subst (P start externals) joined
     (so_far (option_to_list typed ++ more)
-    (subst (λ left. P env left (option_to_list typed ++ more)) (sym (drop_at tops i one less is))
-    (x.top h (subst (λ here. P here (drop (i + 1) tops) more) n rest))))
+    (subst (λ left. P env left (option_to_list typed ++ more)) (sym (drop_at externals i one less is))
+    (x.external h (subst (λ here. P here (drop (i + 1) externals) more) n rest))))
 
-pub functions_end : (env start : Env) (tops : List source_top.Top) (i : ℕ) (typed : List Function) → length tops ≤ i
-    → ((more : List Function) → AreFunctions env (map top_view (drop i tops)) more → AreFunctions start (map top_view tops) (typed ++ more))
-    → AreFunctions start (map top_view tops) typed
-functions_end env start tops i typed past so_far =
-    let P : List source_top.Top → List Function → Type 0 = λ left all. AreFunctions env (map top_view left) all in
-    ended (P (drop i tops)) (λ all. AreFunctions start (map top_view tops) all) typed (subst (λ left. P left []) (sym (drop_past tops i past)) x.no_top) so_far
+pub functions_end : (env start : Env) (externals : List source_external.ExternalDeclaration) (i : ℕ) (typed : List Function) → length externals ≤ i
+    → ((more : List Function) → AreFunctions env (map external_view (drop i externals)) more → AreFunctions start (map external_view externals) (typed ++ more))
+    → AreFunctions start (map external_view externals) typed
+functions_end env start externals i typed past so_far =
+    let P : List source_external.ExternalDeclaration → List Function → Type 0 = λ left all. AreFunctions env (map external_view left) all in
+    ended (P (drop i externals)) (λ all. AreFunctions start (map external_view externals) all) typed (subst (λ left. P left []) (sym (drop_past externals i past)) x.no_top) so_far
 
 -- ---- main
 
-pub main_here : (text : List ℕ) (n : ℕ) (top : t.Top) (heads : List t.Head) → list_any (is_main text) (with_head top []) ≡ true
-    → position_from (is_main text) n (with_head top heads) ≡ Some n
-main_here text n (t.define word name value end) heads e = absurd (cc)
+pub main_here : (text : List ℕ) (n : ℕ) (external : t.ExternalDeclaration) (heads : List t.Head) → list_any (is_main text) (with_head external []) ≡ true
+    → position_from (is_main text) n (with_head external heads) ≡ Some n
+main_here text n (t.define keyword name value end) heads e = absurd (cc)
 main_here text n (t.prototype head end) heads e = absurd (cc)
 main_here text n (t.function head opening parts closing) heads e = by_test (is_main text head) (position_from (is_main text) (n + 1) heads) e
   where
@@ -167,9 +167,9 @@ main_here text n (t.function head opening parts closing) heads e = by_test (is_m
     by_test true behind e = refl
     by_test false behind e = absurd (cc)
 
-pub main_next : (text : List ℕ) (n : ℕ) (top : t.Top) (heads : List t.Head) → list_any (is_main text) (with_head top []) ≡ false
-    → position_from (is_main text) n (with_head top heads) ≡ position_from (is_main text) (n + length (with_head top [])) heads
-main_next text n (t.define word name value end) heads e = let z : n ≡ n + 0 = omega arith in ap (λ k. position_from (is_main text) k heads) z
+pub main_next : (text : List ℕ) (n : ℕ) (external : t.ExternalDeclaration) (heads : List t.Head) → list_any (is_main text) (with_head external []) ≡ false
+    → position_from (is_main text) n (with_head external heads) ≡ position_from (is_main text) (n + length (with_head external [])) heads
+main_next text n (t.define keyword name value end) heads e = let z : n ≡ n + 0 = omega arith in ap (λ k. position_from (is_main text) k heads) z
 main_next text n (t.prototype head end) heads e = let z : n ≡ n + 0 = omega arith in ap (λ k. position_from (is_main text) k heads) z
 main_next text n (t.function head opening parts closing) heads e =
     by_test (is_main text head) (position_from (is_main text) (n + 1) heads) e
@@ -178,9 +178,9 @@ main_next text n (t.function head opening parts closing) heads e =
     by_test true behind e = absurd (cc)
     by_test false behind e = refl
 
-pub main_behind : (text : List ℕ) (top : t.Top) (heads : List t.Head) → list_any (is_main text) (with_head top []) ≡ false
-    → list_any (is_main text) (with_head top heads) ≡ true → list_any (is_main text) heads ≡ true
-main_behind text (t.define word name value end) heads e h = h
+pub main_behind : (text : List ℕ) (external : t.ExternalDeclaration) (heads : List t.Head) → list_any (is_main text) (with_head external []) ≡ false
+    → list_any (is_main text) (with_head external heads) ≡ true → list_any (is_main text) heads ≡ true
+main_behind text (t.define keyword name value end) heads e h = h
 main_behind text (t.prototype head end) heads e h = h
 main_behind text (t.function head opening parts closing) heads e h = by_test (is_main text head) (list_any (is_main text) heads) e h
   where
@@ -188,28 +188,28 @@ main_behind text (t.function head opening parts closing) heads e h = by_test (is
     by_test true rest e h = absurd (cc)
     by_test false rest e h = h
 
-pub main_first : (text : List ℕ) (n : ℕ) (tops : List source_top.Top) (i : ℕ) (one : source_top.Top) (found : Option ℕ) → i < length tops → one ≡ get_or tops i one
-    → list_any (is_main text) (with_head (top_view one) []) ≡ true → position_from (is_main text) n (heads_of (map top_view (drop i tops))) ≡ found → found ≡ Some n
-main_first text n tops i one found less is m e =
-    let here : position_from (is_main text) n (with_head (top_view one) (heads_of (map top_view (drop (i + 1) tops)))) ≡ found = rw (drop_at tops i one less is) at e in
-    sym here ∙ main_here text n (top_view one) (heads_of (map top_view (drop (i + 1) tops))) m
+pub main_first : (text : List ℕ) (n : ℕ) (externals : List source_external.ExternalDeclaration) (i : ℕ) (one : source_external.ExternalDeclaration) (found : Option ℕ) → i < length externals → one ≡ get_or externals i one
+    → list_any (is_main text) (with_head (external_view one) []) ≡ true → position_from (is_main text) n (heads_of (map external_view (drop i externals))) ≡ found → found ≡ Some n
+main_first text n externals i one found less is m e =
+    let here : position_from (is_main text) n (with_head (external_view one) (heads_of (map external_view (drop (i + 1) externals)))) ≡ found = rw (drop_at externals i one less is) at e in
+    sym here ∙ main_here text n (external_view one) (heads_of (map external_view (drop (i + 1) externals))) m
 
-pub main_later : (text : List ℕ) (n : ℕ) (tops : List source_top.Top) (i : ℕ) (one : source_top.Top) (found : Option ℕ) → i < length tops → one ≡ get_or tops i one
-    → list_any (is_main text) (with_head (top_view one) []) ≡ false → position_from (is_main text) n (heads_of (map top_view (drop i tops))) ≡ found
-    → position_from (is_main text) (n + length (with_head (top_view one) [])) (heads_of (map top_view (drop (i + 1) tops))) ≡ found
-main_later text n tops i one found less is m e =
-    let here : position_from (is_main text) n (with_head (top_view one) (heads_of (map top_view (drop (i + 1) tops)))) ≡ found = rw (drop_at tops i one less is) at e in
-    sym (main_next text n (top_view one) (heads_of (map top_view (drop (i + 1) tops))) m) ∙ here
+pub main_later : (text : List ℕ) (n : ℕ) (externals : List source_external.ExternalDeclaration) (i : ℕ) (one : source_external.ExternalDeclaration) (found : Option ℕ) → i < length externals → one ≡ get_or externals i one
+    → list_any (is_main text) (with_head (external_view one) []) ≡ false → position_from (is_main text) n (heads_of (map external_view (drop i externals))) ≡ found
+    → position_from (is_main text) (n + length (with_head (external_view one) [])) (heads_of (map external_view (drop (i + 1) externals))) ≡ found
+main_later text n externals i one found less is m e =
+    let here : position_from (is_main text) n (with_head (external_view one) (heads_of (map external_view (drop (i + 1) externals)))) ≡ found = rw (drop_at externals i one less is) at e in
+    sym (main_next text n (external_view one) (heads_of (map external_view (drop (i + 1) externals))) m) ∙ here
 
-pub main_left : (text : List ℕ) (tops : List source_top.Top) (i : ℕ) (one : source_top.Top) → i < length tops → one ≡ get_or tops i one
-    → list_any (is_main text) (with_head (top_view one) []) ≡ false → list_any (is_main text) (heads_of (map top_view (drop i tops))) ≡ true
-    → list_any (is_main text) (heads_of (map top_view (drop (i + 1) tops))) ≡ true
-main_left text tops i one less is m e =
-    let here : list_any (is_main text) (with_head (top_view one) (heads_of (map top_view (drop (i + 1) tops)))) ≡ true = rw (drop_at tops i one less is) at e in
-    main_behind text (top_view one) (heads_of (map top_view (drop (i + 1) tops))) m here
+pub main_left : (text : List ℕ) (externals : List source_external.ExternalDeclaration) (i : ℕ) (one : source_external.ExternalDeclaration) → i < length externals → one ≡ get_or externals i one
+    → list_any (is_main text) (with_head (external_view one) []) ≡ false → list_any (is_main text) (heads_of (map external_view (drop i externals))) ≡ true
+    → list_any (is_main text) (heads_of (map external_view (drop (i + 1) externals))) ≡ true
+main_left text externals i one less is m e =
+    let here : list_any (is_main text) (with_head (external_view one) (heads_of (map external_view (drop (i + 1) externals)))) ≡ true = rw (drop_at externals i one less is) at e in
+    main_behind text (external_view one) (heads_of (map external_view (drop (i + 1) externals))) m here
 
-pub main_none : (text : List ℕ) (tops : List source_top.Top) (i : ℕ) → length tops ≤ i → list_any (is_main text) (heads_of (map top_view (drop i tops))) ≡ true → ⊥
-main_none text tops i past e = let none : list_any (is_main text) [] ≡ true = rw (drop_past tops i past) at e in cc
+pub main_none : (text : List ℕ) (externals : List source_external.ExternalDeclaration) (i : ℕ) → length externals ≤ i → list_any (is_main text) (heads_of (map external_view (drop i externals))) ≡ true → ⊥
+main_none text externals i past e = let none : list_any (is_main text) [] ≡ true = rw (drop_past externals i past) at e in cc
 
 pub has_main : (text : List ℕ) (tree : t.Tree) (others : List TypingFault) → others ++ main_faults text tree ≡ [] → list_any (is_main text) (heads_of tree) ≡ true
 has_main text tree others e = by_test (list_any (is_main text) (heads_of tree)) (record { at = length text; why = NoMain }) (none_right others _ e)

@@ -2,28 +2,28 @@
 use Rattle.std.specs.Prelude.{◌≡◌, ◌++◌, ℕ, Bool, true, false, List, [], ◌∷◌, Option, Some, None}
 use Rattle.std.specs.List.{position}
 use Rattle.std.specs.Option.{option_to_list}
-use Rattle.c_grammar.specs.declared.word.Spot.{Spot}
+use Rattle.c_grammar.specs.declared.terminal.Span.{Span}
 use Rattle.c_grammar.specs.Tree as t
 use Rattle.c_program.specs.declared.program.CProgram.{CProgram}
 use Rattle.c_program.specs.declared.program.Function.{Function}
 use Rattle.c_program.specs.declared.program.Parameter.{Parameter}
 use Rattle.c_program.specs.declared.program.ParameterKind.{ParameterKind}
 use Rattle.c_program.specs.declared.program.ParameterKind.TheVariants as k
-use Rattle.c_check.specs.Programs.{after_parameters, after_top, heads_of, is_main, parameter_name, text_env}
+use Rattle.c_check.specs.Programs.{after_parameters, after_external, heads_of, is_main, parameter_name, text_env}
 use Rattle.c_check_expr.specs.Scopes.{Env, token_bytes, opened}
 use Rattle.c_check_expr.specs.Signatures.{is_int, parameters_listed}
 use Rattle.c_type_stmt.specs.Statements.{AreParts}
 
 abbrev pub parameter_kind : t.Parameter → ParameterKind
-parameter_kind (t.int word name) = k.Int
-parameter_kind (t.array word name opening length closing) = k.Array
-parameter_kind (t.pointer word star name) = k.Array
-parameter_kind (t.communicator word name) = k.Communicator
-parameter_kind (t.text_pointers word star second name) = k.Texts
-parameter_kind (t.text_array word star name opening closing) = k.Texts
+parameter_kind (t.int keyword name) = k.Int
+parameter_kind (t.array keyword name opening length closing) = k.Array
+parameter_kind (t.pointer keyword star name) = k.Array
+parameter_kind (t.communicator keyword name) = k.Communicator
+parameter_kind (t.text_pointers keyword star second name) = k.Texts
+parameter_kind (t.text_array keyword star name opening closing) = k.Texts
 
 pub record IsParameter (text : List ℕ) (one : t.Parameter) (typed : Parameter) : Type 0 where
-  pub name : Spot
+  pub name : Span
   pub named : parameter_name one ≡ Some name
   pub name_is : typed.name ≡ token_bytes text name
   pub kind_is : typed.kind ≡ parameter_kind one
@@ -41,17 +41,17 @@ pub record IsFunction (env : Env) (head : t.Head) (parts : t.Parts) (typed : Fun
   pub body : AreParts (after_parameters (opened env) (is_main env.text head) (parameters_listed head.listed)) parts typed.body.items
 
 -- the function that stands at a place of the text, or nothing
-pub data IsFunctionOf (env : Env) : t.Top → Option Function → Type 0 where
-  define : {word name end : Spot} {value : t.Value} → IsFunctionOf env (t.define word name value end) None
-  prototype : {head : t.Head} {end : Spot} → IsFunctionOf env (t.prototype head end) None
-  function : {head : t.Head} {opening closing : Spot} {parts : t.Parts} {typed : Function} → IsFunction env head parts typed
+pub data IsFunctionOf (env : Env) : t.ExternalDeclaration → Option Function → Type 0 where
+  define : {keyword name end : Span} {value : t.Value} → IsFunctionOf env (t.define keyword name value end) None
+  prototype : {head : t.Head} {end : Span} → IsFunctionOf env (t.prototype head end) None
+  function : {head : t.Head} {opening closing : Span} {parts : t.Parts} {typed : Function} → IsFunction env head parts typed
       → IsFunctionOf env (t.function head opening parts closing) (Some typed)
 
 -- defines are in their uses, and prototypes are gone
-pub data AreFunctions : Env → List t.Top → List Function → Type 0 where
+pub data AreFunctions : Env → List t.ExternalDeclaration → List Function → Type 0 where
   no_top : {env : Env} → AreFunctions env [] []
-  top : {env : Env} {top : t.Top} {tops : List t.Top} {typed : Option Function} {others : List Function}
-      → IsFunctionOf env top typed → AreFunctions (after_top env top) tops others → AreFunctions env (top ∷ tops) (option_to_list typed ++ others)
+  external : {env : Env} {external : t.ExternalDeclaration} {externals : List t.ExternalDeclaration} {typed : Option Function} {others : List Function}
+      → IsFunctionOf env external typed → AreFunctions (after_external env external) externals others → AreFunctions env (external ∷ externals) (option_to_list typed ++ others)
 
 -- the typed program of a tree
 pub record IsProgram (text : List ℕ) (tree : t.Tree) (program : CProgram) : Type 0 where

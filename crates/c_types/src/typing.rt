@@ -2,30 +2,30 @@
 ghost use Rattle.std.specs.Prelude.{◌≡◌, ◌≤◌, ◌⊎◌, ◌++◌, ℕ, List, IfErr, IfOk, MatchResult, OnOk, Some, [], length, map, min, true};
 ghost use Rattle.std.specs.List.{list_any, position};
 ghost use Rattle.std.specs.Option.{is_some, option_to_list};
-ghost use Rattle.c_grammar.specs.StmtGrammar.{AreTops, IsTop, is_named};
-ghost use Rattle.c_grammar.specs.StmtView.{head_view, parameter_view, parameters_view, parts_view, top_view, tree_view};
+ghost use Rattle.c_grammar.specs.StmtGrammar.{AreExternals, IsExternal, is_named};
+ghost use Rattle.c_grammar.specs.StmtView.{head_view, parameter_view, parameters_view, parts_view, external_view, tree_view};
 ghost use Rattle.c_lex.specs.NoMemory.{no_memory};
 ghost use Rattle.c_lex.specs.Places.{IsPlaceOf};
 ghost use Rattle.c_lex.specs.declared.fault.SourceFault.{SourceFault};
 ghost use Rattle.c_program.specs.declared.program.CProgram.{CProgram};
-ghost use Rattle.c_check.specs.Programs.{after_parameter, after_parameters, after_top, faults, function_faults, heads_of, is_main, parameter_name, top_faults, tops_faults, with_head};
+ghost use Rattle.c_check.specs.Programs.{after_parameter, after_parameters, after_external, faults, function_faults, heads_of, is_main, parameter_name, external_faults, externals_faults, with_head};
 ghost use Rattle.c_check_expr.specs.Signatures.{parameters_listed};
 ghost use Rattle.c_types.specs.Checks.{IsFaultOf, IsFirstIn, IsProgramOf};
 ghost use Rattle.c_types.specs.Programs.{AreFunctions, AreParameters, IsFunction, IsFunctionOf, IsParameter, IsProgram, parameter_kind};
 
-use c_type_stmt::statement_of::parts_of;
 use c_check::call::{is_int, parameter_at, parameter_count};
 use c_check::program::{
-    define_value, first_fault, is_main, parameter_name, parameter_entity, text_scope,
+    define_value, first_fault, is_main, parameter_entity, parameter_name, text_scope,
 };
+use c_check_expr::fault::TypingFault;
+use c_check_expr::meaning::Entity;
+use c_check_expr::scope::{Scope, token_bytes};
 use c_grammar::statement;
-use c_grammar::statement::{Head, Top, Tree};
+use c_grammar::statement::{ExternalDeclaration, Head, Tree};
 use c_lex::{SourceFault, fault_at, tokens};
 use c_parse::parse;
 use c_program::program::{CProgram, Function, Parameter, ParameterKind};
-use c_check_expr::fault::TypingFault;
-use c_check_expr::scope::{Scope, token_bytes};
-use c_check_expr::meaning::Entity;
+use c_type_stmt::statement_of::parts_of;
 use std::alloc::{AllocError, Global};
 use wiz_base::Bytes;
 
@@ -53,11 +53,11 @@ fn parameter_of(
     ensures typed { IfOk result (λ typed. IsParameter scope.old.text (parameter_view parameter.now) typed) }
     ensures scope { OnOk result (scope.new ≡ after_parameter scope.old main (parameter_view parameter.now)) }
 {
-    let Some(spot) = parameter_name(parameter) else {
+    let Some(span) = parameter_name(parameter) else {
         unreachable!()
     };
-    let name = Bytes::from_slice(alloc, token_bytes(scope.text(), spot))?;
-    scope.declare(spot, parameter_entity(main, parameter))?;
+    let name = Bytes::from_slice(alloc, token_bytes(scope.text(), span))?;
+    scope.declare(span, parameter_entity(main, parameter))?;
     Ok(Parameter {
         name,
         kind: parameter_kind(parameter),
@@ -112,20 +112,26 @@ fn function_of(
 }
 
 /// The function that stands there, or nothing; a define is then declared.
-fn top_of(alloc: Global, scope: &mut Scope, top: &Top) -> Result<Option<Function>, AllocError>
-    requires top { IsTop (top_view top.now) }
-    requires faults { (seen : List (List ℕ)) × (top_faults scope.old seen (top_view top.now) ≡ []) }
-    ensures typed { IfOk result (λ typed. IsFunctionOf scope.old (top_view top.now) typed) }
-    ensures scope { OnOk result (scope.new ≡ after_top scope.old (top_view top.now)) }
+fn external_of(
+    alloc: Global,
+    scope: &mut Scope,
+    external: &ExternalDeclaration,
+) -> Result<Option<Function>, AllocError>
+    requires external { IsExternal (external_view external.now) }
+    requires faults { (seen : List (List ℕ)) × (external_faults scope.old seen (external_view external.now) ≡ []) }
+    ensures typed { IfOk result (λ typed. IsFunctionOf scope.old (external_view external.now) typed) }
+    ensures scope { OnOk result (scope.new ≡ after_external scope.old (external_view external.now)) }
 {
-    match top {
-        Top::Define { name, value, .. } => {
+    match external {
+        ExternalDeclaration::Define { name, value, .. } => {
             let text = scope.text();
             scope.declare(*name, Entity::Define(define_value(text, value)))?;
             Ok(None)
         }
-        Top::Function { head, parts, .. } => Ok(Some(function_of(alloc, scope, head, parts)?)),
-        Top::Prototype { .. } => Ok(None),
+        ExternalDeclaration::Function { head, parts, .. } => Ok(Some(function_of(
+            alloc, scope, head, parts,
+        )?)),
+        ExternalDeclaration::Prototype { .. } => Ok(None),
     }
 }
 
@@ -142,65 +148,69 @@ fn push(functions: &mut Vec<Function>, function: Option<Function>) -> Result<(),
 }
 
 /// The functions of a text, in order.
-fn functions_of(alloc: Global, scope: &mut Scope, tops: &[Top]) -> Result<Vec<Function>, AllocError>
-    requires tops { AreTops (map top_view tops.now) }
-    requires faults { tops_faults scope.old [] (map top_view tops.now) ≡ [] }
-    ensures { IfOk result (λ typed. AreFunctions scope.old (map top_view tops.now) typed.items) }
+fn functions_of(
+    alloc: Global,
+    scope: &mut Scope,
+    externals: &[ExternalDeclaration],
+) -> Result<Vec<Function>, AllocError>
+    requires externals { AreExternals (map external_view externals.now) }
+    requires faults { externals_faults scope.old [] (map external_view externals.now) ≡ [] }
+    ensures { IfOk result (λ typed. AreFunctions scope.old (map external_view externals.now) typed.items) }
 {
     let mut functions = Vec::new(alloc);
-    for top in tops {
-        let function = top_of(alloc, scope, top)?;
+    for external in externals {
+        let function = external_of(alloc, scope, external)?;
         push(&mut functions, function)?;
     }
     Ok(functions)
 }
 
-fn is_main_top(text: &[u8], top: &Top) -> bool
-    ensures { result ≡ list_any (is_main text.now) (with_head (top_view top.now) []) }
+fn is_main_external(text: &[u8], external: &ExternalDeclaration) -> bool
+    ensures { result ≡ list_any (is_main text.now) (with_head (external_view external.now) []) }
 {
-    match top {
-        Top::Function { head, .. } => is_main(text, head),
-        Top::Define { .. } => false,
-        Top::Prototype { .. } => false,
+    match external {
+        ExternalDeclaration::Function { head, .. } => is_main(text, head),
+        ExternalDeclaration::Define { .. } => false,
+        ExternalDeclaration::Prototype { .. } => false,
     }
 }
 
 /// How many functions stand there, 1 or 0.
-fn function_count(top: &Top) -> usize
-    ensures count { result ≡ length (with_head (top_view top.now) []) }
+fn function_count(external: &ExternalDeclaration) -> usize
+    ensures count { result ≡ length (with_head (external_view external.now) []) }
     ensures most { result ≤ 1 }
 {
-    match top {
-        Top::Function { .. } => 1,
-        Top::Define { .. } => 0,
-        Top::Prototype { .. } => 0,
+    match external {
+        ExternalDeclaration::Function { .. } => 1,
+        ExternalDeclaration::Define { .. } => 0,
+        ExternalDeclaration::Prototype { .. } => 0,
     }
 }
 
 /// The number of main among the functions.
-fn main_of(text: &[u8], tops: &[Top]) -> usize
-    requires { list_any (is_main text.now) (heads_of (map top_view tops.now)) ≡ true }
-    ensures { position (is_main text.now) (heads_of (map top_view tops.now)) ≡ Some result }
+fn main_of(text: &[u8], externals: &[ExternalDeclaration]) -> usize
+    requires { list_any (is_main text.now) (heads_of (map external_view externals.now)) ≡ true }
+    ensures { position (is_main text.now) (heads_of (map external_view externals.now)) ≡ Some result }
 {
     let mut number = 0;
-    for top in tops {
-        if is_main_top(text, top) {
+    for external in externals {
+        if is_main_external(text, external) {
             return number;
         }
-        number += function_count(top);
+        number += function_count(external);
     }
     unreachable!()
 }
 
 /// The typed program of a tree without faults.
 fn program_of(alloc: Global, text: &[u8], tree: &Tree) -> Result<CProgram, AllocError>
-    requires tops { AreTops (tree_view tree.now) }
+    requires externals { AreExternals (tree_view tree.now) }
     requires faults { faults text.now (tree_view tree.now) ≡ [] }
     ensures { IfOk result (λ program. IsProgram text.now (tree_view tree.now) program) }
 {
-    let main = main_of(text, &tree.tops);
+    let main = main_of(text, &tree.externals);
     let mut scope = text_scope(alloc, text, tree)?;
-    let functions = functions_of(alloc, &mut scope, &tree.tops)?;
+    let functions = functions_of(alloc, &mut scope, &tree.externals)?;
     Ok(CProgram { functions, main })
 }
 
@@ -217,7 +227,7 @@ fn refused(text: &[u8], fault: TypingFault) -> SourceFault
 /// The typed program of a tree, or its first fault in source order; on one place the reason that is listed first.
 pub fn check(alloc: Global, text: &[u8], tree: Tree) -> Result<CProgram, SourceFault>
     requires fits { length text.now ≤ 65536 }
-    requires tops { AreTops (tree_view tree) }
+    requires externals { AreExternals (tree_view tree) }
     ensures program { IfOk result (λ program. IsProgram text.now (tree_view tree) program) }
     ensures none { IfOk result (λ program. faults text.now (tree_view tree) ≡ []) }
     ensures fault { IfErr result (λ found. (found ≡ no_memory) ⊎ IsFirstIn text.now (faults text.now (tree_view tree)) found) }

@@ -1,10 +1,10 @@
 //! MPI calls of rank 1 of 3, with one array of eight ints.
 use crate::stores::with_array;
-use c_run_cells::store::Store;
-use c_run_effects::effects::effect_of;
 use c_program::effect::{Effect, Message, Rank, Start};
 use c_program::expr::{Expr, Reference};
 use c_program::mpi::{Buffer, MessageCall, MpiCall, Outgoing};
+use c_run_cells::store::Store;
+use c_run_effects::effects::effect_of;
 use mpi_call::call::Fault;
 use std::process::Abort;
 use std::rt::HostRuntime;

@@ -1,10 +1,10 @@
 //! Effects over replies, worked out by hand from the standard.
 use crate::stores::with_array;
-use c_run_cells::store::Store;
 use c_eval::outcome::{Replies, Stop};
 use c_eval::perform::perform;
 use c_program::effect::{Answer, Effect, Message, Rank, Receive, Start};
 use c_program::range::Range;
+use c_run_cells::store::Store;
 use mpi_call::call::{Call, Fault, Source, Tag, TakeMode};
 use mpi_call::lists::Ints;
 use mpi_call::reply::{Got, Item, Items, Reply};

@@ -1,6 +1,6 @@
 //! A store to begin with.
-use c_run_cells::store::{Store, width_of};
 use c_names::kind::VariableKind;
+use c_run_cells::store::{Store, width_of};
 use std::alloc::Global;
 use std::test::Fail;
 use wiz_base::Bytes;

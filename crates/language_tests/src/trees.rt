@@ -89,14 +89,14 @@ fn read(rt: &(impl Abort + AllocGlobal), text: &str) -> Result<Tree, SourceFault
     parse(rt.alloc(), text.as_bytes(), &list)
 }
 
-/// Programs, and how many tops their trees have.
+/// Programs, and how many externals their trees have.
 static PROGRAMS: [(&str, usize); 5] = [(FIRST, 1), (ORDINARY, 2), (DEMO, 3), (EVERY, 4), ("", 0)];
 
 #[test]
 fn programs_are_read(rt: HostRuntime) -> Result<(), Fail> {
-    for &(text, tops) in &PROGRAMS {
-        let found = read(&rt, text)?.tops.len();
-        assert_eq!(rt; found, tops);
+    for &(text, externals) in &PROGRAMS {
+        let found = read(&rt, text)?.externals.len();
+        assert_eq!(rt; found, externals);
     }
     Ok(())
 }

@@ -1,11 +1,11 @@
 //! Values worked out by hand, and what C's `printf` prints.
 use crate::stores::declare;
-use c_run_cells::print::text_of;
-use c_run_cells::store::Store;
 use c_names::format::pieces;
 use c_names::kind::VariableKind;
 use c_names::operator::Operator;
 use c_program::expr::{Expr, Link, Place};
+use c_run_cells::print::text_of;
+use c_run_cells::store::Store;
 use mpi_call::call::Fault;
 use std::alloc::{AllocError, Global};
 use std::process::Abort;

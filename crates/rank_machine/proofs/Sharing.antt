@@ -7,7 +7,7 @@ use denote.Ref.{NamedLft}
 use Rattle.std.proofs.Crossing.{crosses}
 use Rattle.c_names.proofs.kind.VariableKind.TheSendSync as kind
 use Rattle.c_program.proofs.Sharing.{expr_field, function_field, part_field, program_field, right_field, simple_field, stmt_field}
-use Rattle.c_program.specs.contracts.statement.Item as Item
+use Rattle.c_program.specs.contracts.statement.InitDeclarator as InitDeclarator
 use Rattle.c_program.proofs.state.StackMark.TheSendSync as mark
 use Rattle.rank_machine.proofs.frame.Called.TheSendSync as called
 use Rattle.mpi_call.proofs.reply.Reply.TheSendSync as reply
@@ -22,7 +22,7 @@ use Rattle.rank_machine.specs.contracts.rank.MachineRank.TheInside as Inside
 use Rattle.rank_machine.specs.contracts.stack.Stack as Stack
 use Rattle.c_run_cells.specs.contracts.store.Store as Store
 
-pub item_field : IsSync (Item.the_field).row
+pub item_field : IsSync (InitDeclarator.the_field).row
 item_field = search (right_field, expr_field, kind.the_field_sync, crosses, sendable) depth 60
 
 pub loop_field : (a : NamedLft) → IsSend (Loop.the_field a).row

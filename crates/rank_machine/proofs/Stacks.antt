@@ -5,7 +5,7 @@ use Rattle.mpi_call.specs.declared.call.Fault.{Fault}
 use Rattle.mpi_call.specs.declared.call.Fault.TheVariants.{Budget}
 use Rattle.c_program.specs.declared.expr.FunctionCall.{FunctionCall}
 use Rattle.c_program.specs.declared.expr.Expr.{Expr}
-use Rattle.c_program.specs.declared.statement.Item.{Item}
+use Rattle.c_program.specs.declared.statement.InitDeclarator.{InitDeclarator}
 use Rattle.std.specs.Borrow.{Bor}
 use Rattle.c_program.specs.declared.program.Function.{Function}
 use Rattle.c_program.specs.declared.state.StackMark.{StackMark}
@@ -177,7 +177,7 @@ rest-goes code xs ys zs parts rest first s opens result stack e n e' o h =
     stands-from _ _ _ _ _ (ap (λ (o : Open). o.exits.next s) p ∙ rw n refl) (rw (q, o') at h)
 
 -- a call whose value a variable begins with
-pub item-calls : (code : Code) (xs ys zs : List Frame) (opens opens' cell : ℕ) (call : FunctionCall) (rest : Bor (List Item)) (others : List Item) (t : State) (result : Result Reached Fail) (stack : Stack) (course : Course)
+pub item-calls : (code : Code) (xs ys zs : List Frame) (opens opens' cell : ℕ) (call : FunctionCall) (rest : Bor (List InitDeclarator)) (others : List InitDeclarator) (t : State) (result : Result Reached Fail) (stack : Stack) (course : Course)
     → ys ≡ xs → zs ≡ ys ++ Items rest ∷ [] → opens' ≡ opens → opens ≡ (within code xs).opens → rest.now ≡ others
     → course ≡ invoke (calls_in code opens) call t (λ v s. declare_all (calls_in code opens) others (put cell v s) (within code xs).exits.next)
     → Stands (invoke (calls_in code opens') call t (given_to (Cell None cell) (within code zs).exits)) code result stack → Stands course code result stack

@@ -4,8 +4,8 @@ use Rattle.c_program.specs.declared.effect.Rank.{Rank}
 use Rattle.c_program.specs.declared.expr.Expr.{Expr}
 use Rattle.c_program.specs.declared.expr.FunctionCall.{FunctionCall}
 use Rattle.c_program.specs.declared.expr.Right.TheVariants.{Value as ValueRight, Call as CallRight}
-use Rattle.c_program.specs.declared.statement.Initial.{Initial}
-use Rattle.c_program.specs.declared.statement.Initial.TheVariants.{Nothing as NoInitial, Right as RightInitial, Values}
+use Rattle.c_program.specs.declared.statement.Initializer.{Initializer}
+use Rattle.c_program.specs.declared.statement.Initializer.TheVariants.{Nothing as NoInitial, Right as RightInitial, Values}
 use Rattle.c_program.specs.Values.{value}
 use Rattle.c_program.specs.declared.statement.ForStart.{ForStart}
 use Rattle.c_program.specs.declared.statement.Simple.{Simple}
@@ -119,12 +119,12 @@ Ends code old new None = EndedAll code old new
 Ends code old new (Some called) = Ended code old new called
 
 -- the call whose value a variable begins with
-abbrev pub call_in : Initial → Option FunctionCall
+abbrev pub call_in : Initializer → Option FunctionCall
 call_in (RightInitial (CallRight call)) = Some call
 call_in initial = None
 
 -- how a variable begins; what a call gives comes later
-abbrev pub begun_value : Initial → ℕ → Passing
+abbrev pub begun_value : Initializer → ℕ → Passing
 begun_value NoInitial cell s go = go s
 begun_value (RightInitial (ValueRight e)) cell s go = trying (value e s) s (λ v. go (put cell v s))
 begun_value (RightInitial (CallRight call)) cell s go = go s

@@ -9,9 +9,9 @@ ghost use Rattle.rank_machine.specs.Goings.{HasCaughtUp};
 
 use crate::frame::{Code, Target};
 use crate::stack::Stack;
+use c_program::state::Passed;
 use c_run_cells::store::Store;
 use c_run_parts::fail::Fail;
-use c_program::state::Passed;
 use c_run_replies::question::{Question, Reached};
 use c_run_replies::reply::reply_to;
 use mpi_call::reply::Reply;

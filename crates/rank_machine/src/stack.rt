@@ -6,13 +6,13 @@ ghost use Rattle.c_run_parts.specs.Parts.{mpi};
 ghost use Rattle.rank_machine.specs.Frames.{Ends, IsOpen, Stands, calls_in, given_to, weight, within};
 
 use crate::frame::{Called, Code, Frame, Target};
+use c_program::expr::{FunctionCall, Right};
+use c_program::mpi::MpiCall;
+use c_program::state::Passed;
 use c_run_cells::store::Store;
 use c_run_effects::effects::effect_of;
 use c_run_parts::fail::Fail;
 use c_run_parts::parts::{arguments_of, enter, function_at, put_assigned, take_step};
-use c_program::expr::{FunctionCall, Right};
-use c_program::mpi::MpiCall;
-use c_program::state::Passed;
 use c_run_replies::ask::ask;
 use c_run_replies::question::{Question, Reached};
 use mpi_call::call::Fault;

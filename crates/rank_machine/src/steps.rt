@@ -7,11 +7,11 @@ ghost use Rattle.rank_machine.specs.Frames.{IsOpen, Stands, begun_value, call_in
 
 use crate::frame::{Code, Frame, Loop, Target};
 use crate::stack::Stack;
+use c_program::expr::{Expr, FunctionCall, Right};
+use c_program::statement::{ForStart, InitDeclarator, Initializer, Part, Simple, Stmt};
 use c_run_cells::store::Store;
 use c_run_parts::fail::Fail;
 use c_run_parts::parts::{add, print, put_values_of, take_step};
-use c_program::expr::{Expr, FunctionCall, Right};
-use c_program::statement::{ForStart, Initial, Item, Part, Simple, Stmt};
 use c_run_replies::question::{Question, Reached};
 use mpi_call::call::Fault;
 
@@ -74,7 +74,7 @@ impl<'p> Stack<'p> {
     }
 
     /// Variables, in order; those behind a call stay open.
-    fn declare_all(&mut self, code: &Code<'p>, items: &'p [Item]) -> Result<Reached, Fail>
+    fn declare_all(&mut self, code: &Code<'p>, items: &'p [InitDeclarator]) -> Result<Reached, Fail>
         requires { IsOpen code.now self.old }
         ensures stands { Stands (declare_all (calls_in code.now self.old.opens) items.now self.old.store (within code.now self.old.frames.items).exits.next) code.now result self.new }
         ensures fewer { OnOk result (weight self.new ≤ weight self.old) }
@@ -317,17 +317,17 @@ impl<'p> Stack<'p> {
 }
 
 /// Begins a variable; what a call gives comes later.
-fn begin_value(initial: &Initial, cell: u32, store: &mut Store) -> Result<(), Fail>
+fn begin_value(initial: &Initializer, cell: u32, store: &mut Store) -> Result<(), Fail>
     ensures { Does (begun_value initial.now cell) store.old result store.new }
 {
     match initial {
-        Initial::Nothing | Initial::Right(Right::Call(_)) => Ok(()),
-        Initial::Right(Right::Value(expression)) => {
+        Initializer::Nothing | Initializer::Right(Right::Call(_)) => Ok(()),
+        Initializer::Right(Right::Value(expression)) => {
             let value = store.value(expression)?;
             store.put(cell, value);
             Ok(())
         }
-        Initial::Values(expressions) => put_values_of(expressions, cell, store),
+        Initializer::Values(expressions) => put_values_of(expressions, cell, store),
     }
 }
 
@@ -342,11 +342,11 @@ fn turns_at(turns: Option<u64>, store: &Store) -> u64
 }
 
 /// The call whose value a variable begins with.
-fn call_in(initial: &Initial) -> Option<&FunctionCall>
+fn call_in(initial: &Initializer) -> Option<&FunctionCall>
     ensures { option_copied result ≡ call_in initial.now }
 {
     match initial {
-        Initial::Right(Right::Call(call)) => Some(call),
+        Initializer::Right(Right::Call(call)) => Some(call),
         _ => None,
     }
 }

@@ -1,6 +1,6 @@
 use Rattle.std.proofs.Common.{◌==◌, ◌+◌, ◌-◌, ◌*◌, length, map}
 use Rattle.c_grammar.specs.View.{piece}
-use Rattle.c_grammar.specs.Words.{level_of}
+use Rattle.c_grammar.specs.Symbols.{level_of}
 use Rattle.c_grammar.specs.Reading.{bin_of, expr_at, link_of, unary_of}
 use Rattle.c_expr.proofs.Loops.{SoFar}
 use Rattle.c_expr.proofs.expression.+expression.Given as goal
@@ -40,7 +40,7 @@ decreases-place l = 40 * l.left + 1
 
 abbrev pub invariant-links-loop-alloc : goal.invariant-links-loop-alloc
 invariant-links-loop-alloc l =
-    SoFar (λ x. level_of x == l.most) (link_of (bin_of (unary_of (expr_at (l.left - 1))) (l.most - 1)) l.most) l.signs (map piece l.found.items) l.rest
+    SoFar (λ x. level_of x == l.most) (link_of (bin_of (unary_of (expr_at (l.left - 1))) (l.most - 1)) l.most) l.terminals (map piece l.found.items) l.rest
 
 abbrev pub decreases-links-loop-alloc : goal.decreases-links-loop-alloc
 decreases-links-loop-alloc l = length l.rest

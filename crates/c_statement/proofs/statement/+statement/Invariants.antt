@@ -1,6 +1,6 @@
 use Rattle.std.proofs.Common.{◌+◌, ◌*◌, length, map}
-use Rattle.c_grammar.specs.declared.word.Word.TheVariants.{CloseBrace}
-use Rattle.c_grammar.specs.Words.{isnt}
+use Rattle.c_grammar.specs.declared.terminal.Symbol.TheVariants.{CloseBrace}
+use Rattle.c_grammar.specs.Symbols.{isnt}
 use Rattle.c_grammar.specs.StmtView.{part_view}
 use Rattle.c_grammar.specs.StmtReading.{part_at}
 use Rattle.c_expr.proofs.Loops.{SoFar}
@@ -21,8 +21,8 @@ decreases-body l = 8 * l.left + 4
 abbrev pub decreases-block : goal.decreases-block
 decreases-block l = 8 * l.left + 2
 
-abbrev pub decreases-if_word : goal.decreases-if_word
-decreases-if_word l = 8 * l.left + 3
+abbrev pub decreases-if_statement : goal.decreases-if_statement
+decreases-if_statement l = 8 * l.left + 3
 
 abbrev pub decreases-otherwise : goal.decreases-otherwise
 decreases-otherwise l = 8 * l.left + 2
@@ -30,17 +30,17 @@ decreases-otherwise l = 8 * l.left + 2
 abbrev pub decreases-inner : goal.decreases-inner
 decreases-inner l = 8 * l.left + 1
 
-abbrev pub decreases-while_word : goal.decreases-while_word
-decreases-while_word l = 8 * l.left + 2
+abbrev pub decreases-while_keyword : goal.decreases-while_statement
+decreases-while_statement l = 8 * l.left + 2
 
-abbrev pub decreases-do_word : goal.decreases-do_word
-decreases-do_word l = 8 * l.left + 2
+abbrev pub decreases-do_statement : goal.decreases-do_statement
+decreases-do_statement l = 8 * l.left + 2
 
-abbrev pub decreases-for_word : goal.decreases-for_word
-decreases-for_word l = 8 * l.left + 2
+abbrev pub decreases-for_statement : goal.decreases-for_statement
+decreases-for_statement l = 8 * l.left + 2
 
 abbrev pub invariant-parts-loop-alloc : goal.invariant-parts-loop-alloc
-invariant-parts-loop-alloc l = SoFar (isnt CloseBrace) (part_at l.left) l.signs (map part_view l.found.items) l.rest
+invariant-parts-loop-alloc l = SoFar (isnt CloseBrace) (part_at l.left) l.terminals (map part_view l.found.items) l.rest
 
 abbrev pub decreases-parts-loop-alloc : goal.decreases-parts-loop-alloc
 decreases-parts-loop-alloc l = length l.rest

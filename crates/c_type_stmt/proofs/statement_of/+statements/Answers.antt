@@ -18,13 +18,13 @@ stmt_of-returns-in_ok-block_of-in-Block-clause-typed t c =
 pub stmt_of-for_of-requires : goal.stmt_of-for_of-requires
 stmt_of-for_of-requires t c = (
   first_of (search (rules, the_lemmas), search (rules, arith, the_lemmas)),
-  (for_start c.args.scope.now c.args.stmt.now c.in-For.word c.in-For.opening c.in-For.start c.in-For.start_end c.in-For.test c.in-For.test_end c.in-For.step c.in-For.closing c.in-For.body c.in-For.is c.requires, (for_step c.args.scope.now c.args.stmt.now c.in-For.word c.in-For.opening c.in-For.start c.in-For.start_end c.in-For.test c.in-For.test_end c.in-For.step c.in-For.closing c.in-For.body c.in-For.is c.requires, rw c.deref-in-For.ensures (for_body c.args.scope.now c.args.stmt.now c.in-For.word c.in-For.opening c.in-For.start c.in-For.start_end c.in-For.test c.in-For.test_end c.in-For.step c.in-For.closing c.in-For.body c.in-For.is c.requires))),
+  (for_start c.args.scope.now c.args.stmt.now c.in-For.keyword c.in-For.opening c.in-For.start c.in-For.start_end c.in-For.test c.in-For.test_end c.in-For.step c.in-For.closing c.in-For.body c.in-For.is c.requires, (for_step c.args.scope.now c.args.stmt.now c.in-For.keyword c.in-For.opening c.in-For.start c.in-For.start_end c.in-For.test c.in-For.test_end c.in-For.step c.in-For.closing c.in-For.body c.in-For.is c.requires, rw c.deref-in-For.ensures (for_body c.args.scope.now c.args.stmt.now c.in-For.keyword c.in-For.opening c.in-For.start c.in-For.start_end c.in-For.test c.in-For.test_end c.in-For.step c.in-For.closing c.in-For.body c.in-For.is c.requires))),
 )
 
 pub stmt_of-returns-in_ok-typed-in-For-clause-typed : goal.stmt_of-returns-in_ok-typed-in-For-clause-typed
 stmt_of-returns-in_ok-typed-in-For-clause-typed t c =
-    for_rule c.args.scope.now c.args.stmt.now c.in-For.word c.in-For.opening c.in-For.start c.in-For.start_end c.in-For.test c.in-For.test_end c.in-For.step c.in-For.closing c.in-For.body c.in-For.is _
-    (rw c.deref-in-For.ensures at (c.in_ok-typed-in-For.ensures.typed c.in-For.word c.in-For.opening c.in-For.start_end c.in-For.test_end c.in-For.closing))
+    for_rule c.args.scope.now c.args.stmt.now c.in-For.keyword c.in-For.opening c.in-For.start c.in-For.start_end c.in-For.test c.in-For.test_end c.in-For.step c.in-For.closing c.in-For.body c.in-For.is _
+    (rw c.deref-in-For.ensures at (c.in_ok-typed-in-For.ensures.typed c.in-For.keyword c.in-For.opening c.in-For.start_end c.in-For.test_end c.in-For.closing))
 
 pub block_of-parts_of-requires : goal.block_of-parts_of-requires
 block_of-parts_of-requires t c = (first_of (search (rules, the_lemmas), search (rules, arith, the_lemmas)), rw c.in_ok-open.ensures c.requires)
@@ -71,39 +71,39 @@ pub stmt_of-returns-in_ok-simple_of-in-Simple-clause-typed : goal.stmt_of-return
 stmt_of-returns-in_ok-simple_of-in-Simple-clause-typed t c = simple_rule c.args.scope.now c.args.stmt.now c.in-Simple.simple c.in-Simple.end _ c.in-Simple.is c.in_ok-simple_of-in-Simple.ensures
 
 pub stmt_of-returns-in-Break-clause-typed : goal.stmt_of-returns-in-Break-clause-typed
-stmt_of-returns-in-Break-clause-typed t c = break_rule c.args.scope.now c.args.stmt.now c.in-Break.word c.in-Break.end c.in-Break.is
+stmt_of-returns-in-Break-clause-typed t c = break_rule c.args.scope.now c.args.stmt.now c.in-Break.keyword c.in-Break.end c.in-Break.is
 
 pub stmt_of-returns-in-Continue-clause-typed : goal.stmt_of-returns-in-Continue-clause-typed
-stmt_of-returns-in-Continue-clause-typed t c = continue_rule c.args.scope.now c.args.stmt.now c.in-Continue.word c.in-Continue.end c.in-Continue.is
+stmt_of-returns-in-Continue-clause-typed t c = continue_rule c.args.scope.now c.args.stmt.now c.in-Continue.keyword c.in-Continue.end c.in-Continue.is
 
 pub stmt_of-returned_of-requires : goal.stmt_of-returned_of-requires
-stmt_of-returned_of-requires t c = return_faultless c.args.scope.now c.args.stmt.now c.in-Return.word c.in-Return.value c.in-Return.end c.in-Return.is c.requires
+stmt_of-returned_of-requires t c = return_faultless c.args.scope.now c.args.stmt.now c.in-Return.keyword c.in-Return.value c.in-Return.end c.in-Return.is c.requires
 
 pub stmt_of-returns-in_ok-returned_of-in-Return-clause-typed : goal.stmt_of-returns-in_ok-returned_of-in-Return-clause-typed
-stmt_of-returns-in_ok-returned_of-in-Return-clause-typed t c = return_rule c.args.scope.now c.args.stmt.now c.in-Return.word c.in-Return.value c.in-Return.end _ c.in-Return.is c.in_ok-returned_of-in-Return.ensures
+stmt_of-returns-in_ok-returned_of-in-Return-clause-typed t c = return_rule c.args.scope.now c.args.stmt.now c.in-Return.keyword c.in-Return.value c.in-Return.end _ c.in-Return.is c.in_ok-returned_of-in-Return.ensures
 
 pub stmt_of-tested_of-requires : goal.stmt_of-tested_of-requires
 stmt_of-tested_of-requires t c =
-    (first_of (search (rules, the_lemmas), search (rules, arith, the_lemmas)), rw c.deref-in-If.ensures (if_taken c.args.scope.now c.args.stmt.now c.in-If.word c.in-If.opening c.in-If.test c.in-If.closing c.in-If.then c.in-If.is c.requires))
+    (first_of (search (rules, the_lemmas), search (rules, arith, the_lemmas)), rw c.deref-in-If.ensures (if_taken c.args.scope.now c.args.stmt.now c.in-If.keyword c.in-If.opening c.in-If.test c.in-If.closing c.in-If.then c.in-If.is c.requires))
 
 pub stmt_of-returns-in_ok-then-in-If-clause-typed : goal.stmt_of-returns-in_ok-then-in-If-clause-typed
 stmt_of-returns-in_ok-then-in-If-clause-typed t c =
-    if_rule c.args.scope.now c.args.stmt.now c.in-If.word c.in-If.opening c.in-If.test c.in-If.closing c.in-If.then _ _ c.in-If.is c.in_ok-then-in-If.ensures.test (rw c.deref-in-If.ensures at c.in_ok-then-in-If.ensures.stmt)
+    if_rule c.args.scope.now c.args.stmt.now c.in-If.keyword c.in-If.opening c.in-If.test c.in-If.closing c.in-If.then _ _ c.in-If.is c.in_ok-then-in-If.ensures.test (rw c.deref-in-If.ensures at c.in_ok-then-in-If.ensures.stmt)
 
 pub stmt_of-tested_of-requires-in-IfElse : goal.stmt_of-tested_of-requires-in-IfElse
 stmt_of-tested_of-requires-in-IfElse t c =
-    (first_of (search (rules, the_lemmas), search (rules, arith, the_lemmas)), rw c.deref-in-IfElse.ensures (both_taken c.args.scope.now c.args.stmt.now c.in-IfElse.word c.in-IfElse.opening c.in-IfElse.test c.in-IfElse.closing c.in-IfElse.then c.in-IfElse.other_word c.in-IfElse.other c.in-IfElse.is c.requires))
+    (first_of (search (rules, the_lemmas), search (rules, arith, the_lemmas)), rw c.deref-in-IfElse.ensures (both_taken c.args.scope.now c.args.stmt.now c.in-IfElse.keyword c.in-IfElse.opening c.in-IfElse.test c.in-IfElse.closing c.in-IfElse.then c.in-IfElse.else_keyword c.in-IfElse.other c.in-IfElse.is c.requires))
 
 pub stmt_of-boxed_of-other-requires : goal.stmt_of-boxed_of-other-requires
 stmt_of-boxed_of-other-requires t c = (
   first_of (search (rules, the_lemmas), search (rules, arith, the_lemmas)),
-  rw c.deref-in-IfElse-2.ensures (both_spared c.args.scope.now _ c.args.stmt.now c.in-IfElse.word c.in-IfElse.opening c.in-IfElse.test c.in-IfElse.closing c.in-IfElse.then c.in-IfElse.other_word c.in-IfElse.other c.in-IfElse.is c.in_ok-tested-in-IfElse.ensures.scope c.requires),
+  rw c.deref-in-IfElse-2.ensures (both_spared c.args.scope.now _ c.args.stmt.now c.in-IfElse.keyword c.in-IfElse.opening c.in-IfElse.test c.in-IfElse.closing c.in-IfElse.then c.in-IfElse.else_keyword c.in-IfElse.other c.in-IfElse.is c.in_ok-tested-in-IfElse.ensures.scope c.requires),
 )
 
 pub stmt_of-returns-in_ok-then-in-IfElse-clause-typed : goal.stmt_of-returns-in_ok-then-in-IfElse-clause-typed
 stmt_of-returns-in_ok-then-in-IfElse-clause-typed t c =
     let first = c.in_ok-tested-in-IfElse.was ∙ c.in_ok-then-in-IfElse.ensures.first in
-    both_rule c.args.scope.now _ c.args.stmt.now c.in-IfElse.word c.in-IfElse.opening c.in-IfElse.test c.in-IfElse.closing c.in-IfElse.then c.in-IfElse.other_word c.in-IfElse.other _ _ _ c.in-IfElse.is c.in_ok-tested-in-IfElse.ensures.scope
+    both_rule c.args.scope.now _ c.args.stmt.now c.in-IfElse.keyword c.in-IfElse.opening c.in-IfElse.test c.in-IfElse.closing c.in-IfElse.then c.in-IfElse.else_keyword c.in-IfElse.other _ _ _ c.in-IfElse.is c.in_ok-tested-in-IfElse.ensures.scope
     (of_ok _ first c.tested_of-in-IfElse.ensures.test) (rw c.deref-in-IfElse.ensures at (of_ok _ first c.tested_of-in-IfElse.ensures.stmt))
     (rw c.deref-in-IfElse-2.ensures at (of_ok _ c.in_ok-then-in-IfElse.ensures.second c.boxed_of-other.ensures.typed))
 
@@ -113,19 +113,19 @@ stmt_of-returns-in_ok-then-in-IfElse-clause-scope t c =
 
 pub stmt_of-tested_of-requires-in-While : goal.stmt_of-tested_of-requires-in-While
 stmt_of-tested_of-requires-in-While t c =
-    (first_of (search (rules, the_lemmas), search (rules, arith, the_lemmas)), rw c.deref-in-While.ensures (while_body c.args.scope.now c.args.stmt.now c.in-While.word c.in-While.opening c.in-While.test c.in-While.closing c.in-While.body c.in-While.is c.requires))
+    (first_of (search (rules, the_lemmas), search (rules, arith, the_lemmas)), rw c.deref-in-While.ensures (while_body c.args.scope.now c.args.stmt.now c.in-While.keyword c.in-While.opening c.in-While.test c.in-While.closing c.in-While.body c.in-While.is c.requires))
 
 pub stmt_of-returns-in_ok-body-in-While-clause-typed : goal.stmt_of-returns-in_ok-body-in-While-clause-typed
 stmt_of-returns-in_ok-body-in-While-clause-typed t c =
-    while_rule c.args.scope.now c.args.stmt.now c.in-While.word c.in-While.opening c.in-While.test c.in-While.closing c.in-While.body _ _ c.in-While.is c.in_ok-body-in-While.ensures.test (rw c.deref-in-While.ensures at c.in_ok-body-in-While.ensures.stmt)
+    while_rule c.args.scope.now c.args.stmt.now c.in-While.keyword c.in-While.opening c.in-While.test c.in-While.closing c.in-While.body _ _ c.in-While.is c.in_ok-body-in-While.ensures.test (rw c.deref-in-While.ensures at c.in_ok-body-in-While.ensures.stmt)
 
 pub stmt_of-tested_of-requires-in-Do : goal.stmt_of-tested_of-requires-in-Do
 stmt_of-tested_of-requires-in-Do t c =
-    (first_of (search (rules, the_lemmas), search (rules, arith, the_lemmas)), rw c.deref-in-Do.ensures (do_body c.args.scope.now c.args.stmt.now c.in-Do.word c.in-Do.body c.in-Do.while_word c.in-Do.opening c.in-Do.test c.in-Do.closing c.in-Do.end c.in-Do.is c.requires))
+    (first_of (search (rules, the_lemmas), search (rules, arith, the_lemmas)), rw c.deref-in-Do.ensures (do_body c.args.scope.now c.args.stmt.now c.in-Do.keyword c.in-Do.body c.in-Do.while_keyword c.in-Do.opening c.in-Do.test c.in-Do.closing c.in-Do.end c.in-Do.is c.requires))
 
 pub stmt_of-returns-in_ok-body-in-Do-clause-typed : goal.stmt_of-returns-in_ok-body-in-Do-clause-typed
 stmt_of-returns-in_ok-body-in-Do-clause-typed t c =
-    do_rule c.args.scope.now c.args.stmt.now c.in-Do.word c.in-Do.body c.in-Do.while_word c.in-Do.opening c.in-Do.test c.in-Do.closing c.in-Do.end _ _ c.in-Do.is (rw c.deref-in-Do.ensures at c.in_ok-body-in-Do.ensures.stmt) c.in_ok-body-in-Do.ensures.test
+    do_rule c.args.scope.now c.args.stmt.now c.in-Do.keyword c.in-Do.body c.in-Do.while_keyword c.in-Do.opening c.in-Do.test c.in-Do.closing c.in-Do.end _ _ c.in-Do.is (rw c.deref-in-Do.ensures at c.in_ok-body-in-Do.ensures.stmt) c.in_ok-body-in-Do.ensures.test
 
 pub part_of-declaration_of-requires : goal.part_of-declaration_of-requires
 part_of-declaration_of-requires t c = declare_faultless c.args.scope.now c.args.part.now c.in-Declaration.declaration c.in-Declaration.end c.in-Declaration.is c.requires

@@ -1,17 +1,17 @@
 use Rattle.std.proofs.Common.{◌≡◌, ◌++◌, List, [], drop}
-use Rattle.c_grammar.specs.StmtView.{item_view, row_view}
-use Rattle.c_program.specs.declared.statement.Item.{Item}
+use Rattle.c_grammar.specs.StmtView.{item_view, comma_list_view}
+use Rattle.c_program.specs.declared.statement.InitDeclarator.{InitDeclarator}
 use Rattle.c_check_expr.specs.Signatures.{listed}
 use Rattle.c_check.specs.Statements.{after_items, items_faults}
-use Rattle.c_check_expr.proofs.Rows.{behind_viewed}
+use Rattle.c_check_expr.proofs.Rows.{after_comma_viewed}
 use Rattle.c_type_stmt.specs.Statements.{AreItems}
 use Rattle.c_type_stmt.proofs.statement_of.declaration_of.Given as goal
 
 abbrev pub invariant-loop-behind : goal.invariant-loop-behind
 invariant-loop-behind l = record {
-  faults : items_faults l.scope l.kind (behind_viewed item_view (drop l.behind-index l.behind-items)) ≡ [];
-  scope : after_items l.scope l.kind (behind_viewed item_view (drop l.behind-index l.behind-items))
-      ≡ after_items l.initial.scope l.kind (behind_viewed item_view l.behind-items);
-  typed : (more : List Item) → AreItems l.kind l.scope (behind_viewed item_view (drop l.behind-index l.behind-items)) more
-      → AreItems l.kind l.fn.scope (listed (row_view item_view l.declaration.items)) (l.items.items ++ more);
+  faults : items_faults l.scope l.kind (after_comma_viewed item_view (drop l.behind-index l.behind-items)) ≡ [];
+  scope : after_items l.scope l.kind (after_comma_viewed item_view (drop l.behind-index l.behind-items))
+      ≡ after_items l.initial.scope l.kind (after_comma_viewed item_view l.behind-items);
+  typed : (more : List InitDeclarator) → AreItems l.kind l.scope (after_comma_viewed item_view (drop l.behind-index l.behind-items)) more
+      → AreItems l.kind l.fn.scope (listed (comma_list_view item_view l.declaration.items)) (l.items.items ++ more);
 }

@@ -63,8 +63,8 @@ returns-in_err-program-clause-only_fault c = λ first is.
     (of_types c.args.text.now c.in_ok-tokens.tokens (tree_view c.in_ok-tree.tree) c.in_err-program.field-0.0 c.in_ok-tokens.ensures.list c.in_ok-tree.ensures.tree
     c.in_err-program.ensures.fault) first is)
 
-pub check-requires-clause-tops : goal.check-requires-clause-tops
-check-requires-clause-tops c = let tree = c.in_ok-tree.ensures.tree in tree.0
+pub check-requires-clause-externals : goal.check-requires-clause-externals
+check-requires-clause-externals c = let tree = c.in_ok-tree.ensures.tree in tree.0
 
 pub returns-clause-program : goal.returns-clause-program
 returns-clause-program c = record {

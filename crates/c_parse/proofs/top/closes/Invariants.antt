@@ -1,8 +1,0 @@
-use Rattle.std.proofs.Common.{◌-◌}
-use Rattle.c_grammar.specs.declared.word.Word.TheVariants.{CloseParen}
-use Rattle.c_grammar.specs.Reading.{expect}
-use Rattle.c_parse.proofs.Times.{TimesSoFar}
-use Rattle.c_parse.proofs.top.closes.Given as goal
-
-abbrev pub invariant-loop : goal.invariant-loop
-invariant-loop l = TimesSoFar (expect CloseParen) l.count l.signs l.found.items (l.count - l.counter) l.rest

@@ -1,0 +1,224 @@
+//! The readers of defines, functions and whole programs.
+ghost use Rattle.std.specs.Prelude.{◌≡◌, ◌++◌, ◌∷◌, [], Option, Some, None, true, length, map, OnOk};
+ghost use Rattle.c_grammar.specs.StmtView.{head_view, parameter_view, parameters_view, external_view, tree_view, value_view};
+ghost use Rattle.c_grammar.specs.StmtGrammar.{are_named, has, is_named, name_of};
+ghost use Rattle.c_grammar.specs.Symbols.{is};
+ghost use Rattle.c_grammar.specs.declared.terminal.Symbol.TheVariants as w;
+ghost use Rattle.c_grammar.specs.Reading.{expect, many, times};
+ghost use Rattle.c_grammar.specs.StmtReading.{body_of, define_of, head_tail, part_at, program_of, external_of, value_of};
+ghost use Rattle.c_expr.specs.Gives.{Gives};
+
+use c_expr::read::{ReadError, expected, followed, heads, optional};
+use c_expr::symbols::Class;
+use c_grammar::statement::{
+    AfterComma, ExternalDeclaration, Head, Parameter, Parameters, Tree, Value,
+};
+use c_grammar::terminal::{Span, Symbol, Terminal};
+use c_lex::Why;
+use c_simple::head::head;
+use c_statement::statement::parts;
+use std::alloc::{AllocError, Global};
+
+/// How many depths a program may have.
+const DEPTHS: u8 = 64;
+
+/// A program and no more.
+#[tactic(auto, unfolding(c_grammar::specs::StmtReading::program_of))]
+pub fn program(alloc: Global, terminals: &[Terminal]) -> Result<Tree, ReadError>
+    ensures { Gives (λ tree. (tree_view tree, [])) result (program_of terminals.now) }
+{
+    let mut externals = Vec::new(alloc);
+    let mut rest = terminals;
+    while !rest.is_empty() {
+        let (one, behind) = match external(alloc, rest) {
+            Ok(read) => read,
+            Err(error) => return Err(error),
+        };
+        push_external(&mut externals, one)?;
+        rest = behind;
+    }
+    Ok(Tree { externals })
+}
+
+/// A define, a function or a prototype.
+#[tactic(auto, unfolding(c_grammar::specs::StmtReading::external_with))]
+fn external(
+    alloc: Global,
+    terminals: &[Terminal],
+) -> Result<(ExternalDeclaration, &[Terminal]), ReadError>
+    ensures { Gives (λ x. (external_view x.0, x.1.now)) result (external_of terminals.now) }
+{
+    if heads(terminals, Class::Is(Symbol::Define)) {
+        define(alloc, terminals)
+    } else {
+        let (head, rest) = head(alloc, DEPTHS, terminals)?;
+        function(alloc, head, rest)
+    }
+}
+
+fn define(
+    alloc: Global,
+    terminals: &[Terminal],
+) -> Result<(ExternalDeclaration, &[Terminal]), ReadError>
+    ensures { Gives (λ x. (external_view x.0, x.1.now)) result (define_of terminals.now) }
+{
+    let (directive, rest) = expected(terminals, Symbol::Define)?;
+    let (name, rest) = expected(rest, Symbol::Name)?;
+    let (value, rest) = value(alloc, rest)?;
+    let ((value, end), rest) = followed(value, rest, Symbol::EndLine)?;
+    let define = ExternalDeclaration::Define {
+        directive,
+        name,
+        value,
+        end,
+    };
+    Ok((define, rest))
+}
+
+/// The value of a define.
+#[tactic(auto, unfolding(c_grammar::specs::StmtReading::value_of))]
+fn value(alloc: Global, terminals: &[Terminal]) -> Result<(Value, &[Terminal]), ReadError>
+    ensures { Gives (λ x. (value_view x.0, x.1.now)) result (value_of terminals.now) }
+{
+    let (opens, rest) = opens(alloc, terminals)?;
+    let (minus, rest) = optional(rest, Symbol::Minus);
+    let (number, rest) = expected(rest, Symbol::Number)?;
+    let (closes, rest) = closes(alloc, opens.len(), rest)?;
+    let value = Value {
+        opens,
+        minus,
+        number,
+        closes,
+    };
+    Ok((value, rest))
+}
+
+fn opens(alloc: Global, terminals: &[Terminal]) -> Result<(Vec<Span>, &[Terminal]), ReadError>
+    ensures { Gives (λ x. (x.0.items, x.1.now)) result (many (is w.OpenParen) (expect w.OpenParen) terminals.now) }
+{
+    let mut found = Vec::new(alloc);
+    let mut rest = terminals;
+    while heads(rest, Class::Is(Symbol::OpenParen)) {
+        let (one, behind) = match expected(rest, Symbol::OpenParen) {
+            Ok(read) => read,
+            Err(error) => return Err(error),
+        };
+        push(&mut found, one)?;
+        rest = behind;
+    }
+    Ok((found, rest))
+}
+
+/// As many `)` as were opened.
+fn closes(
+    alloc: Global,
+    count: usize,
+    terminals: &[Terminal],
+) -> Result<(Vec<Span>, &[Terminal]), ReadError>
+    ensures { Gives (λ x. (x.0.items, x.1.now)) result (times (expect w.CloseParen) count terminals.now) }
+{
+    let mut found = Vec::new(alloc);
+    let mut rest = terminals;
+    for _ in 0..count {
+        let (one, behind) = match expected(rest, Symbol::CloseParen) {
+            Ok(read) => read,
+            Err(error) => return Err(error),
+        };
+        push(&mut found, one)?;
+        rest = behind;
+    }
+    Ok((found, rest))
+}
+
+/// What stands behind a head: a block or `;`.
+fn function(
+    alloc: Global,
+    head: Head,
+    terminals: &[Terminal],
+) -> Result<(ExternalDeclaration, &[Terminal]), ReadError>
+    ensures { Gives (λ x. (external_view x.0, x.1.now)) result (head_tail (part_at 64) (head_view head) terminals.now) }
+{
+    if heads(terminals, Class::Is(Symbol::OpenBrace)) {
+        if is_named(&head.parameters) {
+            block(alloc, head, terminals)
+        } else {
+            Err(ReadError::At(Why::Unexpected, terminals))
+        }
+    } else {
+        let ((head, end), rest) = followed(head, terminals, Symbol::Semicolon)?;
+        Ok((ExternalDeclaration::Prototype { head, end }, rest))
+    }
+}
+
+/// A head and its block.
+fn block(
+    alloc: Global,
+    head: Head,
+    terminals: &[Terminal],
+) -> Result<(ExternalDeclaration, &[Terminal]), ReadError>
+    ensures { Gives (λ x. (external_view x.0, x.1.now)) result (body_of (part_at 64) (head_view head) true terminals.now) }
+{
+    let ((head, opening), rest) = followed(head, terminals, Symbol::OpenBrace)?;
+    let (parts, rest) = parts(alloc, DEPTHS, rest)?;
+    let ((parts, closing), rest) = followed(parts, rest, Symbol::CloseBrace)?;
+    let function = ExternalDeclaration::Function {
+        head,
+        opening,
+        parts,
+        closing,
+    };
+    Ok((function, rest))
+}
+
+/// Whether each parameter has a name.
+fn is_named(parameters: &Parameters) -> bool
+    ensures { result ≡ is_named (parameters_view parameters.now) }
+{
+    match parameters {
+        Parameters::Listed(list) => has_name(&list.first) && are_named(&list.more),
+        _ => true,
+    }
+}
+
+fn are_named(parameters: &[AfterComma<Parameter>]) -> bool
+    ensures { result ≡ are_named (map (λ one. (one.comma, parameter_view one.item)) parameters.now) }
+{
+    let mut left = parameters;
+    while let [one, after @ ..] = left {
+        if !has_name(&one.item) {
+            return false;
+        }
+        left = after;
+    }
+    true
+}
+
+fn has_name(parameter: &Parameter) -> bool
+    ensures { result ≡ has (name_of (parameter_view parameter.now)) }
+{
+    match parameter {
+        Parameter::Int { name, .. }
+        | Parameter::Array { name, .. }
+        | Parameter::Pointer { name, .. }
+        | Parameter::Communicator { name, .. }
+        | Parameter::TextPointers { name, .. }
+        | Parameter::TextArray { name, .. } => name.is_some(),
+    }
+}
+
+fn push(found: &mut Vec<Span>, span: Span) -> Result<(), AllocError>
+    ensures { OnOk result (found.new.items ≡ found.old.items ++ span ∷ []) }
+{
+    found.push(span)?;
+    Ok(())
+}
+
+fn push_external(
+    found: &mut Vec<ExternalDeclaration>,
+    external: ExternalDeclaration,
+) -> Result<(), AllocError>
+    ensures { OnOk result (found.new.items ≡ found.old.items ++ external ∷ []) }
+{
+    found.push(external)?;
+    Ok(())
+}
