@@ -26,7 +26,7 @@ use Rattle.c_check_expr.specs.declared.meaning.ExprKind.TheVariants.{Of, NullReq
 use Rattle.c_check_expr.specs.declared.meaning.Meaning.{Meaning}
 use Rattle.c_check_expr.specs.declared.meaning.Meaning.TheVariants as m
 use Rattle.c_check_expr.specs.declared.meaning.Entity.TheVariants as d
-use Rattle.c_type_expr.specs.Given.{AreShaped, Fits, argument, has_shape, is_operation, is_status, is_status_by}
+use Rattle.c_type_expr.specs.MpiArguments.{AreShaped, Fits, argument, has_shape, is_operation, is_status, is_status_by}
 use Rattle.c_type_expr.specs.Shapes.{has_cells, is_reference, is_reference_by, is_value}
 
 -- ---- lists without faults
@@ -334,9 +334,11 @@ taken env name f.CommSize given h = fitting env name f.CommSize given h
 taken env name f.GetCount given h = fitting env name f.GetCount given h
 taken env name f.CommFree given h = fitting env name f.CommFree given h
 taken env name f.Send given h = fitting env name f.Send given h
+taken env name f.Ssend given h = fitting env name f.Ssend given h
 taken env name f.Recv given h = fitting env name f.Recv given h
 taken env name f.Sendrecv given h = fitting env name f.Sendrecv given h
 taken env name f.Isend given h = fitting env name f.Isend given h
+taken env name f.Issend given h = fitting env name f.Issend given h
 taken env name f.Irecv given h = fitting env name f.Irecv given h
 taken env name f.Wait given h = fitting env name f.Wait given h
 taken env name f.Waitall given h = fitting env name f.Waitall given h

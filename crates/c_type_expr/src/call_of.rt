@@ -2,6 +2,7 @@
 
 ghost use Rattle.std.specs.Prelude.{◌≡◌, ℕ, IfOk, List, [], None, length, true};
 ghost use Rattle.std.specs.Option.{is_some};
+ghost use Rattle.c_grammar.specs.declared.terminal.Span.{Span};
 ghost use Rattle.c_grammar.specs.StmtView.{argument_view, call_view, head_view, parameter_view, right_view};
 ghost use Rattle.c_grammar.specs.Tree as t;
 ghost use Rattle.c_grammar.specs.View.{place_view, view};
@@ -57,14 +58,9 @@ fn array_of(alloc: Global, scope: &Scope, e: &tree::Expr) -> Result<Reference, A
     }
 }
 
-/// A place behind `&`.
-fn address_of(
-    alloc: Global,
-    scope: &Scope,
-    mark: Span,
-    place: &tree::Place,
-) -> Result<Reference, AllocError>
-    ensures { IfOk result (λ typed. IsReference scope.now (t.address mark (place_view place.now)) typed) }
+/// A place after an `&`.
+fn address_of(alloc: Global, scope: &Scope, place: &tree::Place) -> Result<Reference, AllocError>
+    ensures { IfOk result (λ typed. (mark : Span) → IsReference scope.now (t.address mark (place_view place.now)) typed) }
 {
     match place {
         tree::Place::Whole(name) => Ok(Reference::Whole(scope.variable(*name))),
@@ -91,8 +87,8 @@ pub fn reference_of(
         return Ok(Reference::Nothing);
     }
     match argument {
-        statement::Argument::Address { mark, place } => {
-            let typed = address_of(alloc, scope, *mark, place)?;
+        statement::Argument::Address { place, .. } => {
+            let typed = address_of(alloc, scope, place)?;
             Ok(typed)
         }
         statement::Argument::Value(e) => {

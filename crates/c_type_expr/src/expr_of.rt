@@ -5,6 +5,7 @@ ghost use Rattle.c_grammar.specs.View.{links_from, piece, place_view, view};
 ghost use Rattle.c_check_expr.specs.Variables.{value_meant};
 ghost use Rattle.c_type_expr.specs.Exprs.{AreLinks, IsExpr, IsPlace, field_of, value_of_place};
 
+use crate::results::boxed;
 use c_check_expr::constant::{operator_of, unary_of};
 use c_check_expr::meaning::{Entity, Meaning};
 use c_check_expr::scope::{Scope, is_same, number_at, token_bytes};
@@ -12,15 +13,6 @@ use c_grammar::tree;
 use c_names::predefined::Predefined;
 use c_program::expr::{Expr, Field, Link, Place};
 use std::alloc::{AllocError, Global};
-
-fn boxed(alloc: Global, e: Expr) -> Result<Box<Expr>, AllocError>
-    ensures { IfOk result (λ found. found.value ≡ e) }
-{
-    match Box::new(alloc, e) {
-        Ok(found) => Ok(found),
-        Err(_) => Err(AllocError),
-    }
-}
 
 /// The value of a name that is a value. Handles are numbers, and none is -1.
 fn value_meant(meaning: Meaning) -> Option<i32>

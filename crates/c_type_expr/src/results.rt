@@ -1,10 +1,10 @@
-//! Several results as one, so that a caller has a single `?`, with nothing to drop where memory is wanting.
+//! Several results as one, so that a caller has a single `?`, with nothing to drop where one of them is out of memory.
 ghost use Rattle.std.specs.Prelude.{◌≡◌, IfOk, Ok};
 
 use std::alloc::{AllocError, Global};
 
-/// Both values.
-pub fn both<A: Drop, B: Drop>(
+/// Two results as one: both values, or the first error.
+pub fn zip<A: Drop, B: Drop>(
     first: Result<A, AllocError>,
     second: Result<B, AllocError>,
 ) -> Result<(A, B), AllocError>
@@ -17,8 +17,8 @@ pub fn both<A: Drop, B: Drop>(
     Ok((first, second))
 }
 
-/// Three values.
-pub fn three<A: Drop, B: Drop, C: Drop>(
+/// The same of three results.
+pub fn zip3<A: Drop, B: Drop, C: Drop>(
     first: Result<A, AllocError>,
     second: Result<B, AllocError>,
     third: Result<C, AllocError>,
@@ -28,13 +28,13 @@ pub fn three<A: Drop, B: Drop, C: Drop>(
     ensures third { IfOk result (λ all. third ≡ Ok all.2) }
     ensures all { (a : A) (b : B) (c : C) → first ≡ Ok a → second ≡ Ok b → third ≡ Ok c → result ≡ Ok (a, b, c) }
 {
-    let (first, second) = both(first, second)?;
+    let (first, second) = zip(first, second)?;
     let third = third?;
     Ok((first, second, third))
 }
 
-/// Four values.
-pub fn four<A: Drop, B: Drop, C: Drop, D: Drop>(
+/// The same of four.
+pub fn zip4<A: Drop, B: Drop, C: Drop, D: Drop>(
     first: Result<A, AllocError>,
     second: Result<B, AllocError>,
     third: Result<C, AllocError>,
@@ -46,13 +46,13 @@ pub fn four<A: Drop, B: Drop, C: Drop, D: Drop>(
     ensures fourth { IfOk result (λ all. fourth ≡ Ok all.3) }
     ensures all { (a : A) (b : B) (c : C) (d : D) → first ≡ Ok a → second ≡ Ok b → third ≡ Ok c → fourth ≡ Ok d → result ≡ Ok (a, b, c, d) }
 {
-    let (first, second, third) = three(first, second, third)?;
+    let (first, second, third) = zip3(first, second, third)?;
     let fourth = fourth?;
     Ok((first, second, third, fourth))
 }
 
-/// Five values.
-pub fn five<A: Drop, B: Drop, C: Drop, D: Drop, E: Drop>(
+/// The same of five.
+pub fn zip5<A: Drop, B: Drop, C: Drop, D: Drop, E: Drop>(
     first: Result<A, AllocError>,
     second: Result<B, AllocError>,
     third: Result<C, AllocError>,
@@ -66,7 +66,7 @@ pub fn five<A: Drop, B: Drop, C: Drop, D: Drop, E: Drop>(
     ensures fifth { IfOk result (λ all. fifth ≡ Ok all.4) }
     ensures all { (a : A) (b : B) (c : C) (d : D) (e : E) → first ≡ Ok a → second ≡ Ok b → third ≡ Ok c → fourth ≡ Ok d → fifth ≡ Ok e → result ≡ Ok (a, b, c, d, e) }
 {
-    let (first, second, third, fourth) = four(first, second, third, fourth)?;
+    let (first, second, third, fourth) = zip4(first, second, third, fourth)?;
     let fifth = fifth?;
     Ok((first, second, third, fourth, fifth))
 }

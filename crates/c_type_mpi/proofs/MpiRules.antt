@@ -9,7 +9,7 @@ use Rattle.c_names.specs.declared.predefined.Predefined.TheVariants as p
 use Rattle.c_program.specs.declared.mpi.MpiCall.{MpiCall}
 use Rattle.c_check.specs.Calls.{predefined_of}
 use Rattle.c_check_expr.specs.Scopes.{Env}
-use Rattle.c_type_expr.specs.Given.{Fits, argument, is_status, is_status_by}
+use Rattle.c_type_expr.specs.MpiArguments.{Fits, argument, is_status, is_status_by}
 use Rattle.c_type_mpi.specs.MpiCalls as y
 use Rattle.c_type_mpi.specs.MpiCalls.{IsMpiCall, IsStatus}
 

@@ -69,12 +69,18 @@ pub data IsMpiCall (env : Env) : MpiFunction → List t.Argument → MpiCall →
   send : {a0 a1 a2 a3 a4 a5 : t.Argument} {message : Outgoing} {comm : Expr}
       → IsOutgoing env a0 a1 a3 a4 message → IsValue env a5 comm
       → IsMpiCall env f.Send (a0 ∷ a1 ∷ a2 ∷ a3 ∷ a4 ∷ a5 ∷ []) (c.Message (messages.Send message comm))
+  ssend : {a0 a1 a2 a3 a4 a5 : t.Argument} {message : Outgoing} {comm : Expr}
+      → IsOutgoing env a0 a1 a3 a4 message → IsValue env a5 comm
+      → IsMpiCall env f.Ssend (a0 ∷ a1 ∷ a2 ∷ a3 ∷ a4 ∷ a5 ∷ []) (c.Message (messages.Ssend message comm))
   recv : {a0 a1 a2 a3 a4 a5 a6 : t.Argument} {message : Incoming} {comm : Expr} {status : Option Reference}
       → IsIncoming env a0 a1 a3 a4 message → IsValue env a5 comm → IsStatus env a6 status
       → IsMpiCall env f.Recv (a0 ∷ a1 ∷ a2 ∷ a3 ∷ a4 ∷ a5 ∷ a6 ∷ []) (c.Message (messages.Recv message comm status))
   isend : {a0 a1 a2 a3 a4 a5 a6 : t.Argument} {message : Outgoing} {comm : Expr} {request : Reference}
       → IsOutgoing env a0 a1 a3 a4 message → IsValue env a5 comm → IsReference env a6 request
       → IsMpiCall env f.Isend (a0 ∷ a1 ∷ a2 ∷ a3 ∷ a4 ∷ a5 ∷ a6 ∷ []) (c.Message (messages.Isend message comm request))
+  issend : {a0 a1 a2 a3 a4 a5 a6 : t.Argument} {message : Outgoing} {comm : Expr} {request : Reference}
+      → IsOutgoing env a0 a1 a3 a4 message → IsValue env a5 comm → IsReference env a6 request
+      → IsMpiCall env f.Issend (a0 ∷ a1 ∷ a2 ∷ a3 ∷ a4 ∷ a5 ∷ a6 ∷ []) (c.Message (messages.Issend message comm request))
   irecv : {a0 a1 a2 a3 a4 a5 a6 : t.Argument} {message : Incoming} {comm : Expr} {request : Reference}
       → IsIncoming env a0 a1 a3 a4 message → IsValue env a5 comm → IsReference env a6 request
       → IsMpiCall env f.Irecv (a0 ∷ a1 ∷ a2 ∷ a3 ∷ a4 ∷ a5 ∷ a6 ∷ []) (c.Message (messages.Irecv message comm request))

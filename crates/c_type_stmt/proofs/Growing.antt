@@ -1,5 +1,5 @@
--- What a loop has typed so far, and faults that are none.
-use Rattle.std.proofs.Common.{◌≡◌, ◌++◌, List, [], ◌∷◌, refl, sym, subst, ap, ◌∙◌, append_assoc}
+-- What a loop has typed so far.
+use Rattle.std.proofs.Common.{◌≡◌, ◌++◌, List, [], ◌∷◌, sym, subst, ap, ◌∙◌, append_assoc}
 use Rattle.std.proofs.lemmas.List.{append-nil}
 
 -- one more
@@ -13,11 +13,3 @@ grown Left Next Whole before after one e step so_far more rest =
 -- nothing is left
 pub ended : {A : Type 0} (Left Whole : List A → Type 0) (typed : List A) → Left [] → ((more : List A) → Left more → Whole (typed ++ more)) → Whole typed
 ended Left Whole typed end so_far = subst Whole (append-nil typed) (so_far [] end)
-
-pub none_left : {A : Type 0} (xs ys : List A) → xs ++ ys ≡ [] → xs ≡ []
-none_left [] ys e = refl
-none_left (x ∷ xs) ys e = absurd (cc)
-
-pub none_right : {A : Type 0} (xs ys : List A) → xs ++ ys ≡ [] → ys ≡ []
-none_right [] ys e = e
-none_right (x ∷ xs) ys e = absurd (cc)

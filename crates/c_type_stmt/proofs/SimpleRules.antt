@@ -15,25 +15,23 @@ use Rattle.c_names.specs.declared.kind.VariableKind.TheVariants.{Int}
 use Rattle.c_program.specs.declared.expr.Expr.{Expr}
 use Rattle.c_program.specs.declared.expr.Place.{Place}
 use Rattle.c_program.specs.declared.statement.Simple.TheVariants as l
-use Rattle.c_check.specs.Calls.{arguments_of, call_faults, format_faults, inside, is_format, misfit_faults, numbers_faults, print_faults, right_faults, value_faults}
-use Rattle.c_check_expr.specs.Expressions.{expr_faults, int_faults, place_faults, takes_index, wanted_faults}
-use Rattle.c_check_expr.specs.Kinds.{cell_kind, kind_faults, place_first_token, whole_kind}
+use Rattle.c_check.specs.Calls.{arguments_of, call_faults, format_faults, inside, is_format, numbers_faults, print_faults, right_faults, value_faults}
+use Rattle.c_check_expr.specs.Expressions.{place_faults}
+use Rattle.c_check_expr.specs.Kinds.{place_first_token}
 use Rattle.c_check_expr.specs.Least.{unless}
-use Rattle.c_check_expr.specs.Scopes.{Env, token_bytes, meaning, name_faults}
+use Rattle.c_check_expr.specs.Scopes.{Env, token_bytes, meaning}
 use Rattle.c_check.specs.Statements.{lvalue_kind, lvalue_takes, int_lvalue_faults, is_assign, is_assignable, simple_faults}
-use Rattle.c_check_expr.specs.declared.fault.TypingFault.{TypingFault}
 use Rattle.c_check_expr.specs.declared.meaning.ExprKind.{ExprKind}
-use Rattle.c_check_expr.specs.declared.meaning.ExprKind.TheVariants.{Of, Other}
-use Rattle.c_check_expr.specs.declared.meaning.Meaning.{Meaning}
+use Rattle.c_check_expr.specs.declared.meaning.ExprKind.TheVariants.{Of}
 use Rattle.c_check_expr.specs.declared.meaning.Meaning.TheVariants as m
-use Rattle.c_check_expr.specs.declared.meaning.Entity.TheVariants as d
 use Rattle.c_check_expr.proofs.Lists.{drop_got, drop_past}
 use Rattle.c_type_expr.specs.Calls.{IsValue}
 use Rattle.c_type_expr.specs.Exprs.{IsPlace}
 use Rattle.c_type_expr.specs.Shapes.{is_value}
 use Rattle.c_type_stmt.specs.Statements as x
 use Rattle.c_type_stmt.specs.Statements.{AreValues, IsSimple, one, update_of}
-use Rattle.c_type_stmt.proofs.Growing.{ended, grown, none_left, none_right}
+use Rattle.c_type_expr.proofs.Faultless.{misfit_never, none_before, none_behind, value_shape}
+use Rattle.c_type_stmt.proofs.Growing.{ended, grown}
 
 -- ---- `++` and `--`
 
@@ -46,63 +44,6 @@ pub before_rule : (env : Env) (place : t.Place) (operator : Symbol) (meant : Ope
 before_rule env place operator meant goal e h at = rw e (x.before h)
 
 -- ---- `printf`
-
--- an argument where an int is wanted is an expression
-pub value_shape : (env : Env) (wanted : ExprKind) (argument : t.Argument) → value_faults env wanted argument ≡ [] → is_value argument ≡ true
-value_shape env wanted (t.text at) e = absurd (cc)
-value_shape env wanted (t.address mark place) e = absurd (cc)
-value_shape env wanted (t.value inner) e = refl
-
--- no expression is of no kind
-misfit_whole : (meant : Meaning) (name at : Span) → name_faults meant name ++ kind_faults Other (whole_kind meant) at ≡ [] → ⊥
-misfit_whole m.LeftOut name at e = cc
-misfit_whole m.Unknown name at e = cc
-misfit_whole (m.Known (p.Number value)) name at e = cc
-misfit_whole (m.Known (p.Communicator number)) name at e = cc
-misfit_whole (m.Known p.NullRequest) name at e = cc
-misfit_whole (m.Known p.NoReference) name at e = cc
-misfit_whole (m.Known p.Datatype) name at e = cc
-misfit_whole (m.Known (p.Operation op)) name at e = cc
-misfit_whole (m.Known p.IgnoredStatus) name at e = cc
-misfit_whole (m.Known p.IgnoredStatuses) name at e = cc
-misfit_whole (m.Known p.Output) name at e = cc
-misfit_whole (m.Known (p.Mpi function)) name at e = cc
-misfit_whole (m.Known p.Printf) name at e = cc
-misfit_whole (m.Known p.Fflush) name at e = cc
-misfit_whole (m.Declared (d.Function number)) name at e = cc
-misfit_whole (m.Declared (d.Define value)) name at e = cc
-misfit_whole (m.Declared (d.Variable kind)) name at e = cc
-misfit_whole (m.Declared (d.Array kind length)) name at e = cc
-misfit_whole (m.Declared d.ArrayParameter) name at e = cc
-misfit_whole (m.Declared d.ArgumentCount) name at e = cc
-misfit_whole (m.Declared d.ArgumentTexts) name at e = cc
-
-misfit_cell : (meant : Meaning) (name at : Span) (others : List TypingFault)
-    → ((name_faults meant name ++ unless (takes_index meant) name WrongType) ++ others) ++ kind_faults Other (cell_kind meant) at ≡ [] → ⊥
-misfit_cell meant name at others e =
-    by_meaning meant (none_left _ _ (none_left _ _ e)) (none_right ((name_faults meant name ++ unless (takes_index meant) name WrongType) ++ others) _ e)
-  where
-    by_meaning : (meant : Meaning) → name_faults meant name ++ unless (takes_index meant) name WrongType ≡ [] → kind_faults Other (cell_kind meant) at ≡ [] → ⊥
-    by_meaning m.LeftOut f k = cc
-    by_meaning m.Unknown f k = cc
-    by_meaning (m.Known known) f k = cc
-    by_meaning (m.Declared (d.Function number)) f k = cc
-    by_meaning (m.Declared (d.Define value)) f k = cc
-    by_meaning (m.Declared (d.Variable kind)) f k = cc
-    by_meaning (m.Declared (d.Array kind length)) f k = cc
-    by_meaning (m.Declared d.ArrayParameter) f k = cc
-    by_meaning (m.Declared d.ArgumentCount) f k = cc
-    by_meaning (m.Declared d.ArgumentTexts) f k = cc
-
-no_misfit : (env : Env) (e : t.Expr) → wanted_faults env Other e ≡ [] → ⊥
-no_misfit env (t.read (t.whole name)) h = misfit_whole (meaning env name) name name h
-no_misfit env (t.read (t.cell name opening index closing)) h = misfit_cell (meaning env name) name name (int_faults env index) h
-no_misfit env (t.number at) h = cc
-no_misfit env (t.field place dot name) h = let k = none_right (expr_faults env (t.field place dot name)) _ h in cc
-no_misfit env (t.paren opening inner closing) h = let k = none_right (expr_faults env (t.paren opening inner closing)) _ h in cc
-no_misfit env (t.unary sign at operand) h = let k = none_right (expr_faults env (t.unary sign at operand)) _ h in cc
-no_misfit env (t.chain level first links) h = let k = none_right (expr_faults env (t.chain level first links)) _ h in cc
-no_misfit env (t.choice test question taken colon spared) h = let k = none_right (expr_faults env (t.choice test question taken colon spared)) _ h in cc
 
 -- `printf` without faults
 pub record IsPrint (env : Env) (given : List t.Argument) : Type 0 where
@@ -123,11 +64,11 @@ print_shape env name [] e = absurd (cc)
 print_shape env name (t.text at ∷ others) e = record {
   at = at;
   first = refl;
-  format = format_shape env at (length others) (none_left _ _ e);
-  numbers = none_right (format_faults env at (length others)) _ e;
+  format = format_shape env at (length others) (none_before _ _ e);
+  numbers = none_behind (format_faults env at (length others)) _ e;
 }
 print_shape env name (t.address mark place ∷ others) e = absurd (cc)
-print_shape env name (t.value inner ∷ others) e = absurd (no_misfit env inner e)
+print_shape env name (t.value inner ∷ others) e = absurd (misfit_never env (t.value inner) e)
 
 pub print_tells : (env : Env) (call : t.Call) → meaning env call.name ≡ m.Known p.Printf → call_faults env call ≡ [] → IsPrint env (arguments_of call)
 print_tells env call h e = print_shape env call.name (arguments_of call) (rw h at e)
@@ -149,13 +90,13 @@ pub numbers_rest : (env : Env) (given : List t.Argument) (i : ℕ) (argument : t
     → numbers_faults env (drop (i + 1) given) ≡ []
 numbers_rest env given i argument g e =
     let all : numbers_faults env (argument ∷ drop (i + 1) given) ≡ [] = rw (drop_got given i argument g) at e in
-    none_right (value_faults env (Of Int) argument) _ all
+    none_behind (value_faults env (Of Int) argument) _ all
 
 pub number_shape : (env : Env) (given : List t.Argument) (i : ℕ) (argument : t.Argument) → slice_get given i ≡ Some argument → numbers_faults env (drop i given) ≡ []
     → is_value argument ≡ true
 number_shape env given i argument g e =
     let all : numbers_faults env (argument ∷ drop (i + 1) given) ≡ [] = rw (drop_got given i argument g) at e in
-    value_shape env (Of Int) argument (none_left _ _ all)
+    value_shape env (Of Int) argument (none_before _ _ all)
 
 pub numbers_more : (env : Env) (given : List t.Argument) (i : ℕ) (argument : t.Argument) (before after : List Expr) (typed : Expr)
     → after ≡ before ++ typed ∷ [] → slice_get given i ≡ Some argument → IsValue env argument typed
@@ -181,5 +122,5 @@ assign_right env place operator at right e = by_test (is_assign operator) e
     by_test : (b : Bool) → (if b then (place_faults env place ++ unless (is_assignable (lvalue_kind env place)) (place_first_token place) WrongType)
         ++ right_faults env (lvalue_takes (lvalue_kind env place)) right else int_lvalue_faults env place ++ right_faults env (Of Int) right) ≡ []
         → (wanted : ExprKind) × (right_faults env wanted right ≡ [])
-    by_test true e = (lvalue_takes (lvalue_kind env place), none_right (place_faults env place ++ unless (is_assignable (lvalue_kind env place)) (place_first_token place) WrongType) _ e)
-    by_test false e = (Of Int, none_right (int_lvalue_faults env place) _ e)
+    by_test true e = (lvalue_takes (lvalue_kind env place), none_behind (place_faults env place ++ unless (is_assignable (lvalue_kind env place)) (place_first_token place) WrongType) _ e)
+    by_test false e = (Of Int, none_behind (int_lvalue_faults env place) _ e)

@@ -1,5 +1,5 @@
 -- Each rule of typed declarations and statements at the variants of the tree, and what having no faults tells of their parts.
-use Rattle.std.proofs.Common.{◌≡◌, ◌++◌, ◌+◌, ◌≤◌, ◌<◌, ℕ, Bool, true, false, List, [], ◌∷◌, length, drop, get_or, Option, Some, None, option_map, Result, Ok, OnOk, refl, sym, subst, ap, ◌∙◌}
+use Rattle.std.proofs.Common.{◌≡◌, ◌++◌, ◌+◌, ◌≤◌, ◌<◌, ℕ, Bool, true, false, List, [], ◌∷◌, length, drop, get_or, Option, Some, None, option_map, Result, Ok, Err, IfOk, OnOk, refl, sym, subst, ap, ◌∙◌}
 use Rattle.std.specs.declared.alloc.Global.{Global}
 use Rattle.std.specs.declared.boxed.Box.{Box}
 use Rattle.std.specs.declared.vec.Vec.{Vec}
@@ -47,7 +47,8 @@ use Rattle.c_program.specs.declared.statement.Stmt.TheVariants as s
 use Rattle.c_type_expr.specs.Exprs.{IsExpr}
 use Rattle.c_type_stmt.specs.Statements as x
 use Rattle.c_type_stmt.specs.Statements.{AreExprs, AreItems, AreParts, IsDeclaration, IsItem, IsPart, IsReturn, IsSimple, IsStart, IsStep, IsStmt, IsTest}
-use Rattle.c_type_stmt.proofs.Growing.{ended, grown, none_left, none_right}
+use Rattle.c_type_expr.proofs.Faultless.{none_before, none_behind}
+use Rattle.c_type_stmt.proofs.Growing.{ended, grown}
 
 -- ---- values in braces
 
@@ -75,32 +76,32 @@ exprs_end env values i whole typed past so_far =
 
 pub begun_right : (env : Env) (name mark : Span) (entity : Entity) (right : t.Right) → initial_faults env name entity (Some (t.begun mark right)) ≡ []
     → (wanted : ExprKind) × (right_faults env wanted right ≡ [])
-begun_right env name mark entity right e = (begun_takes (begins_with entity), none_right (unless (can_begin (begins_with entity)) name WrongType) _ e)
+begun_right env name mark entity right e = (begun_takes (begins_with entity), none_behind (unless (can_begin (begins_with entity)) name WrongType) _ e)
 
 pub item_initial : (env now : Env) (kind : VariableKind) (item : t.InitDeclarator) → now ≡ after_item env kind item → item_faults env kind item ≡ []
     → (name : Span) × (entity : Entity) × (initial_faults now name entity item.initial ≡ [])
 item_initial env now kind item n e =
-    rw n (place_first_token item.place, declared_entity env kind item.place, none_right (place_length_faults env item.place ++ twice_faults env (place_first_token item.place)) _ e)
+    rw n (place_first_token item.place, declared_entity env kind item.place, none_behind (place_length_faults env item.place ++ twice_faults env (place_first_token item.place)) _ e)
 
 pub items_first : (env : Env) (kind meant : VariableKind) (item : t.InitDeclarator) (items : List t.InitDeclarator) → kind ≡ meant → items_faults env meant (item ∷ items) ≡ [] → item_faults env kind item ≡ []
-items_first env kind meant item items k e = rw k (none_left (item_faults env meant item) _ e)
+items_first env kind meant item items k e = rw k (none_before (item_faults env meant item) _ e)
 
 pub items_start : (env now : Env) (kind meant : VariableKind) (first : t.InitDeclarator) (items all : List (AfterComma source_item.InitDeclarator)) → kind ≡ meant → items ≡ all → now ≡ after_item env kind first
     → items_faults env meant (first ∷ after_comma_viewed item_view all) ≡ [] → items_faults now kind (after_comma_viewed item_view items) ≡ []
-items_start env now kind meant first items all k v n e = rw (n, v, k) (none_right (item_faults env meant first) _ e)
+items_start env now kind meant first items all k v n e = rw (n, v, k) (none_behind (item_faults env meant first) _ e)
 
 pub item_next : (env : Env) (kind : VariableKind) (items : List (AfterComma source_item.InitDeclarator)) (i : ℕ) (item : AfterComma source_item.InitDeclarator) → i < length items → item ≡ get_or items i item
     → items_faults env kind (after_comma_viewed item_view (drop i items)) ≡ [] → item_faults env kind (item_view item.item) ≡ []
 item_next env kind items i item less is e =
     let all : items_faults env kind (item_view item.item ∷ after_comma_viewed item_view (drop (i + 1) items)) ≡ [] = rw (drop_at items i item less is) at e in
-    none_left (item_faults env kind (item_view item.item)) _ all
+    none_before (item_faults env kind (item_view item.item)) _ all
 
 pub items_next : (env now : Env) (kind : VariableKind) (items : List (AfterComma source_item.InitDeclarator)) (i : ℕ) (item : AfterComma source_item.InitDeclarator) → i < length items → item ≡ get_or items i item
     → now ≡ after_item env kind (item_view item.item) → items_faults env kind (after_comma_viewed item_view (drop i items)) ≡ []
     → items_faults now kind (after_comma_viewed item_view (drop (i + 1) items)) ≡ []
 items_next env now kind items i item less is n e =
     let all : items_faults env kind (item_view item.item ∷ after_comma_viewed item_view (drop (i + 1) items)) ≡ [] = rw (drop_at items i item less is) at e in
-    rw n (none_right (item_faults env kind (item_view item.item)) _ all)
+    rw n (none_behind (item_faults env kind (item_view item.item)) _ all)
 
 pub items_after : (env now last : Env) (kind : VariableKind) (items : List (AfterComma source_item.InitDeclarator)) (i : ℕ) (item : AfterComma source_item.InitDeclarator) → i < length items → item ≡ get_or items i item
     → now ≡ after_item env kind (item_view item.item) → after_items env kind (after_comma_viewed item_view (drop i items)) ≡ last
@@ -134,7 +135,7 @@ items_end env start kind meant items i whole typed k past so_far =
 
 pub return_right : (env : Env) (gives : Bool) (right : t.Right) → return_faults env gives (Some right) ≡ [] → (wanted : ExprKind) × (right_faults env wanted right ≡ [])
 return_right env true right e = (Of Int, e)
-return_right env false right e = (Nothing, none_left _ _ e)
+return_right env false right e = (Nothing, none_before _ _ e)
 
 -- ---- statements
 
@@ -188,34 +189,36 @@ pub if_taken : (env : Env) (stmt : source.Stmt) (keyword opening : Span) (test :
     → stmt ≡ ts.If keyword opening test closing then → IsFaultless env (stmt_view stmt) → IsFaultless env (stmt_view then.value)
 if_taken env stmt keyword opening test closing then is f =
     let g : IsFaultless env (t.if_only keyword opening (view test) closing (stmt_view then.value)) = rw (is, view-if_only) at f in
-    (g.0, g.1, none_right (int_faults env (view test)) _ g.2)
+    (g.0, g.1, none_behind (int_faults env (view test)) _ g.2)
 
 pub if_rule : (env : Env) (stmt : source.Stmt) (keyword opening : Span) (test : source_expr.Expr) (closing : Span) (then : Box source.Stmt Global) (e : Expr) (a : Box Stmt Global)
     → stmt ≡ ts.If keyword opening test closing then → IsExpr env (view test) e → IsStmt env (stmt_view then.value) a.value → IsStmt env (stmt_view stmt) (s.If e a)
 if_rule env stmt keyword opening test closing then e a is h k = rw (is, view-if_only) (x.if_only h k)
 
-pub both_taken : (env : Env) (stmt : source.Stmt) (keyword opening : Span) (test : source_expr.Expr) (closing : Span) (then : Box source.Stmt Global) (else_keyword : Span) (other : Box source.Stmt Global)
-    → stmt ≡ ts.IfElse keyword opening test closing then else_keyword other → IsFaultless env (stmt_view stmt) → IsFaultless env (stmt_view then.value)
-both_taken env stmt keyword opening test closing then else_keyword other is f =
-    let g : IsFaultless env (t.if_else keyword opening (view test) closing (stmt_view then.value) else_keyword (stmt_view other.value)) = rw (is, view-if_else) at f in
-    (g.0, g.1, none_right (int_faults env (view test)) _ (none_left _ _ g.2))
+-- an `if` with an `else` and its parts
+module _ (env : Env) (stmt : source.Stmt) (keyword opening : Span) (test : source_expr.Expr) (closing : Span) (then : Box source.Stmt Global) (else_keyword : Span)
+    (other : Box source.Stmt Global) (is : stmt ≡ ts.IfElse keyword opening test closing then else_keyword other) where
+  abbrev if_else : t.Stmt
+  if_else = t.if_else keyword opening (view test) closing (stmt_view then.value) else_keyword (stmt_view other.value)
 
-pub both_spared : (env now : Env) (stmt : source.Stmt) (keyword opening : Span) (test : source_expr.Expr) (closing : Span) (then : Box source.Stmt Global) (else_keyword : Span) (other : Box source.Stmt Global)
-    → stmt ≡ ts.IfElse keyword opening test closing then else_keyword other → now ≡ env → IsFaultless env (stmt_view stmt) → IsFaultless now (stmt_view other.value)
-both_spared env now stmt keyword opening test closing then else_keyword other is n f =
-    let g : IsFaultless env (t.if_else keyword opening (view test) closing (stmt_view then.value) else_keyword (stmt_view other.value)) = rw (is, view-if_else) at f in
-    rw n (g.0, g.1, none_right (int_faults env (view test) ++ stmt_faults env g.0 g.1 (stmt_view then.value)) _ g.2)
+  pub if_else_taken : IsFaultless env (stmt_view stmt) → IsFaultless env (stmt_view then.value)
+  if_else_taken f =
+      let g : IsFaultless env if_else = rw (is, view-if_else) at f in
+      (g.0, g.1, none_behind (int_faults env (view test)) _ (none_before _ _ g.2))
 
-pub both_rule : (env now : Env) (stmt : source.Stmt) (keyword opening : Span) (test : source_expr.Expr) (closing : Span) (then : Box source.Stmt Global) (else_keyword : Span) (other : Box source.Stmt Global)
-    (e : Expr) (a b : Box Stmt Global) → stmt ≡ ts.IfElse keyword opening test closing then else_keyword other → now ≡ env
-    → IsExpr env (view test) e → IsStmt env (stmt_view then.value) a.value → IsStmt now (stmt_view other.value) b.value → IsStmt env (stmt_view stmt) (s.IfElse e a b)
-both_rule env now stmt keyword opening test closing then else_keyword other e a b is n h k l = rw (is, view-if_else) (x.if_else h k (rw n at l))
+  pub if_else_spared : IsFaultless env (stmt_view stmt) → IsFaultless env (stmt_view other.value)
+  if_else_spared f =
+      let g : IsFaultless env if_else = rw (is, view-if_else) at f in
+      (g.0, g.1, none_behind (int_faults env (view test) ++ stmt_faults env g.0 g.1 (stmt_view then.value)) _ g.2)
+
+  pub if_else_rule : (typed : Stmt) → IsStmt env if_else typed → IsStmt env (stmt_view stmt) typed
+  if_else_rule typed h = rw (is, view-if_else) h
 
 pub while_body : (env : Env) (stmt : source.Stmt) (keyword opening : Span) (test : source_expr.Expr) (closing : Span) (body : Box source.Stmt Global)
     → stmt ≡ ts.While keyword opening test closing body → IsFaultless env (stmt_view stmt) → IsFaultless env (stmt_view body.value)
 while_body env stmt keyword opening test closing body is f =
     let g : IsFaultless env (t.while keyword opening (view test) closing (stmt_view body.value)) = rw (is, view-while) at f in
-    (g.0, true, none_right (int_faults env (view test)) _ g.2)
+    (g.0, true, none_behind (int_faults env (view test)) _ g.2)
 
 pub while_rule : (env : Env) (stmt : source.Stmt) (keyword opening : Span) (test : source_expr.Expr) (closing : Span) (body : Box source.Stmt Global) (e : Expr) (a : Box Stmt Global)
     → stmt ≡ ts.While keyword opening test closing body → IsExpr env (view test) e → IsStmt env (stmt_view body.value) a.value → IsStmt env (stmt_view stmt) (s.While e a)
@@ -225,7 +228,7 @@ pub do_body : (env : Env) (stmt : source.Stmt) (keyword : Span) (body : Box sour
     → stmt ≡ ts.Do keyword body while_keyword opening test closing end → IsFaultless env (stmt_view stmt) → IsFaultless env (stmt_view body.value)
 do_body env stmt keyword body while_keyword opening test closing end is f =
     let g : IsFaultless env (t.do_while keyword (stmt_view body.value) while_keyword opening (view test) closing end) = rw (is, view-do_while) at f in
-    (g.0, true, none_left _ _ g.2)
+    (g.0, true, none_before _ _ g.2)
 
 pub do_rule : (env : Env) (stmt : source.Stmt) (keyword : Span) (body : Box source.Stmt Global) (while_keyword opening : Span) (test : source_expr.Expr) (closing end : Span) (e : Expr) (a : Box Stmt Global)
     → stmt ≡ ts.Do keyword body while_keyword opening test closing end → IsStmt env (stmt_view body.value) a.value → IsExpr env (view test) e
@@ -242,20 +245,25 @@ module _ (env : Env) (stmt : source.Stmt) (keyword opening : Span) (start : sour
   whole = t.for keyword opening (start_view start) start_end (option_map view test) test_end (option_map simple_view step) closing (stmt_view body.value)
 
   pub for_start : IsFaultless env (stmt_view stmt) → start_faults (opened env) (start_view start) ≡ []
-  for_start f = let g : IsFaultless env whole = rw (is, view-for) at f in none_left _ _ (none_left _ _ (none_left _ _ g.2))
+  for_start f = let g : IsFaultless env whole = rw (is, view-for) at f in none_before _ _ (none_before _ _ (none_before _ _ g.2))
 
   pub for_step : IsFaultless env (stmt_view stmt) → step_faults inside (option_map simple_view step) ≡ []
   for_step f =
       let g : IsFaultless env whole = rw (is, view-for) at f in
-      none_right (start_faults (opened env) (start_view start) ++ test_faults inside (option_map view test)) _ (none_left _ _ g.2)
+      none_behind (start_faults (opened env) (start_view start) ++ test_faults inside (option_map view test)) _ (none_before _ _ g.2)
 
   pub for_body : IsFaultless env (stmt_view stmt) → IsFaultless inside (stmt_view body.value)
   for_body f =
       let g : IsFaultless env whole = rw (is, view-for) at f in
-      (g.0, true, none_right ((start_faults (opened env) (start_view start) ++ test_faults inside (option_map view test)) ++ step_faults inside (option_map simple_view step)) _ g.2)
+      (g.0, true, none_behind ((start_faults (opened env) (start_view start) ++ test_faults inside (option_map view test)) ++ step_faults inside (option_map simple_view step)) _ g.2)
 
   pub for_rule : (typed : Stmt) → IsStmt env whole typed → IsStmt env (stmt_view stmt) typed
   for_rule typed h = rw (is, view-for) h
+
+-- what follows from what is said of an Ok
+pub ok_maps : {A E : Type 0} {P Q : A → Type 0} (found : Result A E) → ((x : A) → P x → Q x) → IfOk found P → IfOk found Q
+ok_maps (Ok x) h p = h x p
+ok_maps (Err e) h p = tt
 
 -- what holds where there is an Ok
 pub on_ok : {A B : Type 0} {found : Result A B} {x : A} (P : Type 0) → found ≡ Ok x → OnOk found P → P
@@ -294,13 +302,13 @@ pub part_next : (env : Env) (parts : List source_part.Part) (i : ℕ) (part : so
     → AreFaultless env (parts_view (drop i parts)) → IsFaultlessPart env (part_view part)
 part_next env parts i part less is f =
     let g : AreFaultless env (t.part (part_view part) (parts_view (drop (i + 1) parts))) = rw (drop_at parts i part less is) at f in
-    (g.0, g.1, none_left _ _ g.2)
+    (g.0, g.1, none_before _ _ g.2)
 
 pub parts_next : (env now : Env) (parts : List source_part.Part) (i : ℕ) (part : source_part.Part) → i < length parts → part ≡ get_or parts i part
     → now ≡ after_part env (part_view part) → AreFaultless env (parts_view (drop i parts)) → AreFaultless now (parts_view (drop (i + 1) parts))
 parts_next env now parts i part less is n f =
     let g : AreFaultless env (t.part (part_view part) (parts_view (drop (i + 1) parts))) = rw (drop_at parts i part less is) at f in
-    rw n (g.0, g.1, none_right (part_faults env g.0 g.1 (part_view part)) _ g.2)
+    rw n (g.0, g.1, none_behind (part_faults env g.0 g.1 (part_view part)) _ g.2)
 
 pub parts_after : (env now last : Env) (parts : List source_part.Part) (i : ℕ) (part : source_part.Part) → i < length parts → part ≡ get_or parts i part
     → now ≡ after_part env (part_view part) → after_parts env (parts_view (drop i parts)) ≡ last → after_parts now (parts_view (drop (i + 1) parts)) ≡ last

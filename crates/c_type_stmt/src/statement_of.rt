@@ -1,24 +1,18 @@
 //! Typed statements and declarations.
-ghost use Rattle.std.specs.Prelude.{◌≡◌, ◌++◌, ◌∷◌, Bool, [], IfOk, Ok, OnOk, Some, drop, map, option_map, slice_get, true};
-ghost use Rattle.std.specs.Option.{is_some};
+ghost use Rattle.std.specs.Prelude.{◌≡◌, ◌++◌, ◌∷◌, Bool, [], IfOk, OnOk, Some, option_map};
 ghost use Rattle.c_grammar.specs.declared.terminal.Span.{Span};
-ghost use Rattle.c_grammar.specs.StmtView.{argument_view, call_view, declaration_view, initial_view, item_view, part_view, parts_view, right_view, comma_list_view, simple_view, start_view, stmt_view};
+ghost use Rattle.c_grammar.specs.StmtView.{call_view, declaration_view, initial_view, item_view, part_view, parts_view, right_view, comma_list_view, simple_view, start_view, stmt_view};
 ghost use Rattle.c_grammar.specs.Tree as t;
 ghost use Rattle.c_grammar.specs.View.{place_view, view};
-ghost use Rattle.c_names.specs.Formats.{pieces_of};
-ghost use Rattle.c_names.specs.declared.predefined.Predefined.TheVariants as p;
-ghost use Rattle.c_check.specs.Calls.{arguments_of, call_faults, numbers_faults};
-ghost use Rattle.c_check.specs.Calls as checked;
-ghost use Rattle.c_check_expr.specs.Scopes.{meaning, opened};
-ghost use Rattle.c_check_expr.specs.Scopes as scopes;
+ghost use Rattle.c_check.specs.Calls.{call_faults};
+ghost use Rattle.c_check_expr.specs.Scopes.{opened};
 ghost use Rattle.c_check_expr.specs.Signatures.{listed};
 ghost use Rattle.c_check.specs.Statements.{after_declaration, after_item, after_part, after_parts, after_start, declaration_faults, initial_faults, item_faults, part_faults, parts_faults, return_faults, simple_faults, start_faults, step_faults, stmt_faults, test_faults};
-ghost use Rattle.c_check_expr.specs.declared.meaning.Meaning.TheVariants as m;
 ghost use Rattle.c_check_expr.specs.declared.meaning.Entity.{Entity};
 ghost use Rattle.c_type_expr.specs.Exprs.{IsExpr};
-ghost use Rattle.c_type_stmt.specs.Statements.{AreExprs, AreParts, AreValues, IsDeclaration, IsInitializer, IsItem, IsPart, IsReturn, IsSimple, IsStart, IsStep, IsStmt, IsTest, length_in, update_of};
+ghost use Rattle.c_type_stmt.specs.Statements.{AreExprs, AreParts, IsDeclaration, IsInitializer, IsItem, IsPart, IsReturn, IsSimple, IsStart, IsStep, IsStmt, IsTest, length_in, update_of};
 
-use c_check::call::{argument_at, argument_count, inside};
+use crate::print_of::print_of;
 use c_check::statement::{declared_entity, is_assign};
 use c_check_expr::constant::length_of;
 use c_check_expr::kind::place_first_token;
@@ -26,7 +20,6 @@ use c_check_expr::meaning::{Entity, Meaning, kind_of_symbol};
 use c_check_expr::scope::{Scope, token_bytes};
 use c_grammar::terminal::{Span, Symbol};
 use c_grammar::{statement, tree};
-use c_names::format::{FormatPiece, pieces};
 use c_names::kind::VariableKind;
 use c_names::operator::Operator;
 use c_names::predefined::Predefined;
@@ -34,9 +27,9 @@ use c_program::expr::{Expr, Right};
 use c_program::statement::{
     Declaration, ForStart, InitDeclarator, Initializer, Part, Simple, Stmt,
 };
-use c_type_expr::call_of::{call_of, right_of, value_of};
+use c_type_expr::call_of::{call_of, right_of};
 use c_type_expr::expr_of::{expr_of, place_of};
-use c_type_expr::results::{both, boxed, held, three};
+use c_type_expr::results::{boxed, held, zip, zip3};
 use c_type_mpi::mpi_of::mpi_call_of;
 use std::alloc::{AllocError, Global};
 use wiz_base::Bytes;
@@ -74,65 +67,6 @@ fn step_of(
         operator: update_of(operator),
         right: Right::Value(Expr::Number(1)),
     })
-}
-
-/// The text that an argument is.
-fn text_at(argument: &statement::Argument) -> Span
-    requires { argument_view argument.now ≡ t.text (checked.argument_first_token (argument_view argument.now)) }
-    ensures { argument_view argument.now ≡ t.text result }
-{
-    match argument {
-        statement::Argument::Text(at) => *at,
-        statement::Argument::Address { .. } => unreachable!(),
-        statement::Argument::Value(_) => unreachable!(),
-    }
-}
-
-/// The text that stands first in a call.
-fn first_text(call: &statement::Call) -> Span
-    requires { (at : Span) × (slice_get (arguments_of (call_view call.now)) 0 ≡ Some (t.text at)) }
-    ensures { slice_get (arguments_of (call_view call.now)) 0 ≡ Some (t.text result) }
-{
-    match argument_at(call, 0) {
-        Some(argument) => text_at(argument),
-        None => unreachable!(),
-    }
-}
-
-/// The pieces of a text that is a format.
-fn format_of(alloc: Global, scope: &Scope, at: Span) -> Result<Vec<FormatPiece>, AllocError>
-    requires { is_some (pieces_of (checked.inside (scopes.token_bytes scope.now.text at))) ≡ true }
-    ensures { IfOk result (λ format. pieces_of (checked.inside (scopes.token_bytes scope.now.text at)) ≡ Some format.items) }
-{
-    match pieces(alloc, inside(token_bytes(scope.text(), at)))? {
-        Some(format) => Ok(format),
-        None => unreachable!(),
-    }
-}
-
-/// The ints behind a format.
-fn numbers_of(alloc: Global, scope: &Scope, call: &statement::Call) -> Result<Vec<Expr>, AllocError>
-    requires { numbers_faults scope.now (drop 1 (arguments_of (call_view call.now))) ≡ [] }
-    ensures { IfOk result (λ typed. AreValues scope.now (drop 1 (arguments_of (call_view call.now))) typed.items) }
-{
-    let mut typed = Vec::new(alloc);
-    for place in 1..argument_count(call) {
-        let Some(argument) = argument_at(call, place) else {
-            unreachable!()
-        };
-        typed.push(value_of(alloc, scope, argument)?)?;
-    }
-    Ok(typed)
-}
-
-fn print_of(alloc: Global, scope: &Scope, call: &statement::Call) -> Result<Simple, AllocError>
-    requires meaning { meaning scope.now call.now.name ≡ m.Known p.Printf }
-    requires faults { call_faults scope.now (call_view call.now) ≡ [] }
-    ensures { IfOk result (λ typed. IsSimple scope.now (t.invoke (call_view call.now)) typed) }
-{
-    let format = format_of(alloc, scope, first_text(call))?;
-    let arguments = numbers_of(alloc, scope, call)?;
-    Ok(Simple::Print { format, arguments })
 }
 
 /// A call that is a statement.
@@ -397,12 +331,7 @@ fn stmt_of(alloc: Global, scope: &mut Scope, stmt: &statement::Stmt) -> Result<S
             then,
             other,
             ..
-        } => {
-            let tested = tested_of(alloc, scope, then, test)?;
-            let other = boxed_of(alloc, scope, other);
-            let ((then, test), other) = both(Ok(tested), other)?;
-            Ok(Stmt::IfElse { test, then, other })
-        }
+        } => if_else_of(alloc, scope, test, then, other),
         statement::Stmt::While { test, body, .. } => {
             let (body, test) = tested_of(alloc, scope, body, test)?;
             Ok(Stmt::While { test, body })
@@ -417,11 +346,28 @@ fn stmt_of(alloc: Global, scope: &mut Scope, stmt: &statement::Stmt) -> Result<S
             step,
             body,
             ..
-        } => {
-            let typed = for_of(alloc, scope, start, test, step, body)?;
-            Ok(typed)
-        }
+        } => for_of(alloc, scope, start, test, step, body),
     }
+}
+
+/// An `if` with an `else`.
+#[cycle(statements)]
+fn if_else_of(
+    alloc: Global,
+    scope: &mut Scope,
+    test: &tree::Expr,
+    then: &statement::Stmt,
+    other: &statement::Stmt,
+) -> Result<Stmt, AllocError>
+    requires then { (gives : Bool) × (loops : Bool) × (stmt_faults scope.old gives loops (stmt_view then.now) ≡ []) }
+    requires other { (gives : Bool) × (loops : Bool) × (stmt_faults scope.old gives loops (stmt_view other.now) ≡ []) }
+    ensures typed { IfOk result (λ typed. (keyword opening closing else_keyword : Span) → IsStmt scope.old (t.if_else keyword opening (view test.now) closing (stmt_view then.now) else_keyword (stmt_view other.now)) typed) }
+    ensures scope { OnOk result (scope.new ≡ scope.old) }
+{
+    let tested = tested_of(alloc, scope, then, test)?;
+    let other = boxed_of(alloc, scope, other);
+    let ((then, test), other) = zip(Ok(tested), other)?;
+    Ok(Stmt::IfElse { test, then, other })
 }
 
 /// The parts of a block, in a scope of their own.
@@ -461,8 +407,8 @@ fn for_of(
     let start = start_of(alloc, scope, start)?;
     let test = test_of(alloc, scope, test);
     let step = turn_of(alloc, scope, step);
-    let head = three(Ok(start), test, step);
-    let ((start, test, step), body) = both(head, boxed_of(alloc, scope, body))?;
+    let head = zip3(Ok(start), test, step);
+    let ((start, test, step), body) = zip(head, boxed_of(alloc, scope, body))?;
     scope.close();
     Ok(Stmt::For {
         start,
@@ -501,7 +447,7 @@ fn tested_of(
 {
     let test = expr_of(alloc, scope, test);
     let stmt = boxed_of(alloc, scope, stmt);
-    both(stmt, test)
+    zip(stmt, test)
 }
 
 #[cycle(statements)]
@@ -518,8 +464,8 @@ fn part_of(alloc: Global, scope: &mut Scope, part: &statement::Part) -> Result<P
     }
 }
 
-/// The typed parts of a block without faults, which stand in an open scope. What they declare stays in it. The one error is want of
-/// memory, and then the scope is to be given up.
+/// The typed parts of a block without faults, which stand in an open scope. What they declare stays in it. The one error is to be out
+/// of memory, and then the scope is to be given up.
 #[cycle(statements)]
 pub fn parts_of(
     alloc: Global,

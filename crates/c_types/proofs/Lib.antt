@@ -1,2 +1,7 @@
-pub mod ProgramRules
 pub mod CheckRules
+pub mod ProgramRules
+pub mod SameValues
+pub mod SameEffects
+pub mod SameSimples
+pub mod SameStatements
+pub mod SamePrograms

@@ -21,7 +21,8 @@ use Rattle.c_check_expr.proofs.Lists.{drop_at, drop_got, drop_past}
 use Rattle.c_types.specs.Programs as x
 use Rattle.c_types.specs.Programs.{AreFunctions, AreParameters, IsFunction, IsFunctionOf, IsParameter}
 use Rattle.c_type_stmt.specs.Statements.{AreParts}
-use Rattle.c_type_stmt.proofs.Growing.{ended, grown, none_left, none_right}
+use Rattle.c_type_expr.proofs.Faultless.{none_before, none_behind}
+use Rattle.c_type_stmt.proofs.Growing.{ended, grown}
 
 -- ---- parameters
 
@@ -95,21 +96,19 @@ pub body_faultless : (env first now : Env) (main : Bool) (head : t.Head) (parts 
     → now ≡ after_parameters first main (parameters_listed head.listed) → function_faults env head parts ≡ []
     → (gives : Bool) × (loops : Bool) × (parts_faults now gives loops parts ≡ [])
 body_faultless env first now main head parts o m n e =
-    rw (n, o, m) (is_int head.result, false, none_right (parameters_faults (opened env) (is_main env.text head) (parameters_listed head.listed)) _ e)
+    rw (n, o, m) (is_int head.result, false, none_behind (parameters_faults (opened env) (is_main env.text head) (parameters_listed head.listed)) _ e)
 
 pub function_rule : (env first now : Env) (main : Bool) (head : t.Head) (parts : t.Parts) (typed : Function) → first ≡ opened env → main ≡ is_main env.text head
-    → now ≡ after_parameters first main (parameters_listed head.listed) → typed.name ≡ token_bytes env.text head.name → typed.gives ≡ is_int head.result
+    → now ≡ after_parameters first main (parameters_listed head.listed)
     → AreParameters first.text (parameters_listed head.listed) typed.parameters.items → AreParts now parts typed.body.items → IsFunction env head parts typed
-function_rule env first now main head parts typed o m n name gives parameters body = record {
-  name = name;
-  gives = gives;
+function_rule env first now main head parts typed o m n parameters body = record {
   parameters = rw o at parameters;
   body = rw (n, o, m) at body;
 }
 
 pub function_faultless : (env : Env) (seen : List (List ℕ)) (head : t.Head) (opening : Span) (parts : t.Parts) (closing : Span)
     → external_faults env seen (t.function head opening parts closing) ≡ [] → function_faults env head parts ≡ []
-function_faultless env seen head opening parts closing e = none_right (external_twice_faults env.text seen head.name) _ e
+function_faultless env seen head opening parts closing e = none_behind (external_twice_faults env.text seen head.name) _ e
 
 pub externals_first : (externals : List source_external.ExternalDeclaration) (i : ℕ) (one : source_external.ExternalDeclaration) → i < length externals → one ≡ get_or externals i one
     → AreExternals (map external_view (drop i externals)) → IsExternal (external_view one)
@@ -125,14 +124,14 @@ pub external_faultless : (env : Env) (externals : List source_external.ExternalD
     → (seen : List (List ℕ)) × (externals_faults env seen (map external_view (drop i externals)) ≡ []) → (seen : List (List ℕ)) × (external_faults env seen (external_view one) ≡ [])
 external_faultless env externals i one less is f =
     let e : externals_faults env f.0 (external_view one ∷ map external_view (drop (i + 1) externals)) ≡ [] = rw (drop_at externals i one less is) at f.1 in
-    (f.0, none_left _ _ e)
+    (f.0, none_before _ _ e)
 
 pub externals_faultless : (env now : Env) (externals : List source_external.ExternalDeclaration) (i : ℕ) (one : source_external.ExternalDeclaration) → i < length externals → one ≡ get_or externals i one
     → now ≡ after_external env (external_view one)
     → (seen : List (List ℕ)) × (externals_faults env seen (map external_view (drop i externals)) ≡ []) → (seen : List (List ℕ)) × (externals_faults now seen (map external_view (drop (i + 1) externals)) ≡ [])
 externals_faultless env now externals i one less is n f =
     let e : externals_faults env f.0 (external_view one ∷ map external_view (drop (i + 1) externals)) ≡ [] = rw (drop_at externals i one less is) at f.1 in
-    rw n (_, none_right (external_faults env f.0 (external_view one)) _ e)
+    rw n (_, none_behind (external_faults env f.0 (external_view one)) _ e)
 
 pub functions_more : (env start now : Env) (externals : List source_external.ExternalDeclaration) (i : ℕ) (one : source_external.ExternalDeclaration) (before after : List Function) (typed : Option Function)
     → after ≡ before ++ option_to_list typed → i < length externals → one ≡ get_or externals i one
@@ -212,7 +211,7 @@ pub main_none : (text : List ℕ) (externals : List source_external.ExternalDecl
 main_none text externals i past e = let none : list_any (is_main text) [] ≡ true = rw (drop_past externals i past) at e in cc
 
 pub has_main : (text : List ℕ) (tree : t.Tree) (others : List TypingFault) → others ++ main_faults text tree ≡ [] → list_any (is_main text) (heads_of tree) ≡ true
-has_main text tree others e = by_test (list_any (is_main text) (heads_of tree)) (record { at = length text; why = NoMain }) (none_right others _ e)
+has_main text tree others e = by_test (list_any (is_main text) (heads_of tree)) (record { at = length text; why = NoMain }) (none_behind others _ e)
   where
     by_test : (b : Bool) (none : TypingFault) → (if b then [] else none ∷ []) ≡ [] → b ≡ true
     by_test true none e = refl

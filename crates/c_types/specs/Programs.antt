@@ -11,7 +11,7 @@ use Rattle.c_program.specs.declared.program.ParameterKind.{ParameterKind}
 use Rattle.c_program.specs.declared.program.ParameterKind.TheVariants as k
 use Rattle.c_check.specs.Programs.{after_parameters, after_external, heads_of, is_main, parameter_name, text_env}
 use Rattle.c_check_expr.specs.Scopes.{Env, token_bytes, opened}
-use Rattle.c_check_expr.specs.Signatures.{is_int, parameters_listed}
+use Rattle.c_check_expr.specs.Signatures.{parameters_listed}
 use Rattle.c_type_stmt.specs.Statements.{AreParts}
 
 abbrev pub parameter_kind : t.Parameter → ParameterKind
@@ -35,8 +35,6 @@ pub data AreParameters (text : List ℕ) : List t.Parameter → List Parameter �
 
 -- parameters share the scope of the function's block
 pub record IsFunction (env : Env) (head : t.Head) (parts : t.Parts) (typed : Function) : Type 0 where
-  pub name : typed.name ≡ token_bytes env.text head.name
-  pub gives : typed.gives ≡ is_int head.result
   pub parameters : AreParameters env.text (parameters_listed head.listed) typed.parameters.items
   pub body : AreParts (after_parameters (opened env) (is_main env.text head) (parameters_listed head.listed)) parts typed.body.items
 

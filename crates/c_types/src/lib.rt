@@ -1,6 +1,8 @@
 //! The typed program of a C text, or the first fault that it has.
 #![tactic(auto)]
 
+pub mod meaning;
 pub mod typing;
 
+pub use meaning::text_fixes_meaning;
 pub use typing::{check, one_program, read_program};

@@ -13,9 +13,10 @@ ghost use Rattle.c_check_expr.specs.Signatures.{parameters_listed};
 ghost use Rattle.c_types.specs.Checks.{IsFaultOf, IsFirstIn, IsProgramOf};
 ghost use Rattle.c_types.specs.Programs.{AreFunctions, AreParameters, IsFunction, IsFunctionOf, IsParameter, IsProgram, parameter_kind};
 
-use c_check::call::{is_int, parameter_at, parameter_count};
+use c_check::call::{parameter_at, parameter_count};
 use c_check::program::{
-    define_value, first_fault, is_main, parameter_entity, parameter_name, text_scope,
+    define_value, first_fault, is_main, is_main_external, parameter_entity, parameter_name,
+    text_scope,
 };
 use c_check_expr::fault::TypingFault;
 use c_check_expr::meaning::Entity;
@@ -97,18 +98,12 @@ fn function_of(
     ensures typed { IfOk result (λ typed. IsFunction scope.old (head_view head.now) (parts_view parts.now) typed) }
     ensures scope { OnOk result (scope.new ≡ scope.old) }
 {
-    let name = Bytes::from_slice(alloc, token_bytes(scope.text(), head.name))?;
     let main = is_main(scope.text(), head);
     scope.open()?;
     let parameters = parameters_of(alloc, scope, main, head)?;
     let body = parts_of(alloc, scope, parts)?;
     scope.close();
-    Ok(Function {
-        name,
-        gives: is_int(head.result),
-        parameters,
-        body,
-    })
+    Ok(Function { parameters, body })
 }
 
 /// The function that stands there, or nothing; a define is then declared.
@@ -163,16 +158,6 @@ fn functions_of(
         push(&mut functions, function)?;
     }
     Ok(functions)
-}
-
-fn is_main_external(text: &[u8], external: &ExternalDeclaration) -> bool
-    ensures { result ≡ list_any (is_main text.now) (with_head (external_view external.now) []) }
-{
-    match external {
-        ExternalDeclaration::Function { head, .. } => is_main(text, head),
-        ExternalDeclaration::Define { .. } => false,
-        ExternalDeclaration::Prototype { .. } => false,
-    }
 }
 
 /// How many functions stand there, 1 or 0.

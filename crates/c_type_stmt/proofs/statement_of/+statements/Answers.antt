@@ -5,7 +5,8 @@ use Rattle.c_grammar.proofs.StmtViewed.{view-declare, view-stmt}
 use Rattle.c_check.specs.Statements.{after_parts, after_start}
 use Rattle.c_check.proofs.Closed.{closed_parts, closed_start, closing}
 use Rattle.c_type_mpi.proofs.MpiRules.{of_ok}
-use Rattle.c_type_stmt.proofs.StatementRules.{block_parts, block_rule, both_rule, both_spared, both_taken, break_rule, continue_rule, declare_faultless, declare_rule, do_body, do_rule, empty_rule, for_body, for_rule, for_start, for_step, for_typed, if_rule, if_taken, on_ok, part_next, parts_after, parts_end, parts_more, parts_next, return_faultless, return_rule, simple_faultless, simple_rule, stmt_faultless, stmt_rule, while_body, while_rule}
+use Rattle.c_type_stmt.proofs.StatementRules.{block_parts, block_rule, break_rule, continue_rule, declare_faultless, declare_rule, do_body, do_rule, empty_rule, for_body, for_rule, for_start, for_step, for_typed, if_else_rule, if_else_spared, if_else_taken, if_rule, if_taken, ok_maps, on_ok, part_next, parts_after, parts_end, parts_more, parts_next, return_faultless, return_rule, simple_faultless, simple_rule, stmt_faultless, stmt_rule, while_body, while_rule}
+use Rattle.c_type_stmt.specs.Statements as x
 use Rattle.c_type_stmt.proofs.statement_of.+statements.Goals as goal
 
 pub stmt_of-block_of-requires : goal.stmt_of-block_of-requires
@@ -21,10 +22,12 @@ stmt_of-for_of-requires t c = (
   (for_start c.args.scope.now c.args.stmt.now c.in-For.keyword c.in-For.opening c.in-For.start c.in-For.start_end c.in-For.test c.in-For.test_end c.in-For.step c.in-For.closing c.in-For.body c.in-For.is c.requires, (for_step c.args.scope.now c.args.stmt.now c.in-For.keyword c.in-For.opening c.in-For.start c.in-For.start_end c.in-For.test c.in-For.test_end c.in-For.step c.in-For.closing c.in-For.body c.in-For.is c.requires, rw c.deref-in-For.ensures (for_body c.args.scope.now c.args.stmt.now c.in-For.keyword c.in-For.opening c.in-For.start c.in-For.start_end c.in-For.test c.in-For.test_end c.in-For.step c.in-For.closing c.in-For.body c.in-For.is c.requires))),
 )
 
-pub stmt_of-returns-in_ok-typed-in-For-clause-typed : goal.stmt_of-returns-in_ok-typed-in-For-clause-typed
-stmt_of-returns-in_ok-typed-in-For-clause-typed t c =
-    for_rule c.args.scope.now c.args.stmt.now c.in-For.keyword c.in-For.opening c.in-For.start c.in-For.start_end c.in-For.test c.in-For.test_end c.in-For.step c.in-For.closing c.in-For.body c.in-For.is _
-    (rw c.deref-in-For.ensures at (c.in_ok-typed-in-For.ensures.typed c.in-For.keyword c.in-For.opening c.in-For.start_end c.in-For.test_end c.in-For.closing))
+pub stmt_of-returns-in-For-clause-typed : goal.stmt_of-returns-in-For-clause-typed
+stmt_of-returns-in-For-clause-typed t c =
+    ok_maps c.for_of.result
+    (λ typed h. for_rule c.args.scope.now c.args.stmt.now c.in-For.keyword c.in-For.opening c.in-For.start c.in-For.start_end c.in-For.test c.in-For.test_end c.in-For.step c.in-For.closing c.in-For.body c.in-For.is typed
+    (rw c.deref-in-For.ensures at (h c.in-For.keyword c.in-For.opening c.in-For.start_end c.in-For.test_end c.in-For.closing)))
+    c.for_of.ensures.typed
 
 pub block_of-parts_of-requires : goal.block_of-parts_of-requires
 block_of-parts_of-requires t c = (first_of (search (rules, the_lemmas), search (rules, arith, the_lemmas)), rw c.in_ok-open.ensures c.requires)
@@ -50,9 +53,9 @@ pub for_of-returns-clause-typed : goal.for_of-returns-clause-typed
 for_of-returns-clause-typed t c =
     let head = c.in_ok-start-2.ensures.first in
     for_typed c.args.scope.now _ _ c.args.start.now c.args.test.now c.args.step.now c.args.body.now _ _ _ _ c.in_ok-open.ensures c.in_ok-start.ensures.scope
-    (of_ok _ (c.in_ok-start.was ∙ of_ok _ head c.three-head.ensures.first) c.start_of.ensures.typed)
-    (of_ok _ (of_ok _ head c.three-head.ensures.second) c.test_of-test.ensures)
-    (of_ok _ (of_ok _ head c.three-head.ensures.third) c.turn_of-step.ensures)
+    (of_ok _ (c.in_ok-start.was ∙ of_ok _ head c.zip3-head.ensures.first) c.start_of.ensures.typed)
+    (of_ok _ (of_ok _ head c.zip3-head.ensures.second) c.test_of-test.ensures)
+    (of_ok _ (of_ok _ head c.zip3-head.ensures.third) c.turn_of-step.ensures)
     (of_ok _ c.in_ok-start-2.ensures.second c.boxed_of.ensures.typed)
 
 pub for_of-returns-clause-scope : goal.for_of-returns-clause-scope
@@ -90,26 +93,33 @@ pub stmt_of-returns-in_ok-then-in-If-clause-typed : goal.stmt_of-returns-in_ok-t
 stmt_of-returns-in_ok-then-in-If-clause-typed t c =
     if_rule c.args.scope.now c.args.stmt.now c.in-If.keyword c.in-If.opening c.in-If.test c.in-If.closing c.in-If.then _ _ c.in-If.is c.in_ok-then-in-If.ensures.test (rw c.deref-in-If.ensures at c.in_ok-then-in-If.ensures.stmt)
 
-pub stmt_of-tested_of-requires-in-IfElse : goal.stmt_of-tested_of-requires-in-IfElse
-stmt_of-tested_of-requires-in-IfElse t c =
-    (first_of (search (rules, the_lemmas), search (rules, arith, the_lemmas)), rw c.deref-in-IfElse.ensures (both_taken c.args.scope.now c.args.stmt.now c.in-IfElse.keyword c.in-IfElse.opening c.in-IfElse.test c.in-IfElse.closing c.in-IfElse.then c.in-IfElse.else_keyword c.in-IfElse.other c.in-IfElse.is c.requires))
-
-pub stmt_of-boxed_of-other-requires : goal.stmt_of-boxed_of-other-requires
-stmt_of-boxed_of-other-requires t c = (
+pub stmt_of-if_else_of-requires : goal.stmt_of-if_else_of-requires
+stmt_of-if_else_of-requires t c = (
   first_of (search (rules, the_lemmas), search (rules, arith, the_lemmas)),
-  rw c.deref-in-IfElse-2.ensures (both_spared c.args.scope.now _ c.args.stmt.now c.in-IfElse.keyword c.in-IfElse.opening c.in-IfElse.test c.in-IfElse.closing c.in-IfElse.then c.in-IfElse.else_keyword c.in-IfElse.other c.in-IfElse.is c.in_ok-tested-in-IfElse.ensures.scope c.requires),
+  (rw c.deref-in-IfElse.ensures (if_else_taken c.args.scope.now c.args.stmt.now c.in-IfElse.keyword c.in-IfElse.opening c.in-IfElse.test c.in-IfElse.closing c.in-IfElse.then c.in-IfElse.else_keyword c.in-IfElse.other c.in-IfElse.is c.requires), rw c.deref-in-IfElse-2.ensures (if_else_spared c.args.scope.now c.args.stmt.now c.in-IfElse.keyword c.in-IfElse.opening c.in-IfElse.test c.in-IfElse.closing c.in-IfElse.then c.in-IfElse.else_keyword c.in-IfElse.other c.in-IfElse.is c.requires)),
 )
 
-pub stmt_of-returns-in_ok-then-in-IfElse-clause-typed : goal.stmt_of-returns-in_ok-then-in-IfElse-clause-typed
-stmt_of-returns-in_ok-then-in-IfElse-clause-typed t c =
-    let first = c.in_ok-tested-in-IfElse.was ∙ c.in_ok-then-in-IfElse.ensures.first in
-    both_rule c.args.scope.now _ c.args.stmt.now c.in-IfElse.keyword c.in-IfElse.opening c.in-IfElse.test c.in-IfElse.closing c.in-IfElse.then c.in-IfElse.else_keyword c.in-IfElse.other _ _ _ c.in-IfElse.is c.in_ok-tested-in-IfElse.ensures.scope
-    (of_ok _ first c.tested_of-in-IfElse.ensures.test) (rw c.deref-in-IfElse.ensures at (of_ok _ first c.tested_of-in-IfElse.ensures.stmt))
-    (rw c.deref-in-IfElse-2.ensures at (of_ok _ c.in_ok-then-in-IfElse.ensures.second c.boxed_of-other.ensures.typed))
+pub stmt_of-returns-in-IfElse-clause-typed : goal.stmt_of-returns-in-IfElse-clause-typed
+stmt_of-returns-in-IfElse-clause-typed t c =
+    ok_maps c.if_else_of.result
+    (λ typed h. if_else_rule c.args.scope.now c.args.stmt.now c.in-IfElse.keyword c.in-IfElse.opening c.in-IfElse.test c.in-IfElse.closing c.in-IfElse.then c.in-IfElse.else_keyword c.in-IfElse.other c.in-IfElse.is typed
+    (rw (c.deref-in-IfElse.ensures, c.deref-in-IfElse-2.ensures) at (h c.in-IfElse.keyword c.in-IfElse.opening c.in-IfElse.closing c.in-IfElse.else_keyword)))
+    c.if_else_of.ensures.typed
 
-pub stmt_of-returns-in_ok-then-in-IfElse-clause-scope : goal.stmt_of-returns-in_ok-then-in-IfElse-clause-scope
-stmt_of-returns-in_ok-then-in-IfElse-clause-scope t c =
-    on_ok _ c.in_ok-then-in-IfElse.ensures.second c.boxed_of-other.ensures.scope ∙ c.in_ok-tested-in-IfElse.ensures.scope
+pub if_else_of-tested_of-requires : goal.if_else_of-tested_of-requires
+if_else_of-tested_of-requires t c = (first_of (search (rules, the_lemmas), search (rules, arith, the_lemmas)), c.requires.then)
+
+pub if_else_of-boxed_of-other-requires : goal.if_else_of-boxed_of-other-requires
+if_else_of-boxed_of-other-requires t c = (first_of (search (rules, the_lemmas), search (rules, arith, the_lemmas)), rw c.in_ok-tested.ensures.scope c.requires.other)
+
+pub if_else_of-returns-clause-typed : goal.if_else_of-returns-clause-typed
+if_else_of-returns-clause-typed t c = λ keyword opening closing else_keyword.
+    let first = c.in_ok-tested.was ∙ c.in_ok-then.ensures.first in
+    x.if_else (of_ok _ first c.tested_of.ensures.test) (of_ok _ first c.tested_of.ensures.stmt)
+    (rw c.in_ok-tested.ensures.scope at (of_ok _ c.in_ok-then.ensures.second c.boxed_of-other.ensures.typed))
+
+pub if_else_of-returns-clause-scope : goal.if_else_of-returns-clause-scope
+if_else_of-returns-clause-scope t c = on_ok _ c.in_ok-then.ensures.second c.boxed_of-other.ensures.scope ∙ c.in_ok-tested.ensures.scope
 
 pub stmt_of-tested_of-requires-in-While : goal.stmt_of-tested_of-requires-in-While
 stmt_of-tested_of-requires-in-While t c =

@@ -1,7 +1,7 @@
 use Rattle.c_grammar.specs.StmtView.{tree_view}
 use Rattle.std.proofs.Common.{[]}
 use Rattle.c_check.specs.Programs.{text_env, externals_faults}
-use Rattle.c_type_stmt.proofs.Growing.{none_left}
+use Rattle.c_type_expr.proofs.Faultless.{none_before}
 use Rattle.c_types.proofs.ProgramRules.{has_main}
 use Rattle.c_types.proofs.typing.program_of.Goals as goal
 
@@ -14,7 +14,7 @@ pub functions_of-requires-clause-externals : goal.functions_of-requires-clause-e
 functions_of-requires-clause-externals c = rw c.deref-2.ensures.value c.requires.externals
 
 pub functions_of-requires-clause-faults : goal.functions_of-requires-clause-faults
-functions_of-requires-clause-faults c = rw (c.in_ok-scope.ensures, c.deref-2.ensures.value) (none_left _ _ c.requires.faults)
+functions_of-requires-clause-faults c = rw (c.in_ok-scope.ensures, c.deref-2.ensures.value) (none_before _ _ c.requires.faults)
 
 pub returns : goal.returns
 returns c = record {

@@ -1,5 +1,0 @@
-pub mod SameValues
-pub mod SameEffects
-pub mod SameSimples
-pub mod SameStatements
-pub mod SamePrograms
