@@ -12,7 +12,7 @@ const CHECK: &[&str] = &["check", "P", "Q", "--serial"];
 #[test]
 fn runs_are_checked(rt: HostRuntime) {
     let alloc = rt.alloc();
-    // The program, the plan, the words, the status, and what is printed.
+    // The program, the plan, the arguments, the status, and what is printed.
     let rows: [(&[u8], &[u8], &[&str], u8, &[u8]); 9] = [
         (
             FIRST,

@@ -17,7 +17,7 @@ fn inputs(alloc: Global, program: &[u8]) -> Option<MemoryStore> {
 #[test]
 fn each_read_of_a_command_fails_in_turn(rt: HostRuntime) {
     let alloc = rt.alloc();
-    // The call that fails, over reads and writes, the words, the status, and what is printed. A command that ends with status 0 does
+    // The call that fails, over reads and writes, the arguments, the status, and what is printed. A command that ends with status 0 does
     // not come to that call.
     let rows: [(u32, &[&str], u8, &[u8]); 9] = [
         (0, CHECK, 3, b"cannot read P\n"),
@@ -53,7 +53,7 @@ fn each_read_of_a_command_fails_in_turn(rt: HostRuntime) {
 #[test]
 fn a_first_put_that_fails_leaves_no_output(rt: HostRuntime) {
     let alloc = rt.alloc();
-    // The words, and the status: a failed put of a message changes none.
+    // The arguments, and the status: a failed put of a message changes none.
     let rows: [(&[&str], u8); 9] = [
         (CHECK, 4),
         (REPLAY, 4),
@@ -82,7 +82,7 @@ fn a_first_put_that_fails_leaves_no_output(rt: HostRuntime) {
 fn long_texts_are_refused(rt: HostRuntime) {
     let alloc = rt.alloc();
     let long = vec![in alloc; 32u8; 65_537].expect(&rt, "memory");
-    // The words, and what is printed.
+    // The arguments, and what is printed.
     let rows: [(&[&str], &[u8]); 5] = [
         (&["record", "P.c", "Q", "A", "--serial"], b"too long P.c\n"),
         (&["record", "P", "P.c", "A", "--serial"], b"too long P.c\n"),

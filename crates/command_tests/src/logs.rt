@@ -7,7 +7,7 @@ fn logs_are_shown_and_counted(rt: HostRuntime) {
     let alloc = rt.alloc();
     let named: [(&str, &[u8]); 3] = [("P", FIRST), ("Q", b"0\n1\n"), ("R", b"0 1")];
     let mut store = files(alloc, &named).expect(&rt, "files");
-    // The words, the status, and what is printed, one after the other over the same files.
+    // The arguments, the status, and what is printed, one after the other over the same files.
     let recorded: &[u8] = b"rank 0 output 0\n\nrank 1 output 2\n7\n\nfinished\n";
     let rows: [(&[&str], u8, &[u8]); 12] = [
         (&["record", "P", "Q", "A", "--serial"], 0, recorded),

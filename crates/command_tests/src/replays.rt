@@ -1,4 +1,4 @@
-//! Commands over files in memory: words, status and what is printed.
+//! Commands over files in memory: arguments, status and what is printed.
 ghost use Rattle.std.specs.Prelude.{[], IfOk};
 ghost use Rattle.srr_replay.specs.Rounds.{IsReplayable, RunAll};
 
@@ -137,7 +137,7 @@ fn commands_have_their_status_and_output(rt: HostRuntime) {
 fn a_log_is_replayed_with_another_program(rt: HostRuntime) {
     let replay: &[&str] = &["replay", "L", "--program", "G", "--serial"];
     let on_threads: &[&str] = &["replay", "--program=G", "L"];
-    // The words, the log `L`, the program `G`, the status, and what is printed.
+    // The arguments, the log `L`, the program `G`, the status, and what is printed.
     let table: [(&[&str], &[u8], &[u8], u8, &[u8]); 9] = [
         (replay, FIRST_LOG, SENT_TO_SELF, 9, DIVERGED_TRACE),
         (on_threads, FIRST_LOG, SENT_TO_SELF, 9, DIVERGED_TRACE),
@@ -329,7 +329,7 @@ fn stops_with(alloc: Global, stop: (u8, u32), trace: &[u8]) -> bool {
 
 #[test]
 fn a_rank_stops_at_its_breakpoint(rt: HostRuntime) {
-    // The breakpoint, the words that ask for it, and the trace.
+    // The breakpoint, the arguments that ask for it, and the trace.
     let table: [((u8, u32), &[&str], &[u8]); 5] = [
         (
             (0, 0),

@@ -5,7 +5,7 @@ use wiz_base::{Bytes, push_decimal, push_text};
 use wiz_cli::top::wiz_serial;
 use wiz_io::{MemorySink, MemoryStore};
 
-/// What stands before and behind the statements of each program.
+/// What stands before and after the statements of each program.
 const FRONT: &[u8] =
     b"int main(void){int r,x=0,y=0,f=0;MPI_Status s;MPI_Request q[2];MPI_Comm c;MPI_Comm_rank(MPI_COMM_WORLD,&r);";
 

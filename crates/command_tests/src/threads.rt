@@ -28,7 +28,7 @@ fn inputs<R: AllocGlobal>(rt: &R, program: &[u8], plan: &[u8]) -> Option<MemoryS
 #[test]
 fn a_message_recorded_on_threads_is_replayed_on_threads(rt: HostRuntime) {
     let mut store = inputs(&rt, FIRST, b"0 1").expect(&rt, "files");
-    // The words, and the begin and end of what is printed.
+    // The arguments, and the begin and end of what is printed.
     let table: [(&[&str], &[u8], &[u8]); 2] = [
         (
             &["record", "P", "Q", "A"],

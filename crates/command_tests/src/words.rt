@@ -1,4 +1,4 @@
-//! Words that are in a command's form, with what they ask for, and words that are not.
+//! Arguments that are in a command's form, with what they ask for, and arguments that are not.
 use std::alloc::{AllocError, Global};
 use wiz_words::command::{Command, ReplayWords, RunWords};
 use wiz_words::read::read_command;
@@ -148,7 +148,7 @@ fn words_in_form_ask_for_a_command(rt: HostRuntime) {
     }
 }
 
-/// Whether words are out of form.
+/// Whether arguments are out of form.
 fn ask_for_nothing(alloc: Global, words: &[&str]) -> bool {
     match read_command(alloc, words) {
         Ok(found) => found.is_none(),

@@ -1,6 +1,6 @@
 //! The command line tool `wiz`.
 //!
-//! It hands the words of its command line, the host's files and the standard output to the top call, and ends with the
+//! It hands the arguments of its command line, the host's files and the standard output to the top call, and ends with the
 //! status of the report.
 #![tactic(auto)]
 
@@ -15,7 +15,7 @@ use std::{env, io};
 use wiz_cli::top::wiz;
 use wiz_io::{HostSink, HostStore};
 
-/// The status of want of memory.
+/// The status of running out of memory.
 const NO_MEMORY: u8 = 11;
 
 fn main(rt: HostRuntime) -> ExitCode {
@@ -25,7 +25,7 @@ fn main(rt: HostRuntime) -> ExitCode {
     }
 }
 
-/// The status of the command. The error is want of memory.
+/// The status of the command. The error is out of memory.
 fn run<R: Files + Print + Threads + Wait + Sync + Env + AllocGlobal>(
     rt: &R,
 ) -> Result<u8, AllocError> {
@@ -47,7 +47,7 @@ fn run<R: Files + Print + Threads + Wait + Sync + Env + AllocGlobal>(
     Ok(report.status)
 }
 
-/// The words after the program's name. Where one of them is no text there are none, and the top call refuses that.
+/// The arguments after the program's name. If any argument is not valid UTF-8, none are passed; the top call then refuses the command.
 fn read_words<R: Env + AllocGlobal>(rt: &R) -> Result<Vec<String>, AllocError> {
     let mut words = Vec::new(rt.alloc());
     match env::args(rt) {

@@ -19,7 +19,7 @@ use Rattle.wiz_cli.specs.Outcomes.{Outcome}
 use Rattle.wiz_cli.specs.Recordings.{Records, RunTexts}
 use Rattle.wiz_cli.specs.Replayings.{IsReplayOf}
 use Rattle.wiz_cli.specs.Steps.{IsCheckedRun, IsFailureBy, IsMade, IsReady, IsSubjectOf, IsUnmetIn, used_text}
-use Rattle.wiz_cli.specs.World.{Outside}
+use Rattle.wiz_cli.specs.World.{World}
 use Rattle.wiz_cli.proofs.InputLemmas.{weaken}
 
 -- a recording of what texts hold
@@ -35,13 +35,13 @@ records is_threaded texts ready recording Tells outcome is made tells = record {
   tells = tells;
 }
 
-pub record_done : (run : RunWords (List ℕ)) (prefix : List ℕ) (before : Outside) (texts : List (List ℕ)) (ready : Ready) (recording : Recording)
+pub record_done : (run : RunWords (List ℕ)) (prefix : List ℕ) (before : World) (texts : List (List ℕ)) (ready : Ready) (recording : Recording)
     → AreHeld before.store.files (run_inputs run) texts → IsReady (run_texts texts) ready → IsMade (is_threaded_run run) ready recording
     → IsDoneFor (Record run prefix) before (record_outcome prefix recording)
 record_done run prefix before texts ready recording held is made =
     (texts, held, records (is_threaded_run run) (run_texts texts) ready recording (TellsRecord prefix) (record_outcome prefix recording) is made refl)
 
-pub check_done : (run : RunWords (List ℕ)) (before : Outside) (texts : List (List ℕ)) (ready : Ready) (of : CheckedRun)
+pub check_done : (run : RunWords (List ℕ)) (before : World) (texts : List (List ℕ)) (ready : Ready) (of : CheckedRun)
     → AreHeld before.store.files (run_inputs run) texts → IsReady (run_texts texts) ready → IsCheckedRun (is_threaded_run run) ready of
     → IsDoneFor (Check run) before (check_outcome (check_text ready.plan of.replays of.recording.ending) of.recording of.replays)
 check_done run before texts ready of held is made = (
@@ -51,7 +51,7 @@ check_done run before texts ready of held is made = (
       (check_outcome (check_text ready.plan of.replays of.recording.ending) of.recording of.replays) is made.made (of.replays, made.checks, refl),
 )
 
-pub demo_done : (seed rounds : ℕ) (before : Outside) (ready : Ready) (of : CheckedRun) → IsReady (run_texts (demo_texts seed rounds)) ready → IsCheckedRun false ready of
+pub demo_done : (seed rounds : ℕ) (before : World) (ready : Ready) (of : CheckedRun) → IsReady (run_texts (demo_texts seed rounds)) ready → IsCheckedRun false ready of
     → IsDoneFor (Demo seed rounds) before
     (check_outcome (demo_text seed rounds of.recording.history.events ready.plan of.replays of.recording.ending) of.recording of.replays)
 demo_done seed rounds before ready of is made = (
@@ -61,12 +61,12 @@ demo_done seed rounds before ready of is made = (
       (check_outcome (demo_text seed rounds of.recording.history.events ready.plan of.replays of.recording.ending) of.recording of.replays) is made.made (of.replays, made.checks, refl),
 )
 
-pub demo_unmet : (seed rounds : ℕ) (before after : Outside) (failure : Failure) → IsFailureBy (IsUnmetIn (run_requirements (demo_texts seed rounds))) failure
+pub demo_unmet : (seed rounds : ℕ) (before after : World) (failure : Failure) → IsFailureBy (IsUnmetIn (run_requirements (demo_texts seed rounds))) failure
     → IsFailureBy (IsRefusedFor (Demo seed rounds) before after) failure
 demo_unmet seed rounds before after failure is =
     weaken (IsUnmetIn (run_requirements (demo_texts seed rounds))) (IsRefusedFor (Demo seed rounds) before after) (λ refused first. inr ([], tt, first.0, first.1)) failure is
 
-pub replay_done : (replay : ReplayWords (List ℕ)) (before : Outside) (texts : List (List ℕ)) (subject : Subject) (replayed : Replayed)
+pub replay_done : (replay : ReplayWords (List ℕ)) (before : World) (texts : List (List ℕ)) (subject : Subject) (replayed : Replayed)
     → AreHeld before.store.files (replay_inputs replay) texts → IsSubjectOf texts subject
     → IsReplayOf (used_text subject.log subject.text) subject.log replay.stop replayed → IsDoneFor (Replay replay) before (replay_outcome replayed)
 replay_done replay before texts subject replayed held is of =

@@ -16,7 +16,7 @@ use Rattle.wiz_cli.specs.Outcomes.{IsTold, Outcome, out_of_memory, report_of}
 use Rattle.wiz_cli.specs.Promises.{HasNoFault, IsComplete, IsExpected}
 use Rattle.wiz_cli.specs.Requirements.{AreMet}
 use Rattle.wiz_cli.specs.Statuses.{number_of, of_ending}
-use Rattle.wiz_cli.specs.World.{Outside}
+use Rattle.wiz_cli.specs.World.{World}
 use Rattle.wiz_cli.proofs.Apart.{none_unmet}
 use Rattle.wiz_cli.proofs.Faithful.{replay_is_done}
 
@@ -59,7 +59,7 @@ one_texts files (input ∷ inputs) (text ∷ texts) (other ∷ others) held too 
     rw (first, rest) refl
 
 -- an outcome that is told without a fault is told whole, or memory was out
-told_whole : (outcome : Outcome) (before after : Outside) (report : Report) → HasNoFault before after → IsTold outcome before after report
+told_whole : (outcome : Outcome) (before after : World) (report : Report) → HasNoFault before after → IsTold outcome before after report
     → (report ≡ out_of_memory) ⊎ (report ≡ report_of outcome.status outcome)
 told_whole outcome before after report quiet told = elim told [
   | inl done ↦ elim done.put [
@@ -73,7 +73,7 @@ told_whole outcome before after report quiet told = elim told [
 ]
 
 -- what comes of it is done
-comes_done : PlansHaveOneReading → ((n : ℕ) → OrdersHaveOneReading n) → (command : Command (List ℕ)) (files : Files) (texts : List (List ℕ)) (before after : Outside) (outcome : Outcome) → before.store.files ≡ Some files
+comes_done : PlansHaveOneReading → ((n : ℕ) → OrdersHaveOneReading n) → (command : Command (List ℕ)) (files : Files) (texts : List (List ℕ)) (before after : World) (outcome : Outcome) → before.store.files ≡ Some files
     → AreHeld (Some files) (inputs_of command) texts → AreMet (requirements_of command texts) → HasNoFault before after
     → ComesOf command before after outcome → Does command texts outcome
 comes_done plans orders command files texts before after outcome told held met quiet comes = elim comes [
@@ -104,7 +104,7 @@ expected (Stats name) texts outcome does = rw does.2 refl
 
 pub complete : PlansHaveOneReading → ((n : ℕ) → OrdersHaveOneReading n) → (Ask : List (List ℕ) → Command (List ℕ) → Type 0)
     → ((words : List (List ℕ)) (one other : Command (List ℕ)) → Ask words one → Ask words other → one ≡ other)
-    → (words : List (List ℕ)) (before after : Outside) (report : Report) → IsReport Ask words before after report → IsComplete Ask words before after report
+    → (words : List (List ℕ)) (before after : World) (report : Report) → IsReport Ask words before after report → IsComplete Ask words before after report
 complete plans orders Ask one words before after report is = λ command files texts asks told held met quiet. elim is [
   | inl nothing ↦ inl nothing.1
   | inr some ↦

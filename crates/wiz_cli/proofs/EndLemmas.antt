@@ -12,28 +12,28 @@ use Rattle.wiz_cli.specs.Inputs.{Refused}
 use Rattle.wiz_cli.specs.Outcomes.{IsPut, IsUntouched, Outcome}
 use Rattle.wiz_cli.specs.Output.{GrewByPart}
 use Rattle.wiz_cli.specs.Steps.{outcome_of, Ends, EndsBy, EndsWords, IsFailureBy, IsRefusedForWords, IsToldBy, refused_words}
-use Rattle.wiz_cli.specs.World.{Outside}
+use Rattle.wiz_cli.specs.World.{World}
 use Rattle.wiz_words.specs.Words.{AskFor, is_threaded}
 use Rattle.wiz_words.proofs.OneCommand.{one_command}
 use Rattle.wiz_cli.proofs.InputLemmas.{weaken}
 use Rattle.wiz_cli.proofs.TellLemmas.{none_written, put_done}
 
 -- nothing is touched, and the command fails
-pub failed : (IsRefusal : Refused → Type 0) (Does : Outcome → Type 0) (before after : Outside) (failure : Failure) → IsUntouched before after
+pub failed : (IsRefusal : Refused → Type 0) (Does : Outcome → Type 0) (before after : World) (failure : Failure) → IsUntouched before after
     → IsFailureBy IsRefusal failure → EndsBy IsRefusal Does before after (Err failure)
 failed IsRefusal Does before after (IsRefused refusal name) untouched is = (untouched, is)
 failed IsRefusal Does before after OutOfMemory untouched is = inl untouched
 
-pub command_failed : (command : Command (List ℕ)) (before after : Outside) (failure : Failure) → IsUntouched before after
+pub command_failed : (command : Command (List ℕ)) (before after : World) (failure : Failure) → IsUntouched before after
     → IsFailureBy (IsRefusedFor command before after) failure → Ends command before after (Err failure)
 command_failed command before after = failed (IsRefusedFor command before after) (IsDoneFor command before) before after
 
-pub command_short : (command : Command (List ℕ)) (before after : Outside) (failure : Failure) → failure ≡ OutOfMemory → IsUntouched before after
+pub command_short : (command : Command (List ℕ)) (before after : World) (failure : Failure) → failure ≡ OutOfMemory → IsUntouched before after
     → Ends command before after (Err failure)
 command_short command before after failure is untouched = rw is (inl untouched)
 
 -- what is told from a later moment on, when files were read alone
-pub told_from : (outcome : Outcome) (before mid after : Outside) (result : Result Report AllocError) → mid.store.files ≡ before.store.files → mid.store.writes ≡ before.store.writes
+pub told_from : (outcome : Outcome) (before mid after : World) (result : Result Report AllocError) → mid.store.files ≡ before.store.files → mid.store.writes ≡ before.store.writes
     → mid.out ≡ before.out → IsToldBy outcome mid after result → IsToldBy outcome before after result
 told_from outcome before mid after (Ok report) files writes out (inl done) =
     inl (record { files = rw files at done.files; put = rw out at done.put })
@@ -42,11 +42,11 @@ told_from outcome before mid after (Ok report) files writes out (inr unwritten) 
 told_from outcome before mid after (Err error) files writes out partly = rw (files, writes, out) at partly
 
 -- the work is done, and its outcome is told
-pub done_told : (command : Command (List ℕ)) (before after : Outside) (outcome : Outcome) (report : Report) → IsDoneFor command before outcome
+pub done_told : (command : Command (List ℕ)) (before after : World) (outcome : Outcome) (report : Report) → IsDoneFor command before outcome
     → IsToldBy outcome before after (Ok report) → Ends command before after (Ok report)
 done_told command before after outcome report does told = (outcome, does, told)
 
-pub done_short : (command : Command (List ℕ)) (before after : Outside) (outcome : Outcome) (error : AllocError) (failure : Failure) → failure ≡ OutOfMemory
+pub done_short : (command : Command (List ℕ)) (before after : World) (outcome : Outcome) (error : AllocError) (failure : Failure) → failure ≡ OutOfMemory
     → IsDoneFor command before outcome → IsToldBy outcome before after (Err error) → Ends command before after (Err failure)
 done_short command before after outcome error failure is does partly = rw is (inr (outcome, does, partly))
 
@@ -59,37 +59,37 @@ pub put_same : (one other : Outcome) (before after : OutTold) (report : Report) 
 put_same one other before after report same put = subst (λ outcome. IsPut outcome before after report) same put
 
 -- an outcome without files is told by its text alone
-pub put_told : (outcome : Outcome) (before after : Outside) (report : Report) → outcome.files ≡ [] → after.store.files ≡ before.store.files
+pub put_told : (outcome : Outcome) (before after : World) (report : Report) → outcome.files ≡ [] → after.store.files ≡ before.store.files
     → IsPut outcome before.out after.out report → IsToldBy outcome before after (Ok report)
 put_told outcome before after report none same put = inl (put_done outcome before after report none same put)
 
-pub put_short : (outcome : Outcome) (before after : Outside) (error : AllocError) → outcome.files ≡ [] → after.store.files ≡ before.store.files
+pub put_short : (outcome : Outcome) (before after : World) (error : AllocError) → outcome.files ≡ [] → after.store.files ≡ before.store.files
     → GrewByPart before.out.bytes after.out.bytes outcome.text → IsToldBy outcome before after (Err error)
 put_short outcome before after error none same grew = inr (inl (rw none (none_written before.store.files after.store.files same), grew))
 
--- ---- words
+-- ---- arguments
 
--- what a command ends in, the words that ask for it end in
-pub words_end : (Ask : List (List ℕ) → Command (List ℕ) → Type 0) (words : List (List ℕ)) (command : Command (List ℕ)) (before after : Outside) (result : Result Report Failure)
+-- what a command ends in, the arguments that ask for it end in
+pub words_end : (Ask : List (List ℕ) → Command (List ℕ) → Type 0) (words : List (List ℕ)) (command : Command (List ℕ)) (before after : World) (result : Result Report Failure)
     → Ask words command → Ends command before after result → EndsWords Ask words before after result
 words_end Ask words command before after (Ok report) asks (outcome, does, told) = (outcome, (command, asks, does), told)
 words_end Ask words command before after (Err (IsRefused refusal name)) asks (untouched, is) = (untouched, inr (command, asks, is))
 words_end Ask words command before after (Err OutOfMemory) asks (inl untouched) = inl untouched
 words_end Ask words command before after (Err OutOfMemory) asks (inr (outcome, does, partly)) = inr (outcome, (command, asks, does), partly)
 
-pub words_end_serially : (words : List (List ℕ)) (command : Command (List ℕ)) (before after : Outside) (result : Result Report Failure)
+pub words_end_serially : (words : List (List ℕ)) (command : Command (List ℕ)) (before after : World) (result : Result Report Failure)
     → AskFor words command → is_threaded command ≡ false → Ends command before after result → EndsWords AskForSerially words before after result
 words_end_serially words command before after result asks serial ends = words_end AskForSerially words command before after result (asks, serial) ends
 
--- words that ask for nothing are refused
-pub words_refused : (Ask : List (List ℕ) → Command (List ℕ) → Type 0) (words : List (List ℕ)) (before after : Outside) (failure : Failure)
+-- arguments that ask for nothing are refused
+pub words_refused : (Ask : List (List ℕ) → Command (List ℕ) → Type 0) (words : List (List ℕ)) (before after : World) (failure : Failure)
     → ((command : Command (List ℕ)) → Ask words command → ⊥) → IsUntouched before after → IsFailureBy (λ refused. refused ≡ refused_words) failure
     → EndsWords Ask words before after (Err failure)
 words_refused Ask words before after failure none untouched is =
     failed (IsRefusedForWords Ask words before after) (λ outcome. (command : Command (List ℕ)) × Ask words command × IsDoneFor command before outcome) before after failure untouched
     (weaken (λ refused. refused ≡ refused_words) (IsRefusedForWords Ask words before after) (λ refused is_words. inl (none, is_words)) failure is)
 
--- the words of the call without threads
+-- the arguments of the call without threads
 pub one_serially : (words : List (List ℕ)) (one other : Command (List ℕ)) → AskForSerially words one → AskForSerially words other → one ≡ other
 one_serially words one other asks too = one_command words one other asks.0 too.0
 

@@ -28,7 +28,7 @@ use Rattle.wiz_cli.specs.Outcomes.{IsTold, Outcome}
 use Rattle.wiz_cli.specs.Promises.{BesideEveryRun, IsFaithful, NeverDiverges, ShowsEveryRun}
 use Rattle.wiz_cli.specs.Replayings.{IsReplayOf}
 use Rattle.wiz_cli.specs.Statuses.{is_at_break, is_diverged, is_starved, number_of, of_stands, unput}
-use Rattle.wiz_cli.specs.World.{Outside}
+use Rattle.wiz_cli.specs.World.{World}
 
 -- ---- stands beside a run
 
@@ -101,7 +101,7 @@ record IsKept (outcome : Outcome) (report : Report) : Type 0 where
   status : (report.status ≡ number_of outcome.status)
       ⊎ ((report.status ≡ number_of (unput outcome.status)) ⊎ ((report.status ≡ number_of Unwritten) ⊎ (report.status ≡ number_of OutOfMemory)))
 
-kept : (outcome : Outcome) (before after : Outside) (report : Report) → IsTold outcome before after report → IsKept outcome report
+kept : (outcome : Outcome) (before after : World) (report : Report) → IsTold outcome before after report → IsKept outcome report
 kept outcome before after report told = elim told [
   | inl done ↦ elim done.put [
     | inl whole ↦ rw whole.1 (record { replays = inl refl; status = inl refl })
@@ -130,7 +130,7 @@ fine outcome report kept done = elim kept.status [
     away : (number status : ℕ) → status ≡ number → (number ≡ 9 → ⊥) → (number ≡ 10 → ⊥) → (status ≢ 9) × (status ≢ 10)
     away number status is nine ten = (λ h. nine (sym is ∙ h), λ h. ten (sym is ∙ h))
 
--- the replays of the words of a replay are none, or one of the log that their files hold
+-- the replays of the arguments of a replay are none, or one of the log that their files hold
 record IsOneReplay (replay : ReplayWords (List ℕ)) (files : Option Files) (report : Report) (replayed : Replayed) : Type 0 where
   texts : List (List ℕ)
   log : Log
@@ -141,7 +141,7 @@ record IsOneReplay (replay : ReplayWords (List ℕ)) (files : Option Files) (rep
 
 one_or_none : (Ask : List (List ℕ) → Command (List ℕ) → Type 0)
     → ((words : List (List ℕ)) (one other : Command (List ℕ)) → Ask words one → Ask words other → one ≡ other)
-    → (words : List (List ℕ)) (before after : Outside) (report : Report) (replay : ReplayWords (List ℕ)) → IsReport Ask words before after report
+    → (words : List (List ℕ)) (before after : World) (report : Report) (replay : ReplayWords (List ℕ)) → IsReport Ask words before after report
     → Ask words (Replay replay)
     → (report.replayed ≡ []) ⊎ ((replayed : Replayed) × (report.replayed ≡ replayed ∷ []) × IsOneReplay replay before.store.files report replayed)
 one_or_none Ask one words before after report replay is asks = elim is [
@@ -172,7 +172,7 @@ one_or_none Ask one words before after report replay is asks = elim is [
 
 pub shows_every_run : (Ask : List (List ℕ) → Command (List ℕ) → Type 0)
     → ((words : List (List ℕ)) (one other : Command (List ℕ)) → Ask words one → Ask words other → one ≡ other)
-    → (words : List (List ℕ)) (before after : Outside) (report : Report) → IsReport Ask words before after report → ShowsEveryRun Ask words before report
+    → (words : List (List ℕ)) (before after : World) (report : Report) → IsReport Ask words before after report → ShowsEveryRun Ask words before report
 shows_every_run Ask one words before after report is = λ replay asks. elim (one_or_none Ask one words before after report replay is asks) [
   | inl none ↦ rw none tt
   | inr some ↦
@@ -194,7 +194,7 @@ shows_every_run Ask one words before after report is = λ replay asks. elim (one
 
 pub never_diverges : (Ask : List (List ℕ) → Command (List ℕ) → Type 0)
     → ((words : List (List ℕ)) (one other : Command (List ℕ)) → Ask words one → Ask words other → one ≡ other)
-    → (words : List (List ℕ)) (before after : Outside) (report : Report) → IsReport Ask words before after report → NeverDiverges Ask words before report
+    → (words : List (List ℕ)) (before after : World) (report : Report) → IsReport Ask words before after report → NeverDiverges Ask words before report
 never_diverges Ask one words before after report is = λ replay asks. elim (one_or_none Ask one words before after report replay is asks) [
   | inl none ↦ rw none tt
   | inr some ↦

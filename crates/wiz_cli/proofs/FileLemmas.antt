@@ -56,7 +56,7 @@ changes_none (Some before) = λ other apart. refl
 pub AreWritten-none : (before : Option Files) → AreWritten before before [] []
 AreWritten-none before = record { written = tt; unchanged = changes_none before }
 
--- files behind files
+-- files after files
 pub AreWritten-append : (before mid after : Option Files) (front behind : List NamedFile) (others : List (List ℕ))
     → AreWritten before mid front [] → AreWritten mid after behind others → AreApart (names_of front) (names_of behind ++ others)
     → AreWritten before after (front ++ behind) others
@@ -71,7 +71,7 @@ AreWritten-append before mid after front behind others first second apart =
       unchanged = rw same at more;
     }
 
--- where the files of the front are written, and the writing of those behind stops
+-- where the files of the front are written, and the writing of the later ones stops
 names_apart : (names front : List (List ℕ)) (name : List ℕ) (behind : List (List ℕ)) → AreApart names (front ++ name ∷ behind) → AreApart names (front ++ name ∷ [])
 names_apart [] front name behind apart = tt
 names_apart (one ∷ names) front name behind apart = (

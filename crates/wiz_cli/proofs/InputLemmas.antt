@@ -54,7 +54,7 @@ pub first_unread : (files : Option Files) (reads reads' : ℕ) (input : Input) (
 first_unread files reads reads' input inputs requirements failure is =
     weaken (IsUnreadInput files reads reads' input) (IsRefusedBy files reads reads' (input ∷ inputs) requirements) (λ refused unread. inl (inl unread)) failure is
 
--- one of those behind it is not read
+-- one of those after it is not read
 pub later_unread : (files : Option Files) (reads mid reads' : ℕ) (input : Input) (inputs : List Input) (requirements : List (List ℕ) → List Requirement) (failure : Failure)
     → IsThere files input → reads ≤ mid → IsFailureBy (IsFirstUnread files mid reads' inputs) failure
     → IsFailureBy (IsRefusedBy files reads reads' (input ∷ inputs) requirements) failure

@@ -17,7 +17,7 @@ use Rattle.wiz_cli.specs.Output.{GrewByPart, HasSaid}
 use Rattle.wiz_cli.specs.RecordFiles.{files_of}
 use Rattle.wiz_cli.specs.Statuses.{number_of, of_ending}
 use Rattle.wiz_cli.specs.Steps.{IsToldBy}
-use Rattle.wiz_cli.specs.World.{Outside}
+use Rattle.wiz_cli.specs.World.{World}
 
 -- a run's text and status make its outcome
 pub put_recording : (prefix : List ℕ) (recording : Recording) (text : List ℕ) (status : Status) (replays : List Replayed) (before after : OutTold) (report : Report)
@@ -27,7 +27,7 @@ pub put_recording : (prefix : List ℕ) (recording : Recording) (text : List ℕ
 put_recording prefix recording text status replays before after report text_is status_is none put = rw (← text_is, ← status_is, ← none) put
 
 -- all files are written, and the run is told
-pub written_told : (prefix : List ℕ) (recording : Recording) (before after : Outside) (result : Result Report AllocError)
+pub written_told : (prefix : List ℕ) (recording : Recording) (before after : World) (result : Result Report AllocError)
     → AreWritten before.store.files after.store.files (files_of prefix recording) []
     → IfOk result (λ report. (front : List ℕ) → IsPut (record_outcome front recording) before.out after.out report)
     → OnErr result (GrewByPart before.out.bytes after.out.bytes (record_text recording.outputs recording.ending))
@@ -36,7 +36,7 @@ written_told prefix recording before after (Ok report) files put short = inl (re
 written_told prefix recording before after (Err error) files put short = inr (inl (files, short))
 
 -- a file is not written, and that is told
-pub unwritten_told : (prefix : List ℕ) (recording : Recording) (before after : Outside) (result : Result Report AllocError) (name : List ℕ)
+pub unwritten_told : (prefix : List ℕ) (recording : Recording) (before after : World) (result : Result Report AllocError) (name : List ℕ)
     → HasRisen before.store.writes after.store.writes → IsStoppedAt before.store.files after.store.files (files_of prefix recording) name
     → IfOk result (λ report. HasSaid before.out.bytes after.out.bytes before.out.faults after.out.faults (unwritten_text name)
     × (report ≡ record { status = number_of Unwritten; run = Some recording.history; replayed = [] }))

@@ -1,4 +1,4 @@
--- The commands: their input files, what is required of these, and what is done. The report of any words.
+-- The commands: their input files, what is required of these, and what is done. The report of any arguments.
 use Rattle.std.specs.Prelude.{◌≡◌, ◌⊎◌, ℕ, List, [], ◌∷◌, false, Option, Some, None}
 use Rattle.c_program.specs.declared.program.CProgram.{CProgram}
 use Rattle.log_bounds.specs.RunBounds.{log_limit}
@@ -32,7 +32,7 @@ use Rattle.wiz_cli.specs.Recordings.{Records, RunTexts}
 use Rattle.wiz_cli.specs.Replayings.{AreChecksOf, IsReplayOf}
 use Rattle.wiz_cli.specs.Requirements.{IsFirstUnmet, Requirement, a_log, a_plan, a_program, an_order, its_program}
 use Rattle.wiz_cli.specs.Statuses.{of_ending, of_refusal, of_stands}
-use Rattle.wiz_cli.specs.World.{Outside}
+use Rattle.wiz_cli.specs.World.{World}
 
 -- ---- the input files, in the order in which they are read
 
@@ -163,12 +163,12 @@ IsRefusedBy files reads reads' inputs requirements refused =
     IsFirstUnread files reads reads' inputs refused
     ⊎ ((texts : List (List ℕ)) × AreHeld files inputs texts × IsFirstUnmet (requirements texts) refused.refusal × (refused.name ≡ []))
 
-abbrev pub IsRefusedFor : Command (List ℕ) → Outside → Outside → Refused → Type 0
+abbrev pub IsRefusedFor : Command (List ℕ) → World → World → Refused → Type 0
 IsRefusedFor command before after refused =
     IsRefusedBy before.store.files before.store.reads after.store.reads (inputs_of command) (requirements_of command) refused
 
 -- what the command asks for is done, with what its input files hold
-abbrev pub IsDoneFor : Command (List ℕ) → Outside → Outcome → Type 0
+abbrev pub IsDoneFor : Command (List ℕ) → World → Outcome → Type 0
 IsDoneFor command before outcome =
     (texts : List (List ℕ)) × AreHeld before.store.files (inputs_of command) texts × Does command texts outcome
 
@@ -183,23 +183,23 @@ refusal_outcome refused = record {
 }
 
 -- what comes of a command
-abbrev pub ComesOf : Command (List ℕ) → Outside → Outside → Outcome → Type 0
+abbrev pub ComesOf : Command (List ℕ) → World → World → Outcome → Type 0
 ComesOf command before after outcome =
     ((refused : Refused) × IsRefusedFor command before after refused × (outcome ≡ refusal_outcome refused))
     ⊎ IsDoneFor command before outcome
 
--- what comes of words: those that ask for nothing are refused
-abbrev pub ComesOfWords : (List (List ℕ) → Command (List ℕ) → Type 0) → List (List ℕ) → Outside → Outside → Outcome → Type 0
+-- what comes of arguments: those that ask for nothing are refused
+abbrev pub ComesOfWords : (List (List ℕ) → Command (List ℕ) → Type 0) → List (List ℕ) → World → World → Outcome → Type 0
 ComesOfWords Ask words before after outcome =
     (((command : Command (List ℕ)) → Ask words command → ⊥) × (outcome ≡ refusal_outcome (record { refusal = Words; name = [] })))
     ⊎ ((command : Command (List ℕ)) × Ask words command × ComesOf command before after outcome)
 
--- what comes of the words is told; or memory was out before anything was done
-abbrev pub IsReport : (List (List ℕ) → Command (List ℕ) → Type 0) → List (List ℕ) → Outside → Outside → Report → Type 0
+-- what comes of the arguments is told; or memory was out before anything was done
+abbrev pub IsReport : (List (List ℕ) → Command (List ℕ) → Type 0) → List (List ℕ) → World → World → Report → Type 0
 IsReport Ask words before after report =
     (IsUntouched before after × (report ≡ out_of_memory))
     ⊎ ((outcome : Outcome) × ComesOfWords Ask words before after outcome × IsTold outcome before after report)
 
--- the words of the call without threads: those that ask for threads ask for nothing
+-- the arguments of the call without threads: those that ask for threads ask for nothing
 abbrev pub AskForSerially : List (List ℕ) → Command (List ℕ) → Type 0
 AskForSerially words command = AskFor words command × (is_threaded command ≡ false)

@@ -24,7 +24,7 @@ use Rattle.wiz_cli.specs.Inputs.{AreHeld}
 use Rattle.wiz_cli.specs.Outcomes.{Outcome, out_of_memory, report_of}
 use Rattle.wiz_cli.specs.Requirements.{AreMet}
 use Rattle.wiz_cli.specs.Statuses.{number_of}
-use Rattle.wiz_cli.specs.World.{Outside}
+use Rattle.wiz_cli.specs.World.{World}
 
 -- ---- what a replay shows
 
@@ -46,7 +46,7 @@ pub record IsShown (stop : Breakpoint) (replayed : Replayed) (program : CProgram
   pub views : stop ≡ None → (rank : ℕ) → is_member log.group rank ≡ true → view_of replayed.events.events rank ≡ view_of run rank
   pub outputs : stop ≡ None → replayed.outputs ≡ map (printed_of (output_of program) log.ranks run) log.group
 
-abbrev pub ShowsEveryRun : (List (List ℕ) → Command (List ℕ) → Type 0) → List (List ℕ) → Outside → Report → Type 0
+abbrev pub ShowsEveryRun : (List (List ℕ) → Command (List ℕ) → Type 0) → List (List ℕ) → World → Report → Type 0
 ShowsEveryRun Ask words before report =
     (replay : ReplayWords (List ℕ)) → Ask words (Replay replay)
     → AllByRecursion (λ replayed. BesideEveryRun (IsShown replay.stop replayed) replay before.store.files) report.replayed
@@ -55,7 +55,7 @@ ShowsEveryRun Ask words before report =
 abbrev pub IsFaithful : Report → CProgram → Log → List Event → Type 0
 IsFaithful report program log run = (report.status ≢ number_of Diverged) × (report.status ≢ number_of Starved)
 
-abbrev pub NeverDiverges : (List (List ℕ) → Command (List ℕ) → Type 0) → List (List ℕ) → Outside → Report → Type 0
+abbrev pub NeverDiverges : (List (List ℕ) → Command (List ℕ) → Type 0) → List (List ℕ) → World → Report → Type 0
 NeverDiverges Ask words before report =
     (replay : ReplayWords (List ℕ)) → Ask words (Replay replay)
     → AllByRecursion (λ (replayed : Replayed). BesideEveryRun (IsFaithful report) replay before.store.files) report.replayed
@@ -63,7 +63,7 @@ NeverDiverges Ask words before report =
 -- ---- completeness
 
 -- no read, write or put failed
-pub record HasNoFault (before after : Outside) : Type 0 where
+pub record HasNoFault (before after : World) : Type 0 where
   pub reads : HasRisen before.store.reads after.store.reads → ⊥
   pub writes : HasRisen before.store.writes after.store.writes → ⊥
   pub puts : HasRisen before.out.faults after.out.faults → ⊥
@@ -85,8 +85,8 @@ pub record IsWhole (command : Command (List ℕ)) (texts : List (List ℕ)) (rep
   pub is_report : report ≡ report_of outcome.status outcome
   pub expected : IsExpected command texts report.status
 
--- words in form, with input files that are told, there and accepted, and without a fault, do what they ask for, or memory is out
-abbrev pub IsComplete : (List (List ℕ) → Command (List ℕ) → Type 0) → List (List ℕ) → Outside → Outside → Report → Type 0
+-- arguments in form, with input files that are told, there and accepted, and without a fault, do what they ask for, or memory is out
+abbrev pub IsComplete : (List (List ℕ) → Command (List ℕ) → Type 0) → List (List ℕ) → World → World → Report → Type 0
 IsComplete Ask words before after report =
     (command : Command (List ℕ)) (files : Files) (texts : List (List ℕ)) → Ask words command → before.store.files ≡ Some files
     → AreHeld (Some files) (inputs_of command) texts → AreMet (requirements_of command texts) → HasNoFault before after

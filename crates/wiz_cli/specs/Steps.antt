@@ -35,7 +35,7 @@ use Rattle.wiz_cli.specs.Output.{GrewByPart}
 use Rattle.wiz_cli.specs.Recordings.{ArePrepared, IsReadable, IsRecordingOf, RunTexts}
 use Rattle.wiz_cli.specs.Replayings.{AreChecksOf}
 use Rattle.wiz_cli.specs.Requirements.{IsFirstUnmet, IsOrderRefusal, Requirement}
-use Rattle.wiz_cli.specs.World.{Outside}
+use Rattle.wiz_cli.specs.World.{World}
 
 -- ---- failures
 
@@ -63,12 +63,12 @@ listed (Some text) = text ∷ []
 abbrev pub refused_words : Refused
 refused_words = record { refusal = Words; name = [] }
 
-abbrev pub IsRefusedForWords : (List (List ℕ) → Command (List ℕ) → Type 0) → List (List ℕ) → Outside → Outside → Refused → Type 0
+abbrev pub IsRefusedForWords : (List (List ℕ) → Command (List ℕ) → Type 0) → List (List ℕ) → World → World → Refused → Type 0
 IsRefusedForWords Ask words before after refused =
     (((command : Command (List ℕ)) → Ask words command → ⊥) × (refused ≡ refused_words))
     ⊎ ((command : Command (List ℕ)) × Ask words command × IsRefusedFor command before after refused)
 
-abbrev pub EndsBy : (Refused → Type 0) → (Outcome → Type 0) → Outside → Outside → Result Report Failure → Type 0
+abbrev pub EndsBy : (Refused → Type 0) → (Outcome → Type 0) → World → World → Result Report Failure → Type 0
 EndsBy IsRefusal Does before after (Ok report) =
     (outcome : Outcome) × Does outcome × (IsDone outcome before after report ⊎ IsUnwritten outcome before after report)
 EndsBy IsRefusal Does before after (Err (IsRefused refusal name)) =
@@ -76,17 +76,17 @@ EndsBy IsRefusal Does before after (Err (IsRefused refusal name)) =
 EndsBy IsRefusal Does before after (Err OutOfMemory) =
     IsUntouched before after ⊎ ((outcome : Outcome) × Does outcome × IsPartlyDone outcome before after)
 
-abbrev pub Ends : Command (List ℕ) → Outside → Outside → Result Report Failure → Type 0
+abbrev pub Ends : Command (List ℕ) → World → World → Result Report Failure → Type 0
 Ends command before after result = EndsBy (IsRefusedFor command before after) (IsDoneFor command before) before after result
 
--- the end of words: those that ask for nothing are refused
-abbrev pub EndsWords : (List (List ℕ) → Command (List ℕ) → Type 0) → List (List ℕ) → Outside → Outside → Result Report Failure → Type 0
+-- the end of arguments: those that ask for nothing are refused
+abbrev pub EndsWords : (List (List ℕ) → Command (List ℕ) → Type 0) → List (List ℕ) → World → World → Result Report Failure → Type 0
 EndsWords Ask words before after result =
     EndsBy (IsRefusedForWords Ask words before after)
     (λ outcome. (command : Command (List ℕ)) × Ask words command × IsDoneFor command before outcome) before after result
 
 -- an outcome is told
-abbrev pub IsToldBy : Outcome → Outside → Outside → Result Report AllocError → Type 0
+abbrev pub IsToldBy : Outcome → World → World → Result Report AllocError → Type 0
 IsToldBy outcome before after (Ok report) = IsDone outcome before after report ⊎ IsUnwritten outcome before after report
 IsToldBy outcome before after (Err error) = IsPartlyDone outcome before after
 

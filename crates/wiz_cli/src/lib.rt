@@ -1,4 +1,4 @@
-//! The top call: words and files in, texts, files and an exit status out.
+//! The top call: arguments and files in, texts, files and an exit status out.
 #![tactic(auto)]
 
 mod accept;

@@ -92,7 +92,7 @@ fn push_about_number(out: &mut Bytes, words: &[u8], number: u64) -> Result<(), A
     push_text(out, b"\n")
 }
 
-/// Words and a number behind them.
+/// A text and a number after it.
 fn push_number(out: &mut Bytes, words: &[u8], number: u64) -> Result<(), AllocError>
     ensures { OnOk result (out.new ≡ out.old ++ words.now ++ decimal_text number) }
 {
@@ -109,7 +109,7 @@ fn push_reason(out: &mut Bytes, why: &[u8]) -> Result<(), AllocError>
     push_text(out, b"\n")
 }
 
-/// What is wrong with a program, in words.
+/// What is wrong with a program.
 fn fault_words(why: Why) -> &'static [u8]
     ensures { result.now ≡ fault_why why }
 {
@@ -131,7 +131,7 @@ fn fault_words(why: Why) -> &'static [u8]
     }
 }
 
-/// What is wrong with a log, in words.
+/// What is wrong with a log.
 fn why_words(why: LogWhy) -> &'static [u8]
     ensures { result.now ≡ why_text why }
 {

@@ -6,7 +6,7 @@ use srr_log::fault::LogFault;
 /// Why a command is refused.
 #[derive(Clone, Copy)]
 pub enum Refusal {
-    /// The words ask for nothing.
+    /// The arguments ask for nothing.
     Words,
     /// The input file is not there.
     Missing,

@@ -12,7 +12,7 @@ use run_model::ending::Ending;
 pub enum Status {
     /// It is done.
     Done,
-    /// The words are no command.
+    /// The arguments are no command.
     Words,
     /// An input file is not there.
     NoFile,

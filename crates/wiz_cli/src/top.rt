@@ -4,7 +4,7 @@ ghost use Rattle.srr_replay.specs.Rounds.{IsReplayable};
 ghost use Rattle.wiz_cli.specs.Commands.{AskForSerially, IsReport};
 ghost use Rattle.wiz_cli.specs.Promises.{IsComplete, NeverDiverges, ShowsEveryRun};
 ghost use Rattle.wiz_cli.specs.Steps.{CanRun, Ends, EndsWords, IsFailureBy, MakesRecordings, MakesReplays, TakesLogs, TakesReady, refused_words};
-ghost use Rattle.wiz_cli.specs.World.{outside};
+ghost use Rattle.wiz_cli.specs.World.{world};
 ghost use Rattle.wiz_words.specs.Texts.{texts, with_texts};
 ghost use Rattle.wiz_words.specs.Words.{AskFor, is_threaded};
 
@@ -33,17 +33,17 @@ use wiz_io::{Sink, Store};
 use wiz_words::command::Command;
 use wiz_words::read::read_command;
 
-/// The tool as a function of its words, its files and its output, without threads: words that ask for threads are refused.
+/// The tool as a function of its arguments, its files and its output, without threads: arguments that ask for threads are refused.
 pub fn wiz_serial<S: Store, K: Sink>(
     alloc: Global,
     words: &[&str],
     store: &mut S,
     out: &mut K,
 ) -> Report
-    ensures report { IsReport AskForSerially (texts words.now) (outside (S.told store.old) (K.told out.old)) (outside (S.told store.new) (K.told out.new)) result }
-    ensures headline { ShowsEveryRun AskForSerially (texts words.now) (outside (S.told store.old) (K.told out.old)) result }
-    ensures never_diverges { NeverDiverges AskForSerially (texts words.now) (outside (S.told store.old) (K.told out.old)) result }
-    ensures complete { IsComplete AskForSerially (texts words.now) (outside (S.told store.old) (K.told out.old)) (outside (S.told store.new) (K.told out.new)) result }
+    ensures report { IsReport AskForSerially (texts words.now) (world (S.told store.old) (K.told out.old)) (world (S.told store.new) (K.told out.new)) result }
+    ensures headline { ShowsEveryRun AskForSerially (texts words.now) (world (S.told store.old) (K.told out.old)) result }
+    ensures never_diverges { NeverDiverges AskForSerially (texts words.now) (world (S.told store.old) (K.told out.old)) result }
+    ensures complete { IsComplete AskForSerially (texts words.now) (world (S.told store.old) (K.told out.old)) (world (S.told store.new) (K.told out.new)) result }
 {
     let answered = answer_words(alloc, words, store, out);
     // A law: a plan or an order has one reading or one first fault, so that what is accepted is not refused.
@@ -51,11 +51,11 @@ pub fn wiz_serial<S: Store, K: Sink>(
     settle(alloc, answered, out)
 }
 
-/// The tool with threads: a recording or a replay has a thread for each of its ranks, where the system gives one, unless its words
+/// The tool with threads: a recording or a replay has a thread for each of its ranks, where the system gives one, unless its arguments
 /// ask for one thread. Each thread passes the gate before each of its rank's calls. The call returns where the threads do: of waiting
 /// nothing is promised.
 ///
-/// `report` says what comes of the words and how it is told. `headline` is what the tool is for: for every program of a replayed log,
+/// `report` says what comes of the arguments and how it is told. `headline` is what the tool is for: for every program of a replayed log,
 /// and every run with this log that the matching rules allow, whatever the order of the replay's events, at every moment each rank of
 /// the group has a prefix of its recorded calls, replies and printed output; a replay that can go no further has given all of them; no
 /// rank outside the group takes a step. `never_diverges` says that such a replay is never told as diverged or starved. `complete` says
@@ -68,10 +68,10 @@ pub fn wiz<R: Threads + Wait + Sync, S: Store, K: Sink, G: Gate + Sync>(
     out: &mut K,
     gate: &G,
 ) -> Report
-    ensures report { IsReport AskFor (texts words.now) (outside (S.told store.old) (K.told out.old)) (outside (S.told store.new) (K.told out.new)) result }
-    ensures headline { ShowsEveryRun AskFor (texts words.now) (outside (S.told store.old) (K.told out.old)) result }
-    ensures never_diverges { NeverDiverges AskFor (texts words.now) (outside (S.told store.old) (K.told out.old)) result }
-    ensures complete { IsComplete AskFor (texts words.now) (outside (S.told store.old) (K.told out.old)) (outside (S.told store.new) (K.told out.new)) result }
+    ensures report { IsReport AskFor (texts words.now) (world (S.told store.old) (K.told out.old)) (world (S.told store.new) (K.told out.new)) result }
+    ensures headline { ShowsEveryRun AskFor (texts words.now) (world (S.told store.old) (K.told out.old)) result }
+    ensures never_diverges { NeverDiverges AskFor (texts words.now) (world (S.told store.old) (K.told out.old)) result }
+    ensures complete { IsComplete AskFor (texts words.now) (world (S.told store.old) (K.told out.old)) (world (S.told store.new) (K.told out.new)) result }
 {
     let answered = answer_words_on_threads(rt, alloc, words, store, out, gate);
     // A law: a plan or an order has one reading or one first fault, so that what is accepted is not refused.
@@ -79,14 +79,14 @@ pub fn wiz<R: Threads + Wait + Sync, S: Store, K: Sink, G: Gate + Sync>(
     settle(alloc, answered, out)
 }
 
-/// What the words come to without threads.
+/// What the arguments come to without threads.
 fn answer_words<'a, S: Store, K: Sink>(
     alloc: Global,
     words: &'a [&'a str],
     store: &mut S,
     out: &mut K,
 ) -> Result<Report, Failure<'a>>
-    ensures { EndsWords AskForSerially (texts words.now) (outside (S.told store.old) (K.told out.old)) (outside (S.told store.new) (K.told out.new)) result }
+    ensures { EndsWords AskForSerially (texts words.now) (world (S.told store.old) (K.told out.old)) (world (S.told store.new) (K.told out.new)) result }
 {
     let Some(command) = read_command(alloc, words)? else {
         return Err(refused_words());
@@ -97,7 +97,7 @@ fn answer_words<'a, S: Store, K: Sink>(
     answer_serially(alloc, command, store, out)
 }
 
-/// What the words come to with threads.
+/// What the arguments come to with threads.
 fn answer_words_on_threads<'a, R: Threads + Wait + Sync, S: Store, K: Sink, G: Gate + Sync>(
     rt: &R,
     alloc: Global,
@@ -106,7 +106,7 @@ fn answer_words_on_threads<'a, R: Threads + Wait + Sync, S: Store, K: Sink, G: G
     out: &mut K,
     gate: &G,
 ) -> Result<Report, Failure<'a>>
-    ensures { EndsWords AskFor (texts words.now) (outside (S.told store.old) (K.told out.old)) (outside (S.told store.new) (K.told out.new)) result }
+    ensures { EndsWords AskFor (texts words.now) (world (S.told store.old) (K.told out.old)) (world (S.told store.new) (K.told out.new)) result }
 {
     let Some(command) = read_command(alloc, words)? else {
         return Err(refused_words());
@@ -144,7 +144,7 @@ fn answer_serially<'a, S: Store, K: Sink>(
 ) -> Result<Report, Failure<'a>>
     requires { is_threaded (with_texts command) ≡ false }
     ensures serial { is_threaded (with_texts command.entry) ≡ false }
-    ensures ends { Ends (with_texts command.entry) (outside (S.told store.old) (K.told out.old)) (outside (S.told store.new) (K.told out.new)) result }
+    ensures ends { Ends (with_texts command.entry) (world (S.told store.old) (K.told out.old)) (world (S.told store.new) (K.told out.new)) result }
 {
     let recorder = |ready: &Ready| -> Result<Recording, AllocError>
         requires { CanRun ready.now }
@@ -177,7 +177,7 @@ fn answer<
     requires makes { MakesRecordings (is_threaded (with_texts command)) (F.post recorder.now) }
     requires takes_logs { TakesLogs (G.pre replayer.now) }
     requires replays { MakesReplays (G.post replayer.now) }
-    ensures { Ends (with_texts command.entry) (outside (S.told store.old) (K.told out.old)) (outside (S.told store.new) (K.told out.new)) result }
+    ensures { Ends (with_texts command.entry) (world (S.told store.old) (K.told out.old)) (world (S.told store.new) (K.told out.new)) result }
 {
     match command {
         Command::Record { run, prefix } => record(alloc, &run, prefix, store, out, recorder),

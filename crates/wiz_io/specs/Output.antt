@@ -9,7 +9,7 @@ pub record OutTold : Type 0 where
   pub bytes : Option (List ℕ)
   pub faults : ℕ
 
--- where the bytes are told, they have grown by the piece, or after a refusal by a part at its front
+-- where the bytes are told, they have grown by the piece, or after a refusal by a prefix of it
 abbrev pub HasPut : {T : Type 0} → Option (List ℕ) → Option (List ℕ) → List ℕ → Result T PutFault → Type 0
 HasPut None after piece result = after ≡ None
 HasPut (Some before) None piece result = ⊥

@@ -1,4 +1,4 @@
-//! Files and an output in memory, with calls that fail where they are told to.
+//! Files and an output in memory, whose calls fail where that was asked for.
 ghost use Rattle.std.specs.Prelude.{◌≡◌, ◌≢◌, ◌↔◌, ◌++◌, ◌≤◌, [], None, Some, ℕ, List, OnOk, OnErr, IsErrOf, option_copied};
 ghost use Rattle.wiz_io.specs.Calls.{IsNextFailing, no_calls, with_failing};
 ghost use Rattle.wiz_io.specs.Files.{IsRead, SetsFile};
@@ -69,7 +69,7 @@ impl MemoryStore {
 impl Store for MemoryStore {
     ghost told = { λ s. record { files = Some (memory_of s).files; reads = s.read_faults; writes = s.write_faults } };
 
-    /// Fails exactly where the call was named.
+    /// Fails if and only if the call was named.
     fn read(&mut self, name: &str, limit: u64) -> Result<Bytes, ReadFault>
         ensures fails { IsErrOf result ReadFault.Failed ↔ IsNextFailing (memory_of self.old).calls }
         ensures read { IsRead ((memory_of self.old).files name.now) limit result }
@@ -83,7 +83,7 @@ impl Store for MemoryStore {
         self.table.read(name, limit)
     }
 
-    /// Fails exactly where the call was named. A refused write leaves the file as it was.
+    /// Fails if and only if the call was named. A refused write leaves the file as it was.
     fn write(&mut self, name: &str, bytes: &[u8]) -> Result<(), WriteFault>
         ensures fails { IsErrOf result WriteFault.Failed
             ↔ IsNextFailing (memory_of self.old).calls }
@@ -151,7 +151,7 @@ impl MemorySink {
 impl Sink for MemorySink {
     ghost told = { λ s. record { bytes = Some s.bytes; faults = s.faults } };
 
-    /// Fails exactly where the put was named. A refused put writes nothing.
+    /// Fails if and only if the put was named. A refused put writes nothing.
     fn put(&mut self, bytes: &[u8]) -> Result<(), PutFault>
         ensures fails { IsErrOf result PutFault.Failed ↔ IsNextFailing self.old.calls }
         ensures put { self.new ≡ after_put self.old bytes.now result }

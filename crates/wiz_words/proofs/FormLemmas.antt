@@ -50,7 +50,7 @@ name_is name verb found = (bytes_eq-Decides name (name_of verb)).0 (found_passes
 one_verb : (a b : Verb) → name_of a ≡ name_of b → a ≡ b
 one_verb a b same = some_is a b (sym (verb_of_name a) ∙ (ap verb_named same ∙ verb_of_name b))
 
--- the words begin with the name of this command
+-- the arguments begin with the name of this command
 abbrev pub BeginWith : List Text → Verb → Type 0
 BeginWith words verb = slice_get words 0 ≡ Some (name_of verb)
 
@@ -61,18 +61,18 @@ pub begin_with : (words : List (Bor Text)) (name : Bor Text) (verb : Verb) → S
     → BeginWith (texts words) verb
 begin_with words name verb first found = first_text words name first ∙ ap Some (name_is name.now verb (sym found))
 
--- what such words ask for is this command
+-- what such arguments ask for is this command
 pub verb_is : (words : List Text) (command : Command Text) (verb : Verb) → AskFor words command → BeginWith words verb → verb_of command ≡ verb
 verb_is words command verb asks begin = one_verb (verb_of command) verb (some_is _ _ (sym asks.begin ∙ begin))
 
--- words whose first names no command ask for nothing
+-- arguments whose first names no command ask for nothing
 pub unnamed : (words : List (Bor Text)) (name : Bor Text) → Some name ≡ slice_get words 0 → None ≡ verb_named name.now → AskForNothing (texts words)
 unnamed words name first none command asks =
     let same : name.now ≡ name_of (verb_of command) = some_is _ _ (sym (first_text words name first) ∙ asks.begin) in
     let found : None ≡ Some (verb_of command) = none ∙ (ap verb_named same ∙ verb_of_name (verb_of command)) in
     absurd (cc)
 
--- words that the form refuses ask for nothing
+-- arguments that the form refuses ask for nothing
 pub refused : (words : List Text) (verb : Verb) (form : App) → BeginWith words verb → form ≡ form_of verb → fault_of form words ≢ [] → AskForNothing words
 refused words verb form begin is faults command asks =
     let same = verb_is words command verb asks begin in

@@ -1,4 +1,4 @@
--- Words ask for one command.
+-- Arguments ask for one command.
 use Rattle.std.proofs.Common.{◌≡◌, ◌∙◌, ap, ap₂, refl, sym, subst, ℕ, Bool, Option, Some, None, List, ◌∷◌, arith}
 use Rattle.wiz_base.specs.Decimals.{decimal_text}
 use Rattle.wiz_base.proofs.DecimalLaws.{decimal_text-and_rest, decimal_text_injective}

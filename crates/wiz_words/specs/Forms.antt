@@ -44,6 +44,6 @@ arguments_of Replay = positional (codes "LOG") ∷ option (codes "program") ∷ 
 arguments_of Show = positional (codes "LOG") ∷ []
 arguments_of Stats = positional (codes "LOG") ∷ []
 
--- the clap command that reads the words of a command: its name and its arguments, and no other setting
+-- the clap command that reads the arguments of a command: its name and its arguments, and no other setting
 abbrev pub form_of : Verb → App
 form_of verb = fold with_rule (new_app (name_of verb)) (arguments_of verb)

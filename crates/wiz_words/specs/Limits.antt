@@ -1,4 +1,4 @@
--- The bounds of the numbers that words spell.
+-- The bounds of the numbers that arguments spell.
 use Rattle.std.specs.Prelude.{ℕ}
 
 -- the rank of a breakpoint, and the number of its call

@@ -8,7 +8,7 @@ use Rattle.wiz_words.specs.declared.command.Command.TheVariants.{Record, Check, 
 use Rattle.wiz_words.specs.declared.command.ReplayWords.{ReplayWords}
 use Rattle.wiz_words.specs.declared.command.RunWords.{RunWords}
 
--- the texts of words
+-- the texts of arguments
 abbrev pub texts : List (Bor Text) → List Text
 texts words = map (λ word. word.now) words
 

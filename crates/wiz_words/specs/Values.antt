@@ -1,4 +1,4 @@
--- What clap finds in the words, and the values that it gives.
+-- What clap finds in the arguments, and the values that it gives.
 use Rattle.std.specs.Prelude.{◌≡◌, ◌≢◌, ◌≤◌, ℕ, List, [], ◌∷◌, ◌++◌, Bool, false, Option, Some, None, codes}
 use Rattle.std.specs.Option.{option_map_or}
 use Rattle.std.specs.Str.{bytes_eq}
@@ -11,7 +11,7 @@ use Rattle.wiz_words.specs.Limits.{greatest_call, greatest_rank}
 abbrev pub given_by : ArgMatches → List Row
 given_by matches = rows_of (found_of matches)
 
--- what clap finds in the words; nothing, where the form refuses them
+-- what clap finds in the arguments; nothing, where the form refuses them
 abbrev pub AreMatchesOf : App → List Text → Option ArgMatches → Type 0
 AreMatchesOf form words None = fault_of form words ≢ []
 AreMatchesOf form words (Some matches) = (fault_of form words ≡ []) × (given_by matches ≡ matches_of form words)

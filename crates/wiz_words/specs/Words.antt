@@ -1,4 +1,4 @@
--- The words of the commands.
+-- The arguments of the commands.
 use Rattle.std.specs.Prelude.{◌≡◌, ◌&&◌, List, [], Bool, false, not, is_some, Option, Some, None, codes, slice_get}
 use Rattle.clap.specs.Words.{Row, Text, fault_of, matches_of}
 use Rattle.wiz_words.specs.declared.command.Command.{Command}
@@ -20,7 +20,7 @@ verb_of (Replay replay) = verb.Replay
 verb_of (Show log) = verb.Show
 verb_of (Stats log) = verb.Stats
 
--- what is given are the words of a run with that file for its order; an order and `--serial` do not stand together
+-- what is given are the arguments of a run with that file for its order; an order and `--serial` exclude each other
 pub record AreRunWords (given : List Row) (file : Option Text) (run : RunWords Text) : Type 0 where
   pub program : value_in given (codes "PROGRAM") ≡ Some run.program
   pub plan : value_in given (codes "PLAN") ≡ Some run.plan
@@ -28,14 +28,14 @@ pub record AreRunWords (given : List Row) (file : Option Text) (run : RunWords T
   pub is_serial : run.is_serial ≡ flag_in given (codes "serial")
   pub not_both : (is_some run.order && run.is_serial) ≡ false
 
--- what is given are the words of a replay
+-- what is given are the arguments of a replay
 pub record AreReplayWords (given : List Row) (replay : ReplayWords Text) : Type 0 where
   pub log : value_in given (codes "LOG") ≡ Some replay.log
   pub program : replay.program ≡ value_in given (codes "program")
   pub stop : IsBreakpoint (value_in given (codes "break")) replay.stop
   pub is_serial : replay.is_serial ≡ flag_in given (codes "serial")
 
--- what is given are the words of a command; the run of a check has no order
+-- what is given are the arguments of a command; the run of a check has no order
 abbrev pub AreWordsOf : List Row → Command Text → Type 0
 AreWordsOf given (Record run prefix) = AreRunWords given (value_in given (codes "order")) run × (value_in given (codes "PREFIX") ≡ Some prefix)
 AreWordsOf given (Check run) = AreRunWords given None run
@@ -45,17 +45,17 @@ AreWordsOf given (Replay replay) = AreReplayWords given replay
 AreWordsOf given (Show log) = value_in given (codes "LOG") ≡ Some log
 AreWordsOf given (Stats log) = value_in given (codes "LOG") ≡ Some log
 
--- the words ask for a command: the first is its name, clap takes the others by its form, and finds the words of this command
+-- the arguments ask for a command: the first is its name, clap takes the others by its form, and finds the arguments of this command
 pub record AskFor (words : List Text) (command : Command Text) : Type 0 where
   pub begin : slice_get words 0 ≡ Some (name_of (verb_of command))
   pub accepted : fault_of (form_of (verb_of command)) words ≡ []
   pub says : AreWordsOf (matches_of (form_of (verb_of command)) words) command
 
--- the words are in no command's form
+-- the arguments are in no command's form
 abbrev pub AskForNothing : List Text → Type 0
 AskForNothing words = (command : Command Text) → AskFor words command → ⊥
 
--- no words ask for two commands
+-- no arguments ask for two commands
 abbrev pub AskForOneThing : Type 0
 AskForOneThing = (words : List Text) (one other : Command Text) → AskFor words one → AskFor words other → one ≡ other
 

@@ -1,4 +1,4 @@
-//! The commands, with what their words say. A text `T` is a list of bytes in definitions, and a borrowed one in code.
+//! The commands, with what their arguments say. A text `T` is a list of bytes in definitions, and a borrowed one in code.
 ghost use Rattle.std.specs.Prelude.{◌≡◌};
 
 /// The name of a command: its first word.
@@ -36,7 +36,7 @@ pub struct ReplayWords<T> {
     pub is_serial: bool,
 }
 
-/// A command with what its words say.
+/// A command with what its arguments say.
 #[derive(Clone, Copy, Debug, PartialEq, Eq)]
 pub enum Command<T> {
     /// Records a run; `prefix` is the front of the names of the files that are written.

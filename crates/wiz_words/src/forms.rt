@@ -22,7 +22,7 @@ pub fn verb_named(name: &str) -> Option<Verb>
     }
 }
 
-/// The clap command that reads the words of a command.
+/// The clap command that reads the arguments of a command.
 pub fn form_of<'a>(alloc: Global, verb: Verb) -> Result<Command<'a>, AllocError>
     ensures { IfOk result (λ form. app_of form ≡ form_of verb) }
 {

@@ -1,4 +1,4 @@
-//! The words of a command line: which command they ask for, read by one clap command each.
+//! The arguments of a command line: which command they ask for, read by one clap command each.
 #![tactic(auto)]
 
 pub mod command;

@@ -1,4 +1,4 @@
-//! Which command the words ask for.
+//! Which command the arguments ask for.
 ghost use Rattle.std.specs.Prelude.{◌≡◌, IfOk, MatchOption};
 ghost use Rattle.std.specs.Option.{option_map};
 ghost use Rattle.clap.specs.Words.{Text};
@@ -24,8 +24,8 @@ const FEWEST_ROUNDS: u32 = 1;
 /// The most rounds of a demo.
 const MOST_ROUNDS: u32 = 1000;
 
-/// The command that the words ask for, or nothing where they are in no command's form. The program's own name is not among
-/// the words.
+/// The command that the arguments ask for, or nothing where they are in no command's form. The program's own name is not among
+/// the arguments.
 pub fn read_command<'a>(
     alloc: Global,
     words: &'a [&'a str],
@@ -45,12 +45,12 @@ pub fn read_command<'a>(
     }
 }
 
-/// Words ask for one thing: no two commands have the same words.
+/// Arguments ask for one thing: no two commands have the same arguments.
 pub fn words_ask_for_one_thing()
     ensures { AskForOneThing }
 {}
 
-/// The command of this name whose words clap found, where their values are in form.
+/// The command of this name whose arguments clap found, where their values are in form.
 fn command_from<'a>(verb: Verb, matches: &ArgMatches<'a>) -> Option<Command<&'a str>>
     ensures { MatchOption result ((command : Command Text) → verb_of command ≡ verb → AreWordsOf (given_by matches.now) command → ⊥)
         (λ command. (verb_of (with_texts command) ≡ verb) × AreWordsOf (given_by matches.now) (with_texts command)) }
@@ -73,7 +73,7 @@ fn command_from<'a>(verb: Verb, matches: &ArgMatches<'a>) -> Option<Command<&'a 
     }
 }
 
-/// The words of a run with this file for its order; nothing where an order and `--serial` stand together.
+/// The arguments of a run with this file for its order; nothing where an order and `--serial` are given together.
 fn run_words<'a>(matches: &ArgMatches<'a>, order: Option<&'a str>) -> Option<RunWords<&'a str>>
     ensures { let order = option_map (λ text. text.now) order.entry
         in MatchOption result ((run : RunWords Text) → AreRunWords (given_by matches.now) order run → ⊥)
@@ -91,7 +91,7 @@ fn run_words<'a>(matches: &ArgMatches<'a>, order: Option<&'a str>) -> Option<Run
     })
 }
 
-/// The words of a replay; nothing where its breakpoint is out of form.
+/// The arguments of a replay; nothing where its breakpoint is out of form.
 fn replay_words<'a>(matches: &ArgMatches<'a>) -> Option<ReplayWords<&'a str>>
     ensures { MatchOption result ((replay : ReplayWords Text) → AreReplayWords (given_by matches.now) replay → ⊥)
         (λ replay. AreReplayWords (given_by matches.now) (replay_with_texts replay)) }

@@ -1,4 +1,4 @@
-//! What clap finds in the words, and the values that it gives.
+//! What clap finds in the arguments, and the values that it gives.
 ghost use Rattle.std.specs.Prelude.{◌≡◌, ℕ, IfOk, MatchOption, true};
 ghost use Rattle.std.specs.Option.{option_map};
 ghost use Rattle.clap.specs.Words.{app_of, is_simple_and_free};
@@ -16,7 +16,7 @@ const GREATEST_RANK: u64 = 63;
 /// The greatest number of a call of a breakpoint.
 const GREATEST_CALL: u64 = 999_999;
 
-/// What clap finds in the words; nothing where the form refuses them.
+/// What clap finds in the arguments; nothing where the form refuses them.
 pub fn matches_of<'a>(
     form: Command<'a>,
     words: &'a [&'a str],

@@ -6,7 +6,7 @@ ghost use Rattle.srr_entry.specs.declared.log.Log.{Log};
 ghost use Rattle.wiz_cli.specs.Commands.{check_outcome};
 ghost use Rattle.wiz_cli.specs.Replayings.{IsReplayOf};
 ghost use Rattle.wiz_cli.specs.Steps.{CanRun, Ends, IsCheckedRun, IsKeptLog, MakesRecordings, MakesReplays, TakesLogs, TakesReady, outcome_of};
-ghost use Rattle.wiz_cli.specs.World.{outside};
+ghost use Rattle.wiz_cli.specs.World.{world};
 ghost use Rattle.wiz_words.specs.Texts.{run_with_texts};
 ghost use Rattle.wiz_words.specs.Words.{is_threaded_run};
 ghost use Rattle.wiz_words.specs.declared.command.Command.TheVariants.{Check};
@@ -28,7 +28,7 @@ use wiz_io::{Sink, Store};
 use wiz_trace::check::check_text;
 use wiz_words::command::RunWords;
 
-/// Records what the words name, and replays each group: `recorder` makes the recording, and `replayer` the replay of a log.
+/// Records what the arguments name, and replays each group: `recorder` makes the recording, and `replayer` the replay of a log.
 pub fn check<
     'a,
     S: Store,
@@ -47,7 +47,7 @@ pub fn check<
     requires makes { MakesRecordings (is_threaded_run (run_with_texts run.now)) (F.post recorder.now) }
     requires takes_logs { TakesLogs (G.pre replayer.now) }
     requires replays { MakesReplays (G.post replayer.now) }
-    ensures { Ends (Check (run_with_texts run.now)) (outside (S.told store.old) (K.told out.old)) (outside (S.told store.new) (K.told out.new)) result }
+    ensures { Ends (Check (run_with_texts run.now)) (world (S.told store.old) (K.told out.old)) (world (S.told store.new) (K.told out.new)) result }
 {
     let ready = read_run(alloc, run, store)?;
     let checked = run_and_replay(alloc, &ready, recorder, replayer)?;

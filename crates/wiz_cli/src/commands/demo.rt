@@ -1,7 +1,7 @@
 //! `demo SEED ROUNDS`: a program of sixteen ranks is checked on one thread.
 ghost use Rattle.std.specs.Prelude.{false};
 ghost use Rattle.wiz_cli.specs.Steps.{Ends, MakesRecordings, MakesReplays, TakesLogs, TakesReady};
-ghost use Rattle.wiz_cli.specs.World.{outside};
+ghost use Rattle.wiz_cli.specs.World.{world};
 ghost use Rattle.wiz_words.specs.declared.command.Command.TheVariants.{Demo};
 
 use crate::commands::check::run_and_replay;
@@ -39,7 +39,7 @@ pub fn demo<
     requires makes { MakesRecordings false (F.post recorder.now) }
     requires takes_logs { TakesLogs (G.pre replayer.now) }
     requires replays { MakesReplays (G.post replayer.now) }
-    ensures { Ends (Demo seed rounds) (outside (S.told store.old) (K.told out.old)) (outside (S.told store.new) (K.told out.new)) result }
+    ensures { Ends (Demo seed rounds) (world (S.told store.old) (K.told out.old)) (world (S.told store.new) (K.told out.new)) result }
 {
     let text = demo_program(alloc, seed, rounds)?;
     let ready = accept_run(alloc, text, PLAN, &None)?;

@@ -6,7 +6,7 @@ ghost use Rattle.wiz_cli.specs.Outcomes.{IsPut};
 ghost use Rattle.wiz_cli.specs.Output.{GrewByPart, HasSaid};
 ghost use Rattle.wiz_cli.specs.Statuses.{number_of};
 ghost use Rattle.wiz_cli.specs.Steps.{Ends, HasLists, IsToldBy, MakesRecordings, TakesReady};
-ghost use Rattle.wiz_cli.specs.World.{outside};
+ghost use Rattle.wiz_cli.specs.World.{world};
 ghost use Rattle.wiz_words.specs.Texts.{run_with_texts};
 ghost use Rattle.wiz_words.specs.Words.{is_threaded_run};
 ghost use Rattle.wiz_words.specs.declared.command.Command.TheVariants.{Record};
@@ -27,7 +27,7 @@ use wiz_io::{Sink, Store};
 use wiz_trace::recording::record_text;
 use wiz_words::command::RunWords;
 
-/// Records what the words name: `recorder` makes the recording.
+/// Records what the arguments name: `recorder` makes the recording.
 pub fn record<'a, S: Store, K: Sink, F: Fn(&Ready) -> Result<Recording, AllocError>>(
     alloc: Global,
     run: &RunWords<&'a str>,
@@ -38,7 +38,7 @@ pub fn record<'a, S: Store, K: Sink, F: Fn(&Ready) -> Result<Recording, AllocErr
 ) -> Result<Report, Failure<'a>>
     requires takes { TakesReady (F.pre recorder.now) }
     requires makes { MakesRecordings (is_threaded_run (run_with_texts run.now)) (F.post recorder.now) }
-    ensures { Ends (Record (run_with_texts run.now) prefix.now) (outside (S.told store.old) (K.told out.old)) (outside (S.told store.new) (K.told out.new)) result }
+    ensures { Ends (Record (run_with_texts run.now) prefix.now) (world (S.told store.old) (K.told out.old)) (world (S.told store.new) (K.told out.new)) result }
 {
     let ready = read_run(alloc, run, store)?;
     let recording = recorder(&ready)?;
@@ -56,7 +56,7 @@ fn write<S: Store, K: Sink>(
 ) -> Result<Report, AllocError>
     requires lists { HasLists recording.logs }
     requires few { length recording.logs ≤ 64 }
-    ensures told { IsToldBy (record_outcome prefix.now recording) (outside (S.told store.old) (K.told out.old)) (outside (S.told store.new) (K.told out.new)) result }
+    ensures told { IsToldBy (record_outcome prefix.now recording) (world (S.told store.old) (K.told out.old)) (world (S.told store.new) (K.told out.new)) result }
     ensures reads { (S.told store.new).reads ≡ (S.told store.old).reads }
 {
     match write_files(alloc, prefix, &recording, store) {

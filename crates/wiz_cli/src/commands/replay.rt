@@ -5,7 +5,7 @@ ghost use Rattle.wiz_cli.specs.Outcomes.{IsPut};
 ghost use Rattle.wiz_cli.specs.Output.{GrewByPart};
 ghost use Rattle.wiz_trace.specs.TraceTexts.{trace_text};
 ghost use Rattle.wiz_cli.specs.Steps.{Ends, MakesReplays, TakesLogs};
-ghost use Rattle.wiz_cli.specs.World.{outside};
+ghost use Rattle.wiz_cli.specs.World.{world};
 ghost use Rattle.wiz_words.specs.Texts.{replay_with_texts};
 ghost use Rattle.wiz_words.specs.declared.command.Command.TheVariants.{Replay};
 
@@ -22,7 +22,7 @@ use wiz_io::{Sink, Store};
 use wiz_trace::trace::trace_text;
 use wiz_words::command::ReplayWords;
 
-/// Replays what the words name: `replayer` makes the replay.
+/// Replays what the arguments name: `replayer` makes the replay.
 pub fn replay<
     'a,
     S: Store,
@@ -37,7 +37,7 @@ pub fn replay<
 ) -> Result<Report, Failure<'a>>
     requires takes { TakesLogs (G.pre replayer.now) }
     requires makes { MakesReplays (G.post replayer.now) }
-    ensures { Ends (Replay (replay_with_texts words.now)) (outside (S.told store.old) (K.told out.old)) (outside (S.told store.new) (K.told out.new)) result }
+    ensures { Ends (Replay (replay_with_texts words.now)) (world (S.told store.old) (K.told out.old)) (world (S.told store.new) (K.told out.new)) result }
 {
     let subject = read_subject(alloc, words, store)?;
     let text = used_text(&subject.log, &subject.text);
