@@ -18,7 +18,7 @@ use Rattle.run_model.specs.Allowed.{IsAllowed, IsAllowedBy, IsStuck}
 use Rattle.run_model.specs.Due.{bad_halt, bad_request, due, halt_at, halted, is_full}
 use Rattle.run_model.specs.Readiness.{AreGots}
 use Rattle.run_model.specs.Run.{IsEvent, IsRun}
-use Rattle.run_model.specs.Shape.{can_take, gots_fit, has_count, has_shape, rises}
+use Rattle.run_model.specs.Shape.{can_take, gots_fit, has_count, has_shape, rise_within}
 use Rattle.run_model.specs.Views.{Next, View, items_taken, start_at, taken_of, view_of}
 use Rattle.run_model.proofs.Halts.{is_stopped}
 use Rattle.run_model.proofs.RunLaws.{Lawful, event_shaped, kept_run}
@@ -72,15 +72,15 @@ indices_of items = map (λ (item : Item). item.index) items
 record Rising (low len : ℕ) (item : Item) (items : List Item) : Type 0 where
   above : low ≤ item.index
   within : item.index < len
-  rest : rises (item.index + 1) len (indices_of items) ≡ true
+  rest : rise_within (item.index + 1) len (indices_of items) ≡ true
 
-rising : (low len : ℕ) (item : Item) (items : List Item) → rises low len (indices_of (item ∷ items)) ≡ true → Rising low len item items
+rising : (low len : ℕ) (item : Item) (items : List Item) → rise_within low len (indices_of (item ∷ items)) ≡ true → Rising low len item items
 rising low len item items h =
-    let one = and_parts (nat_le low item.index) (nat_lt item.index len && rises (item.index + 1) len (indices_of items)) h in
-    let two = and_parts (nat_lt item.index len) (rises (item.index + 1) len (indices_of items)) one.1 in
+    let one = and_parts (nat_le low item.index) (nat_lt item.index len && rise_within (item.index + 1) len (indices_of items)) h in
+    let two = and_parts (nat_lt item.index len) (rise_within (item.index + 1) len (indices_of items)) one.1 in
     record { above = leb-true low item.index one.0; within = ltb-true item.index len two.0; rest = two.1 }
 
-place_taken : (starts : List ℕ) (items : List Item) (low k : ℕ) → rises low (length starts) (indices_of items) ≡ true → is_member (items_taken starts items) k ≡ true
+place_taken : (starts : List ℕ) (items : List Item) (low k : ℕ) → rise_within low (length starts) (indices_of items) ≡ true → is_member (items_taken starts items) k ≡ true
     → (at : ℕ) × (low ≤ at) × (at < length starts) × (slice_index starts at ≡ k)
 place_taken starts [] low k h there = absurd (cc)
 place_taken starts (item ∷ items) low k h there =
@@ -94,7 +94,7 @@ place_taken starts (item ∷ items) low k h there =
           (rest.0, omega (arith, above, lower), rest.2, rest.3))
     ]
 
-taken_once : (starts : List ℕ) (items : List Item) (low : ℕ) → is_distinct starts ≡ true → rises low (length starts) (indices_of items) ≡ true
+taken_once : (starts : List ℕ) (items : List Item) (low : ℕ) → is_distinct starts ≡ true → rise_within low (length starts) (indices_of items) ≡ true
     → is_distinct (items_taken starts items) ≡ true
 taken_once starts [] low distinct h = refl
 taken_once starts (item ∷ items) low distinct h =
@@ -106,7 +106,7 @@ taken_once starts (item ∷ items) low distinct h =
     apart_at starts item.index again.0 distinct (omega (arith, above)) again.2 (sym again.3))) in
     rw fresh (taken_once starts items (item.index + 1) distinct first.rest)
 
-few_items : (len low : ℕ) (items : List Item) → low ≤ len → rises low len (indices_of items) ≡ true → low + length items ≤ len
+few_items : (len low : ℕ) (items : List Item) → low ≤ len → rise_within low len (indices_of items) ≡ true → low + length items ≤ len
 few_items len low [] within h = omega (arith, within)
 few_items len low (item ∷ items) within h =
     let first = rising low len item items h in
@@ -149,8 +149,8 @@ are_taken n before me (Take starts mode) items free shape gots =
       | inl t ↦ absurd (let no : Some Limit ≡ None = rw t at late in cc)
       | inr t ↦ good_list n before own me starts (bad_request own [] starts) refl (rw t at late)
     ] in
-    let one = and_parts (has_count mode (length starts) (length items)) (rises 0 (length starts) (indices_of items) && (list_all (λ k. can_take own k) starts && gots_fit n own me starts items)) shape in
-    let two = and_parts (rises 0 (length starts) (indices_of items)) (list_all (λ k. can_take own k) starts && gots_fit n own me starts items) one.1 in
+    let one = and_parts (has_count mode (length starts) (length items)) (rise_within 0 (length starts) (indices_of items) && (list_all (λ k. can_take own k) starts && gots_fit n own me starts items)) shape in
+    let two = and_parts (rise_within 0 (length starts) (indices_of items)) (list_all (λ k. can_take own k) starts && gots_fit n own me starts items) one.1 in
     let many = few_items (length starts) 0 items (omega arith) two.0 in
     record { gots = gots; once = taken_once starts items 0 (listed_once own [] starts good).0 two.0; few = omega (arith, many) }
 are_taken n before me (Send comm dest tag ints sync) items free shape gots = absurd (let h : false ≡ true = shape in cc)

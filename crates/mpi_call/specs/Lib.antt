@@ -3,6 +3,7 @@ pub mod Calls
 pub mod Candidates
 pub mod Collectives
 pub mod Halts
+pub mod Lists
 pub mod Made
 pub mod Members
 pub mod Needs

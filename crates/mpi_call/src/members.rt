@@ -1,6 +1,6 @@
 //! Members of a communicator.
 ghost use Rattle.std.specs.Prelude.{◌≡◌, ◌+◌, ◌<◌, ◌^◌};
-ghost use Rattle.mpi_call.specs.Members.{place_of};
+ghost use Rattle.mpi_call.specs.Members.{is_member, place_of};
 
 /// A member's rank in the communicator, or the number of members where it is none. Takes no memory.
 pub fn place_of(members: &[u8], rank: u8) -> usize
@@ -13,4 +13,11 @@ pub fn place_of(members: &[u8], rank: u8) -> usize
         }
     }
     members.len()
+}
+
+/// Whether a rank is among these. Takes no memory.
+pub fn is_member(members: &[u8], rank: u8) -> bool
+    ensures { result ≡ is_member members.now rank }
+{
+    members.iter().any(|member| *member == rank)
 }

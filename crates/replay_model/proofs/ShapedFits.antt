@@ -19,7 +19,7 @@ use Rattle.mpi_call.specs.Calls.{comm_of, makes}
 use Rattle.mpi_call.specs.Collectives.{is_member, is_uncoloured, needs}
 use Rattle.mpi_call.proofs.NeedsLemmas.{needs-uncoloured}
 use Rattle.run_model.specs.Communicators.{members_in}
-use Rattle.run_model.specs.Shape.{are_members, can_take, got_fits, gots_fit, has_count, has_shape, is_sized, rises}
+use Rattle.run_model.specs.Shape.{are_members, can_take, got_fits, gots_fit, has_count, has_shape, is_sized, rise_within}
 use Rattle.run_model.specs.Views.{View, start_at}
 use Rattle.run_model.proofs.Views.{test_cases}
 use Rattle.srr_entry.specs.declared.entry.Entry.TheVariants.{Took as EntryTook}
@@ -132,15 +132,15 @@ marks_length n group me own starts (item ∷ items) = (let rest = marks_length n
 -- the parts of a Take's shape
 pub record TakeShape (n me : ℕ) (own : View) (starts : List ℕ) (mode : TakeMode) (items : List Item) : Type 0 where
   pub count : has_count mode (length starts) (length items) ≡ true
-  pub rising : rises 0 (length starts) (map (λ (item : Item). item.index) items) ≡ true
+  pub rising : rise_within 0 (length starts) (map (λ (item : Item). item.index) items) ≡ true
   pub listed : list_all (λ k. can_take own k) starts ≡ true
   pub gots : gots_fit n own me starts items ≡ true
 
 pub take_shape : (n me : ℕ) (own : View) (starts : List ℕ) (mode : TakeMode) (items : List Item)
     → has_shape n me own (Take starts mode) (Took items) ≡ true → TakeShape n me own starts mode items
 take_shape n me own starts mode items h =
-    let one = and_parts (has_count mode (length starts) (length items)) (rises 0 (length starts) (map (λ (item : Item). item.index) items) && (list_all (λ k. can_take own k) starts && gots_fit n own me starts items)) h in
-    let two = and_parts (rises 0 (length starts) (map (λ (item : Item). item.index) items)) (list_all (λ k. can_take own k) starts && gots_fit n own me starts items) one.1 in
+    let one = and_parts (has_count mode (length starts) (length items)) (rise_within 0 (length starts) (map (λ (item : Item). item.index) items) && (list_all (λ k. can_take own k) starts && gots_fit n own me starts items)) h in
+    let two = and_parts (rise_within 0 (length starts) (map (λ (item : Item). item.index) items)) (list_all (λ k. can_take own k) starts && gots_fit n own me starts items) one.1 in
     let three = and_parts (list_all (λ k. can_take own k) starts) (gots_fit n own me starts items) two.1 in
     record { count = one.0; rising = two.0; listed = three.0; gots = three.1 }
 

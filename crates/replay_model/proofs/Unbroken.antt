@@ -89,7 +89,7 @@ message_unbroken : (n : ℕ) (group : List ℕ) (before : List Event) (me k comm
     → nat_le (length is.ints) room ≡ true
     → break_mark n (within group (view_of before)) (view_of before me) me k (mark_of n group me (view_of before me) k got) ≡ None
 message_unbroken n group before me k comm source tag room got matched at is short =
-    let accepted = taken_pair before (me, k) is.send comm source tag room is.comm is.dest is.tag is.ints matched is.paired at is.sent in
+    let accepted = taken_pair before (me, k) is.send comm source tag room is.comm is.dest is.tag is.ints is.sync matched is.paired at is.sent in
     elim (test_cases (is_member group is.send.0)) [
       | inl i ↦ rw (is.got_is, i, i, is.sent, at, accepted, short)
       | inr o ↦ rw (is.got_is, o)

@@ -9,7 +9,7 @@ use Rattle.mpi_call.specs.Calls.{comm_of, is_enter, makes}
 use Rattle.mpi_call.specs.Collectives.{is_uncoloured}
 use Rattle.run_model.specs.Views.{View, start_at}
 use Rattle.run_model.specs.Communicators.{members_in}
-use Rattle.run_model.specs.Shape.{are_members, can_take, halt_fits, has_count, is_sized, is_test, rises}
+use Rattle.run_model.specs.Shape.{are_members, can_take, halt_fits, has_count, is_sized, is_test, rise_within}
 use Rattle.srr_entry.specs.declared.entry.Mark.{Mark}
 use Rattle.srr_entry.specs.declared.entry.Mark.TheVariants.{Sent as MarkSent, Nothing as MarkNothing, Inside, Outside, Inner, Outer, Made as MarkMade, MadeOutside}
 use Rattle.srr_entry.specs.declared.entry.Marked.{Marked}
@@ -57,7 +57,7 @@ fits n group me own (Peek comm from tag wait) (PeekedInside source start) = sour
 fits n group me own (Peek comm from tag wait) (PeekedOutside source start t count) = source_agrees from source && tag_agrees tag t
 fits n group me own (Take starts mode) (EntryTook marks) =
     has_count mode (length starts) (length marks)
-    && (rises 0 (length starts) (map (λ (marked : Marked). marked.index) marks)
+    && (rise_within 0 (length starts) (map (λ (marked : Marked). marked.index) marks)
     && (list_all (λ k. can_take own k) starts && marks_fit n group me own starts marks))
 fits n group me own call entry = false
 

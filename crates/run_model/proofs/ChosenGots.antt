@@ -30,10 +30,11 @@ pub record IsSend (call : Call) : Type 0 where
   pub dest : ℕ
   pub tag : ℕ
   pub ints : List ℤ
+  pub sync : Bool
   pub is : call ≡ Send comm dest tag ints sync
 
 pub accepted_send : (me comm : ℕ) (source : Source) (tag : Tag) (sender : ℕ) (call : Call) → accepts me comm source tag sender call ≡ true → IsSend call
-accepted_send me comm source tag sender (Send c dest t ints sync) h = record { comm = c; dest = dest; tag = t; ints = ints; is = refl }
+accepted_send me comm source tag sender (Send c dest t ints sync) h = record { comm = c; dest = dest; tag = t; ints = ints; sync = sync; is = refl }
 accepted_send me comm source tag sender call h = absurd (cc)
 
 -- and no receive is
@@ -56,7 +57,7 @@ paired_message before me k comm source tag room matched at h =
                 let accepted : post_accepts me (Post comm source tag room) send.0 takes.send_call ≡ true = rw post at takes.accepted in
                 let s = accepted_send me comm source tag send.0 takes.send_call accepted in
                 let there : named before send ≡ Some (Send s.comm s.dest s.tag s.ints s.sync) = takes.send_is ∙ ap (λ (c : Call). Some c) s.is in
-                rw there (record { send = send; comm = s.comm; dest = s.dest; tag = s.tag; ints = s.ints; paired = some.1; sent = there; got_is = refl })
+                rw there (record { send = send; comm = s.comm; dest = s.dest; tag = s.tag; ints = s.ints; sync = s.sync; paired = some.1; sent = there; got_is = refl })
             | inr takes ↦
                 let calls : Some takes.send_call ≡ Some (Post comm source tag room) = sym takes.send_is ∙ at in
                 let post : takes.send_call ≡ Post comm source tag room = cc in

@@ -34,6 +34,7 @@ peek_found before me comm source tag wait at h =
       dest = s.dest;
       t = s.tag;
       ints = s.ints;
+      sync = s.sync;
       sent = sent;
       accepted = subst F s.is o.suited;
       unpaired = o.free;

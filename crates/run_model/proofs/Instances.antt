@@ -14,7 +14,8 @@ use Rattle.run_model.specs.declared.event.Event.{Event}
 use Rattle.run_model.specs.Communicators.{Entered, count_on, enter_at, instance_of, is_on, known_first, known_in, members_in}
 use Rattle.run_model.specs.Inputs.{gather, inputs_of}
 use Rattle.run_model.specs.Pairs.{Name}
-use Rattle.run_model.specs.Run.{AreNumbered, IsIn, MadeTwo, SameOrigin, numbers_of}
+use Rattle.mpi_call.specs.Lists.{IsIn}
+use Rattle.run_model.specs.Run.{AreNumbered, MadeTwo, SameOrigin, numbers_of}
 use Rattle.run_model.specs.Views.{View, is_start, start_at, starts_of, view_of}
 use Rattle.run_model.proofs.Agreement.{input_length-agree}
 use Rattle.run_model.proofs.Enters.{NewEnter, enter_back, gather-needed, instance_of-kept, known_in-kept, members_kept, not_world, own_at}

@@ -1,5 +1,5 @@
 -- A message that a receive gets is one that it accepts.
-use Rattle.std.proofs.Common.{◌&&◌, ◌==◌, ◌∙◌, ◌≡◌, List, None, Some, [], false, inl, inr, sym, true, ℕ, ℤ}
+use Rattle.std.proofs.Common.{◌&&◌, ◌==◌, ◌∙◌, ◌≡◌, Bool, List, None, Some, [], false, inl, inr, sym, true, ℕ, ℤ}
 use Rattle.std.proofs.lemmas.Bool.{and_parts}
 use Rattle.mpi_call.specs.declared.call.Call.TheVariants.{Post, Send}
 use Rattle.mpi_call.specs.declared.call.Source.{Source}
@@ -25,19 +25,19 @@ pub record Agrees (source : Source) (tag : Tag) (sender sent : ℕ) : Type 0 whe
   pub source_is : source_agrees source sender ≡ true
   pub tag_is : tag_agrees tag sent ≡ true
 
-pub accepts-parts : (me comm : ℕ) (source : Source) (tag : Tag) (sender c dest t : ℕ) (ints : List ℤ)
+pub accepts-parts : (me comm : ℕ) (source : Source) (tag : Tag) (sender c dest t : ℕ) (ints : List ℤ) (sync : Bool)
     → accepts me comm source tag sender (Send c dest t ints sync) ≡ true → Agrees source tag sender t
-accepts-parts me comm source tag sender c dest t ints h =
+accepts-parts me comm source tag sender c dest t ints sync h =
     let one = and_parts (c == comm) ((dest == me) && (source_agrees source sender && tag_agrees tag t)) h in
     let two = and_parts (dest == me) (source_agrees source sender && tag_agrees tag t) one.1 in
     let three = and_parts (source_agrees source sender) (tag_agrees tag t) two.1 in
     record { source_is = three.0; tag_is = three.1 }
 
 -- a partner's Send is accepted
-pub taken_pair : (before : List Event) (post send : Name) (comm : ℕ) (source : Source) (tag : Tag) (room c dest t : ℕ) (ints : List ℤ)
+pub taken_pair : (before : List Event) (post send : Name) (comm : ℕ) (source : Source) (tag : Tag) (room c dest t : ℕ) (ints : List ℤ) (sync : Bool)
     → IsMatched before → partner_of (pairs_of before) post ≡ Some send → named before post ≡ Some (Post comm source tag room)
     → named before send ≡ Some (Send c dest t ints sync) → accepts post.0 comm source tag send.0 (Send c dest t ints sync) ≡ true
-taken_pair before post send comm source tag room c dest t ints matched paired post_is send_is =
+taken_pair before post send comm source tag room c dest t ints sync matched paired post_is send_is =
     elim (matched.pair post send paired) [
       | inl takes ↦
           let p : Some takes.post_call ≡ Some (Post comm source tag room) = sym takes.post_is ∙ post_is in

@@ -18,7 +18,8 @@ use Rattle.run_model.specs.Due.{due}
 use Rattle.run_model.specs.Inputs.{inputs_of}
 use Rattle.run_model.specs.Numbers.{Origin, communicators_of, made_along, made_at, number_among, origin_of}
 use Rattle.run_model.specs.Pairs.{Name, name_at, named, pairs_of, partner_of}
-use Rattle.run_model.specs.Run.{AreNumbered, IsIn, SameOrigin, number_in, numbers_in, numbers_in_reply, numbers_of}
+use Rattle.mpi_call.specs.Lists.{IsIn}
+use Rattle.run_model.specs.Run.{AreNumbered, SameOrigin, number_in, numbers_in, numbers_in_reply, numbers_of}
 use Rattle.run_model.specs.Shape.{is_test}
 use Rattle.run_model.specs.Views.{View, start_at, view_of}
 use Rattle.run_model.proofs.OriginLists.{IsListed, listed_front, number_kept, number_one}

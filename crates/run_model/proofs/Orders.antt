@@ -1,10 +1,11 @@
 -- The views that a lawful program's ranks come to are in order.
-use Rattle.std.proofs.Common.{◌&&◌, ◌++◌, ◌<◌, ◌==◌, ◌∙◌, ◌∷◌, ◌≡◌, ◌≤◌, ◌⊎◌, List, None, Option, Some, [], append-nil, false, inl, inr, length, refl, slice_get, slice_index, subst, sym, true, ℕ, ℤ}
+use Rattle.std.proofs.Common.{◌&&◌, ◌++◌, ◌<◌, ◌==◌, ◌∙◌, ◌∷◌, ◌≡◌, ◌≤◌, ◌⊎◌, Bool, List, None, Option, Some, [], append-nil, false, inl, inr, length, refl, slice_get, slice_index, subst, sym, true, ℕ, ℤ}
 use Rattle.std.proofs.lemmas.Bool.{and_parts, eqb-true}
 use Rattle.std.specs.List.{list_all}
 use Rattle.mpi_call.specs.declared.call.Call.{Call}
 use Rattle.mpi_call.specs.declared.call.Call.TheVariants.{Enter, Post, Send, Take}
 use Rattle.mpi_call.specs.declared.call.Source.TheVariants.{Any, From, Null}
+use Rattle.mpi_call.specs.declared.limits.TheConstants.{MOST_INTS}
 use Rattle.mpi_call.specs.declared.reply.Got.{Got}
 use Rattle.mpi_call.specs.declared.reply.Got.TheVariants.{Made}
 use Rattle.mpi_call.specs.declared.reply.Item.{Item}
@@ -198,18 +199,18 @@ in_order next n me view law rank came =
 -- its messages are in bounds
 record Short (next : Next) (n me : ℕ) (view : View) : Type 0 where
   pub came : IsViewOf next n me view
-  pub sends : (k comm dest tag : ℕ) (ints : List ℤ) (sync : Bool) → start_at view k ≡ Some (Send comm dest tag ints sync) → length ints ≤ 65536
+  pub sends : (k comm dest tag : ℕ) (ints : List ℤ) (sync : Bool) → start_at view k ≡ Some (Send comm dest tag ints sync) → length ints ≤ MOST_INTS
 
 short_more : (next : Next) (n me : ℕ) → AsksInBounds next → IsRankOf n me → (view : View) (seen : Call × Reply) → Short next n me view → IsSeen next n me view seen → Short next n me (view ++ seen ∷ [])
 short_more next n me law rank view seen so_far is =
     record {
       came = Along-snoc (IsSeen next n me) [] view seen so_far.came is;
       sends = λ k comm dest tag ints sync p. elim (start_back view seen.0 seen.1 k (Send comm dest tag ints sync) p) [
-        | inl was ↦ so_far.sends k comm dest tag ints was
+        | inl was ↦ so_far.sends k comm dest tag ints sync was
         | inr new ↦ (law n me view (Send comm dest tag ints sync) rank so_far.came (rw new at is.asked)).2
       ];
     }
 
-pub short_sends : (next : Next) (n me : ℕ) (view : View) → AsksInBounds next → IsRankOf n me → IsViewOf next n me view → (k comm dest tag : ℕ) (ints : List ℤ) (sync : Bool) → start_at view k ≡ Some (Send comm dest tag ints sync) → length ints ≤ 65536
+pub short_sends : (next : Next) (n me : ℕ) (view : View) → AsksInBounds next → IsRankOf n me → IsViewOf next n me view → (k comm dest tag : ℕ) (ints : List ℤ) (sync : Bool) → start_at view k ≡ Some (Send comm dest tag ints sync) → length ints ≤ MOST_INTS
 short_sends next n me view law rank came =
-    (Along-keeps (IsSeen next n me) (Short next n me) (short_more next n me law rank) [] view (record { came = tt; sends = λ k comm dest tag ints p. absurd (cc) }) came).sends
+    (Along-keeps (IsSeen next n me) (Short next n me) (short_more next n me law rank) [] view (record { came = tt; sends = λ k comm dest tag ints sync p. absurd (cc) }) came).sends

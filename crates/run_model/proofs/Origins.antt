@@ -23,7 +23,8 @@ use Rattle.run_model.specs.Lists.{world}
 use Rattle.run_model.specs.Pairs.{Name}
 use Rattle.run_model.specs.Program.{IsInForm}
 use Rattle.run_model.specs.Readiness.{AreGots, IsFrom, IsGot}
-use Rattle.run_model.specs.Run.{IsEvent, IsIn, number_in, numbers_in, numbers_in_reply, numbers_of}
+use Rattle.mpi_call.specs.Lists.{IsIn}
+use Rattle.run_model.specs.Run.{IsEvent, number_in, numbers_in, numbers_in_reply, numbers_of}
 use Rattle.run_model.specs.Views.{Next, View, is_start, start_at, starts_of, view_of}
 use Rattle.run_model.proofs.Enters.{known_after-append, not_world, take_all}
 use Rattle.run_model.proofs.Instances.{Enters, IsIn-front, KeepsInstances, Provenance, numbers_of-append}

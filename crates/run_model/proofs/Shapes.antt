@@ -62,8 +62,8 @@ pub receives : (before : List Event) (me k comm : ℕ) (source : Source) (tag : 
     → start_at (view_of before me) k ≡ Some (Post comm source tag room) → IsMessage before me k got
     → is_long (Some (Post comm source tag room)) got ≡ false → Receives before me k comm source tag room got
 receives before me k comm source tag room got matched at is short =
-    let accepted = taken_pair before (me, k) is.send comm source tag room is.comm is.dest is.tag is.ints matched is.paired at is.sent in
-    let agrees = accepts-parts me comm source tag is.send.0 is.comm is.dest is.tag is.ints accepted in
+    let accepted = taken_pair before (me, k) is.send comm source tag room is.comm is.dest is.tag is.ints is.sync matched is.paired at is.sent in
+    let agrees = accepts-parts me comm source tag is.send.0 is.comm is.dest is.tag is.ints is.sync accepted in
     let long : nat_lt room (length is.ints) ≡ false = rw is.got_is at short in
     record { is = is; accepted = accepted; source_is = agrees.source_is; tag_is = agrees.tag_is; within = room_fits room is.ints long }
 
@@ -217,7 +217,7 @@ take_shaped n before me starts mode false stuck reply matched of good h is =
 peek_shaped : (n : ℕ) (before : List Event) (own : View) (me comm : ℕ) (source : Source) (tag : Tag) (wait found : Bool) (stuck : Type 0) (reply : Reply)
     → IsPeekAnswer found stuck before me comm source tag wait reply → has_shape n me own (Peek comm source tag wait) reply ≡ true
 peek_shaped n before own me comm source tag wait true stuck reply is =
-    let agrees = accepts-parts me comm source tag is.send.0 is.c is.dest is.t is.ints is.accepted in
+    let agrees = accepts-parts me comm source tag is.send.0 is.c is.dest is.t is.ints is.sync is.accepted in
     rw (is.reply_is, agrees.source_is, agrees.tag_is)
 peek_shaped n before own me comm source tag wait false stuck reply is = held_peek n me own comm source tag wait (not wait) stuck reply refl is
 

@@ -9,7 +9,7 @@ use Rattle.mpi_call.specs.declared.reply.Item.{Item}
 use Rattle.mpi_call.specs.Collectives.{is_member}
 use Rattle.run_model.specs.Allowed.{AreChosen, IsOne, first_long, holds, is_long, true_places}
 use Rattle.run_model.specs.Due.{bad_request}
-use Rattle.run_model.specs.Shape.{can_take, has_count, rises}
+use Rattle.run_model.specs.Shape.{can_take, has_count, rise_within}
 use Rattle.run_model.specs.Views.{View, start_at, taken_of}
 use Rattle.run_model.proofs.StartLemmas.{slice_get-below}
 use Rattle.run_model.proofs.Views.{test_cases}
@@ -17,7 +17,7 @@ use Rattle.run_model.proofs.Views.{test_cases}
 -- In a run, the entry of a Take fits it.
 -- chosen places
 rises_places : (from low len : ℕ) (flags : List Bool) → from ≤ low → low + length flags ≡ len
-    → rises from len (true_places low flags) ≡ true
+    → rise_within from len (true_places low flags) ≡ true
 rises_places from low len [] h e = refl
 rises_places from low len (true ∷ flags) h e =
     let one : nat_le from low ≡ true = le-leb from low h in
@@ -37,7 +37,7 @@ some_places low (false ∷ flags) h = some_places (low + 1) flags h
 
 pub record ChosenFits (mode : TakeMode) (len : ℕ) (indices : List ℕ) : Type 0 where
   pub count : has_count mode len (length indices) ≡ true
-  pub rising : rises 0 len indices ≡ true
+  pub rising : rise_within 0 len indices ≡ true
 
 one_fits : (mode : TakeMode) (flags : List Bool) (indices : List ℕ) → IsOne flags indices → ((n : ℕ) → has_count mode n 1 ≡ true)
     → ChosenFits mode (length flags) indices
@@ -96,12 +96,12 @@ index_listed (k ∷ starts) zero h = or_left (k == k) (is_member starts k) (eq-e
 index_listed (k ∷ starts) (suc index) h = or_right (k == slice_index starts index) (is_member starts (slice_index starts index)) (index_listed starts index (omega arith))
 
 pub long_listed : (own : View) (starts : List ℕ) (low : ℕ) (items : List Item) (k : ℕ)
-    → rises low (length starts) (map (λ (item : Item). item.index) items) ≡ true → first_long own starts items ≡ Some k
+    → rise_within low (length starts) (map (λ (item : Item). item.index) items) ≡ true → first_long own starts items ≡ Some k
     → is_member starts k ≡ true
 long_listed own starts low [] k rising h = absurd (cc)
 long_listed own starts low (item ∷ items) k rising h =
-    let one = and_parts (nat_le low item.index) (nat_lt item.index (length starts) && rises (item.index + 1) (length starts) (map (λ (item : Item). item.index) items)) rising in
-    let two = and_parts (nat_lt item.index (length starts)) (rises (item.index + 1) (length starts) (map (λ (item : Item). item.index) items)) one.1 in
+    let one = and_parts (nat_le low item.index) (nat_lt item.index (length starts) && rise_within (item.index + 1) (length starts) (map (λ (item : Item). item.index) items)) rising in
+    let two = and_parts (nat_lt item.index (length starts)) (rise_within (item.index + 1) (length starts) (map (λ (item : Item). item.index) items)) one.1 in
     elim (test_cases (is_long (start_at own (slice_index starts item.index)) item.got)) [
       | inl t ↦ (
           let e : Some (slice_index starts item.index) ≡ Some k = rw t at h in

@@ -27,6 +27,7 @@ pub record IsPeekedSend (before : List Event) (me : ℕ) (call : Call) (source s
   pub comm : ℕ
   pub dest : ℕ
   pub ints : List ℤ
+  pub sync : Bool
   pub sent : start_at (view_of before source) start ≡ Some (Send comm dest tag ints sync)
   pub counted : count ≡ length ints
   pub accepted : probe_accepts me call source (Send comm dest tag ints sync) ≡ true
@@ -60,7 +61,7 @@ peek_true : (n : ℕ) (before : List Event) (own : View) (me comm : ℕ) (source
     → IsPeekAnswer found stuck before me comm source tag wait reply
     → IsTrueReply n before own me (Peek comm source tag wait) reply
 peek_true n before own me comm source tag wait true stuck reply is =
-    rw is.reply_is (record { comm = is.c; dest = is.dest; ints = is.ints; sent = is.sent; counted = refl; accepted = is.accepted })
+    rw is.reply_is (record { comm = is.c; dest = is.dest; ints = is.ints; sync = is.sync; sent = is.sent; counted = refl; accepted = is.accepted })
 peek_true n before own me comm source tag wait false stuck reply is = held_true n before own me (Peek comm source tag wait) (not wait) stuck reply is
 
 answer_true : (stuck : Type 0) (n : ℕ) (before : List Event) (own : View) (me : ℕ) (call : Call) (reply : Reply)

@@ -78,6 +78,7 @@ pub record IsPeeked (before : List Event) (me comm : ℕ) (source : Source) (tag
   pub dest : ℕ
   pub t : ℕ
   pub ints : List ℤ
+  pub sync : Bool
   pub sent : named before send ≡ Some (Send c dest t ints sync)
   pub accepted : accepts me comm source tag send.0 (Send c dest t ints sync) ≡ true
   pub unpaired : partner_of (pairs_of before) send ≡ None

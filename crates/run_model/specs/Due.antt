@@ -10,6 +10,7 @@ use Rattle.mpi_call.specs.declared.reply.Got.TheVariants.{Sent, Nothing, Message
 use Rattle.mpi_call.specs.declared.reply.Item.{Item}
 use Rattle.mpi_call.specs.declared.reply.Reply.{Reply}
 use Rattle.mpi_call.specs.declared.reply.Reply.TheVariants.{Took, Stopped}
+use Rattle.mpi_call.specs.declared.limits.TheConstants.{MOST_EVENTS, MOST_SIZE}
 use Rattle.mpi_call.specs.Calls.{comm_of, ints_of, listed_by}
 use Rattle.mpi_call.specs.Collectives.{agree}
 use Rattle.run_model.specs.declared.event.Event.{Event}
@@ -43,7 +44,7 @@ total_size (event ∷ events) = size_of event + total_size events
 
 -- the run is at its bound
 abbrev pub is_full : List Event → Bool
-is_full before = nat_le 999000 (length before) || nat_le 4194304 (total_size before)
+is_full before = nat_le MOST_EVENTS (length before) || nat_le MOST_SIZE (total_size before)
 
 abbrev pub or_else : Option Halt → Option Halt → Option Halt
 or_else (Some halt) other = Some halt

@@ -1,8 +1,9 @@
 -- What the views of lawful programs keep: what a rank knows of its communicators, and its Enters on them.
-use Rattle.std.specs.Prelude.{◌≡◌, ◌<◌, ◌≤◌, ℕ, ℤ, List, Some, true, length}
+use Rattle.std.specs.Prelude.{◌≡◌, ◌<◌, ◌≤◌, ℕ, ℤ, List, Some, Bool, true, length}
 use Rattle.mpi_call.specs.declared.call.Call.{Call}
 use Rattle.mpi_call.specs.declared.call.Call.TheVariants.{Send}
 use Rattle.mpi_call.specs.Collectives.{is_distinct, is_member, IsEnterOf}
+use Rattle.mpi_call.specs.declared.limits.TheConstants.{MOST_INTS}
 use Rattle.mpi_call.specs.Calls.{comm_of, is_enter}
 use Rattle.run_model.specs.Lists.{are_below}
 use Rattle.run_model.specs.Communicators.{Entered, enter_at, known_in}
@@ -34,4 +35,4 @@ pub record IsInOrder (n me : ℕ) (own : View) : Type 0 where
 -- each rank's view is in order, and no message is too long
 pub record AreInOrder (n : ℕ) (events : List Event) : Type 0 where
   pub ranks : (rank : ℕ) → rank < n → IsInOrder n rank (view_of events rank)
-  pub sends : (rank k comm dest tag : ℕ) (ints : List ℤ) (sync : Bool) → start_at (view_of events rank) k ≡ Some (Send comm dest tag ints sync) → length ints ≤ 65536
+  pub sends : (rank k comm dest tag : ℕ) (ints : List ℤ) (sync : Bool) → start_at (view_of events rank) k ≡ Some (Send comm dest tag ints sync) → length ints ≤ MOST_INTS

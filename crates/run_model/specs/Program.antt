@@ -9,6 +9,7 @@ use Rattle.mpi_call.specs.declared.call.Tag.{Tag}
 use Rattle.mpi_call.specs.declared.call.Tag.TheVariants.{Is}
 use Rattle.mpi_call.specs.declared.reply.Reply.{Reply}
 use Rattle.mpi_call.specs.declared.reply.Reply.TheVariants.{Done, Stopped}
+use Rattle.mpi_call.specs.declared.limits.TheConstants.{MOST_INTS, MOST_RANKS, MOST_RESULT_INTS, MOST_STARTS}
 use Rattle.mpi_call.specs.Collectives.{IsEnterOf, result_length}
 use Rattle.run_model.specs.declared.event.Event.{Event}
 use Rattle.run_model.specs.declared.program.Want.{Want}
@@ -35,9 +36,9 @@ ends (call, reply) = false
 
 -- the number of ranks and a rank
 abbrev pub IsRankOf : ℕ → ℕ → Type 0
-IsRankOf n rank = (0 < n) × (n ≤ 64) × (rank < n)
+IsRankOf n rank = (0 < n) × (n ≤ MOST_RANKS) × (rank < n)
 
--- first law: a rank makes no call exactly where it ended by Done to End or was Stopped
+-- first law: a rank makes no call if and only if it ended by Done to End or was Stopped
 abbrev pub EndsExactly : Next → Type 0
 EndsExactly next =
     (n rank : ℕ) (view : View) → IsRankOf n rank → IsViewOf next n rank view
@@ -57,14 +58,14 @@ abbrev pub IsTagInBounds : Tag → Type 0
 IsTagInBounds (Is tag) = tag < 2 ^ 31
 IsTagInBounds tag = Unit {0}
 
--- ranks are below n, tags at most 2147483647, a message at most 65,536 ints; a Take lists 1 to 1,000,000 starts, each
--- below 1,000,000 while the rank got fewer than 1,000,000 replies
+-- ranks are below n, tags are below 2 ^ 31 (that is, at most `GREATEST_TAG`), a message is not too long; a Take lists at
+-- least one start and not too many, and each number is small while the rank got few replies
 abbrev pub IsInBounds : ℕ → ℕ → Call → Type 0
-IsInBounds n got (Send comm dest tag ints sync) = (dest < n) × (tag < 2 ^ 31) × (length ints ≤ 65536)
+IsInBounds n got (Send comm dest tag ints sync) = (dest < n) × (tag < 2 ^ 31) × (length ints ≤ MOST_INTS)
 IsInBounds n got (Post comm source tag room) = IsSourceBelow n source × IsTagInBounds tag
 IsInBounds n got (Enter comm kind root op count ints) = IfSome root (λ rank. rank < n)
 IsInBounds n got (Take starts mode) =
-    (0 < length starts) × (length starts ≤ 1000000) × (got < 1000000 → All (λ k. k < 1000000) starts)
+    (0 < length starts) × (length starts ≤ MOST_STARTS) × (got < MOST_STARTS → All (λ k. k < MOST_STARTS) starts)
 IsInBounds n got (Peek comm source tag wait) = IsSourceBelow n source × IsTagInBounds tag
 IsInBounds n got call = Unit {0}
 
@@ -79,7 +80,7 @@ abbrev pub IsInForm : ℕ → View → ℕ → Call → Type 0
 IsInForm n own me (Enter comm kind root op count ints) =
     (members : List ℕ) × (known_in n own comm ≡ Some members)
     × IsEnterOf (Enter comm kind root op count ints) members me
-    × (result_length (Enter comm kind root op count ints) members me ≤ 262144)
+    × (result_length (Enter comm kind root op count ints) members me ≤ MOST_RESULT_INTS)
 IsInForm n own me call = Unit {0}
 
 -- fourth law: each Enter is in form

@@ -1,6 +1,6 @@
 -- Which starts are ready, and what a ready start gives.
 -- (MPI 3.1, "Communication Completion"; Collective Communication.)
-use Rattle.std.specs.Prelude.{◌≡◌, ℕ, ℤ, List, [], ◌∷◌, Option, Some, None, Bool, true, false, ◌==◌, Ok, is_some, slice_index}
+use Rattle.std.specs.Prelude.{◌≡◌, ℕ, ℤ, List, [], ◌∷◌, Option, Some, None, Bool, true, false, not, ◌||◌, ◌==◌, Ok, is_some, slice_index}
 use Rattle.mpi_call.specs.declared.call.Call.{Call}
 use Rattle.mpi_call.specs.declared.call.Call.TheVariants.{Send, Post, Enter}
 use Rattle.mpi_call.specs.declared.call.Source.TheVariants.{Null}
@@ -15,11 +15,13 @@ use Rattle.run_model.specs.Communicators.{members_in}
 use Rattle.run_model.specs.Inputs.{inputs_of, is_gathered}
 use Rattle.run_model.specs.Pairs.{Name, named, pairs_of, partner_of}
 
--- start k of rank `me`: a Send and a receive from the null process at once, another receive when it is paired,
--- a collective when each member that it needs has entered
+-- start k of rank `me`. A standard send is always buffered, so it is ready at once; a synchronous send (`sync`) is ready when
+-- a receive has matched it, that is, when it is paired. A receive from the null process is ready at once, another receive when it
+-- is paired, a collective when each member that its result needs has entered.
+-- (MPI 3.1, "Communication Modes": a synchronous send completes only when a matching receive has started to receive.)
 abbrev pub is_ready : ℕ → List Event → View → ℕ → ℕ → Option Call → Bool
 is_ready n before own me k None = false
-is_ready n before own me k (Some (Send comm dest tag ints sync)) = true
+is_ready n before own me k (Some (Send comm dest tag ints sync)) = not sync || is_some (partner_of (pairs_of before) (me, k))
 is_ready n before own me k (Some (Post comm Null tag room)) = true
 is_ready n before own me k (Some (Post comm source tag room)) = is_some (partner_of (pairs_of before) (me, k))
 is_ready n before own me k (Some (Enter comm kind root op count ints)) =
@@ -33,6 +35,7 @@ pub record IsMessage (before : List Event) (me k : ℕ) (got : Got) : Type 0 whe
   pub dest : ℕ
   pub tag : ℕ
   pub ints : List ℤ
+  pub sync : Bool
   pub paired : partner_of (pairs_of before) (me, k) ≡ Some send
   pub sent : named before send ≡ Some (Send comm dest tag ints sync)
   pub got_is : got ≡ Message send.0 send.1 tag ints

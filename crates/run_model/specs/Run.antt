@@ -1,13 +1,15 @@
 -- The runs that the matching rules allow.
-use Rattle.std.specs.Prelude.{◌≡◌, ◌<◌, ◌≤◌, ◌⊎◌, ℕ, List, [], ◌∷◌, ◌++◌, Some, None, false, ◌==◌, slice_index, IsTrue}
+use Rattle.std.specs.Prelude.{◌≡◌, ◌<◌, ◌≤◌, ℕ, List, [], ◌∷◌, ◌++◌, Some, None, false, ◌==◌, slice_index, IsTrue}
 use Rattle.mpi_call.specs.declared.call.Call.{Call}
 use Rattle.mpi_call.specs.declared.reply.Got.{Got}
 use Rattle.mpi_call.specs.declared.reply.Got.TheVariants.{Made}
 use Rattle.mpi_call.specs.declared.reply.Item.{Item}
 use Rattle.mpi_call.specs.declared.reply.Reply.{Reply}
 use Rattle.mpi_call.specs.declared.reply.Reply.TheVariants.{Took}
+use Rattle.mpi_call.specs.declared.limits.TheConstants.{MOST_RANKS}
 use Rattle.mpi_call.specs.Calls.{comm_of, listed_by}
 use Rattle.mpi_call.specs.Collectives.{colour_of}
+use Rattle.mpi_call.specs.Lists.{IsIn}
 use Rattle.run_model.specs.declared.event.Event.{Event}
 use Rattle.run_model.specs.Lists.{Along}
 use Rattle.run_model.specs.Views.{View, Next, view_of, replies_in, start_at, is_start}
@@ -32,29 +34,29 @@ abbrev pub numbers_of : View → List (ℕ × ℕ)
 numbers_of [] = []
 numbers_of ((call, reply) ∷ view) = numbers_in_reply call reply ++ numbers_of view
 
-abbrev pub IsIn : Name → List Name → Type 0
-IsIn a [] = ⊥
-IsIn a (x ∷ xs) = (x ≡ a) ⊎ IsIn a xs
+-- of two ranks, a start of one and a start of the other are Enters of one instance and, for Split, of one colour
+pub record SameOrigin (views : ℕ → View) (rank start rank' start' : ℕ) (enter enter' : Call) : Type 0 where
+  pub comm : comm_of enter ≡ comm_of enter'
+  pub instance : instance_of (views rank) start (comm_of enter) ≡ instance_of (views rank') start' (comm_of enter')
+  pub colour : colour_of enter ≡ colour_of enter'
 
--- start k of rank r and start l of rank s are Enters of one instance and, for Split, of one colour
-pub record SameOrigin (V : ℕ → View) (r k s l : ℕ) (one two : Call) : Type 0 where
-  pub comm : comm_of one ≡ comm_of two
-  pub instance : instance_of (V r) k (comm_of one) ≡ instance_of (V s) l (comm_of two)
-  pub colour : colour_of one ≡ colour_of two
+-- two Made replies, with numbers above 0, for a rank's Enter and for a rank's Enter
+pub record MadeTwo (views : ℕ → View) (rank number start rank' number' start' : ℕ) (enter enter' : Call) : Type 0 where
+  pub first : IsIn (number, start) (numbers_of (views rank))
+  pub second : IsIn (number', start') (numbers_of (views rank'))
+  pub first_new : (number == 0) ≡ false
+  pub second_new : (number' == 0) ≡ false
+  pub first_enter : start_at (views rank) start ≡ Some enter
+  pub second_enter : start_at (views rank') start' ≡ Some enter'
 
--- two Made replies, of rank r's Enter k and rank s's Enter l, with numbers above 0
-pub record MadeTwo (V : ℕ → View) (r c k s d l : ℕ) (one two : Call) : Type 0 where
-  pub first : IsIn (c, k) (numbers_of (V r))
-  pub second : IsIn (d, l) (numbers_of (V s))
-  pub first_new : (c == 0) ≡ false
-  pub second_new : (d == 0) ≡ false
-  pub first_enter : start_at (V r) k ≡ Some one
-  pub second_enter : start_at (V s) l ≡ Some two
-
--- they have the same number exactly where they have the same origin
-pub record AreNumbered (V : ℕ → View) : Type 0 where
-  pub origin : (r c k s d l : ℕ) (one two : Call) → MadeTwo V r c k s d l one two → c ≡ d → SameOrigin V r k s l one two
-  pub number : (r c k s d l : ℕ) (one two : Call) → MadeTwo V r c k s d l one two → SameOrigin V r k s l one two → c ≡ d
+-- they have the same number if and only if they have the same origin
+pub record AreNumbered (views : ℕ → View) : Type 0 where
+  pub origin : (rank number start rank' number' start' : ℕ) (enter enter' : Call)
+      → MadeTwo views rank number start rank' number' start' enter enter'
+      → number ≡ number' → SameOrigin views rank start rank' start' enter enter'
+  pub number : (rank number start rank' number' start' : ℕ) (enter enter' : Call)
+      → MadeTwo views rank number start rank' number' start' enter enter'
+      → SameOrigin views rank start rank' start' enter enter' → number ≡ number'
 
 -- a mate is the position of an earlier unpaired start, and only a start has one
 abbrev pub HasMate : List Event → Event → Type 0
@@ -76,5 +78,5 @@ pub record IsEvent (next : Next) (n : ℕ) (before : List Event) (event : Event)
 -- a run, finished or not, of a program on n ranks
 pub record IsRun (next : Next) (n : ℕ) (events : List Event) : Type 0 where
   pub some : 0 < n
-  pub few : n ≤ 64
+  pub few : n ≤ MOST_RANKS
   pub along : Along (IsEvent next n) [] events

@@ -32,9 +32,9 @@ is_test TestSeveral = true
 is_test mode = false
 
 -- indices rise from `low` on and stay below `len`
-abbrev pub rises : ℕ → ℕ → List ℕ → Bool
-rises low len [] = true
-rises low len (index ∷ indices) = nat_le low index && (nat_lt index len && rises (index + 1) len indices)
+abbrev pub rise_within : ℕ → ℕ → List ℕ → Bool
+rise_within low len [] = true
+rise_within low len (index ∷ indices) = nat_le low index && (nat_lt index len && rise_within (index + 1) len indices)
 
 -- how many of the listed starts a mode completes: all of them, one, or at least one
 abbrev pub has_count : TakeMode → ℕ → ℕ → Bool
@@ -115,6 +115,6 @@ has_shape n me own (Peek comm source tag wait) NotYet = not wait
 has_shape n me own (Peek comm from tag wait) (Peeked source start t count) = source_agrees from source && tag_agrees tag t
 has_shape n me own (Take starts mode) (Took items) =
     has_count mode (length starts) (length items)
-    && (rises 0 (length starts) (map (λ (item : Item). item.index) items)
+    && (rise_within 0 (length starts) (map (λ (item : Item). item.index) items)
     && (list_all (λ k. can_take own k) starts && gots_fit n own me starts items))
 has_shape n me own call reply = false

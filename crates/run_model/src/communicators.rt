@@ -1,11 +1,12 @@
 //! The communicators that a rank knows, and lists of members.
 ghost use Rattle.std.specs.Prelude.{◌≡◌, None, length, option_map};
-ghost use Rattle.mpi_call.specs.Collectives.{is_distinct, is_member};
+ghost use Rattle.mpi_call.specs.Members.{is_distinct};
 ghost use Rattle.run_model.specs.Communicators.{known_after, learned, made_in_items, members_in};
 ghost use Rattle.run_model.specs.Lists.{are_below, same_ranks, world};
 
 use mpi_call::call::{Call, Comm};
 use mpi_call::lists::Ranks;
+use mpi_call::members::is_member;
 use mpi_call::reply::{Got, Item, Reply};
 
 /// How many members a communicator has for a rank that has seen this; an unknown one has none.
@@ -100,13 +101,6 @@ fn made_in_items(items: &[Item], comm: Comm) -> Option<&Ranks>
     None
 }
 
-/// Whether a rank is among these.
-pub fn is_among(members: &[u8], rank: u8) -> bool
-    ensures { result ≡ is_member members.now rank }
-{
-    members.iter().any(|member| *member == rank)
-}
-
 /// Whether all of these are below n.
 pub fn are_below(n: u8, members: &[u8]) -> bool
     ensures { result ≡ are_below n members.now }
@@ -127,7 +121,7 @@ pub fn are_distinct(members: &[u8]) -> bool
 {
     let mut rest = members;
     while let [member, after @ ..] = rest {
-        if is_among(after, *member) {
+        if is_member(after, *member) {
             return false;
         }
         rest = after;

@@ -4,7 +4,7 @@ ghost use Rattle.std.specs.Prelude.{◌≡◌, ◌++◌, ◌∷◌, [], OnOk, If
 use mpi_call::call::Call;
 use mpi_call::lists::Ints;
 use mpi_call::reply::Reply;
-use std::alloc::Global;
+use std::alloc::{AllocFailed, Global};
 use std::marker::Model;
 use wiz_base::bytes::Bytes;
 
@@ -34,16 +34,13 @@ impl View {
         }
     }
 
-    /// Adds a call and its reply at the end. For want of memory it comes back and nothing has changed.
-    pub fn push(&mut self, value: (Call, Reply)) -> Result<(), (Call, Reply)>
+    /// Adds a call and its reply at the end. When out of memory, the error gives it back and nothing has changed.
+    pub fn push(&mut self, value: (Call, Reply)) -> Result<(), AllocFailed<(Call, Reply)>>
         ensures ok { OnOk result (self.new ≡ self.old ++ value ∷ []) }
         ensures err { OnErr result (self.new ≡ self.old) }
-        ensures back { IfErr result (λ refused. refused ≡ value) }
+        ensures back { IfErr result (λ refused. refused.value ≡ value) }
     {
-        match self.values.push(value) {
-            Ok(()) => Ok(()),
-            Err(refused) => Err(refused.value),
-        }
+        self.values.push(value)
     }
 
     /// The elements in order.
@@ -78,16 +75,13 @@ impl Outputs {
         }
     }
 
-    /// Adds a rank's bytes at the end. For want of memory it comes back and nothing has changed.
-    pub fn push(&mut self, value: Bytes) -> Result<(), Bytes>
+    /// Adds a rank's bytes at the end. When out of memory, the error gives it back and nothing has changed.
+    pub fn push(&mut self, value: Bytes) -> Result<(), AllocFailed<Bytes>>
         ensures ok { OnOk result (self.new ≡ self.old ++ value ∷ []) }
         ensures err { OnErr result (self.new ≡ self.old) }
-        ensures back { IfErr result (λ refused. refused ≡ value) }
+        ensures back { IfErr result (λ refused. refused.value ≡ value) }
     {
-        match self.values.push(value) {
-            Ok(()) => Ok(()),
-            Err(refused) => Err(refused.value),
-        }
+        self.values.push(value)
     }
 
     /// The elements in order.
@@ -134,16 +128,13 @@ impl Variables {
         }
     }
 
-    /// Adds a variable at the end. For want of memory it comes back and nothing has changed.
-    pub fn push(&mut self, value: Variable) -> Result<(), Variable>
+    /// Adds a variable at the end. When out of memory, the error gives it back and nothing has changed.
+    pub fn push(&mut self, value: Variable) -> Result<(), AllocFailed<Variable>>
         ensures ok { OnOk result (self.new ≡ self.old ++ value ∷ []) }
         ensures err { OnErr result (self.new ≡ self.old) }
-        ensures back { IfErr result (λ refused. refused ≡ value) }
+        ensures back { IfErr result (λ refused. refused.value ≡ value) }
     {
-        match self.values.push(value) {
-            Ok(()) => Ok(()),
-            Err(refused) => Err(refused.value),
-        }
+        self.values.push(value)
     }
 
     /// The elements in order.

@@ -21,7 +21,7 @@ pub trait Program {
     /// What stands before that call.
     ghost variables: { Self → ℕ → ℕ → List Reply → List Variable };
 
-    /// A rank has ended exactly where it got Done to End, or Stopped.
+    /// A rank has ended if and only if it got Done to End, or Stopped.
     ghost ends_exactly: { (p : Self) → EndsExactly (next p) };
 
     /// What is printed stays printed.

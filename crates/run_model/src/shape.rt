@@ -5,17 +5,17 @@ ghost use Rattle.std.specs.List.{list_all};
 ghost use Rattle.mpi_call.specs.declared.reply.Got.TheVariants.{Nothing, Message, Joined, Made};
 ghost use Rattle.mpi_call.specs.declared.reply.Item.{Item};
 ghost use Rattle.mpi_call.specs.Collectives.{is_distinct, is_member, result_length};
-ghost use Rattle.mpi_call.specs.Halts.{fault_number};
 ghost use Rattle.run_model.specs.Fits.{fit_of};
 ghost use Rattle.run_model.specs.Lists.{are_below};
-ghost use Rattle.run_model.specs.Shape.{can_take, got_fits, gots_fit, halt_fits, has_count, has_shape, is_abort_of, is_test, is_trap_of, lists_start, rises};
+ghost use Rattle.run_model.specs.Shape.{can_take, got_fits, gots_fit, halt_fits, has_count, has_shape, is_abort_of, is_test, is_trap_of, lists_start, rise_within};
 ghost use Rattle.run_model.specs.Views.{View};
 
-use crate::communicators::{are_below, are_distinct, are_the_members, count_members, is_among};
+use crate::communicators::{are_below, are_distinct, are_the_members, count_members};
 use crate::lists::View;
 use crate::starts::{find_start, is_taken};
 use mpi_call::acceptance::{is_source_of, is_tag_of};
 use mpi_call::call::{Call, Comm, Fault, Halt, Kind, Source, TakeMode};
+use mpi_call::members::is_member;
 use mpi_call::needs::{UNDEFINED, colour_in, is_root};
 use mpi_call::reply::{Got, Item, Reply};
 
@@ -78,7 +78,7 @@ fn took_fits(
     mode: TakeMode,
     items: &[Item],
 ) -> bool
-    ensures { result ≡ (has_count mode (length starts.now) (length items.now) && (rises 0 (length starts.now) (map (λ (item : Item). item.index) items.now) && (list_all (λ k. can_take view.now k) starts.now && gots_fit n view.now rank starts.now items.now))) }
+    ensures { result ≡ (has_count mode (length starts.now) (length items.now) && (rise_within 0 (length starts.now) (map (λ (item : Item). item.index) items.now) && (list_all (λ k. can_take view.now k) starts.now && gots_fit n view.now rank starts.now items.now))) }
 {
     has_count(mode, starts.len(), items.len())
         && do_rise(starts.len(), items)
@@ -107,7 +107,7 @@ pub fn has_count(mode: TakeMode, starts: usize, items: usize) -> bool
 
 /// Whether the indices rise and stay below a length.
 fn do_rise(len: usize, items: &[Item]) -> bool
-    ensures { result ≡ rises 0 len (map (λ (item : Item). item.index) items.now) }
+    ensures { result ≡ rise_within 0 len (map (λ (item : Item). item.index) items.now) }
 {
     let mut low = 0;
     let mut rest = items;
@@ -184,25 +184,8 @@ fn is_trap_of(fault: Fault, call: &Call) -> bool
     ensures { result ≡ is_trap_of fault call.now }
 {
     match call {
-        Call::Trap { fault: other } => number_of(fault) == number_of(*other),
+        Call::Trap { fault: other } => fault == *other,
         _ => false,
-    }
-}
-
-fn number_of(fault: Fault) -> u8
-    ensures { result ≡ fault_number fault }
-{
-    match fault {
-        Fault::DivideByZero => 1,
-        Fault::OutOfBounds => 2,
-        Fault::BadRank => 3,
-        Fault::BadTag => 4,
-        Fault::BadCount => 5,
-        Fault::BadComm => 6,
-        Fault::Budget => 7,
-        Fault::OutputFull => 8,
-        Fault::Depth => 9,
-        Fault::Cells => 10,
     }
 }
 
@@ -362,5 +345,5 @@ fn made_fits(
 pub fn are_members(n: u8, rank: u8, members: &[u8]) -> bool
     ensures { result ≡ (are_below n members.now && (is_distinct members.now && is_member members.now rank)) }
 {
-    are_below(n, members) && are_distinct(members) && is_among(members, rank)
+    are_below(n, members) && are_distinct(members) && is_member(members, rank)
 }

@@ -1,15 +1,14 @@
 //! Looking starts up in what a rank has seen.
-ghost use Rattle.std.specs.Prelude.{◌≡◌, ◌&&◌, ◌∷◌, [], option_map};
-ghost use Rattle.mpi_call.specs.Calls.{is_starting};
-ghost use Rattle.mpi_call.specs.Collectives.{is_member};
-ghost use Rattle.run_model.specs.Views.{is_done, items_taken, start_at, taken_of};
+ghost use Rattle.std.specs.Prelude.{◌≡◌, ◌∷◌, [], option_map};
+ghost use Rattle.mpi_call.specs.Members.{is_member};
+ghost use Rattle.run_model.specs.Views.{is_start, items_taken, start_at, taken_of};
 
 use mpi_call::call::Call;
 use mpi_call::reply::{Item, Reply};
 
 /// Whether a call with this reply is a start.
 pub fn is_start(call: &Call, reply: &Reply) -> bool
-    ensures { result ≡ is_starting call.now && is_done reply.now }
+    ensures { result ≡ is_start (call.now, reply.now) }
 {
     matches!(
         call,
@@ -36,7 +35,7 @@ pub fn find_start(view: &[(Call, Reply)], number: u32) -> Option<&Call>
 }
 
 /// Whether a start is among those that these items completed. An index past the list reads 0.
-fn is_among(starts: &[u32], items: &[Item], number: u32) -> bool
+fn is_completed(starts: &[u32], items: &[Item], number: u32) -> bool
     ensures { result ≡ is_member (items_taken starts.now items.now) number }
 {
     let mut rest = items;
@@ -56,8 +55,12 @@ pub fn is_taken_by(call: &Call, reply: &Reply, number: u32) -> bool
 {
     match reply {
         Reply::Took(items) => match call {
-            Call::Take { starts, mode: _ } => is_among(starts.as_slice(), items.as_slice(), number),
-            _ => is_among(&[], items.as_slice(), number),
+            Call::Take { starts, mode: _ } => is_completed(
+                starts.as_slice(),
+                items.as_slice(),
+                number,
+            ),
+            _ => is_completed(&[], items.as_slice(), number),
         },
         _ => false,
     }

@@ -27,7 +27,7 @@ use Rattle.run_model.specs.Communicators.{Entered, enter_at, instance_of, known_
 use Rattle.run_model.specs.Forms.{AreInOrder, AreMembers}
 use Rattle.run_model.specs.Inputs.{inputs_of}
 use Rattle.run_model.specs.Lists.{are_below, same_ranks}
-use Rattle.run_model.specs.Shape.{are_members, can_take, got_fits, gots_fit, has_count, has_shape, is_dup, is_sized, rises}
+use Rattle.run_model.specs.Shape.{are_members, can_take, got_fits, gots_fit, has_count, has_shape, is_dup, is_sized, rise_within}
 use Rattle.run_model.specs.Views.{View, start_at, view_of}
 use Rattle.run_model.proofs.MemberLists.{AreMembers-made, same_ranks-refl}
 use Rattle.run_model.proofs.Enters.{own_at}
@@ -87,7 +87,7 @@ send_fits-other me source (Some taker) call h = refl
 -- what an entry of completed starts asks of the call
 pub record TakeFits (n : ℕ) (group : List ℕ) (me : ℕ) (own : View) (starts : List ℕ) (mode : TakeMode) (marks : List Marked) : Type 0 where
   pub count : has_count mode (length starts) (length marks) ≡ true
-  pub indices : rises 0 (length starts) (map (λ (marked : Marked). marked.index) marks) ≡ true
+  pub indices : rise_within 0 (length starts) (map (λ (marked : Marked). marked.index) marks) ≡ true
   pub open_starts : list_all (λ k. can_take own k) starts ≡ true
   pub marks_are : marks_fit n group me own starts marks ≡ true
 
@@ -95,7 +95,7 @@ pub TakeFits-fits : (n : ℕ) (group : List ℕ) (me : ℕ) (own : View) (starts
 unfolding fits
 TakeFits-fits n group me own starts mode marks h =
     let one = both (has_count mode (length starts) (length marks)) _ h in
-    let two = both (rises 0 (length starts) (map (λ (marked : Marked). marked.index) marks)) _ one.1 in
+    let two = both (rise_within 0 (length starts) (map (λ (marked : Marked). marked.index) marks)) _ one.1 in
     let three = both (list_all (λ k. can_take own k) starts) (marks_fit n group me own starts marks) two.1 in
     record { count = one.0; indices = two.0; open_starts = three.0; marks_are = three.1 }
 

@@ -11,7 +11,7 @@ use Rattle.mpi_call.specs.declared.reply.Reply.TheVariants.{Done, Took, NotYet, 
 use Rattle.mpi_call.specs.Calls.{is_starting, listed_by}
 use Rattle.mpi_call.specs.Collectives.{is_member}
 use Rattle.run_model.specs.declared.event.Event.{Event}
-use Rattle.run_model.specs.Shape.{can_take, gots_fit, has_count, has_shape, rises}
+use Rattle.run_model.specs.Shape.{can_take, gots_fit, has_count, has_shape, rise_within}
 use Rattle.run_model.specs.Views.{View, is_start, items_taken, start_at, starts_of, taken_of, view_of}
 use Rattle.run_model.proofs.StartLemmas.{slice_get-append, slice_get-below, slice_get-last, slice_get-push, starts_of-append}
 use Rattle.run_model.proofs.Views.{length-view_of, option_cases, test_cases, view_of-other, view_of-own}
@@ -330,11 +330,11 @@ listed_made own (k ∷ starts) zero all h =
 listed_made own (k ∷ starts) (suc index) all h =
     listed_made own starts index (and_parts (can_take own k) (list_all (λ k. can_take own k) starts) all).1 (omega (arith, h))
 
-completed_made : (own : View) (starts : List ℕ) (low : ℕ) (items : List Item) (k : ℕ) → rises low (length starts) (map (λ (item : Item). item.index) items) ≡ true → list_all (λ k. can_take own k) starts ≡ true → is_member (items_taken starts items) k ≡ true → is_some (start_at own k) ≡ true
+completed_made : (own : View) (starts : List ℕ) (low : ℕ) (items : List Item) (k : ℕ) → rise_within low (length starts) (map (λ (item : Item). item.index) items) ≡ true → list_all (λ k. can_take own k) starts ≡ true → is_member (items_taken starts items) k ≡ true → is_some (start_at own k) ≡ true
 completed_made own starts low [] k rising all h = absurd (cc)
 completed_made own starts low (item ∷ items) k rising all h =
-    let one = and_parts (nat_le low item.index) (nat_lt item.index (length starts) && rises (item.index + 1) (length starts) (map (λ (item : Item). item.index) items)) rising in
-    let two = and_parts (nat_lt item.index (length starts)) (rises (item.index + 1) (length starts) (map (λ (item : Item). item.index) items)) one.1 in
+    let one = and_parts (nat_le low item.index) (nat_lt item.index (length starts) && rise_within (item.index + 1) (length starts) (map (λ (item : Item). item.index) items)) rising in
+    let two = and_parts (nat_lt item.index (length starts)) (rise_within (item.index + 1) (length starts) (map (λ (item : Item). item.index) items)) one.1 in
     elim (or_cases (slice_index starts item.index == k) (is_member (items_taken starts items) k) h) [
       | inl here ↦ (
           let F : ℕ → Type 0 = λ number. is_some (start_at own number) ≡ true in
@@ -345,7 +345,7 @@ completed_made own starts low (item ∷ items) k rising all h =
 pub takes_made : (n me : ℕ) (own : View) (call : Call) (reply : Reply) → has_shape n me own call reply ≡ true → TakesMade own call reply
 takes_made n me own (Take starts mode) (Took items) shape k h =
     let one = and_parts (has_count mode (length starts) (length items)) _ shape in
-    let two = and_parts (rises 0 (length starts) (map (λ (item : Item). item.index) items)) _ one.1 in
+    let two = and_parts (rise_within 0 (length starts) (map (λ (item : Item). item.index) items)) _ one.1 in
     let three = and_parts (list_all (λ k. can_take own k) starts) (gots_fit n own me starts items) two.1 in
     completed_made own starts 0 items k two.0 three.0 (rw append-nil at h)
 takes_made n me own call (Took items) shape k h = absurd (cc)

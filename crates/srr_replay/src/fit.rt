@@ -5,7 +5,7 @@ ghost use Rattle.mpi_call.specs.Calls.{comm_of, is_enter, makes};
 ghost use Rattle.mpi_call.specs.Collectives.{IsEnterOf, is_member, is_uncoloured, needs};
 ghost use Rattle.run_model.specs.Communicators.{members_in};
 ghost use Rattle.run_model.specs.Forms.{IsInOrder};
-ghost use Rattle.run_model.specs.Shape.{are_members, can_take, is_dup, is_sized, rises};
+ghost use Rattle.run_model.specs.Shape.{are_members, can_take, is_dup, is_sized, rise_within};
 ghost use Rattle.run_model.specs.Views.{View, start_at, view_of};
 ghost use Rattle.srr_entry.specs.declared.entry.Mark.TheVariants.{Nothing, Inside, Outside};
 ghost use Rattle.srr_entry.specs.declared.entry.Marked.{Marked};
@@ -17,8 +17,9 @@ use crate::seen::Seen;
 use mpi_call::acceptance::{is_source_of, is_tag_of};
 use mpi_call::call::{Call, Comm, Kind, Source};
 use mpi_call::lists::Ranks;
+use mpi_call::members::is_member;
 use mpi_call::needs::{UNDEFINED, colour_in, needs};
-use run_model::communicators::{are_same, is_among};
+use run_model::communicators::are_same;
 use run_model::shape;
 use srr_entry::entry::{Entry, Mark, Marked};
 
@@ -68,7 +69,7 @@ pub fn fits(group: &[u8], seen: &Seen, asked: &Asked<'_>, entry: &Entry) -> bool
 
 /// Whether the indices rise and stay below a length.
 fn do_rise(len: usize, marks: &[Marked]) -> bool
-    ensures { result ≡ rises 0 len (map (λ (marked : Marked). marked.index) marks.now) }
+    ensures { result ≡ rise_within 0 len (map (λ (marked : Marked). marked.index) marks.now) }
 {
     let mut low = 0;
     let mut rest = marks;
@@ -250,7 +251,7 @@ fn are_within(group: &[u8], call: &Call, members: &Ranks, rank: u8) -> bool
 {
     let mut rest = members.as_slice();
     while let [member, after @ ..] = rest {
-        if needs(call, members, rank, *member) && !is_among(group, *member) {
+        if needs(call, members, rank, *member) && !is_member(group, *member) {
             return false;
         }
         rest = after;

@@ -1,7 +1,7 @@
 use Rattle.std.proofs.Common.{◌≡◌, length}
 use Rattle.mpi_call.specs.Collectives.{is_member}
 use Rattle.run_model.specs.Views.{items_taken}
-use Rattle.run_model.proofs.starts.is_among.Given as goal
+use Rattle.run_model.proofs.starts.is_completed.Given as goal
 
 abbrev pub invariant-loop-rest : goal.invariant-loop-rest
 invariant-loop-rest l = is_member (items_taken l.starts l.rest) l.number ≡ is_member (items_taken l.starts l.items) l.number
