@@ -8,9 +8,9 @@ use Rattle.c_program.specs.Performing.{Onward}
 use Rattle.c_program.specs.State.{State}
 use Rattle.c_run_replies.proofs.MoreReplies.{after-over}
 use Rattle.c_eval.specs.declared.outcome.Stop.{Stop}
-use Rattle.c_run_parts.specs.Comes.{Fails, Leads}
-use Rattle.c_run_parts.specs.declared.fail.Fail.{Fail}
-use Rattle.c_run_parts.specs.declared.fail.Fail.TheVariants.{Memory as NoMemory, Trapped as FailsAt}
+use Rattle.c_run_cells.specs.Comes.{Fails, Leads}
+use Rattle.c_run_cells.specs.declared.fail.Fail.{Fail}
+use Rattle.c_run_cells.specs.declared.fail.Fail.TheVariants.{Memory as NoMemory, Trapped as FailsAt}
 use Rattle.c_eval.specs.Evaluated.{Evaluated, GoesOn, StopsAt, stop_of}
 
 -- ---- the end of a rank

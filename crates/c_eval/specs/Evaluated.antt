@@ -6,8 +6,8 @@ use Rattle.c_program.specs.Courses.{Course, Asks, Over as OverCourse, after, tra
 use Rattle.c_program.specs.Meaning.{Passing}
 use Rattle.c_program.specs.Performing.{Onward}
 use Rattle.c_program.specs.State.{State}
-use Rattle.c_run_parts.specs.declared.fail.Fail.{Fail}
-use Rattle.c_run_parts.specs.declared.fail.Fail.TheVariants.{Memory as NoMemory, Trapped as FailsAt}
+use Rattle.c_run_cells.specs.declared.fail.Fail.{Fail}
+use Rattle.c_run_cells.specs.declared.fail.Fail.TheVariants.{Memory as NoMemory, Trapped as FailsAt}
 use Rattle.c_eval.specs.declared.outcome.Stop.{Stop}
 use Rattle.c_eval.specs.declared.outcome.Stop.TheVariants.{Memory, Trapped, Waits, Over}
 
@@ -21,7 +21,7 @@ pub record StandsAt (course : Course) (call : Call) (s : State) : Type 0 where
   pub go : Reply → Course
   pub is : course ≡ Asks s call go
 
--- where a course stands at which evaluation has stopped; for want of memory nothing is known
+-- where a course stands at which evaluation has stopped; out of memory nothing is known
 abbrev pub StopsAt : Course → Stop → State → List Reply → Type 0
 StopsAt course Memory t rest = Unit {0}
 StopsAt course (Trapped fault) t rest = course ≡ after (trapped fault t) rest

@@ -16,9 +16,9 @@ abbrev pub Wants : Course → Want → State → Type 0
 Wants course (Ask call) s = StandsAt course call s
 Wants course Ended s = course ≡ Over s
 
--- the replies were in shape, and the store is that of the last call that was asked for
-pub record IsRankAt (program : CProgram) (rank : Rank) (replies : List Reply) (asked : Bool) (store : State) : Type 0 where
+-- the replies were in shape, and the state is that of the last call that was asked for
+pub record IsRankAt (program : CProgram) (rank : Rank) (replies : List Reply) (asked : Bool) (state : State) : Type 0 where
   pub member : rank.number < rank.ranks
   pub few : rank.ranks ≤ 64
   pub shaped : course_after program rank.ranks rank.number replies ≡ after (course_of program rank) replies
-  pub stands : asked ≡ true → state_in (after (course_of program rank) replies) ≡ store
+  pub stands : asked ≡ true → state_in (after (course_of program rank) replies) ≡ state

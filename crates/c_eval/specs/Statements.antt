@@ -8,7 +8,7 @@ use Rattle.c_program.specs.declared.expr.Right.{Right}
 use Rattle.c_program.specs.declared.statement.Stmt.{Stmt}
 use Rattle.c_program.specs.Meaning.{Calls, Meaning, Passing, act, choose, right, started, test, trying}
 use Rattle.c_program.specs.Values.{cell_of}
-use Rattle.c_run_parts.specs.Parts.{assigned}
+use Rattle.c_run_cells.specs.Parts.{assigned}
 
 -- ---- assignments
 

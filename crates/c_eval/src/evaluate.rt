@@ -14,10 +14,10 @@ use c_names::operator::Operator;
 use c_program::expr::{Expr, FunctionCall, Place, Right};
 use c_program::state::Passed;
 use c_program::statement::{ForStart, InitDeclarator, Initializer, Part, Simple, Stmt};
-use c_run_cells::store::Store;
-use c_run_parts::parts::{
+use c_run_cells::parts::{
     add, arguments_of, enter, function_at, print, put_assigned, put_values_of, take_step,
 };
+use c_run_cells::state::RankState;
 use mpi_call::call::Fault;
 
 // ---- what has one way out
@@ -27,15 +27,15 @@ use mpi_call::call::Fault;
 fn invoke<'p>(
     calls: &Calls<'p>,
     call: &'p FunctionCall,
-    store: &mut Store<'p>,
+    state: &mut RankState<'p>,
     replies: &mut Replies,
 ) -> Result<i32, Stop>
     requires { calls.now.rank.ranks ≤ 64 }
-    ensures { Gives (invoke (calls_of calls.now) call.now) store.old replies.old result store.new replies.new }
+    ensures { Gives (invoke (calls_of calls.now) call.now) state.old replies.old result state.new replies.new }
 {
-    take_step(store)?;
-    let arguments = arguments_of(calls.alloc, &call.arguments, store)?;
-    call_function(calls, call.function, &arguments, store, replies)
+    take_step(state)?;
+    let arguments = arguments_of(calls.alloc, &call.arguments, state)?;
+    call_function(calls, call.function, &arguments, state, replies)
 }
 
 /// The call of a function by its number, once its arguments are evaluated.
@@ -44,11 +44,11 @@ pub fn call_function<'p>(
     calls: &Calls<'p>,
     number: usize,
     arguments: &[Passed],
-    store: &mut Store<'p>,
+    state: &mut RankState<'p>,
     replies: &mut Replies,
 ) -> Result<i32, Stop>
     requires { calls.now.rank.ranks ≤ 64 }
-    ensures { Gives (calls_of calls.now number arguments.now) store.old replies.old result store.new replies.new }
+    ensures { Gives (calls_of calls.now number arguments.now) state.old replies.old result state.new replies.new }
 {
     if calls.depth == 0 {
         return Err(Stop::Trapped(Fault::Depth));
@@ -56,16 +56,16 @@ pub fn call_function<'p>(
     let Some(function) = function_at(calls.functions, number) else {
         return Err(Stop::Trapped(Fault::Depth));
     };
-    let mark = store.mark();
-    enter(function, arguments, store)?;
+    let mark = state.mark();
+    enter(function, arguments, state)?;
     let inner = Calls {
         alloc: calls.alloc,
         rank: calls.rank,
         functions: calls.functions,
         depth: calls.depth - 1,
     };
-    let flow = run_list(&inner, &function.body, store, replies)?;
-    store.leave(mark);
+    let flow = run_list(&inner, &function.body, state, replies)?;
+    state.leave(mark);
     Ok(value_in(flow))
 }
 
@@ -84,15 +84,15 @@ fn value_in(flow: Flow) -> i32
 fn value_of<'p>(
     calls: &Calls<'p>,
     one: &'p Right,
-    store: &mut Store<'p>,
+    state: &mut RankState<'p>,
     replies: &mut Replies,
 ) -> Result<i32, Stop>
     requires { calls.now.rank.ranks ≤ 64 }
-    ensures { Gives (right (calls_of calls.now) one.now) store.old replies.old result store.new replies.new }
+    ensures { Gives (right (calls_of calls.now) one.now) state.old replies.old result state.new replies.new }
 {
     match one {
-        Right::Value(expression) => Ok(store.value(expression)?),
-        Right::Call(call) => invoke(calls, call, store, replies),
+        Right::Value(expression) => Ok(state.value(expression)?),
+        Right::Call(call) => invoke(calls, call, state, replies),
     }
 }
 
@@ -103,15 +103,15 @@ fn assign<'p>(
     place: &'p Place,
     operator: Option<Operator>,
     right: &'p Right,
-    store: &mut Store<'p>,
+    state: &mut RankState<'p>,
     replies: &mut Replies,
 ) -> Result<(), Stop>
     requires { calls.now.rank.ranks ≤ 64 }
-    ensures { Passes (assigns (calls_of calls.now) place.now operator right.now) store.old replies.old result store.new replies.new }
+    ensures { Passes (assigns (calls_of calls.now) place.now operator right.now) state.old replies.old result state.new replies.new }
 {
-    let cell = store.cell_of(place)?;
-    let value = value_of(calls, right, store, replies)?;
-    Ok(put_assigned(operator, cell, value, store)?)
+    let cell = state.cell_of(place)?;
+    let value = value_of(calls, right, state, replies)?;
+    Ok(put_assigned(operator, cell, value, state)?)
 }
 
 /// A statement that stands before a `;`.
@@ -119,25 +119,25 @@ fn assign<'p>(
 fn run_simple<'p>(
     calls: &Calls<'p>,
     one: &'p Simple,
-    store: &mut Store<'p>,
+    state: &mut RankState<'p>,
     replies: &mut Replies,
 ) -> Result<(), Stop>
     requires { calls.now.rank.ranks ≤ 64 }
-    ensures { Passes (simple calls.now.rank (calls_of calls.now) one.now) store.old replies.old result store.new replies.new }
+    ensures { Passes (simple calls.now.rank (calls_of calls.now) one.now) state.old replies.old result state.new replies.new }
 {
     match one {
-        Simple::Set { place, right } => assign(calls, place, None, right, store, replies),
+        Simple::Set { place, right } => assign(calls, place, None, right, state, replies),
         Simple::Update {
             place,
             operator,
             right,
-        } => assign(calls, place, Some(*operator), right, store, replies),
+        } => assign(calls, place, Some(*operator), right, state, replies),
         Simple::Call(call) => {
-            invoke(calls, call, store, replies)?;
+            invoke(calls, call, state, replies)?;
             Ok(())
         }
-        Simple::Mpi(call) => call_mpi(calls.alloc, calls.rank, call, store, replies),
-        Simple::Print { format, arguments } => Ok(print(calls.alloc, format, arguments, store)?),
+        Simple::Mpi(call) => call_mpi(calls.alloc, calls.rank, call, state, replies),
+        Simple::Print { format, arguments } => Ok(print(calls.alloc, format, arguments, state)?),
         Simple::Flush => Ok(()),
     }
 }
@@ -147,21 +147,21 @@ fn run_simple<'p>(
 fn declare<'p>(
     calls: &Calls<'p>,
     item: &'p InitDeclarator,
-    store: &mut Store<'p>,
+    state: &mut RankState<'p>,
     replies: &mut Replies,
 ) -> Result<(), Stop>
     requires { calls.now.rank.ranks ≤ 64 }
-    ensures { Passes (declare (calls_of calls.now) item.now) store.old replies.old result store.new replies.new }
+    ensures { Passes (declare (calls_of calls.now) item.now) state.old replies.old result state.new replies.new }
 {
-    let cell = add(item, store)?;
+    let cell = add(item, state)?;
     match &item.initial {
         Initializer::Nothing => Ok(()),
         Initializer::Right(right) => {
-            let value = value_of(calls, right, store, replies)?;
-            store.put(cell, value);
+            let value = value_of(calls, right, state, replies)?;
+            state.put(cell, value);
             Ok(())
         }
-        Initializer::Values(expressions) => Ok(put_values_of(expressions, cell, store)?),
+        Initializer::Values(expressions) => Ok(put_values_of(expressions, cell, state)?),
     }
 }
 
@@ -170,14 +170,14 @@ fn declare<'p>(
 fn declare_all<'p>(
     calls: &Calls<'p>,
     items: &'p [InitDeclarator],
-    store: &mut Store<'p>,
+    state: &mut RankState<'p>,
     replies: &mut Replies,
 ) -> Result<(), Stop>
     requires { calls.now.rank.ranks ≤ 64 }
-    ensures { Passes (declare_all (calls_of calls.now) items.now) store.old replies.old result store.new replies.new }
+    ensures { Passes (declare_all (calls_of calls.now) items.now) state.old replies.old result state.new replies.new }
 {
     for item in items {
-        declare(calls, item, store, replies)?;
+        declare(calls, item, state, replies)?;
     }
     Ok(())
 }
@@ -189,19 +189,19 @@ fn declare_all<'p>(
 fn start_for<'p>(
     calls: &Calls<'p>,
     start: &'p ForStart,
-    store: &mut Store<'p>,
+    state: &mut RankState<'p>,
     replies: &mut Replies,
 ) -> Result<(), Stop>
     requires { calls.now.rank.ranks ≤ 64 }
-    ensures { Passes (for_start calls.now.rank (calls_of calls.now) start.now) store.old replies.old result store.new replies.new }
+    ensures { Passes (for_start calls.now.rank (calls_of calls.now) start.now) state.old replies.old result state.new replies.new }
 {
     match start {
         ForStart::Nothing => Ok(()),
         ForStart::Declaration(declaration) => {
-            take_step(store)?;
-            declare_all(calls, &declaration.items, store, replies)
+            take_step(state)?;
+            declare_all(calls, &declaration.items, state, replies)
         }
-        ForStart::Simple(one) => run_simple(calls, one, store, replies),
+        ForStart::Simple(one) => run_simple(calls, one, state, replies),
     }
 }
 
@@ -210,15 +210,15 @@ fn start_for<'p>(
 fn run_update<'p>(
     calls: &Calls<'p>,
     update: Option<&'p Simple>,
-    store: &mut Store<'p>,
+    state: &mut RankState<'p>,
     replies: &mut Replies,
 ) -> Result<(), Stop>
     requires { calls.now.rank.ranks ≤ 64 }
-    ensures { Passes (for_update calls.now.rank (calls_of calls.now) (option_copied update.entry)) store.old replies.old result store.new replies.new }
+    ensures { Passes (for_update calls.now.rank (calls_of calls.now) (option_copied update.entry)) state.old replies.old result state.new replies.new }
 {
     match update {
         None => Ok(()),
-        Some(one) => run_simple(calls, one, store, replies),
+        Some(one) => run_simple(calls, one, state, replies),
     }
 }
 
@@ -228,20 +228,20 @@ fn take_turn<'p>(
     calls: &Calls<'p>,
     update: Option<&'p Simple>,
     body: &'p Stmt,
-    store: &mut Store<'p>,
+    state: &mut RankState<'p>,
     replies: &mut Replies,
 ) -> Result<Option<Flow>, Stop>
     requires { calls.now.rank.ranks ≤ 64 }
-    ensures evaluated { Evaluated way (turn (for_update calls.now.rank (calls_of calls.now) (option_copied update.entry)) (started (act calls.now.rank (calls_of calls.now) body.now))) store.old replies.old result store.new replies.new }
-    ensures fewer { OnOk result (store.new.left < store.old.left) }
+    ensures evaluated { Evaluated way (turn (for_update calls.now.rank (calls_of calls.now) (option_copied update.entry)) (started (act calls.now.rank (calls_of calls.now) body.now))) state.old replies.old result state.new replies.new }
+    ensures fewer { OnOk result (state.new.left < state.old.left) }
 {
-    take_step(store)?;
-    match run(calls, body, store, replies)? {
+    take_step(state)?;
+    match run(calls, body, state, replies)? {
         Flow::Broke => return Ok(Some(Flow::Next)),
         Flow::Back(value) => return Ok(Some(Flow::Back(value))),
         _ => {}
     }
-    run_update(calls, update, store, replies)?;
+    run_update(calls, update, state, replies)?;
     Ok(None)
 }
 
@@ -252,17 +252,17 @@ fn repeat<'p>(
     test: Option<&'p Expr>,
     update: Option<&'p Simple>,
     body: &'p Stmt,
-    store: &mut Store<'p>,
+    state: &mut RankState<'p>,
     replies: &mut Replies,
 ) -> Result<Flow, Stop>
     requires { calls.now.rank.ranks ≤ 64 }
-    ensures { Leaves (loop (option_copied test.entry) (for_update calls.now.rank (calls_of calls.now) (option_copied update.entry)) (started (act calls.now.rank (calls_of calls.now) body.now))) store.old replies.old result store.new replies.new }
+    ensures { Leaves (loop (option_copied test.entry) (for_update calls.now.rank (calls_of calls.now) (option_copied update.entry)) (started (act calls.now.rank (calls_of calls.now) body.now))) state.old replies.old result state.new replies.new }
 {
     loop {
-        if !store.test(test)? {
+        if !state.test(test)? {
             return Ok(Flow::Next);
         }
-        match take_turn(calls, update, body, store, replies)? {
+        match take_turn(calls, update, body, state, replies)? {
             Some(flow) => return Ok(flow),
             None => {}
         }
@@ -275,15 +275,15 @@ fn repeat_after<'p>(
     calls: &Calls<'p>,
     test: &'p Expr,
     body: &'p Stmt,
-    store: &mut Store<'p>,
+    state: &mut RankState<'p>,
     replies: &mut Replies,
 ) -> Result<Flow, Stop>
     requires { calls.now.rank.ranks ≤ 64 }
-    ensures { Leaves (loop_after test.now (started (act calls.now.rank (calls_of calls.now) body.now))) store.old replies.old result store.new replies.new }
+    ensures { Leaves (loop_after test.now (started (act calls.now.rank (calls_of calls.now) body.now))) state.old replies.old result state.new replies.new }
 {
-    match take_turn(calls, None, body, store, replies)? {
+    match take_turn(calls, None, body, state, replies)? {
         Some(flow) => Ok(flow),
-        None => repeat(calls, Some(test), None, body, store, replies),
+        None => repeat(calls, Some(test), None, body, state, replies),
     }
 }
 
@@ -295,16 +295,16 @@ fn run_for<'p>(
     test: Option<&'p Expr>,
     update: Option<&'p Simple>,
     body: &'p Stmt,
-    store: &mut Store<'p>,
+    state: &mut RankState<'p>,
     replies: &mut Replies,
 ) -> Result<Flow, Stop>
     requires { calls.now.rank.ranks ≤ 64 }
-    ensures { Leaves (for_of calls.now.rank (calls_of calls.now) start.now (option_copied test.entry) (option_copied update.entry) (started (act calls.now.rank (calls_of calls.now) body.now))) store.old replies.old result store.new replies.new }
+    ensures { Leaves (for_of calls.now.rank (calls_of calls.now) start.now (option_copied test.entry) (option_copied update.entry) (started (act calls.now.rank (calls_of calls.now) body.now))) state.old replies.old result state.new replies.new }
 {
-    let mark = store.mark();
-    start_for(calls, start, store, replies)?;
-    let flow = repeat(calls, test, update, body, store, replies)?;
-    store.leave(mark);
+    let mark = state.mark();
+    start_for(calls, start, state, replies)?;
+    let flow = repeat(calls, test, update, body, state, replies)?;
+    state.leave(mark);
     Ok(flow)
 }
 
@@ -315,14 +315,14 @@ fn run_for<'p>(
 fn run<'p>(
     calls: &Calls<'p>,
     stmt: &'p Stmt,
-    store: &mut Store<'p>,
+    state: &mut RankState<'p>,
     replies: &mut Replies,
 ) -> Result<Flow, Stop>
     requires { calls.now.rank.ranks ≤ 64 }
-    ensures { Leaves (started (act calls.now.rank (calls_of calls.now) stmt.now)) store.old replies.old result store.new replies.new }
+    ensures { Leaves (started (act calls.now.rank (calls_of calls.now) stmt.now)) state.old replies.old result state.new replies.new }
 {
-    take_step(store)?;
-    act(calls, stmt, store, replies)
+    take_step(state)?;
+    act(calls, stmt, state, replies)
 }
 
 /// A statement whose step is taken.
@@ -330,28 +330,28 @@ fn run<'p>(
 fn act<'p>(
     calls: &Calls<'p>,
     stmt: &'p Stmt,
-    store: &mut Store<'p>,
+    state: &mut RankState<'p>,
     replies: &mut Replies,
 ) -> Result<Flow, Stop>
     requires { calls.now.rank.ranks ≤ 64 }
-    ensures { Leaves (act calls.now.rank (calls_of calls.now) stmt.now) store.old replies.old result store.new replies.new }
+    ensures { Leaves (act calls.now.rank (calls_of calls.now) stmt.now) state.old replies.old result state.new replies.new }
 {
     match stmt {
-        Stmt::Block(parts) => run_block(calls, parts, store, replies),
+        Stmt::Block(parts) => run_block(calls, parts, state, replies),
         Stmt::Empty => Ok(Flow::Next),
         Stmt::Simple(one) => {
-            run_simple(calls, one, store, replies)?;
+            run_simple(calls, one, state, replies)?;
             Ok(Flow::Next)
         }
         Stmt::Break => Ok(Flow::Broke),
         Stmt::Continue => Ok(Flow::Again),
-        Stmt::Return(value) => run_return(calls, value, store, replies),
-        Stmt::If { test, then } => run_if(calls, test, then, None, store, replies),
+        Stmt::Return(value) => run_return(calls, value, state, replies),
+        Stmt::If { test, then } => run_if(calls, test, then, None, state, replies),
         Stmt::IfElse { test, then, other } => {
-            run_if(calls, test, then, Some(other), store, replies)
+            run_if(calls, test, then, Some(other), state, replies)
         }
-        Stmt::While { test, body } => repeat(calls, Some(test), None, body, store, replies),
-        Stmt::Do { body, test } => repeat_after(calls, test, body, store, replies),
+        Stmt::While { test, body } => repeat(calls, Some(test), None, body, state, replies),
+        Stmt::Do { body, test } => repeat_after(calls, test, body, state, replies),
         Stmt::For {
             start,
             test,
@@ -363,7 +363,7 @@ fn act<'p>(
             test.as_ref(),
             step.as_ref(),
             body,
-            store,
+            state,
             replies,
         ),
     }
@@ -376,18 +376,18 @@ fn run_if<'p>(
     test: &'p Expr,
     then: &'p Stmt,
     other: Option<&'p Stmt>,
-    store: &mut Store<'p>,
+    state: &mut RankState<'p>,
     replies: &mut Replies,
 ) -> Result<Flow, Stop>
     requires { calls.now.rank.ranks ≤ 64 }
-    ensures { Leaves (chosen test.now (started (act calls.now.rank (calls_of calls.now) then.now)) (otherwise calls.now.rank (calls_of calls.now) (option_copied other.entry))) store.old replies.old result store.new replies.new }
+    ensures { Leaves (chosen test.now (started (act calls.now.rank (calls_of calls.now) then.now)) (otherwise calls.now.rank (calls_of calls.now) (option_copied other.entry))) state.old replies.old result state.new replies.new }
 {
-    if store.test(Some(test))? {
-        return run(calls, then, store, replies);
+    if state.test(Some(test))? {
+        return run(calls, then, state, replies);
     }
     match other {
         None => Ok(Flow::Next),
-        Some(stmt) => run(calls, stmt, store, replies),
+        Some(stmt) => run(calls, stmt, state, replies),
     }
 }
 
@@ -396,16 +396,16 @@ fn run_if<'p>(
 fn run_return<'p>(
     calls: &Calls<'p>,
     value: &'p Option<Right>,
-    store: &mut Store<'p>,
+    state: &mut RankState<'p>,
     replies: &mut Replies,
 ) -> Result<Flow, Stop>
     requires { calls.now.rank.ranks ≤ 64 }
-    ensures { Leaves (return (calls_of calls.now) value.now) store.old replies.old result store.new replies.new }
+    ensures { Leaves (return (calls_of calls.now) value.now) state.old replies.old result state.new replies.new }
 {
     match value {
         None => Ok(Flow::Back(0)),
         Some(right) => {
-            let given = value_of(calls, right, store, replies)?;
+            let given = value_of(calls, right, state, replies)?;
             Ok(Flow::Back(given))
         }
     }
@@ -416,19 +416,19 @@ fn run_return<'p>(
 fn run_part<'p>(
     calls: &Calls<'p>,
     part: &'p Part,
-    store: &mut Store<'p>,
+    state: &mut RankState<'p>,
     replies: &mut Replies,
 ) -> Result<Flow, Stop>
     requires { calls.now.rank.ranks ≤ 64 }
-    ensures { Leaves (started (act_part calls.now.rank (calls_of calls.now) part.now)) store.old replies.old result store.new replies.new }
+    ensures { Leaves (started (act_part calls.now.rank (calls_of calls.now) part.now)) state.old replies.old result state.new replies.new }
 {
-    take_step(store)?;
+    take_step(state)?;
     match part {
         Part::Declaration(declaration) => {
-            declare_all(calls, &declaration.items, store, replies)?;
+            declare_all(calls, &declaration.items, state, replies)?;
             Ok(Flow::Next)
         }
-        Part::Stmt(stmt) => act(calls, stmt, store, replies),
+        Part::Stmt(stmt) => act(calls, stmt, state, replies),
     }
 }
 
@@ -437,14 +437,14 @@ fn run_part<'p>(
 fn run_list<'p>(
     calls: &Calls<'p>,
     parts: &'p [Part],
-    store: &mut Store<'p>,
+    state: &mut RankState<'p>,
     replies: &mut Replies,
 ) -> Result<Flow, Stop>
     requires { calls.now.rank.ranks ≤ 64 }
-    ensures { Leaves (act_list calls.now.rank (calls_of calls.now) parts.now) store.old replies.old result store.new replies.new }
+    ensures { Leaves (act_list calls.now.rank (calls_of calls.now) parts.now) state.old replies.old result state.new replies.new }
 {
     for part in parts {
-        match run_part(calls, part, store, replies)? {
+        match run_part(calls, part, state, replies)? {
             Flow::Next => {}
             flow => return Ok(flow),
         }
@@ -457,14 +457,14 @@ fn run_list<'p>(
 fn run_block<'p>(
     calls: &Calls<'p>,
     parts: &'p [Part],
-    store: &mut Store<'p>,
+    state: &mut RankState<'p>,
     replies: &mut Replies,
 ) -> Result<Flow, Stop>
     requires { calls.now.rank.ranks ≤ 64 }
-    ensures { Leaves (blocked (act_list calls.now.rank (calls_of calls.now) parts.now)) store.old replies.old result store.new replies.new }
+    ensures { Leaves (blocked (act_list calls.now.rank (calls_of calls.now) parts.now)) state.old replies.old result state.new replies.new }
 {
-    let mark = store.mark();
-    let flow = run_list(calls, parts, store, replies)?;
-    store.leave(mark);
+    let mark = state.mark();
+    let flow = run_list(calls, parts, state, replies)?;
+    state.leave(mark);
     Ok(flow)
 }

@@ -4,7 +4,7 @@ ghost use Rattle.c_eval.specs.Evaluated.{stop_of};
 ghost use Rattle.c_eval.specs.Replies.{IsNextReply};
 ghost use Rattle.c_eval.specs.declared.outcome.Stop.TheVariants.{Memory, Trapped};
 
-use c_run_parts::fail::Fail;
+use c_run_cells::fail::Fail;
 use mpi_call::call::{Call, Fault};
 use mpi_call::reply::Reply;
 use std::alloc::{AllocError, AllocFailed};
@@ -13,7 +13,7 @@ use std::marker::Model;
 /// Why evaluation goes no further.
 #[derive(Drop)]
 pub enum Stop {
-    /// The want of memory.
+    /// Out of memory.
     Memory,
     Trapped(Fault),
     /// The replies are used up: the rank asks this.

@@ -1,14 +1,14 @@
 //! MPI calls over the replies that are left.
 ghost use Rattle.std.specs.Prelude.{◌≡◌, ◌<◌, ◌≤◌, OnOk, length};
 ghost use Rattle.c_program.specs.Performing.{Onward, perform};
-ghost use Rattle.c_run_parts.specs.Parts.{mpi};
+ghost use Rattle.c_run_cells.specs.Parts.{mpi};
 ghost use Rattle.c_run_replies.specs.Questions.{asks, reached};
 ghost use Rattle.c_eval.specs.Evaluated.{Evaluated, Passes};
 
 use crate::outcome::{Replies, Stop};
 use c_program::effect::{Effect, Rank};
 use c_program::mpi::MpiCall;
-use c_run_cells::store::Store;
+use c_run_cells::state::RankState;
 use c_run_effects::effects::effect_of;
 use c_run_replies::ask::ask;
 use c_run_replies::call::call_of;
@@ -21,14 +21,14 @@ pub fn call_mpi(
     alloc: Global,
     rank: Rank,
     call: &MpiCall,
-    store: &mut Store,
+    state: &mut RankState,
     replies: &mut Replies,
 ) -> Result<(), Stop>
     requires { rank.ranks ≤ 64 }
-    ensures { Passes (mpi rank call.now) store.old replies.old result store.new replies.new }
+    ensures { Passes (mpi rank call.now) state.old replies.old result state.new replies.new }
 {
-    match effect_of(rank, call, store) {
-        Ok(effect) => perform(alloc, rank, effect, store, replies),
+    match effect_of(rank, call, state) {
+        Ok(effect) => perform(alloc, rank, effect, state, replies),
         Err(fault) => Err(Stop::Trapped(fault)),
     }
 }
@@ -38,18 +38,18 @@ pub fn perform(
     alloc: Global,
     rank: Rank,
     effect: Effect,
-    store: &mut Store,
+    state: &mut RankState,
     replies: &mut Replies,
 ) -> Result<(), Stop>
     requires { rank.ranks ≤ 64 }
-    ensures { Passes (perform rank effect) store.old replies.old result store.new replies.new }
+    ensures { Passes (perform rank effect) state.old replies.old result state.new replies.new }
 {
-    let mut found = ask(alloc, rank, effect, store)?;
+    let mut found = ask(alloc, rank, effect, state)?;
     loop {
         match found {
             Reached::Done => return Ok(()),
             Reached::Over => return Err(Stop::Over),
-            Reached::Asks(question) => found = answered(alloc, rank, &question, store, replies)?,
+            Reached::Asks(question) => found = answered(alloc, rank, &question, state, replies)?,
         }
     }
 }
@@ -59,16 +59,16 @@ fn answered(
     alloc: Global,
     rank: Rank,
     question: &Question,
-    store: &mut Store,
+    state: &mut RankState,
     replies: &mut Replies,
 ) -> Result<Reached, Stop>
     requires { rank.ranks ≤ 64 }
-    ensures evaluated { Evaluated (λ (go : Onward) found s. reached rank found s go) (asks rank question.now) store.old replies.old result store.new replies.new }
+    ensures evaluated { Evaluated (λ (go : Onward) found s. reached rank found s go) (asks rank question.now) state.old replies.old result state.new replies.new }
     ensures fewer { OnOk result (length replies.new < length replies.old) }
 {
     let Some(reply) = replies.next() else {
-        let call = call_of(alloc, question, store)?;
+        let call = call_of(alloc, question, state)?;
         return Err(Stop::Waits(call));
     };
-    Ok(reply_to(alloc, rank, question, reply, store)?)
+    Ok(reply_to(alloc, rank, question, reply, state)?)
 }

@@ -10,9 +10,10 @@ use crate::calls::Calls;
 use crate::evaluate::call_function;
 use crate::outcome::{Replies, Stop};
 use c_program::CProgram;
+use c_program::constants::MOST_CALLS;
 use c_program::effect::Rank;
 use c_program::state::Passed;
-use c_run_cells::store::Store;
+use c_run_cells::state::RankState;
 use mpi_call::call::Call;
 use mpi_call::reply;
 use mpi_call::reply::Reply;
@@ -31,7 +32,7 @@ pub struct EvalRank<'p> {
     rank: Rank,
     replies: Vec<Reply>,
     asked: bool,
-    store: Store<'p>,
+    state: RankState<'p>,
 }
 
 impl<'p> Model for EvalRank<'p> {
@@ -48,7 +49,7 @@ impl<'p> Model for EvalRank<'p> {
 
     ghost view = { λ r. record { program = r.program.now; ranks = r.rank.ranks; rank = r.rank.number; replies = r.replies.items; asked = r.asked } };
 
-    ghost invariant = { λ r. IsRankAt r.program.now r.rank r.replies.items r.asked r.store };
+    ghost invariant = { λ r. IsRankAt r.program.now r.rank r.replies.items r.asked r.state };
 }
 
 impl<'p> EvalRank<'p> {
@@ -67,7 +68,7 @@ impl<'p> EvalRank<'p> {
             },
             replies: Vec::new(alloc),
             asked: false,
-            store: Store::new(alloc)?,
+            state: RankState::new(alloc)?,
         })
     }
 }
@@ -82,11 +83,11 @@ impl<'p> RankRun for EvalRank<'p> {
             alloc: self.alloc,
             rank: self.rank,
             functions: &self.program.functions,
-            depth: 100,
+            depth: MOST_CALLS,
         };
-        let mut store = Store::new(self.alloc)?;
-        let want = evaluate(&calls, self.program.main, &self.replies, &mut store)?;
-        mem::swap(&mut self.store, &mut store);
+        let mut state = RankState::new(self.alloc)?;
+        let want = evaluate(&calls, self.program.main, &self.replies, &mut state)?;
+        mem::swap(&mut self.state, &mut state);
         self.asked = true;
         Ok(want)
     }
@@ -99,27 +100,27 @@ impl<'p> RankRun for EvalRank<'p> {
     }
 
     fn printed(&self) -> &[u8] {
-        self.store.printed()
+        self.state.printed()
     }
 
     fn variables(&self) -> Result<Variables, AllocError> {
-        self.store.variables(self.alloc)
+        self.state.variables(self.alloc)
     }
 }
 
-/// What the rank wants after these replies, where the evaluation of its program begins at the store; the store is then
+/// What the rank wants after these replies, where the evaluation of its program begins at the state; the state is then
 /// that of this call.
 fn evaluate<'p>(
     calls: &Calls<'p>,
     main: usize,
     replies: &[Reply],
-    store: &mut Store<'p>,
+    state: &mut RankState<'p>,
 ) -> Result<Want, AllocError>
     requires { calls.now.rank.ranks ≤ 64 }
-    ensures { IfOk result (λ want. Wants (after (calls_of calls.now main (Number (pos 1) ∷ []) store.old (λ v s. ended s)) replies.now) want store.new) }
+    ensures { IfOk result (λ want. Wants (after (calls_of calls.now main (Number (pos 1) ∷ []) state.old (λ v s. ended s)) replies.now) want state.new) }
 {
     let mut rest = Replies::of(replies);
-    match call_function(calls, main, &[Passed::Number(1)], store, &mut rest) {
+    match call_function(calls, main, &[Passed::Number(1)], state, &mut rest) {
         Ok(_) => Ok(last(Call::End, &mut rest)),
         Err(Stop::Memory) => Err(AllocError),
         Err(Stop::Trapped(fault)) => Ok(last(Call::Trap { fault }, &mut rest)),

@@ -16,6 +16,7 @@ use Rattle.mpi_call.specs.declared.call.Tag.{Tag}
 use Rattle.mpi_call.specs.declared.call.Tag.TheVariants.{Any as AnyTag, Is}
 use Rattle.mpi_call.specs.declared.call.TakeMode.{TakeMode}
 use Rattle.mpi_call.specs.declared.call.TakeMode.TheVariants.{All, Any as AnyOne, Several, TestAll, TestAny, TestSeveral}
+use Rattle.mpi_call.specs.declared.limits.TheConstants.{GREATEST_TAG, MOST_INTS}
 use Rattle.c_program.specs.declared.effect.Answer.{Answer}
 use Rattle.c_program.specs.declared.effect.Effect.{Effect}
 use Rattle.c_program.specs.declared.effect.Effect.TheVariants.{Nothing, Sets, Starts, Sends, Receives, Completes, Probes, Joins, Aborts}
@@ -51,18 +52,18 @@ use Rattle.c_program.specs.Values.{given, or_fault, range, value}
 -- ---- checks
 
 -- a communicator's number and members; the null handle has none, nor has any other that was not made
-pub record Comm : Type 0 where
+pub record Communicator : Type 0 where
   pub number : ℕ
   pub members : List ℕ
 
-abbrev pub communicator : Rank → State → ℤ → Result Comm Fault
-communicator rank s (negsuc c) = Err BadComm
-communicator rank s (pos c) =
+abbrev pub communicator_of : Rank → State → ℤ → Result Communicator Fault
+communicator_of rank s (negsuc c) = Err BadComm
+communicator_of rank s (pos c) =
     given (or_fault BadComm (members_of rank.ranks s c)) (λ members. Ok (record { number = c; members = members }))
 
 abbrev pub count_of : ℤ → Result ℕ Fault
 count_of (negsuc n) = Err BadCount
-count_of (pos n) = if nat_le n 65536 then Ok n else Err BadCount
+count_of (pos n) = if nat_le n MOST_INTS then Ok n else Err BadCount
 
 -- how many handles; their elements alone bound it
 abbrev pub handles_of : ℤ → Result ℕ Fault
@@ -79,7 +80,7 @@ colour (pos n) = Ok (pos n)
 colour (negsuc n) = if int_eq (negsuc n) undefined then Ok (negsuc n) else Err BadCount
 
 -- a member's rank in the world, by its rank in the communicator
-abbrev pub member : Comm → ℤ → Result ℕ Fault
+abbrev pub member : Communicator → ℤ → Result ℕ Fault
 member comm (negsuc r) = Err BadRank
 member comm (pos r) = or_fault BadRank (slice_get comm.members r)
 
@@ -87,10 +88,10 @@ member comm (pos r) = or_fault BadRank (slice_get comm.members r)
 abbrev pub some : Result ℕ Fault → Result (Option ℕ) Fault
 some found = given found (λ rank. Ok (Some rank))
 
-abbrev pub destination : Comm → ℤ → Result (Option ℕ) Fault
+abbrev pub destination : Communicator → ℤ → Result (Option ℕ) Fault
 destination comm r = if int_eq r null then Ok None else some (member comm r)
 
-abbrev pub source_of : Comm → ℤ → Result Source Fault
+abbrev pub source_of : Communicator → ℤ → Result Source Fault
 source_of comm r =
     if int_eq r null then Ok Null
     else (if int_eq r any_source then Ok AnySource
@@ -98,7 +99,7 @@ source_of comm r =
 
 abbrev pub tag_of : ℤ → Result ℕ Fault
 tag_of (negsuc t) = Err BadTag
-tag_of (pos t) = if nat_le t 2147483647 then Ok t else Err BadTag
+tag_of (pos t) = if nat_le t GREATEST_TAG then Ok t else Err BadTag
 
 abbrev pub wanted_tag : ℤ → Result Tag Fault
 wanted_tag t = if int_eq t null then Ok AnyTag else given (tag_of t) (λ t. Ok (Is t))
@@ -130,7 +131,7 @@ abbrev pub is_me : Rank → ℕ → Bool
 is_me rank root = root == rank.number
 
 -- the same of a root that isn't checked yet
-abbrev pub is_root : Rank → Comm → ℤ → Bool
+abbrev pub is_root : Rank → Communicator → ℤ → Bool
 is_root rank comm (negsuc r) = false
 is_root rank comm (pos r) = list_any (is_me rank) (option_to_list (slice_get comm.members r))
 
@@ -141,26 +142,26 @@ count_in (Some at) s = cell_at s (at + 2)
 
 -- ---- sends and receives
 
-abbrev pub message : Comm → ℕ → ℕ → Cells → Bool → Message
+abbrev pub message : Communicator → ℕ → ℕ → Cells → Bool → Message
 message comm dest tag ints sync = record { comm = comm.number; dest = dest; tag = tag; ints = ints; sync = sync }
 
-abbrev pub receive : Comm → Source → Tag → Cells → Receive
+abbrev pub receive : Communicator → Source → Tag → Cells → Receive
 receive comm source tag buffer = record { comm = comm.number; source = source; tag = tag; buffer = buffer }
 
 -- a send that returns once it is complete: a standard one is so at its start, for its message is buffered, a synchronous one
 -- (`sync`) once it is received; to `MPI_PROC_NULL` none is made (MPI 3.1, 3.4 and 3.11)
-abbrev pub sends : Comm → Option ℕ → ℕ → Cells → Bool → Effect
+abbrev pub sends : Communicator → Option ℕ → ℕ → Cells → Bool → Effect
 sends comm None tag ints sync = Nothing
 sends comm (Some dest) tag ints false = Starts (StartSend (message comm dest tag ints false)) None
 sends comm (Some dest) tag ints true = Sends (message comm dest tag ints true)
 
 -- a nonblocking send, standard or synchronous: to `MPI_PROC_NULL` it starts what is complete at once (MPI 3.1, 3.7.2 and 3.11)
-abbrev pub sends_from : Comm → Option ℕ → ℕ → Cells → Bool → ℕ → Effect
+abbrev pub sends_from : Communicator → Option ℕ → ℕ → Cells → Bool → ℕ → Effect
 sends_from comm None tag ints sync request = Starts (StartReceive (receive comm Null (Is tag) no_cells)) (Some request)
 sends_from comm (Some dest) tag ints sync request = Starts (StartSend (message comm dest tag ints sync)) (Some request)
 
 -- the send of `MPI_Sendrecv`, which is a standard one
-abbrev pub send_after : Comm → Option ℕ → ℕ → Cells → Option Message
+abbrev pub send_after : Communicator → Option ℕ → ℕ → Cells → Option Message
 send_after comm None tag ints = None
 send_after comm (Some dest) tag ints = Some (message comm dest tag ints false)
 
@@ -175,7 +176,7 @@ completes requests mode answer = Ok (Completes requests mode answer)
 -- ---- collectives
 
 -- all that matters of a collective but where its ints come from and go to
-abbrev pub joins : Comm → Kind → Option ℕ → Option Op → ℕ → Entered → Into → Result Effect Fault
+abbrev pub joins : Communicator → Kind → Option ℕ → Option Op → ℕ → Entered → Into → Result Effect Fault
 joins comm kind root op count entered into =
     Ok (Joins (record { comm = comm.number; kind = kind; root = root; op = op; count = count; entered = entered; into = into }))
 
@@ -191,7 +192,7 @@ abbrev pub gets : ℕ → Cells → Result Into Fault
 gets n cells = given (first n cells) (λ ints. Ok (IntoCells ints))
 
 -- how many pieces of the members
-abbrev pub pieces : Comm → ℕ → ℕ
+abbrev pub pieces : Communicator → ℕ → ℕ
 pieces comm count = length comm.members * count
 
 -- ---- the functions
@@ -200,7 +201,7 @@ pieces comm count = length comm.members * count
 abbrev pub send_effect : Rank → Outgoing → Expr → Bool → State → Result Effect Fault
 send_effect rank outgoing comm sync s =
     given (range outgoing.buffer.cells s) (λ buffer_cells. given (value outgoing.buffer.count s) (λ buffer_count. given (value outgoing.dest s) (λ dest. given (value outgoing.tag s) (λ tag. given (value comm s) (λ comm.
-    given (communicator rank s comm) (λ comm.
+    given (communicator_of rank s comm) (λ comm.
     given (count_of buffer_count) (λ buffer_count.
     given (destination comm dest) (λ dest.
     given (tag_of tag) (λ tag.
@@ -211,7 +212,7 @@ send_effect rank outgoing comm sync s =
 abbrev pub isend_effect : Rank → Outgoing → Expr → Reference → Bool → State → Result Effect Fault
 isend_effect rank outgoing comm request sync s =
     given (range outgoing.buffer.cells s) (λ buffer_cells. given (value outgoing.buffer.count s) (λ buffer_count. given (value outgoing.dest s) (λ dest. given (value outgoing.tag s) (λ tag. given (value comm s) (λ comm. given (range request s) (λ request.
-    given (communicator rank s comm) (λ comm.
+    given (communicator_of rank s comm) (λ comm.
     given (count_of buffer_count) (λ buffer_count.
     given (destination comm dest) (λ dest.
     given (tag_of tag) (λ tag.
@@ -225,7 +226,7 @@ message_effect rank (messages.Send outgoing comm) s = send_effect rank outgoing 
 message_effect rank (messages.Ssend outgoing comm) s = send_effect rank outgoing comm true s
 message_effect rank (messages.Recv incoming comm kept) s =
     given (range incoming.buffer.cells s) (λ buffer_cells. given (value incoming.buffer.count s) (λ buffer_count. given (value incoming.source s) (λ source. given (value incoming.tag s) (λ tag. given (value comm s) (λ comm. given (status kept s) (λ kept.
-    given (communicator rank s comm) (λ comm.
+    given (communicator_of rank s comm) (λ comm.
     given (count_of buffer_count) (λ buffer_count.
     given (source_of comm source) (λ source.
     given (wanted_tag tag) (λ tag.
@@ -236,7 +237,7 @@ message_effect rank (messages.Isend outgoing comm request) s = isend_effect rank
 message_effect rank (messages.Issend outgoing comm request) s = isend_effect rank outgoing comm request true s
 message_effect rank (messages.Irecv incoming comm request) s =
     given (range incoming.buffer.cells s) (λ buffer_cells. given (value incoming.buffer.count s) (λ buffer_count. given (value incoming.source s) (λ source. given (value incoming.tag s) (λ tag. given (value comm s) (λ comm. given (range request s) (λ request.
-    given (communicator rank s comm) (λ comm.
+    given (communicator_of rank s comm) (λ comm.
     given (count_of buffer_count) (λ buffer_count.
     given (source_of comm source) (λ source.
     given (wanted_tag tag) (λ tag.
@@ -245,7 +246,7 @@ message_effect rank (messages.Irecv incoming comm request) s =
     Ok (Starts (StartReceive (receive comm source tag buffer_cells)) (Some request))))))))))))))
 message_effect rank (messages.Sendrecv outgoing incoming comm kept) s =
     given (range outgoing.buffer.cells s) (λ out_cells. given (value outgoing.buffer.count s) (λ out_count. given (value outgoing.dest s) (λ dest. given (value outgoing.tag s) (λ send_tag. given (range incoming.buffer.cells s) (λ buffer_cells. given (value incoming.buffer.count s) (λ buffer_count. given (value incoming.source s) (λ source. given (value incoming.tag s) (λ tag. given (value comm s) (λ comm. given (status kept s) (λ kept.
-    given (communicator rank s comm) (λ comm.
+    given (communicator_of rank s comm) (λ comm.
     given (count_of out_count) (λ out_count.
     given (count_of buffer_count) (λ buffer_count.
     given (destination comm dest) (λ dest.
@@ -316,14 +317,14 @@ completion_effect (completions.Testsome several) s = completes_some TestSeveral 
 abbrev pub probe_effect : Rank → ProbeCall → State → Result Effect Fault
 probe_effect rank (probes.Probe source tag comm kept) s =
     given (value source s) (λ source. given (value tag s) (λ tag. given (value comm s) (λ comm. given (status kept s) (λ kept.
-    given (communicator rank s comm) (λ comm.
+    given (communicator_of rank s comm) (λ comm.
     given (source_of comm source) (λ source.
     given (wanted_tag tag) (λ tag.
     given (optional cell kept) (λ kept.
     Ok (Probes comm.number source tag true None kept)))))))))
 probe_effect rank (probes.Iprobe source tag comm flag kept) s =
     given (value source s) (λ source. given (value tag s) (λ tag. given (value comm s) (λ comm. given (range flag s) (λ flag. given (status kept s) (λ kept.
-    given (communicator rank s comm) (λ comm.
+    given (communicator_of rank s comm) (λ comm.
     given (source_of comm source) (λ source.
     given (wanted_tag tag) (λ tag.
     given (cell flag) (λ flag.
@@ -339,7 +340,7 @@ probe_effect rank (probes.GetCount kept into) s =
 abbrev pub reduces_for_all : Rank → Kind → Reduction → Expr → State → Result Effect Fault
 reduces_for_all rank kind reduction comm s =
     given (range reduction.send s) (λ out. given (range reduction.receive s) (λ buffer. given (value reduction.count s) (λ count. given (value comm s) (λ comm.
-    given (communicator rank s comm) (λ comm.
+    given (communicator_of rank s comm) (λ comm.
     given (count_of count) (λ count.
     given (enters count out) (λ entered.
     given (gets count buffer) (λ into.
@@ -349,18 +350,18 @@ reduces_for_all rank kind reduction comm s =
 abbrev pub collective_effect : Rank → CollectiveCall → State → Result Effect Fault
 collective_effect rank (collectives.Barrier comm) s =
     given (value comm s) (λ comm.
-    given (communicator rank s comm) (λ comm.
+    given (communicator_of rank s comm) (λ comm.
     joins comm Barrier None None 0 EntersNothing Nowhere))
 collective_effect rank (collectives.Bcast buffer root comm) s =
     given (range buffer.cells s) (λ buffer_cells. given (value buffer.count s) (λ buffer_count. given (value root s) (λ root. given (value comm s) (λ comm.
-    given (communicator rank s comm) (λ comm.
+    given (communicator_of rank s comm) (λ comm.
     given (count_of buffer_count) (λ buffer_count.
     given (member comm root) (λ root.
     given (first buffer_count buffer_cells) (λ buffer_cells.
     joins comm Bcast (Some root) None buffer_count (if is_me rank root then EntersCells buffer_cells else EntersNothing) (IntoCells buffer_cells)))))))))
 collective_effect rank (collectives.Gather out buffer root comm) s =
     given (range out.cells s) (λ out_cells. given (value out.count s) (λ out_count. given (range buffer.cells s) (λ buffer_cells. given (value buffer.count s) (λ buffer_count. given (value root s) (λ root. given (value comm s) (λ comm.
-    given (communicator rank s comm) (λ comm.
+    given (communicator_of rank s comm) (λ comm.
     given (count_of out_count) (λ out_count.
     given (at_root (is_root rank comm root) out_count (same_count out_count buffer_count)) (λ count.
     given (member comm root) (λ root.
@@ -369,7 +370,7 @@ collective_effect rank (collectives.Gather out buffer root comm) s =
     joins comm Gather (Some root) None count entered into))))))))))))
 collective_effect rank (collectives.Scatter out buffer root comm) s =
     given (range out.cells s) (λ out_cells. given (value out.count s) (λ out_count. given (range buffer.cells s) (λ buffer_cells. given (value buffer.count s) (λ buffer_count. given (value root s) (λ root. given (value comm s) (λ comm.
-    given (communicator rank s comm) (λ comm.
+    given (communicator_of rank s comm) (λ comm.
     given (count_of buffer_count) (λ buffer_count.
     given (at_root (is_root rank comm root) buffer_count (same_count buffer_count out_count)) (λ count.
     given (member comm root) (λ root.
@@ -378,7 +379,7 @@ collective_effect rank (collectives.Scatter out buffer root comm) s =
     joins comm Scatter (Some root) None count entered into))))))))))))
 collective_effect rank (collectives.Allgather out buffer comm) s =
     given (range out.cells s) (λ out_cells. given (value out.count s) (λ out_count. given (range buffer.cells s) (λ buffer_cells. given (value buffer.count s) (λ buffer_count. given (value comm s) (λ comm.
-    given (communicator rank s comm) (λ comm.
+    given (communicator_of rank s comm) (λ comm.
     given (count_of out_count) (λ out_count.
     given (same_count out_count buffer_count) (λ count.
     given (enters count out_cells) (λ entered.
@@ -386,7 +387,7 @@ collective_effect rank (collectives.Allgather out buffer comm) s =
     joins comm Allgather None None count entered into))))))))))
 collective_effect rank (collectives.Alltoall out buffer comm) s =
     given (range out.cells s) (λ out_cells. given (value out.count s) (λ out_count. given (range buffer.cells s) (λ buffer_cells. given (value buffer.count s) (λ buffer_count. given (value comm s) (λ comm.
-    given (communicator rank s comm) (λ comm.
+    given (communicator_of rank s comm) (λ comm.
     given (count_of out_count) (λ out_count.
     given (same_count out_count buffer_count) (λ count.
     given (enters (pieces comm count) out_cells) (λ entered.
@@ -394,7 +395,7 @@ collective_effect rank (collectives.Alltoall out buffer comm) s =
     joins comm Alltoall None None count entered into))))))))))
 collective_effect rank (collectives.Reduce reduction root comm) s =
     given (range reduction.send s) (λ out. given (range reduction.receive s) (λ buffer. given (value reduction.count s) (λ count. given (value root s) (λ root. given (value comm s) (λ comm.
-    given (communicator rank s comm) (λ comm.
+    given (communicator_of rank s comm) (λ comm.
     given (count_of count) (λ count.
     given (member comm root) (λ root.
     given (enters count out) (λ entered.
@@ -407,22 +408,22 @@ collective_effect rank (collectives.Scan reduction comm) s = reduces_for_all ran
 abbrev pub communicator_effect : Rank → CommunicatorCall → State → Result Effect Fault
 communicator_effect rank (communicators.Size comm into) s =
     given (value comm s) (λ comm. given (range into s) (λ into.
-    given (communicator rank s comm) (λ comm.
+    given (communicator_of rank s comm) (λ comm.
     given (cell into) (λ into.
     Ok (Sets into (pos (length comm.members)))))))
 communicator_effect rank (communicators.Rank comm into) s =
     given (value comm s) (λ comm. given (range into s) (λ into.
-    given (communicator rank s comm) (λ comm.
+    given (communicator_of rank s comm) (λ comm.
     given (cell into) (λ into.
     Ok (Sets into (rank_in comm.members rank.number))))))
 communicator_effect rank (communicators.Dup comm into) s =
     given (value comm s) (λ comm. given (range into s) (λ into.
-    given (communicator rank s comm) (λ comm.
+    given (communicator_of rank s comm) (λ comm.
     given (cell into) (λ into.
     joins comm Dup None None 0 EntersNothing (Handle into)))))
 communicator_effect rank (communicators.Split comm color key into) s =
     given (value comm s) (λ comm. given (value color s) (λ color. given (value key s) (λ key. given (range into s) (λ into.
-    given (communicator rank s comm) (λ comm.
+    given (communicator_of rank s comm) (λ comm.
     given (colour color) (λ color.
     given (cell into) (λ into.
     joins comm Split None None 0 (Pair color key) (Handle into))))))))
@@ -437,7 +438,7 @@ effect_of rank c.Init s = Ok Nothing
 effect_of rank c.Finalize s = Ok Nothing
 effect_of rank (c.Abort comm code) s =
     given (value comm s) (λ comm. given (value code s) (λ code.
-    given (communicator rank s comm) (λ comm.
+    given (communicator_of rank s comm) (λ comm.
     Ok (Aborts code))))
 effect_of rank (c.Message call) s = message_effect rank call s
 effect_of rank (c.Completion call) s = completion_effect call s

@@ -7,12 +7,4 @@ pub mod Effects
 pub mod Performing
 pub mod Meaning
 pub mod Program
-pub mod Equations
-pub mod Keeping
-pub mod GoodLaws
-pub mod RangeLaws
-pub mod Proper
-pub mod ProperEffects
-pub mod EffectLaws
-pub mod StatementLaws
-pub mod ProgramLaws
+pub mod laws

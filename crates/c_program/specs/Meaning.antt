@@ -3,6 +3,7 @@ use Rattle.std.specs.Prelude.{◌+◌, ◌-◌, ◌++◌, ℕ, zero, suc, ℤ, p
 use Rattle.mpi_call.specs.Operations.{is_set}
 use Rattle.mpi_call.specs.declared.call.Fault.{Fault}
 use Rattle.mpi_call.specs.declared.call.Fault.TheVariants.{Budget, OutputFull, Depth, Cells as CellsFault}
+use Rattle.c_program.specs.declared.constants.TheConstants.{MOST_CALLS, MOST_CELLS, MOST_PRINTED, MOST_STEPS}
 use Rattle.c_program.specs.declared.effect.Rank.{Rank}
 use Rattle.c_program.specs.declared.expr.Argument.{Argument}
 use Rattle.c_program.specs.declared.expr.Argument.TheVariants.{Value as ValueArgument, Reference as ReferenceArgument}
@@ -108,7 +109,7 @@ right calls (CallRight call) s go = invoke calls call s go
 
 abbrev pub print : List ℕ → Passing
 print text s go =
-    choose (nat_le (length s.printed + length text) 65536) (go (record s { printed = s.printed ++ text })) (trapped OutputFull s)
+    choose (nat_le (length s.printed + length text) MOST_PRINTED) (go (record s { printed = s.printed ++ text })) (trapped OutputFull s)
 
 abbrev pub simple : Rank → Calls → Simple → Passing
 simple rank calls (Set place given_right) s go =
@@ -147,9 +148,9 @@ with_slot name n width cells s = record s {
   } ∷ [];
 }
 
--- at most 262,144 cells stand
+-- at most so many cells stand
 abbrev pub has_room : ℕ → State → Bool
-has_room n s = nat_le (length s.cells + n) 262144
+has_room n s = nat_le (length s.cells + n) MOST_CELLS
 
 abbrev pub put_values : List Expr → ℕ → Passing
 put_values [] cell s go = go s
@@ -320,8 +321,8 @@ call_at rank functions (suc d) f arguments s go = run_function rank (call_at ran
 
 -- 10,000,000 steps
 abbrev pub start : State
-start = record { cells = []; slots = []; base = 0; opens = 0; printed = []; left = 10000000; starts = []; made = [] }
+start = record { cells = []; slots = []; base = 0; opens = 0; printed = []; left = MOST_STEPS; starts = []; made = [] }
 
 -- a rank's course: main, whose first argument is 1; at most 100 calls are open
 abbrev pub course_of : CProgram → Rank → Course
-course_of program rank = call_at rank program.functions.items 100 program.main (Number (pos 1) ∷ []) start (λ v s. ended s)
+course_of program rank = call_at rank program.functions.items MOST_CALLS program.main (Number (pos 1) ∷ []) start (λ v s. ended s)

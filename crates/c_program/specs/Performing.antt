@@ -28,7 +28,7 @@ use Rattle.c_program.specs.declared.effect.Start.TheVariants.{Send as StartSend,
 use Rattle.c_program.specs.Courses.{Course, Asks, asks_last, trapped}
 use Rattle.c_program.specs.Effects.{rank_in}
 use Rattle.c_program.specs.Cells.{Cells}
-use Rattle.c_program.specs.declared.state.Known.{Known}
+use Rattle.c_program.specs.declared.state.MadeCommunicator.{MadeCommunicator}
 use Rattle.c_program.specs.State.{State, any_source, ints_in, members_of, no_cells, null, put, put_all, put_some, undefined}
 use Rattle.c_program.specs.declared.state.Begun.{Begun}
 
@@ -107,11 +107,11 @@ completed n start status GotNothing s = Some (put_nothing status s)
 completed n start status got s = Some (put_empty status s)
 
 -- communicators that a reply tells of
-abbrev pub made_by : Got → List Known
+abbrev pub made_by : Got → List MadeCommunicator
 made_by (Made comm members) = if comm == 0 then [] else record { comm = comm; members = members } ∷ []
 made_by got = []
 
-abbrev pub made_by_all : List Item → List Known
+abbrev pub made_by_all : List Item → List MadeCommunicator
 made_by_all [] = []
 made_by_all (item ∷ items) = made_by item.got ++ made_by_all items
 
@@ -210,10 +210,12 @@ abbrev pub first_place : List ℤ → ℤ
 first_place [] = undefined
 first_place (place ∷ places) = place
 
--- what was asked for besides: whether it is complete, which handle's start was, how many were and which
+-- what was asked for besides: whether it is complete, which handle's start was, how many were and which. Where a function
+-- answers two of these they are set in the order in which it names them, so that the second one stays where both are one
+-- variable: `MPI_Testany` the index and then the flag, `MPI_Testsome` the count and then the indices.
 abbrev pub answered : Answer → ℤ → ℤ → ℤ → List ℤ → State → State
 answered answer flag index outcount places s =
-    put_places answer.indices places (put_some answer.outcount outcount (put_some answer.index index (put_some answer.flag flag s)))
+    put_places answer.indices places (put_some answer.outcount outcount (put_some answer.flag flag (put_some answer.index index s)))
 
 -- the only status is that of no handle
 abbrev pub put_only_empty : TakeMode → Answer → State → State

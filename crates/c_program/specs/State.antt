@@ -1,9 +1,11 @@
 -- What a rank has between two steps of its program: one stack of int cells, and the variables that stand.
 use Rattle.std.specs.Prelude.{◌+◌, ◌==◌, ℕ, zero, suc, ℤ, pos, negsuc, Bool, List, [], ◌∷◌, Option, Some, None, if◌then◌else◌, take, length, slice_index_or, slice_set}
+use Rattle.mpi_call.specs.declared.needs.TheConstants.{UNDEFINED}
 use Rattle.run_model.specs.Lists.{world}
+use Rattle.c_program.specs.declared.constants.TheConstants.{ANY_SOURCE, NULL}
 use Rattle.c_program.specs.Cells.{Cells}
 use Rattle.c_program.specs.declared.state.Begun.{Begun}
-use Rattle.c_program.specs.declared.state.Known.{Known}
+use Rattle.c_program.specs.declared.state.MadeCommunicator.{MadeCommunicator}
 use Rattle.c_program.specs.declared.state.StackMark.{StackMark}
 use Rattle.c_names.specs.declared.kind.VariableKind.{VariableKind}
 use Rattle.c_names.specs.declared.kind.VariableKind.TheVariants.{Int, Status, Request, Communicator}
@@ -16,13 +18,13 @@ no_cells = record { from = 0; length = 0; width = 1 }
 
 -- `MPI_UNDEFINED`, `MPI_ANY_SOURCE`, and -1: `MPI_PROC_NULL`, `MPI_ANY_TAG`, null handles
 abbrev pub undefined : ℤ
-undefined = negsuc 32765
+undefined = UNDEFINED
 
 abbrev pub any_source : ℤ
-any_source = negsuc 1
+any_source = ANY_SOURCE
 
 abbrev pub null : ℤ
-null = negsuc 0
+null = NULL
 
 -- how a variable's cells begin; a status has source, tag and count
 abbrev pub first_cells : VariableKind → List ℤ
@@ -54,7 +56,7 @@ pub record State : Type 0 where
   pub printed : List ℕ
   pub left : ℕ
   pub starts : List Begun
-  pub made : List Known
+  pub made : List MadeCommunicator
 
 abbrev pub cell_at : State → ℕ → ℤ
 cell_at s cell = slice_index_or s.cells cell (pos 0)
@@ -91,7 +93,7 @@ leave mark s = record s { cells = take mark.cells s.cells; slots = take mark.slo
 
 -- ---- communicators
 
-abbrev pub members_among : List Known → ℕ → Option (List ℕ)
+abbrev pub members_among : List MadeCommunicator → ℕ → Option (List ℕ)
 members_among [] comm = None
 members_among (known ∷ others) comm = if known.comm == comm then Some known.members else members_among others comm
 

@@ -1,6 +1,7 @@
 //! The typed program of a C text, and what it means: the calls that a rank makes, by the replies that it gets.
 #![tactic(auto)]
 
+pub mod constants;
 pub mod effect;
 pub mod expr;
 pub mod mpi;

@@ -37,7 +37,7 @@ pub struct CProgram {
 
 impl Program for CProgram {
     ghost use Rattle.c_program.specs.Program.{next_of, output_of, variables_of};
-    ghost use Rattle.c_program.specs.ProgramLaws.{ends_exactly, prints_on, asks_in_bounds, enters_in_form};
+    ghost use Rattle.c_program.specs.laws.ProgramLaws.{ends_exactly, prints_on, asks_in_bounds, enters_in_form};
 
     ghost next = { next_of };
 

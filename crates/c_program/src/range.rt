@@ -1,6 +1,7 @@
 //! Ranges of cells.
 ghost use Rattle.std.specs.Prelude.{◌≡◌};
 
+use crate::constants::MOST_CELLS;
 use mpi_call::call::Fault;
 use std::marker::Model;
 
@@ -16,6 +17,7 @@ pub struct Range {
 impl Model for Range {
     ghost use Rattle.std.specs.Prelude.{◌+◌, ◌*◌, ◌≤◌};
     ghost use Rattle.c_program.specs.Cells.{Cells};
+    ghost use Rattle.c_program.specs.declared.constants.TheConstants.{MOST_CELLS};
 
     ghost Value = { Cells };
 
@@ -23,7 +25,7 @@ impl Model for Range {
 
     ghost inverse = { λ d. record { from = d.from; length = d.length; width = d.width } };
 
-    ghost invariant = { λ r. r.from + r.length * r.width ≤ 262144 };
+    ghost invariant = { λ r. r.from + r.length * r.width ≤ MOST_CELLS };
 }
 
 impl Range {
@@ -43,9 +45,9 @@ impl Range {
         }
     }
 
-    /// The elements from a cell on. At most 262,144 cells stand.
+    /// The elements from a cell on. They are cells of a rank.
     pub fn new(from: u32, length: u32, width: u32) -> Range
-        requires { from + length * width ≤ 262144 }
+        requires { from + length * width ≤ MOST_CELLS }
         ensures { result ≡ record { from = from; length = length; width = width } }
     {
         Range {
@@ -58,7 +60,7 @@ impl Range {
     /// The first element's cell.
     pub fn from(&self) -> u32
         ensures from { result ≡ self.now.from }
-        ensures bound { result ≤ 262144 }
+        ensures bound { result ≤ MOST_CELLS }
     {
         self.from
     }
@@ -87,7 +89,7 @@ impl Range {
     /// The cell of element `i`; OutOfBounds where there is none.
     pub fn element(&self, i: i32) -> Result<u32, Fault>
         ensures element { result ≡ element_of self.now i }
-        ensures bound { IfOk result (λ cell. cell ≤ 262144) }
+        ensures bound { IfOk result (λ cell. cell ≤ MOST_CELLS) }
     {
         if i < 0 {
             return Err(Fault::OutOfBounds);

@@ -12,7 +12,7 @@ pub struct Begun {
 
 /// A communicator that was made, and its members in order.
 #[derive(Drop)]
-pub struct Known {
+pub struct MadeCommunicator {
     pub comm: u32,
     pub members: Ranks,
 }

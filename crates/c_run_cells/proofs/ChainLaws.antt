@@ -5,7 +5,7 @@ use Rattle.std.proofs.Math.Seq.{drop-cons}
 use Rattle.mpi_call.specs.declared.call.Fault.{Fault}
 use Rattle.c_program.specs.declared.expr.Link.{Link}
 use Rattle.c_program.specs.State.{State}
-use Rattle.c_program.specs.Equations.{chained_list, linked}
+use Rattle.c_program.specs.laws.Equations.{chained_list, linked}
 
 list-at : (xs : List Link) (i : ℕ) (x : Link) → i < length xs → x ≡ get_or xs i x → drop i xs ≡ x ∷ drop (i + 1) xs
 list-at xs i x h e = let n : suc i ≡ i + 1 = omega arith in drop-cons xs i x h ∙ ap (λ y. y ∷ drop (suc i) xs) (sym e) ∙ ap (λ n. x ∷ drop n xs) n

@@ -1,3 +1,5 @@
 mod ChainLaws
+pub mod Lists
+pub mod PartLaws
 mod PrintLaws
-pub mod StoreLaws
+pub mod StateLaws

@@ -1,3 +1,5 @@
+pub mod Comes
+pub mod Parts
 pub mod Sizes
 pub mod SlotView
 pub mod Slots

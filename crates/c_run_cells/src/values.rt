@@ -1,18 +1,19 @@
 //! The values of expressions, places and references.
 ghost use Rattle.std.specs.Prelude.{◌≡◌, ◌≤◌, IfOk, option_copied};
 ghost use Rattle.mpi_call.specs.Operations.{int_of, is_set};
-ghost use Rattle.c_program.specs.Equations.{chained_list, linked};
+ghost use Rattle.c_program.specs.laws.Equations.{chained_list, linked};
 ghost use Rattle.c_program.specs.Meaning.{passed, test};
 ghost use Rattle.c_program.specs.Values.{cell_of, field_place, is_decided, operated, range, value};
 
-use crate::store::Store;
+use crate::state::RankState;
 use c_names::operator::{Operator, apply, apply_unary};
+use c_program::constants::MOST_CELLS;
 use c_program::expr::{Argument, Expr, Field, Link, Place, Reference};
 use c_program::range::Range;
 use c_program::state::Passed;
 use mpi_call::call::Fault;
 
-impl<'p> Store<'p> {
+impl<'p> RankState<'p> {
     /// The value of an expression, or its fault. Takes no memory.
     #[cycle(value)]
     pub fn value(&self, expr: &Expr) -> Result<i32, Fault>
@@ -74,7 +75,7 @@ impl<'p> Store<'p> {
     #[cycle(value)]
     pub fn cell_of(&self, place: &Place) -> Result<u32, Fault>
         ensures value { result ≡ cell_of place.now self.now }
-        ensures bound { IfOk result (λ cell. cell ≤ 262144) }
+        ensures bound { IfOk result (λ cell. cell ≤ MOST_CELLS) }
     {
         match place {
             Place::Whole(variable) => {

@@ -3,10 +3,10 @@ ghost use Rattle.std.specs.Prelude.{◌≡◌, IfErr, IfOk, Err, Ok};
 ghost use Rattle.c_program.specs.Values.{range, value};
 ghost use Rattle.c_run_effects.specs.Faults.{HasFault};
 
-use c_run_cells::store::Store;
 use c_program::expr::Expr;
 use c_program::mpi::{Buffer, Reduction};
 use c_program::range::Range;
+use c_run_cells::state::RankState;
 use mpi_call::call::Fault;
 
 /// The cells of a buffer, and how many ints are meant.
@@ -41,29 +41,29 @@ pub struct Envelope {
     pub comm: i32,
 }
 
-pub fn ints_of(buffer: &Buffer, store: &Store) -> Result<Ints, Fault>
-    ensures cells { IfOk result (λ ints. range buffer.now.cells store.now ≡ Ok ints.cells) }
-    ensures count { IfOk result (λ ints. value buffer.now.count store.now ≡ Ok ints.count) }
-    ensures fault { IfErr result (λ fault. HasFault fault (range buffer.now.cells store.now) (λ _. value buffer.now.count store.now ≡ Err fault)) }
+pub fn ints_of(buffer: &Buffer, state: &RankState) -> Result<Ints, Fault>
+    ensures cells { IfOk result (λ ints. range buffer.now.cells state.now ≡ Ok ints.cells) }
+    ensures count { IfOk result (λ ints. value buffer.now.count state.now ≡ Ok ints.count) }
+    ensures fault { IfErr result (λ fault. HasFault fault (range buffer.now.cells state.now) (λ _. value buffer.now.count state.now ≡ Err fault)) }
 {
-    let cells = store.range(&buffer.cells)?;
-    let count = store.value(&buffer.count)?;
+    let cells = state.range(&buffer.cells)?;
+    let count = state.value(&buffer.count)?;
     Ok(Ints { cells, count })
 }
 
-pub fn buffers_of(out: &Buffer, buffer: &Buffer, store: &Store) -> Result<Buffers, Fault>
-    ensures out_cells { IfOk result (λ all. range out.now.cells store.now ≡ Ok all.out_cells) }
-    ensures out_count { IfOk result (λ all. value out.now.count store.now ≡ Ok all.out_count) }
-    ensures cells { IfOk result (λ all. range buffer.now.cells store.now ≡ Ok all.cells) }
-    ensures count { IfOk result (λ all. value buffer.now.count store.now ≡ Ok all.count) }
+pub fn buffers_of(out: &Buffer, buffer: &Buffer, state: &RankState) -> Result<Buffers, Fault>
+    ensures out_cells { IfOk result (λ all. range out.now.cells state.now ≡ Ok all.out_cells) }
+    ensures out_count { IfOk result (λ all. value out.now.count state.now ≡ Ok all.out_count) }
+    ensures cells { IfOk result (λ all. range buffer.now.cells state.now ≡ Ok all.cells) }
+    ensures count { IfOk result (λ all. value buffer.now.count state.now ≡ Ok all.count) }
     ensures fault { IfErr result (λ fault.
-        HasFault fault (range out.now.cells store.now) (λ _.
-        HasFault fault (value out.now.count store.now) (λ _.
-        HasFault fault (range buffer.now.cells store.now) (λ _.
-        value buffer.now.count store.now ≡ Err fault)))) }
+        HasFault fault (range out.now.cells state.now) (λ _.
+        HasFault fault (value out.now.count state.now) (λ _.
+        HasFault fault (range buffer.now.cells state.now) (λ _.
+        value buffer.now.count state.now ≡ Err fault)))) }
 {
-    let out = ints_of(out, store)?;
-    let buffer = ints_of(buffer, store)?;
+    let out = ints_of(out, state)?;
+    let buffer = ints_of(buffer, state)?;
     Ok(Buffers {
         out_cells: out.cells,
         out_count: out.count,
@@ -72,18 +72,18 @@ pub fn buffers_of(out: &Buffer, buffer: &Buffer, store: &Store) -> Result<Buffer
     })
 }
 
-pub fn operands_of(reduction: &Reduction, store: &Store) -> Result<Operands, Fault>
-    ensures send { IfOk result (λ all. range reduction.now.send store.now ≡ Ok all.send) }
-    ensures receive { IfOk result (λ all. range reduction.now.receive store.now ≡ Ok all.receive) }
-    ensures count { IfOk result (λ all. value reduction.now.count store.now ≡ Ok all.count) }
+pub fn operands_of(reduction: &Reduction, state: &RankState) -> Result<Operands, Fault>
+    ensures send { IfOk result (λ all. range reduction.now.send state.now ≡ Ok all.send) }
+    ensures receive { IfOk result (λ all. range reduction.now.receive state.now ≡ Ok all.receive) }
+    ensures count { IfOk result (λ all. value reduction.now.count state.now ≡ Ok all.count) }
     ensures fault { IfErr result (λ fault.
-        HasFault fault (range reduction.now.send store.now) (λ _.
-        HasFault fault (range reduction.now.receive store.now) (λ _.
-        value reduction.now.count store.now ≡ Err fault))) }
+        HasFault fault (range reduction.now.send state.now) (λ _.
+        HasFault fault (range reduction.now.receive state.now) (λ _.
+        value reduction.now.count state.now ≡ Err fault))) }
 {
-    let send = store.range(&reduction.send)?;
-    let receive = store.range(&reduction.receive)?;
-    let count = store.value(&reduction.count)?;
+    let send = state.range(&reduction.send)?;
+    let receive = state.range(&reduction.receive)?;
+    let count = state.value(&reduction.count)?;
     Ok(Operands {
         send,
         receive,
@@ -91,17 +91,22 @@ pub fn operands_of(reduction: &Reduction, store: &Store) -> Result<Operands, Fau
     })
 }
 
-pub fn envelope_of(rank: &Expr, tag: &Expr, comm: &Expr, store: &Store) -> Result<Envelope, Fault>
-    ensures rank { IfOk result (λ envelope. value rank.now store.now ≡ Ok envelope.rank) }
-    ensures tag { IfOk result (λ envelope. value tag.now store.now ≡ Ok envelope.tag) }
-    ensures comm { IfOk result (λ envelope. value comm.now store.now ≡ Ok envelope.comm) }
+pub fn envelope_of(
+    rank: &Expr,
+    tag: &Expr,
+    comm: &Expr,
+    state: &RankState,
+) -> Result<Envelope, Fault>
+    ensures rank { IfOk result (λ envelope. value rank.now state.now ≡ Ok envelope.rank) }
+    ensures tag { IfOk result (λ envelope. value tag.now state.now ≡ Ok envelope.tag) }
+    ensures comm { IfOk result (λ envelope. value comm.now state.now ≡ Ok envelope.comm) }
     ensures fault { IfErr result (λ fault.
-        HasFault fault (value rank.now store.now) (λ _.
-        HasFault fault (value tag.now store.now) (λ _.
-        value comm.now store.now ≡ Err fault))) }
+        HasFault fault (value rank.now state.now) (λ _.
+        HasFault fault (value tag.now state.now) (λ _.
+        value comm.now state.now ≡ Err fault))) }
 {
-    let rank = store.value(rank)?;
-    let tag = store.value(tag)?;
-    let comm = store.value(comm)?;
+    let rank = state.value(rank)?;
+    let tag = state.value(tag)?;
+    let comm = state.value(comm)?;
     Ok(Envelope { rank, tag, comm })
 }

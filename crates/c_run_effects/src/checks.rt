@@ -2,31 +2,25 @@
 ghost use Rattle.std.specs.Prelude.{◌≡◌, ◌≤◌, IfOk, IfSome};
 ghost use Rattle.c_program.specs.Effects.{cell, colour, count_in, count_of, enters, first, gets, handles_of, optional, same_count, status, tag_of, wanted_tag};
 
-use c_run_cells::store::Store;
+use c_program::constants::{MOST_CELLS, NULL};
 use c_program::effect::{Entered, Into};
 use c_program::expr::Reference;
 use c_program::range::Range;
+use c_run_cells::state::RankState;
 use mpi_call::call::{Fault, Tag};
-
-/// `MPI_PROC_NULL`, `MPI_ANY_TAG` and null handles.
-pub const NULL: i32 = -1;
-
-/// `MPI_UNDEFINED`.
-pub const UNDEFINED: i32 = -32766;
-
-/// The most ints of a message.
-const LONGEST: i32 = 65536;
+use mpi_call::limits::MOST_INTS;
+use mpi_call::needs::UNDEFINED;
 
 // ---- counts and colours
 
-/// A count of ints, at most 65,536.
+/// A count of ints, at most `MOST_INTS`.
 pub fn count_of(count: i32) -> Result<u32, Fault>
     ensures { result ≡ count_of count }
 {
     if count < 0 {
         return Err(Fault::BadCount);
     }
-    if count <= LONGEST {
+    if count <= MOST_INTS as i32 {
         Ok(count as u32)
     } else {
         Err(Fault::BadCount)
@@ -109,25 +103,25 @@ pub fn first(n: usize, cells: Range) -> Result<Range, Fault>
 /// The cell of a single answer.
 pub fn cell(cells: Range) -> Result<u32, Fault>
     ensures cell { result ≡ cell cells }
-    ensures bound { IfOk result (λ cell. cell ≤ 262144) }
+    ensures bound { IfOk result (λ cell. cell ≤ MOST_CELLS) }
 {
     let one = first(1, cells)?;
     Ok(one.from())
 }
 
 /// The cells of statuses; `None` where they are ignored.
-pub fn status(given: &Option<Reference>, store: &Store) -> Result<Option<Range>, Fault>
-    ensures { result ≡ status given.now store.now }
+pub fn status(given: &Option<Reference>, state: &RankState) -> Result<Option<Range>, Fault>
+    ensures { result ≡ status given.now state.now }
 {
     match given {
-        Some(reference) => Ok(Some(store.range(reference)?)),
+        Some(reference) => Ok(Some(state.range(reference)?)),
         None => Ok(None),
     }
 }
 
 pub fn optional_cell(cells: Option<Range>) -> Result<Option<u32>, Fault>
     ensures cell { result ≡ optional cell cells }
-    ensures bound { IfOk result (λ found. IfSome found (λ cell. cell ≤ 262144)) }
+    ensures bound { IfOk result (λ found. IfSome found (λ cell. cell ≤ MOST_CELLS)) }
 {
     match cells {
         Some(cells) => Ok(Some(cell(cells)?)),
@@ -145,12 +139,12 @@ pub fn optional_first(n: u32, cells: Option<Range>) -> Result<Option<Range>, Fau
 }
 
 /// The count of a status, 0 where it was ignored.
-pub fn count_in(status: Option<u32>, store: &Store) -> i32
-    requires { IfSome status (λ cell. cell ≤ 262144) }
-    ensures { result ≡ count_in status store.now }
+pub fn count_in(status: Option<u32>, state: &RankState) -> i32
+    requires { IfSome status (λ cell. cell ≤ MOST_CELLS) }
+    ensures { result ≡ count_in status state.now }
 {
     match status {
-        Some(cell) => store.cell(cell + 2),
+        Some(cell) => state.cell(cell + 2),
         None => 0,
     }
 }

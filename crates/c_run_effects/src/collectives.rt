@@ -3,22 +3,28 @@ ghost use Rattle.std.specs.Prelude.{◌≡◌, ◌≤◌, ℤ, IfErr, IfOk, Err,
 ghost use Rattle.c_program.specs.declared.effect.Entered.TheVariants.{Nothing as EntersNothing};
 ghost use Rattle.c_program.specs.declared.effect.Into.TheVariants.{Nowhere};
 ghost use Rattle.c_program.specs.declared.mpi.CollectiveCall.TheVariants as calls;
-ghost use Rattle.c_program.specs.Effects.{at_root, collective_effect, communicator, count_of, enters, gets, reduces_for_all, same_count};
+ghost use Rattle.c_program.specs.Effects.{at_root, collective_effect, communicator_of, count_of, enters, gets, reduces_for_all, same_count};
 ghost use Rattle.c_program.specs.Values.{value};
 ghost use Rattle.c_run_effects.specs.Faults.{HasFault};
 
 use crate::arguments::{buffers_of, ints_of, operands_of};
 use crate::checks::{count_of, enters, gets, same_count};
-use crate::comm::{Comm, communicator, is_me};
-use c_run_cells::store::Store;
+use crate::comm::{Communicator, communicator_of, is_me};
 use c_program::effect::{Collective, Effect, Entered, Into, Rank};
 use c_program::expr::Expr;
 use c_program::mpi::{Buffer, CollectiveCall, Reduction};
 use c_program::range::Range;
+use c_run_cells::state::RankState;
 use mpi_call::call::{Fault, Kind};
 
 /// A collective with no root and no operation.
-pub fn joined(comm: &Comm, kind: Kind, count: u32, entered: Entered, into: Into) -> Collective
+pub fn joined(
+    comm: &Communicator,
+    kind: Kind,
+    count: u32,
+    entered: Entered,
+    into: Into,
+) -> Collective
     ensures { result ≡ record { comm = comm.now.number; kind = kind; root = None; op = None; count = count; entered = entered; into = into } }
 {
     Collective {
@@ -33,13 +39,13 @@ pub fn joined(comm: &Comm, kind: Kind, count: u32, entered: Entered, into: Into)
 }
 
 /// The communicator of an expression.
-fn comm_of<'a>(rank: Rank, comm: &Expr, store: &'a Store) -> Result<Comm<'a>, Fault>
+fn comm_of<'a>(rank: Rank, comm: &Expr, state: &'a RankState) -> Result<Communicator<'a>, Fault>
     requires { rank.ranks ≤ 64 }
-    ensures comm { IfOk result (λ found. (number : ℤ) × (value comm.now store.now ≡ Ok number) × (communicator rank store.now number ≡ Ok found)) }
-    ensures fault { IfErr result (λ fault. HasFault fault (value comm.now store.now) (λ number. communicator rank store.now number ≡ Err fault)) }
+    ensures comm { IfOk result (λ found. (number : ℤ) × (value comm.now state.now ≡ Ok number) × (communicator_of rank state.now number ≡ Ok found)) }
+    ensures fault { IfErr result (λ fault. HasFault fault (value comm.now state.now) (λ number. communicator_of rank state.now number ≡ Err fault)) }
 {
-    let number = store.value(comm)?;
-    communicator(rank, store, number)
+    let number = state.value(comm)?;
+    communicator_of(rank, state, number)
 }
 
 // ---- what only the root enters, gets or checks
@@ -81,11 +87,11 @@ fn gets_at_root(is_root: bool, n: usize, cells: Range) -> Result<Into, Fault>
 // ---- collectives
 
 /// `MPI_Barrier`.
-fn barrier(rank: Rank, comm: &Expr, store: &Store) -> Result<Effect, Fault>
+fn barrier(rank: Rank, comm: &Expr, state: &RankState) -> Result<Effect, Fault>
     requires { rank.ranks ≤ 64 }
-    ensures { result ≡ collective_effect rank (calls.Barrier comm.now) store.now }
+    ensures { result ≡ collective_effect rank (calls.Barrier comm.now) state.now }
 {
-    let comm = comm_of(rank, comm, store)?;
+    let comm = comm_of(rank, comm, state)?;
     Ok(Effect::Joins(joined(&comm, Kind::Barrier, 0, Entered::Nothing, Into::Nowhere)))
 }
 
@@ -95,14 +101,14 @@ fn bcast(
     buffer: &Buffer,
     root: &Expr,
     comm: &Expr,
-    store: &Store,
+    state: &RankState,
 ) -> Result<Effect, Fault>
     requires { rank.ranks ≤ 64 }
-    ensures { result ≡ collective_effect rank (calls.Bcast buffer.now root.now comm.now) store.now }
+    ensures { result ≡ collective_effect rank (calls.Bcast buffer.now root.now comm.now) state.now }
 {
-    let ints = ints_of(buffer, store)?;
-    let root = store.value(root)?;
-    let comm = comm_of(rank, comm, store)?;
+    let ints = ints_of(buffer, state)?;
+    let root = state.value(root)?;
+    let comm = comm_of(rank, comm, state)?;
     let count = count_of(ints.count)?;
     let root = comm.member(root)?;
     let cells = ints.cells.first(count)?;
@@ -124,14 +130,14 @@ fn gather(
     buffer: &Buffer,
     root: &Expr,
     comm: &Expr,
-    store: &Store,
+    state: &RankState,
 ) -> Result<Effect, Fault>
     requires { rank.ranks ≤ 64 }
-    ensures { result ≡ collective_effect rank (calls.Gather out.now buffer.now root.now comm.now) store.now }
+    ensures { result ≡ collective_effect rank (calls.Gather out.now buffer.now root.now comm.now) state.now }
 {
-    let buffers = buffers_of(out, buffer, store)?;
-    let root = store.value(root)?;
-    let comm = comm_of(rank, comm, store)?;
+    let buffers = buffers_of(out, buffer, state)?;
+    let root = state.value(root)?;
+    let comm = comm_of(rank, comm, state)?;
     let count = count_for_both(comm.is_root(rank, root), buffers.out_count, buffers.count)?;
     let root = comm.member(root)?;
     let entered = enters(count as usize, buffers.out_cells)?;
@@ -149,14 +155,14 @@ fn scatter(
     buffer: &Buffer,
     root: &Expr,
     comm: &Expr,
-    store: &Store,
+    state: &RankState,
 ) -> Result<Effect, Fault>
     requires { rank.ranks ≤ 64 }
-    ensures { result ≡ collective_effect rank (calls.Scatter out.now buffer.now root.now comm.now) store.now }
+    ensures { result ≡ collective_effect rank (calls.Scatter out.now buffer.now root.now comm.now) state.now }
 {
-    let buffers = buffers_of(out, buffer, store)?;
-    let root = store.value(root)?;
-    let comm = comm_of(rank, comm, store)?;
+    let buffers = buffers_of(out, buffer, state)?;
+    let root = state.value(root)?;
+    let comm = comm_of(rank, comm, state)?;
     let count = count_for_both(comm.is_root(rank, root), buffers.count, buffers.out_count)?;
     let root = comm.member(root)?;
     let entered = enters_at_root(is_me(rank, root), comm.pieces(count), buffers.out_cells)?;
@@ -173,13 +179,13 @@ fn allgather(
     out: &Buffer,
     buffer: &Buffer,
     comm: &Expr,
-    store: &Store,
+    state: &RankState,
 ) -> Result<Effect, Fault>
     requires { rank.ranks ≤ 64 }
-    ensures { result ≡ collective_effect rank (calls.Allgather out.now buffer.now comm.now) store.now }
+    ensures { result ≡ collective_effect rank (calls.Allgather out.now buffer.now comm.now) state.now }
 {
-    let buffers = buffers_of(out, buffer, store)?;
-    let comm = comm_of(rank, comm, store)?;
+    let buffers = buffers_of(out, buffer, state)?;
+    let comm = comm_of(rank, comm, state)?;
     let count = count_for_both(true, buffers.out_count, buffers.count)?;
     let entered = enters(count as usize, buffers.out_cells)?;
     let into = gets(comm.pieces(count), buffers.cells)?;
@@ -192,13 +198,13 @@ fn alltoall(
     out: &Buffer,
     buffer: &Buffer,
     comm: &Expr,
-    store: &Store,
+    state: &RankState,
 ) -> Result<Effect, Fault>
     requires { rank.ranks ≤ 64 }
-    ensures { result ≡ collective_effect rank (calls.Alltoall out.now buffer.now comm.now) store.now }
+    ensures { result ≡ collective_effect rank (calls.Alltoall out.now buffer.now comm.now) state.now }
 {
-    let buffers = buffers_of(out, buffer, store)?;
-    let comm = comm_of(rank, comm, store)?;
+    let buffers = buffers_of(out, buffer, state)?;
+    let comm = comm_of(rank, comm, state)?;
     let count = count_for_both(true, buffers.out_count, buffers.count)?;
     let entered = enters(comm.pieces(count), buffers.out_cells)?;
     let into = gets(comm.pieces(count), buffers.cells)?;
@@ -211,14 +217,14 @@ fn reduce(
     reduction: &Reduction,
     root: &Expr,
     comm: &Expr,
-    store: &Store,
+    state: &RankState,
 ) -> Result<Effect, Fault>
     requires { rank.ranks ≤ 64 }
-    ensures { result ≡ collective_effect rank (calls.Reduce reduction.now root.now comm.now) store.now }
+    ensures { result ≡ collective_effect rank (calls.Reduce reduction.now root.now comm.now) state.now }
 {
-    let operands = operands_of(reduction, store)?;
-    let root = store.value(root)?;
-    let comm = comm_of(rank, comm, store)?;
+    let operands = operands_of(reduction, state)?;
+    let root = state.value(root)?;
+    let comm = comm_of(rank, comm, state)?;
     let count = count_of(operands.count)?;
     let root = comm.member(root)?;
     let entered = enters(count as usize, operands.send)?;
@@ -236,13 +242,13 @@ fn reduces_for_all(
     kind: Kind,
     reduction: &Reduction,
     comm: &Expr,
-    store: &Store,
+    state: &RankState,
 ) -> Result<Effect, Fault>
     requires { rank.ranks ≤ 64 }
-    ensures { result ≡ reduces_for_all rank kind reduction.now comm.now store.now }
+    ensures { result ≡ reduces_for_all rank kind reduction.now comm.now state.now }
 {
-    let operands = operands_of(reduction, store)?;
-    let comm = comm_of(rank, comm, store)?;
+    let operands = operands_of(reduction, state)?;
+    let comm = comm_of(rank, comm, state)?;
     let count = count_of(operands.count)?;
     let entered = enters(count as usize, operands.send)?;
     let into = gets(count as usize, operands.receive)?;
@@ -253,45 +259,49 @@ fn reduces_for_all(
 }
 
 /// The effect of a collective, or its fault.
-pub fn collective_effect(rank: Rank, call: &CollectiveCall, store: &Store) -> Result<Effect, Fault>
+pub fn collective_effect(
+    rank: Rank,
+    call: &CollectiveCall,
+    state: &RankState,
+) -> Result<Effect, Fault>
     requires { rank.ranks ≤ 64 }
-    ensures { result ≡ collective_effect rank call.now store.now }
+    ensures { result ≡ collective_effect rank call.now state.now }
 {
     match call {
-        CollectiveCall::Barrier { comm } => barrier(rank, comm, store),
-        CollectiveCall::Bcast { buffer, root, comm } => bcast(rank, buffer, root, comm, store),
+        CollectiveCall::Barrier { comm } => barrier(rank, comm, state),
+        CollectiveCall::Bcast { buffer, root, comm } => bcast(rank, buffer, root, comm, state),
         CollectiveCall::Gather {
             send,
             receive,
             root,
             comm,
-        } => gather(rank, send, receive, root, comm, store),
+        } => gather(rank, send, receive, root, comm, state),
         CollectiveCall::Scatter {
             send,
             receive,
             root,
             comm,
-        } => scatter(rank, send, receive, root, comm, store),
+        } => scatter(rank, send, receive, root, comm, state),
         CollectiveCall::Allgather {
             send,
             receive,
             comm,
-        } => allgather(rank, send, receive, comm, store),
+        } => allgather(rank, send, receive, comm, state),
         CollectiveCall::Alltoall {
             send,
             receive,
             comm,
-        } => alltoall(rank, send, receive, comm, store),
+        } => alltoall(rank, send, receive, comm, state),
         CollectiveCall::Reduce {
             reduction,
             root,
             comm,
-        } => reduce(rank, reduction, root, comm, store),
+        } => reduce(rank, reduction, root, comm, state),
         CollectiveCall::Allreduce { reduction, comm } => {
-            reduces_for_all(rank, Kind::Allreduce, reduction, comm, store)
+            reduces_for_all(rank, Kind::Allreduce, reduction, comm, state)
         }
         CollectiveCall::Scan { reduction, comm } => {
-            reduces_for_all(rank, Kind::Scan, reduction, comm, store)
+            reduces_for_all(rank, Kind::Scan, reduction, comm, state)
         }
     }
 }

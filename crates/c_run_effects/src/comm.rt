@@ -1,29 +1,27 @@
 //! Communicators, and ranks in them.
 ghost use Rattle.std.specs.Prelude.{◌≡◌, ◌≤◌, ◌<◌, ◌==◌, IfSome, length};
 ghost use Rattle.std.specs.List.{position};
-ghost use Rattle.c_program.specs.Effects.{communicator, is_me};
+ghost use Rattle.c_program.specs.Effects.{communicator_of, is_me};
 
-use crate::checks::{NULL, UNDEFINED};
-use c_run_cells::store::Store;
+use c_program::constants::{ANY_SOURCE, NULL};
 use c_program::effect::Rank;
+use c_run_cells::state::RankState;
 use mpi_call::call::{Fault, Source};
+use mpi_call::needs::UNDEFINED;
 use std::marker::Model;
-
-/// `MPI_ANY_SOURCE`.
-const ANY_SOURCE: i32 = -2;
 
 /// A communicator's number, and its members as ranks of the world.
 #[derive(Drop)]
-pub struct Comm<'a> {
+pub struct Communicator<'a> {
     number: u32,
     members: &'a [u8],
 }
 
-impl<'a> Model for Comm<'a> {
+impl<'a> Model for Communicator<'a> {
     ghost use Rattle.std.specs.Prelude.{◌<◌, ◌^◌, length};
     ghost use Rattle.c_program.specs.Effects as effects;
 
-    ghost Value = { effects.Comm };
+    ghost Value = { effects.Communicator };
 
     ghost view = { λ c. record { number = c.number; members = c.members.now } };
 
@@ -31,16 +29,20 @@ impl<'a> Model for Comm<'a> {
 }
 
 /// BadComm for a number that no communicator of the rank has.
-pub fn communicator<'a>(rank: Rank, store: &'a Store, number: i32) -> Result<Comm<'a>, Fault>
+pub fn communicator_of<'a>(
+    rank: Rank,
+    state: &'a RankState,
+    number: i32,
+) -> Result<Communicator<'a>, Fault>
     requires { rank.ranks ≤ 64 }
-    ensures { result ≡ communicator rank store.now number }
+    ensures { result ≡ communicator_of rank state.now number }
 {
     if number < 0 {
         return Err(Fault::BadComm);
     }
     let number = number as u32;
-    match store.members(rank, number) {
-        Some(members) => Ok(Comm { number, members }),
+    match state.members(rank, number) {
+        Some(members) => Ok(Communicator { number, members }),
         None => Err(Fault::BadComm),
     }
 }
@@ -60,7 +62,7 @@ pub fn is_me(rank: Rank, root: u8) -> bool
     root == rank.number
 }
 
-impl<'a> Comm<'a> {
+impl<'a> Communicator<'a> {
     ghost use Rattle.std.specs.Prelude.{◌≡◌, length, pos};
     ghost use Rattle.c_program.specs.Effects as effects;
 
@@ -100,7 +102,7 @@ impl<'a> Comm<'a> {
         }
     }
 
-    /// The same, or `None` for `MPI_PROC_NULL`.
+    /// A destination's rank in the world, or `None` for `MPI_PROC_NULL`.
     pub fn destination(&self, rank: i32) -> Result<Option<u8>, Fault>
         ensures { result ≡ effects.destination self.now rank }
     {
@@ -110,7 +112,7 @@ impl<'a> Comm<'a> {
         Ok(Some(self.member(rank)?))
     }
 
-    /// The same, or a source that is no rank.
+    /// A source: a member, `MPI_PROC_NULL` or `MPI_ANY_SOURCE`.
     pub fn source(&self, rank: i32) -> Result<Source, Fault>
         ensures { result ≡ effects.source_of self.now rank }
     {

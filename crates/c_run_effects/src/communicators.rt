@@ -4,23 +4,24 @@ ghost use Rattle.c_program.specs.declared.effect.Rank as effect;
 ghost use Rattle.c_program.specs.declared.mpi.CommunicatorCall.TheVariants as calls;
 ghost use Rattle.c_program.specs.Effects.{communicator_effect};
 
-use crate::checks::{NULL, cell, colour};
+use crate::checks::{cell, colour};
 use crate::collectives::joined;
-use crate::comm::communicator;
-use c_run_cells::store::Store;
+use crate::comm::communicator_of;
+use c_program::constants::NULL;
 use c_program::effect::{Effect, Entered, Into, Rank};
 use c_program::expr::{Expr, Reference};
 use c_program::mpi::CommunicatorCall;
+use c_run_cells::state::RankState;
 use mpi_call::call::{Fault, Kind};
 
 /// `MPI_Comm_size`.
-fn comm_size(rank: Rank, comm: &Expr, into: &Reference, store: &Store) -> Result<Effect, Fault>
+fn comm_size(rank: Rank, comm: &Expr, into: &Reference, state: &RankState) -> Result<Effect, Fault>
     requires { rank.ranks ≤ 64 }
-    ensures { result ≡ communicator_effect rank (calls.Size comm.now into.now) store.now }
+    ensures { result ≡ communicator_effect rank (calls.Size comm.now into.now) state.now }
 {
-    let comm = store.value(comm)?;
-    let into = store.range(into)?;
-    let comm = communicator(rank, store, comm)?;
+    let comm = state.value(comm)?;
+    let into = state.range(into)?;
+    let comm = communicator_of(rank, state, comm)?;
     let into = cell(into)?;
     Ok(Effect::Sets {
         cell: into,
@@ -29,13 +30,13 @@ fn comm_size(rank: Rank, comm: &Expr, into: &Reference, store: &Store) -> Result
 }
 
 /// `MPI_Comm_rank`.
-fn comm_rank(rank: Rank, comm: &Expr, into: &Reference, store: &Store) -> Result<Effect, Fault>
+fn comm_rank(rank: Rank, comm: &Expr, into: &Reference, state: &RankState) -> Result<Effect, Fault>
     requires { rank.ranks ≤ 64 }
-    ensures { result ≡ communicator_effect rank (calls.Rank comm.now into.now) store.now }
+    ensures { result ≡ communicator_effect rank (calls.Rank comm.now into.now) state.now }
 {
-    let comm = store.value(comm)?;
-    let into = store.range(into)?;
-    let comm = communicator(rank, store, comm)?;
+    let comm = state.value(comm)?;
+    let into = state.range(into)?;
+    let comm = communicator_of(rank, state, comm)?;
     let into = cell(into)?;
     Ok(Effect::Sets {
         cell: into,
@@ -44,13 +45,13 @@ fn comm_rank(rank: Rank, comm: &Expr, into: &Reference, store: &Store) -> Result
 }
 
 /// `MPI_Comm_dup`.
-fn comm_dup(rank: Rank, comm: &Expr, into: &Reference, store: &Store) -> Result<Effect, Fault>
+fn comm_dup(rank: Rank, comm: &Expr, into: &Reference, state: &RankState) -> Result<Effect, Fault>
     requires { rank.ranks ≤ 64 }
-    ensures { result ≡ communicator_effect rank (calls.Dup comm.now into.now) store.now }
+    ensures { result ≡ communicator_effect rank (calls.Dup comm.now into.now) state.now }
 {
-    let comm = store.value(comm)?;
-    let into = store.range(into)?;
-    let comm = communicator(rank, store, comm)?;
+    let comm = state.value(comm)?;
+    let into = state.range(into)?;
+    let comm = communicator_of(rank, state, comm)?;
     let into = cell(into)?;
     Ok(Effect::Joins(joined(&comm, Kind::Dup, 0, Entered::Nothing, Into::Handle(into))))
 }
@@ -62,16 +63,16 @@ fn comm_split(
     color: &Expr,
     key: &Expr,
     into: &Reference,
-    store: &Store,
+    state: &RankState,
 ) -> Result<Effect, Fault>
     requires { rank.ranks ≤ 64 }
-    ensures { result ≡ communicator_effect rank (calls.Split comm.now color.now key.now into.now) store.now }
+    ensures { result ≡ communicator_effect rank (calls.Split comm.now color.now key.now into.now) state.now }
 {
-    let comm = store.value(comm)?;
-    let color = store.value(color)?;
-    let key = store.value(key)?;
-    let into = store.range(into)?;
-    let comm = communicator(rank, store, comm)?;
+    let comm = state.value(comm)?;
+    let color = state.value(color)?;
+    let key = state.value(key)?;
+    let into = state.range(into)?;
+    let comm = communicator_of(rank, state, comm)?;
     let color = colour(color)?;
     let into = cell(into)?;
     Ok(Effect::Joins(joined(
@@ -84,10 +85,10 @@ fn comm_split(
 }
 
 /// `MPI_Comm_free`: the handle is null afterwards.
-fn comm_free(into: &Reference, store: &Store) -> Result<Effect, Fault>
-    ensures { (rank : effect.Rank) → result ≡ communicator_effect rank (calls.Free into.now) store.now }
+fn comm_free(into: &Reference, state: &RankState) -> Result<Effect, Fault>
+    ensures { (rank : effect.Rank) → result ≡ communicator_effect rank (calls.Free into.now) state.now }
 {
-    let into = store.range(into)?;
+    let into = state.range(into)?;
     let into = cell(into)?;
     Ok(Effect::Sets {
         cell: into,
@@ -99,21 +100,21 @@ fn comm_free(into: &Reference, store: &Store) -> Result<Effect, Fault>
 pub fn communicator_effect(
     rank: Rank,
     call: &CommunicatorCall,
-    store: &Store,
+    state: &RankState,
 ) -> Result<Effect, Fault>
     requires { rank.ranks ≤ 64 }
-    ensures { result ≡ communicator_effect rank call.now store.now }
+    ensures { result ≡ communicator_effect rank call.now state.now }
 {
     match call {
-        CommunicatorCall::Size { comm, size } => comm_size(rank, comm, size, store),
-        CommunicatorCall::Rank { comm, rank: into } => comm_rank(rank, comm, into, store),
-        CommunicatorCall::Dup { comm, made } => comm_dup(rank, comm, made, store),
+        CommunicatorCall::Size { comm, size } => comm_size(rank, comm, size, state),
+        CommunicatorCall::Rank { comm, rank: into } => comm_rank(rank, comm, into, state),
+        CommunicatorCall::Dup { comm, made } => comm_dup(rank, comm, made, state),
         CommunicatorCall::Split {
             comm,
             color,
             key,
             made,
-        } => comm_split(rank, comm, color, key, made, store),
-        CommunicatorCall::Free { comm } => comm_free(comm, store),
+        } => comm_split(rank, comm, color, key, made, state),
+        CommunicatorCall::Free { comm } => comm_free(comm, state),
     }
 }

@@ -4,11 +4,11 @@ ghost use Rattle.c_program.specs.declared.mpi.CompletionCall.TheVariants as call
 ghost use Rattle.c_program.specs.Effects.{answers, completes_some, completion_effect};
 
 use crate::checks::{cell, handles_of, optional_first, status};
-use c_run_cells::store::Store;
 use c_program::effect::{Answer, Effect};
 use c_program::expr::{Expr, Reference};
 use c_program::mpi::{CompletionCall, SomeRequests};
 use c_program::range::Range;
+use c_run_cells::state::RankState;
 use mpi_call::call::{Fault, TakeMode};
 
 /// Nothing but statuses.
@@ -25,11 +25,11 @@ fn answers(statuses: Option<Range>) -> Answer
 }
 
 /// `MPI_Wait`.
-fn wait(requests: &Reference, kept: &Option<Reference>, store: &Store) -> Result<Effect, Fault>
-    ensures { result ≡ completion_effect (calls.Wait requests.now kept.now) store.now }
+fn wait(requests: &Reference, kept: &Option<Reference>, state: &RankState) -> Result<Effect, Fault>
+    ensures { result ≡ completion_effect (calls.Wait requests.now kept.now) state.now }
 {
-    let requests = store.range(requests)?;
-    let kept = status(kept, store)?;
+    let requests = state.range(requests)?;
+    let kept = status(kept, state)?;
     let requests = requests.first(1)?;
     let statuses = optional_first(1, kept)?;
     Ok(Effect::Completes {
@@ -44,13 +44,13 @@ fn test(
     requests: &Reference,
     flag: &Reference,
     kept: &Option<Reference>,
-    store: &Store,
+    state: &RankState,
 ) -> Result<Effect, Fault>
-    ensures { result ≡ completion_effect (calls.Test requests.now flag.now kept.now) store.now }
+    ensures { result ≡ completion_effect (calls.Test requests.now flag.now kept.now) state.now }
 {
-    let requests = store.range(requests)?;
-    let flag = store.range(flag)?;
-    let kept = status(kept, store)?;
+    let requests = state.range(requests)?;
+    let flag = state.range(flag)?;
+    let kept = status(kept, state)?;
     let requests = requests.first(1)?;
     let flag = cell(flag)?;
     let statuses = optional_first(1, kept)?;
@@ -70,14 +70,14 @@ fn waitany(
     requests: &Reference,
     index: &Reference,
     kept: &Option<Reference>,
-    store: &Store,
+    state: &RankState,
 ) -> Result<Effect, Fault>
-    ensures { result ≡ completion_effect (calls.Waitany count.now requests.now index.now kept.now) store.now }
+    ensures { result ≡ completion_effect (calls.Waitany count.now requests.now index.now kept.now) state.now }
 {
-    let count = store.value(count)?;
-    let requests = store.range(requests)?;
-    let index = store.range(index)?;
-    let kept = status(kept, store)?;
+    let count = state.value(count)?;
+    let requests = state.range(requests)?;
+    let index = state.range(index)?;
+    let kept = status(kept, state)?;
     let count = handles_of(count)?;
     let requests = requests.first(count)?;
     let index = cell(index)?;
@@ -99,15 +99,15 @@ fn testany(
     index: &Reference,
     flag: &Reference,
     kept: &Option<Reference>,
-    store: &Store,
+    state: &RankState,
 ) -> Result<Effect, Fault>
-    ensures { result ≡ completion_effect (calls.Testany count.now requests.now index.now flag.now kept.now) store.now }
+    ensures { result ≡ completion_effect (calls.Testany count.now requests.now index.now flag.now kept.now) state.now }
 {
-    let count = store.value(count)?;
-    let requests = store.range(requests)?;
-    let index = store.range(index)?;
-    let flag = store.range(flag)?;
-    let kept = status(kept, store)?;
+    let count = state.value(count)?;
+    let requests = state.range(requests)?;
+    let index = state.range(index)?;
+    let flag = state.range(flag)?;
+    let kept = status(kept, state)?;
     let count = handles_of(count)?;
     let requests = requests.first(count)?;
     let index = cell(index)?;
@@ -129,13 +129,13 @@ fn waitall(
     count: &Expr,
     requests: &Reference,
     kept: &Option<Reference>,
-    store: &Store,
+    state: &RankState,
 ) -> Result<Effect, Fault>
-    ensures { result ≡ completion_effect (calls.Waitall count.now requests.now kept.now) store.now }
+    ensures { result ≡ completion_effect (calls.Waitall count.now requests.now kept.now) state.now }
 {
-    let count = store.value(count)?;
-    let requests = store.range(requests)?;
-    let kept = status(kept, store)?;
+    let count = state.value(count)?;
+    let requests = state.range(requests)?;
+    let kept = status(kept, state)?;
     let count = handles_of(count)?;
     let requests = requests.first(count)?;
     let statuses = optional_first(count, kept)?;
@@ -152,14 +152,14 @@ fn testall(
     requests: &Reference,
     flag: &Reference,
     kept: &Option<Reference>,
-    store: &Store,
+    state: &RankState,
 ) -> Result<Effect, Fault>
-    ensures { result ≡ completion_effect (calls.Testall count.now requests.now flag.now kept.now) store.now }
+    ensures { result ≡ completion_effect (calls.Testall count.now requests.now flag.now kept.now) state.now }
 {
-    let count = store.value(count)?;
-    let requests = store.range(requests)?;
-    let flag = store.range(flag)?;
-    let kept = status(kept, store)?;
+    let count = state.value(count)?;
+    let requests = state.range(requests)?;
+    let flag = state.range(flag)?;
+    let kept = status(kept, state)?;
     let count = handles_of(count)?;
     let requests = requests.first(count)?;
     let flag = cell(flag)?;
@@ -175,14 +175,18 @@ fn testall(
 }
 
 /// `MPI_Waitsome` and `MPI_Testsome`.
-fn completes_some(mode: TakeMode, several: &SomeRequests, store: &Store) -> Result<Effect, Fault>
-    ensures { result ≡ completes_some mode several.now store.now }
+fn completes_some(
+    mode: TakeMode,
+    several: &SomeRequests,
+    state: &RankState,
+) -> Result<Effect, Fault>
+    ensures { result ≡ completes_some mode several.now state.now }
 {
-    let count = store.value(&several.count)?;
-    let requests = store.range(&several.requests)?;
-    let outcount = store.range(&several.outcount)?;
-    let indices = store.range(&several.indices)?;
-    let kept = status(&several.statuses, store)?;
+    let count = state.value(&several.count)?;
+    let requests = state.range(&several.requests)?;
+    let outcount = state.range(&several.outcount)?;
+    let indices = state.range(&several.indices)?;
+    let kept = status(&several.statuses, state)?;
     let count = handles_of(count)?;
     let requests = requests.first(count)?;
     let outcount = cell(outcount)?;
@@ -200,41 +204,41 @@ fn completes_some(mode: TakeMode, several: &SomeRequests, store: &Store) -> Resu
 }
 
 /// The effect of a completion of requests, or its fault.
-pub fn completion_effect(call: &CompletionCall, store: &Store) -> Result<Effect, Fault>
-    ensures { result ≡ completion_effect call.now store.now }
+pub fn completion_effect(call: &CompletionCall, state: &RankState) -> Result<Effect, Fault>
+    ensures { result ≡ completion_effect call.now state.now }
 {
     match call {
-        CompletionCall::Wait { request, status } => wait(request, status, store),
+        CompletionCall::Wait { request, status } => wait(request, status, state),
         CompletionCall::Test {
             request,
             flag,
             status,
-        } => test(request, flag, status, store),
+        } => test(request, flag, status, state),
         CompletionCall::Waitany {
             count,
             requests,
             index,
             status,
-        } => waitany(count, requests, index, status, store),
+        } => waitany(count, requests, index, status, state),
         CompletionCall::Testany {
             count,
             requests,
             index,
             flag,
             status,
-        } => testany(count, requests, index, flag, status, store),
+        } => testany(count, requests, index, flag, status, state),
         CompletionCall::Waitall {
             count,
             requests,
             statuses,
-        } => waitall(count, requests, statuses, store),
+        } => waitall(count, requests, statuses, state),
         CompletionCall::Testall {
             count,
             requests,
             flag,
             statuses,
-        } => testall(count, requests, flag, statuses, store),
-        CompletionCall::Waitsome(several) => completes_some(TakeMode::Several, several, store),
-        CompletionCall::Testsome(several) => completes_some(TakeMode::TestSeveral, several, store),
+        } => testall(count, requests, flag, statuses, state),
+        CompletionCall::Waitsome(several) => completes_some(TakeMode::Several, several, state),
+        CompletionCall::Testsome(several) => completes_some(TakeMode::TestSeveral, several, state),
     }
 }

@@ -1,30 +1,31 @@
 //! Sends and receives.
 ghost use Rattle.std.specs.Prelude.{◌≡◌, ◌≤◌};
 ghost use Rattle.c_program.specs.declared.mpi.MessageCall.TheVariants as calls;
-ghost use Rattle.c_program.specs.Effects.{message, message_effect, receive, send_after, sends, sends_from};
+ghost use Rattle.c_program.specs.Effects.{isend_effect, message, message_effect, receive, send_after, send_effect, sends, sends_from};
 
 use crate::arguments::{envelope_of, ints_of};
 use crate::checks::{cell, count_of, optional_cell, status, tag_of, wanted_tag};
-use crate::comm::{Comm, communicator};
-use c_run_cells::store::Store;
+use crate::comm::{Communicator, communicator_of};
 use c_program::effect::{Effect, Message, Rank, Receive, Start};
 use c_program::expr::{Expr, Reference};
 use c_program::mpi::{Incoming, MessageCall, Outgoing};
 use c_program::range::Range;
+use c_run_cells::state::RankState;
 use mpi_call::call::{Fault, Source, Tag};
 
-fn message(comm: &Comm, dest: u8, tag: u32, ints: Range) -> Message
-    ensures { result ≡ message comm.now dest tag ints }
+fn message(comm: &Communicator, dest: u8, tag: u32, ints: Range, sync: bool) -> Message
+    ensures { result ≡ message comm.now dest tag ints sync }
 {
     Message {
         comm: comm.number(),
         dest,
         tag,
         ints,
+        sync,
     }
 }
 
-fn receive(comm: &Comm, source: Source, tag: Tag, buffer: Range) -> Receive
+fn receive(comm: &Communicator, source: Source, tag: Tag, buffer: Range) -> Receive
     ensures { result ≡ receive comm.now source tag buffer }
 {
     Receive {
@@ -35,25 +36,33 @@ fn receive(comm: &Comm, source: Source, tag: Tag, buffer: Range) -> Receive
     }
 }
 
-/// None is made to `MPI_PROC_NULL`.
-fn sends(comm: &Comm, dest: Option<u8>, tag: u32, ints: Range) -> Effect
-    ensures { result ≡ sends comm.now dest tag ints }
+/// A send until it is complete, as a standard one is at its start. None is made to `MPI_PROC_NULL`.
+fn sends(comm: &Communicator, dest: Option<u8>, tag: u32, ints: Range, sync: bool) -> Effect
+    ensures { result ≡ sends comm.now dest tag ints sync }
 {
     match dest {
+        Some(dest) if sync => Effect::Sends(message(comm, dest, tag, ints, true)),
         Some(dest) => Effect::Starts {
-            start: Start::Send(message(comm, dest, tag, ints)),
+            start: Start::Send(message(comm, dest, tag, ints, false)),
             request: None,
         },
         None => Effect::Nothing,
     }
 }
 
-/// To `MPI_PROC_NULL` it starts what is complete at once.
-fn sends_from(comm: &Comm, dest: Option<u8>, tag: u32, ints: Range, request: u32) -> Effect
-    ensures { result ≡ sends_from comm.now dest tag ints request }
+/// A nonblocking send. To `MPI_PROC_NULL` it starts what is complete at once.
+fn sends_from(
+    comm: &Communicator,
+    dest: Option<u8>,
+    tag: u32,
+    ints: Range,
+    sync: bool,
+    request: u32,
+) -> Effect
+    ensures { result ≡ sends_from comm.now dest tag ints sync request }
 {
     let start = match dest {
-        Some(dest) => Start::Send(message(comm, dest, tag, ints)),
+        Some(dest) => Start::Send(message(comm, dest, tag, ints, sync)),
         None => Start::Receive(receive(comm, Source::Null, Tag::Is(tag), Range::nothing())),
     };
     Effect::Starts {
@@ -62,28 +71,34 @@ fn sends_from(comm: &Comm, dest: Option<u8>, tag: u32, ints: Range, request: u32
     }
 }
 
-fn send_after(comm: &Comm, dest: Option<u8>, tag: u32, ints: Range) -> Option<Message>
+fn send_after(comm: &Communicator, dest: Option<u8>, tag: u32, ints: Range) -> Option<Message>
     ensures { result ≡ send_after comm.now dest tag ints }
 {
     match dest {
-        Some(dest) => Some(message(comm, dest, tag, ints)),
+        Some(dest) => Some(message(comm, dest, tag, ints, false)),
         None => None,
     }
 }
 
-/// `MPI_Send`.
-fn send(rank: Rank, outgoing: &Outgoing, comm: &Expr, store: &Store) -> Result<Effect, Fault>
+/// `MPI_Send`, and `MPI_Ssend` where it is synchronous.
+fn send(
+    rank: Rank,
+    outgoing: &Outgoing,
+    comm: &Expr,
+    sync: bool,
+    state: &RankState,
+) -> Result<Effect, Fault>
     requires { rank.ranks ≤ 64 }
-    ensures { result ≡ message_effect rank (calls.Send outgoing.now comm.now) store.now }
+    ensures { result ≡ send_effect rank outgoing.now comm.now sync state.now }
 {
-    let ints = ints_of(&outgoing.buffer, store)?;
-    let envelope = envelope_of(&outgoing.dest, &outgoing.tag, comm, store)?;
-    let comm = communicator(rank, store, envelope.comm)?;
+    let ints = ints_of(&outgoing.buffer, state)?;
+    let envelope = envelope_of(&outgoing.dest, &outgoing.tag, comm, state)?;
+    let comm = communicator_of(rank, state, envelope.comm)?;
     let count = count_of(ints.count)?;
     let dest = comm.destination(envelope.rank)?;
     let tag = tag_of(envelope.tag)?;
     let cells = ints.cells.first(count)?;
-    Ok(sends(&comm, dest, tag, cells))
+    Ok(sends(&comm, dest, tag, cells, sync))
 }
 
 /// `MPI_Recv`.
@@ -92,15 +107,15 @@ fn recv(
     incoming: &Incoming,
     comm: &Expr,
     kept: &Option<Reference>,
-    store: &Store,
+    state: &RankState,
 ) -> Result<Effect, Fault>
     requires { rank.ranks ≤ 64 }
-    ensures { result ≡ message_effect rank (calls.Recv incoming.now comm.now kept.now) store.now }
+    ensures { result ≡ message_effect rank (calls.Recv incoming.now comm.now kept.now) state.now }
 {
-    let ints = ints_of(&incoming.buffer, store)?;
-    let envelope = envelope_of(&incoming.source, &incoming.tag, comm, store)?;
-    let kept = status(kept, store)?;
-    let comm = communicator(rank, store, envelope.comm)?;
+    let ints = ints_of(&incoming.buffer, state)?;
+    let envelope = envelope_of(&incoming.source, &incoming.tag, comm, state)?;
+    let kept = status(kept, state)?;
+    let comm = communicator_of(rank, state, envelope.comm)?;
     let count = count_of(ints.count)?;
     let source = comm.source(envelope.rank)?;
     let tag = wanted_tag(envelope.tag)?;
@@ -113,27 +128,28 @@ fn recv(
     })
 }
 
-/// `MPI_Isend`.
+/// `MPI_Isend`, and `MPI_Issend` where it is synchronous.
 fn isend(
     rank: Rank,
     outgoing: &Outgoing,
     comm: &Expr,
     request: &Reference,
-    store: &Store,
+    sync: bool,
+    state: &RankState,
 ) -> Result<Effect, Fault>
     requires { rank.ranks ≤ 64 }
-    ensures { result ≡ message_effect rank (calls.Isend outgoing.now comm.now request.now) store.now }
+    ensures { result ≡ isend_effect rank outgoing.now comm.now request.now sync state.now }
 {
-    let ints = ints_of(&outgoing.buffer, store)?;
-    let envelope = envelope_of(&outgoing.dest, &outgoing.tag, comm, store)?;
-    let request = store.range(request)?;
-    let comm = communicator(rank, store, envelope.comm)?;
+    let ints = ints_of(&outgoing.buffer, state)?;
+    let envelope = envelope_of(&outgoing.dest, &outgoing.tag, comm, state)?;
+    let request = state.range(request)?;
+    let comm = communicator_of(rank, state, envelope.comm)?;
     let count = count_of(ints.count)?;
     let dest = comm.destination(envelope.rank)?;
     let tag = tag_of(envelope.tag)?;
     let cells = ints.cells.first(count)?;
     let request = cell(request)?;
-    Ok(sends_from(&comm, dest, tag, cells, request))
+    Ok(sends_from(&comm, dest, tag, cells, sync, request))
 }
 
 /// `MPI_Irecv`.
@@ -142,15 +158,15 @@ fn irecv(
     incoming: &Incoming,
     comm: &Expr,
     request: &Reference,
-    store: &Store,
+    state: &RankState,
 ) -> Result<Effect, Fault>
     requires { rank.ranks ≤ 64 }
-    ensures { result ≡ message_effect rank (calls.Irecv incoming.now comm.now request.now) store.now }
+    ensures { result ≡ message_effect rank (calls.Irecv incoming.now comm.now request.now) state.now }
 {
-    let ints = ints_of(&incoming.buffer, store)?;
-    let envelope = envelope_of(&incoming.source, &incoming.tag, comm, store)?;
-    let request = store.range(request)?;
-    let comm = communicator(rank, store, envelope.comm)?;
+    let ints = ints_of(&incoming.buffer, state)?;
+    let envelope = envelope_of(&incoming.source, &incoming.tag, comm, state)?;
+    let request = state.range(request)?;
+    let comm = communicator_of(rank, state, envelope.comm)?;
     let count = count_of(ints.count)?;
     let source = comm.source(envelope.rank)?;
     let tag = wanted_tag(envelope.tag)?;
@@ -169,18 +185,18 @@ fn sendrecv(
     incoming: &Incoming,
     comm: &Expr,
     kept: &Option<Reference>,
-    store: &Store,
+    state: &RankState,
 ) -> Result<Effect, Fault>
     requires { rank.ranks ≤ 64 }
-    ensures { result ≡ message_effect rank (calls.Sendrecv outgoing.now incoming.now comm.now kept.now) store.now }
+    ensures { result ≡ message_effect rank (calls.Sendrecv outgoing.now incoming.now comm.now kept.now) state.now }
 {
-    let out = ints_of(&outgoing.buffer, store)?;
-    let dest = store.value(&outgoing.dest)?;
-    let send_tag = store.value(&outgoing.tag)?;
-    let ints = ints_of(&incoming.buffer, store)?;
-    let envelope = envelope_of(&incoming.source, &incoming.tag, comm, store)?;
-    let kept = status(kept, store)?;
-    let comm = communicator(rank, store, envelope.comm)?;
+    let out = ints_of(&outgoing.buffer, state)?;
+    let dest = state.value(&outgoing.dest)?;
+    let send_tag = state.value(&outgoing.tag)?;
+    let ints = ints_of(&incoming.buffer, state)?;
+    let envelope = envelope_of(&incoming.source, &incoming.tag, comm, state)?;
+    let kept = status(kept, state)?;
+    let comm = communicator_of(rank, state, envelope.comm)?;
     let out_count = count_of(out.count)?;
     let count = count_of(ints.count)?;
     let dest = comm.destination(dest)?;
@@ -198,35 +214,44 @@ fn sendrecv(
 }
 
 /// The effect of a send or a receive, or its fault.
-pub fn message_effect(rank: Rank, call: &MessageCall, store: &Store) -> Result<Effect, Fault>
+pub fn message_effect(rank: Rank, call: &MessageCall, state: &RankState) -> Result<Effect, Fault>
     requires { rank.ranks ≤ 64 }
-    ensures { result ≡ message_effect rank call.now store.now }
+    ensures { result ≡ message_effect rank call.now state.now }
 {
     match call {
         MessageCall::Send {
             message: outgoing,
             comm,
-        } => send(rank, outgoing, comm, store),
+        } => send(rank, outgoing, comm, false, state),
+        MessageCall::Ssend {
+            message: outgoing,
+            comm,
+        } => send(rank, outgoing, comm, true, state),
         MessageCall::Recv {
             message: incoming,
             comm,
             status,
-        } => recv(rank, incoming, comm, status, store),
+        } => recv(rank, incoming, comm, status, state),
         MessageCall::Isend {
             message: outgoing,
             comm,
             request,
-        } => isend(rank, outgoing, comm, request, store),
+        } => isend(rank, outgoing, comm, request, false, state),
+        MessageCall::Issend {
+            message: outgoing,
+            comm,
+            request,
+        } => isend(rank, outgoing, comm, request, true, state),
         MessageCall::Irecv {
             message: incoming,
             comm,
             request,
-        } => irecv(rank, incoming, comm, request, store),
+        } => irecv(rank, incoming, comm, request, state),
         MessageCall::Sendrecv {
             send,
             receive,
             comm,
             status,
-        } => sendrecv(rank, send, receive, comm, status, store),
+        } => sendrecv(rank, send, receive, comm, status, state),
     }
 }

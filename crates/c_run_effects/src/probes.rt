@@ -6,11 +6,11 @@ ghost use Rattle.c_program.specs.Effects.{probe_effect};
 
 use crate::arguments::envelope_of;
 use crate::checks::{cell, count_in, optional_cell, status, wanted_tag};
-use crate::comm::communicator;
-use c_run_cells::store::Store;
+use crate::comm::communicator_of;
 use c_program::effect::{Effect, Rank};
 use c_program::expr::{Expr, Reference};
 use c_program::mpi::ProbeCall;
+use c_run_cells::state::RankState;
 use mpi_call::call::Fault;
 
 /// The envelope of the messages that a probe looks for (MPI 3.1, 3.2.3).
@@ -26,14 +26,14 @@ fn probe(
     rank: Rank,
     wanted: &Wanted,
     kept: &Option<Reference>,
-    store: &Store,
+    state: &RankState,
 ) -> Result<Effect, Fault>
     requires { rank.ranks ≤ 64 }
-    ensures { result ≡ probe_effect rank (calls.Probe wanted.now.source.now wanted.now.tag.now wanted.now.comm.now kept.now) store.now }
+    ensures { result ≡ probe_effect rank (calls.Probe wanted.now.source.now wanted.now.tag.now wanted.now.comm.now kept.now) state.now }
 {
-    let envelope = envelope_of(wanted.source, wanted.tag, wanted.comm, store)?;
-    let kept = status(kept, store)?;
-    let comm = communicator(rank, store, envelope.comm)?;
+    let envelope = envelope_of(wanted.source, wanted.tag, wanted.comm, state)?;
+    let kept = status(kept, state)?;
+    let comm = communicator_of(rank, state, envelope.comm)?;
     let source = comm.source(envelope.rank)?;
     let tag = wanted_tag(envelope.tag)?;
     let kept = optional_cell(kept)?;
@@ -53,15 +53,15 @@ fn iprobe(
     wanted: &Wanted,
     flag: &Reference,
     kept: &Option<Reference>,
-    store: &Store,
+    state: &RankState,
 ) -> Result<Effect, Fault>
     requires { rank.ranks ≤ 64 }
-    ensures { result ≡ probe_effect rank (calls.Iprobe wanted.now.source.now wanted.now.tag.now wanted.now.comm.now flag.now kept.now) store.now }
+    ensures { result ≡ probe_effect rank (calls.Iprobe wanted.now.source.now wanted.now.tag.now wanted.now.comm.now flag.now kept.now) state.now }
 {
-    let envelope = envelope_of(wanted.source, wanted.tag, wanted.comm, store)?;
-    let flag = store.range(flag)?;
-    let kept = status(kept, store)?;
-    let comm = communicator(rank, store, envelope.comm)?;
+    let envelope = envelope_of(wanted.source, wanted.tag, wanted.comm, state)?;
+    let flag = state.range(flag)?;
+    let kept = status(kept, state)?;
+    let comm = communicator_of(rank, state, envelope.comm)?;
     let source = comm.source(envelope.rank)?;
     let tag = wanted_tag(envelope.tag)?;
     let flag = cell(flag)?;
@@ -77,23 +77,23 @@ fn iprobe(
 }
 
 /// `MPI_Get_count`.
-fn get_count(kept: &Option<Reference>, into: &Reference, store: &Store) -> Result<Effect, Fault>
-    ensures { (rank : effect.Rank) → result ≡ probe_effect rank (calls.GetCount kept.now into.now) store.now }
+fn get_count(kept: &Option<Reference>, into: &Reference, state: &RankState) -> Result<Effect, Fault>
+    ensures { (rank : effect.Rank) → result ≡ probe_effect rank (calls.GetCount kept.now into.now) state.now }
 {
-    let kept = status(kept, store)?;
-    let into = store.range(into)?;
+    let kept = status(kept, state)?;
+    let into = state.range(into)?;
     let kept = optional_cell(kept)?;
     let into = cell(into)?;
     Ok(Effect::Sets {
         cell: into,
-        value: count_in(kept, store),
+        value: count_in(kept, state),
     })
 }
 
 /// The effect of a probe or of a look into a status, or its fault.
-pub fn probe_effect(rank: Rank, call: &ProbeCall, store: &Store) -> Result<Effect, Fault>
+pub fn probe_effect(rank: Rank, call: &ProbeCall, state: &RankState) -> Result<Effect, Fault>
     requires { rank.ranks ≤ 64 }
-    ensures { result ≡ probe_effect rank call.now store.now }
+    ensures { result ≡ probe_effect rank call.now state.now }
 {
     match call {
         ProbeCall::Probe {
@@ -101,14 +101,14 @@ pub fn probe_effect(rank: Rank, call: &ProbeCall, store: &Store) -> Result<Effec
             tag,
             comm,
             status,
-        } => probe(rank, &Wanted { source, tag, comm }, status, store),
+        } => probe(rank, &Wanted { source, tag, comm }, status, state),
         ProbeCall::Iprobe {
             source,
             tag,
             comm,
             flag,
             status,
-        } => iprobe(rank, &Wanted { source, tag, comm }, flag, status, store),
-        ProbeCall::GetCount { status, count } => get_count(status, count, store),
+        } => iprobe(rank, &Wanted { source, tag, comm }, flag, status, state),
+        ProbeCall::GetCount { status, count } => get_count(status, count, state),
     }
 }

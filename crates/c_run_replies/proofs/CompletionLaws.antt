@@ -59,7 +59,7 @@ left-put_places (Some cells) places s = left-put_all cells.from places s
 
 pub left-answered : (answer : Answer) (flag index outcount : ℤ) (places : List ℤ) (s : State) → (answered answer flag index outcount places s).left ≡ s.left
 left-answered answer flag index outcount places s =
-    left-put_places answer.indices places _ ∙ left-put_some answer.outcount outcount _ ∙ left-put_some answer.index index _ ∙ left-put_some answer.flag flag s
+    left-put_places answer.indices places _ ∙ left-put_some answer.outcount outcount _ ∙ left-put_some answer.flag flag _ ∙ left-put_some answer.index index s
 
 put_empties-left : (active : List Active) (statuses : Option Cells) (starts place : ℕ) (handle : ℤ) (handles : List ℤ) (s : State)
     → active_at starts place handle ≡ active → ((t : State) → (put_empties statuses starts (suc place) handles t).left ≡ t.left) → (put_empties statuses starts place (handle ∷ handles) s).left ≡ s.left

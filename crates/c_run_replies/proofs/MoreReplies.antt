@@ -11,7 +11,7 @@ use Rattle.c_program.specs.declared.program.CProgram.{CProgram}
 use Rattle.c_program.specs.Courses.{Course, Asks, Over, after, behind, call_in, listed_of, state_in, variables_in}
 use Rattle.c_program.specs.Meaning.{course_of}
 use Rattle.c_program.specs.Program.{course_after, next_of, rank_of}
-use Rattle.c_program.specs.ProgramLaws.{after_in_shape}
+use Rattle.c_program.specs.laws.ProgramLaws.{after_in_shape}
 use Rattle.c_program.specs.State.{State}
 
 -- a rank that has ended

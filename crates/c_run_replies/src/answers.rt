@@ -6,27 +6,20 @@ ghost use Rattle.c_program.specs.State.{null, put, put_all, put_some};
 ghost use Rattle.c_program.specs.declared.effect.Into.TheVariants.{Cells as IntoCells, Handle};
 ghost use Rattle.c_run_replies.specs.Left.{IsLeft};
 
-use c_run_cells::store::Store;
+use c_program::constants::{ANY_SOURCE, INT_LIMIT, NULL};
 use c_program::effect::{Into, Rank};
 use c_program::range::Range;
 use c_program::state::Begun;
+use c_run_cells::state::RankState;
+use mpi_call::needs::UNDEFINED;
 use mpi_call::reply::{Got, Reply};
 use std::alloc::AllocError;
 
-/// `MPI_ANY_SOURCE`.
-const ANY_SOURCE: i32 = -2;
-
-/// `MPI_UNDEFINED`.
-pub const UNDEFINED: i32 = -32766;
-
-/// -1: `MPI_PROC_NULL`, `MPI_ANY_TAG`, null handles.
-pub const NULL: i32 = -1;
-
-/// A number as an int. The want of memory comes also where it is beyond 2^31, as none of a run is.
+/// A number as an int. Out of memory also where no int holds it, as in no run.
 pub fn int_of(number: usize) -> Result<i32, AllocError>
     ensures { IfOk result (λ int. int ≡ pos number) }
 {
-    if number < 2147483648 {
+    if number < INT_LIMIT as usize {
         Ok(number as i32)
     } else {
         Err(AllocError)
@@ -34,53 +27,53 @@ pub fn int_of(number: usize) -> Result<i32, AllocError>
 }
 
 /// Puts a value where there is such a cell.
-pub fn put(store: &mut Store, cell: usize, value: i32)
-    ensures { store.new ≡ put cell value store.old }
+pub fn put(state: &mut RankState, cell: usize, value: i32)
+    ensures { state.new ≡ put cell value state.old }
 {
-    if cell < store.height() {
-        store.put(cell as u32, value);
+    if cell < state.height() {
+        state.put(cell as u32, value);
     }
 }
 
 /// Puts ints from a cell on, as far as there are cells.
-pub fn put_all(store: &mut Store, cell: usize, values: &[i32])
-    ensures { store.new ≡ put_all cell values.now store.old }
+pub fn put_all(state: &mut RankState, cell: usize, values: &[i32])
+    ensures { state.new ≡ put_all cell values.now state.old }
 {
-    if cell < store.height() {
-        store.put_all(cell as u32, values);
+    if cell < state.height() {
+        state.put_all(cell as u32, values);
     }
 }
 
 /// Puts a value where it is asked for.
-pub fn put_some(store: &mut Store, cell: Option<u32>, value: i32)
-    ensures { store.new ≡ put_some cell value store.old }
+pub fn put_some(state: &mut RankState, cell: Option<u32>, value: i32)
+    ensures { state.new ≡ put_some cell value state.old }
 {
     if let Some(cell) = cell {
-        store.put(cell, value);
+        state.put(cell, value);
     }
 }
 
 /// Puts a status from a cell on, where it is asked for.
-fn put_status(store: &mut Store, at: Option<usize>, source: i32, tag: i32, count: i32)
-    ensures { store.new ≡ put_status at source tag count store.old }
+fn put_status(state: &mut RankState, at: Option<usize>, source: i32, tag: i32, count: i32)
+    ensures { state.new ≡ put_status at source tag count state.old }
 {
     if let Some(at) = at {
-        put_all(store, at, &[source, tag, count]);
+        put_all(state, at, &[source, tag, count]);
     }
 }
 
 /// Puts the status of a completed send and of a null handle.
-pub fn put_empty(store: &mut Store, at: Option<usize>)
-    ensures { store.new ≡ put_empty at store.old }
+pub fn put_empty(state: &mut RankState, at: Option<usize>)
+    ensures { state.new ≡ put_empty at state.old }
 {
-    put_status(store, at, ANY_SOURCE, NULL, 0);
+    put_status(state, at, ANY_SOURCE, NULL, 0);
 }
 
 /// Puts the status of a receive or a probe of `MPI_PROC_NULL`.
-pub fn put_nothing(store: &mut Store, at: Option<usize>)
-    ensures { store.new ≡ put_nothing at store.old }
+pub fn put_nothing(state: &mut RankState, at: Option<usize>)
+    ensures { state.new ≡ put_nothing at state.old }
 {
-    put_status(store, at, NULL, NULL, 0);
+    put_status(state, at, NULL, NULL, 0);
 }
 
 /// The cell of a status as an index.
@@ -101,11 +94,11 @@ fn place_of(members: &[u8], rank: u8) -> Option<usize>
 }
 
 /// A sender as a rank of the communicator.
-fn source_in(rank: Rank, comm: u32, source: u8, store: &Store) -> Result<i32, AllocError>
+fn source_in(rank: Rank, comm: u32, source: u8, state: &RankState) -> Result<i32, AllocError>
     requires { rank.ranks ≤ 64 }
-    ensures { IfOk result (λ found. found ≡ source_in rank.ranks comm source store.now) }
+    ensures { IfOk result (λ found. found ≡ source_in rank.ranks comm source state.now) }
 {
-    let members = match store.members(rank, comm) {
+    let members = match state.members(rank, comm) {
         None => &[],
         Some(members) => members,
     };
@@ -116,23 +109,23 @@ fn source_in(rank: Rank, comm: u32, source: u8, store: &Store) -> Result<i32, Al
 }
 
 /// Whether the cells that the ints of a message go to stand.
-fn stands(buffer: Range, ints: &[i32], store: &Store) -> bool
-    ensures { result ≡ stands buffer ints.now store.now }
+fn stands(buffer: Range, ints: &[i32], state: &RankState) -> bool
+    ensures { result ≡ stands buffer ints.now state.now }
 {
-    ints.is_empty() || buffer.from() as usize + ints.len() <= store.height()
+    ints.is_empty() || buffer.from() as usize + ints.len() <= state.height()
 }
 
-/// Puts the message and the status of a completed start; answers whether the cells of the message stand. The want of
-/// memory comes also where a number of the message is beyond 2^31.
+/// Puts the message and the status of a completed start; answers whether the cells of the message stand. Out of memory
+/// also where no int holds a number of the message.
 pub fn completed(
     rank: Rank,
     start: Begun,
     status: Option<usize>,
     got: &Got,
-    store: &mut Store,
+    state: &mut RankState,
 ) -> Result<bool, AllocError>
     requires { rank.ranks ≤ 64 }
-    ensures { IfOk result (λ done. IsLeft (completed rank.ranks start status got.now store.old) store.old store.new done) }
+    ensures { IfOk result (λ done. IsLeft (completed rank.ranks start status got.now state.old) state.old state.new done) }
 {
     match got {
         Got::Message {
@@ -142,30 +135,30 @@ pub fn completed(
             ints,
         } => {
             let ints = ints.as_slice();
-            if !stands(start.buffer, ints, store) {
+            if !stands(start.buffer, ints, state) {
                 return Ok(false);
             }
-            let source = source_in(rank, start.comm, *source, store)?;
+            let source = source_in(rank, start.comm, *source, state)?;
             let tag = int_of(*tag as usize)?;
             let count = int_of(ints.len())?;
-            store.put_all(start.buffer.from(), ints);
-            put_status(store, status, source, tag, count);
+            state.put_all(start.buffer.from(), ints);
+            put_status(state, status, source, tag, count);
             Ok(true)
         }
         Got::Nothing => {
-            put_nothing(store, status);
+            put_nothing(state, status);
             Ok(true)
         }
         _ => {
-            put_empty(store, status);
+            put_empty(state, status);
             Ok(true)
         }
     }
 }
 
 /// Puts the result of a collective.
-pub fn put_result(into: Into, got: Option<&Got>, store: &mut Store) -> Result<(), AllocError>
-    ensures { OnOk result (store.new ≡ put_result into (option_map (λ got. got.now) got.entry) store.old) }
+pub fn put_result(into: Into, got: Option<&Got>, state: &mut RankState) -> Result<(), AllocError>
+    ensures { OnOk result (state.new ≡ put_result into (option_map (λ got. got.now) got.entry) state.old) }
 {
     let Some(got) = got else {
         return Ok(());
@@ -173,29 +166,29 @@ pub fn put_result(into: Into, got: Option<&Got>, store: &mut Store) -> Result<()
     match into {
         Into::Nowhere => Ok(()),
         Into::Cells(cells) => {
-            put_joined(cells, got, store);
+            put_joined(cells, got, state);
             Ok(())
         }
-        Into::Handle(at) => put_made(at, got, store),
+        Into::Handle(at) => put_made(at, got, state),
     }
 }
 
 /// Puts the ints of a result.
-fn put_joined(cells: Range, got: &Got, store: &mut Store)
-    ensures { store.new ≡ put_result (IntoCells cells) (Some got.now) store.old }
+fn put_joined(cells: Range, got: &Got, state: &mut RankState)
+    ensures { state.new ≡ put_result (IntoCells cells) (Some got.now) state.old }
 {
     if let Got::Joined { ints } = got {
-        store.put_all(cells.from(), ints.as_slice());
+        state.put_all(cells.from(), ints.as_slice());
     }
 }
 
 /// Puts the handle of a communicator that was made.
-fn put_made(at: u32, got: &Got, store: &mut Store) -> Result<(), AllocError>
-    ensures { OnOk result (store.new ≡ put_result (Handle at) (Some got.now) store.old) }
+fn put_made(at: u32, got: &Got, state: &mut RankState) -> Result<(), AllocError>
+    ensures { OnOk result (state.new ≡ put_result (Handle at) (Some got.now) state.old) }
 {
     if let Got::Made { comm, members: _ } = got {
         let handle = handle_of(*comm)?;
-        store.put(at, handle);
+        state.put(at, handle);
     }
     Ok(())
 }
@@ -217,10 +210,10 @@ pub fn probed(
     flag: Option<u32>,
     status: Option<u32>,
     reply: &Reply,
-    store: &mut Store,
+    state: &mut RankState,
 ) -> Result<(), AllocError>
     requires { rank.ranks ≤ 64 }
-    ensures { OnOk result (store.new ≡ probed rank.ranks comm flag status reply.now store.old) }
+    ensures { OnOk result (state.new ≡ probed rank.ranks comm flag status reply.now state.old) }
 {
     let Reply::Peeked {
         source,
@@ -229,13 +222,13 @@ pub fn probed(
         count,
     } = reply
     else {
-        put_some(store, flag, 0);
+        put_some(state, flag, 0);
         return Ok(());
     };
-    let source = source_in(rank, comm, *source, store)?;
+    let source = source_in(rank, comm, *source, state)?;
     let tag = int_of(*tag as usize)?;
     let count = int_of(*count as usize)?;
-    put_status(store, status_cell(status), source, tag, count);
-    put_some(store, flag, 1);
+    put_status(state, status_cell(status), source, tag, count);
+    put_some(state, flag, 1);
     Ok(())
 }

@@ -9,8 +9,8 @@ ghost use Rattle.c_run_replies.specs.Questions.{reached};
 use crate::answers::{put_nothing, put_some, status_cell};
 use crate::completion::{Completion, are_active, none_active};
 use crate::question::{Question, Reached};
-use c_run_cells::store::Store;
 use c_program::effect::{Effect, Rank};
+use c_run_cells::state::RankState;
 use mpi_call::call::{Source, Tag};
 use std::alloc::{AllocError, Global};
 
@@ -19,21 +19,22 @@ pub fn ask(
     alloc: Global,
     rank: Rank,
     effect: Effect,
-    store: &mut Store,
+    state: &mut RankState,
 ) -> Result<Reached, AllocError>
     requires { rank.ranks ≤ 64 }
-    ensures comes { IfOk result (λ found. (go : Onward) → perform rank effect store.old go ≡ reached rank found store.new go) }
-    ensures left { OnOk result (store.new.left ≤ store.old.left) }
+    ensures comes { IfOk result (λ found. (go : Onward) → perform rank effect state.old go ≡ reached rank found state.new go) }
+    ensures left { OnOk result (state.new.left ≤ state.old.left) }
 {
     match effect {
         Effect::Nothing => Ok(Reached::Done),
         Effect::Sets { cell, value } => {
-            store.put(cell, value);
+            state.put(cell, value);
             Ok(Reached::Done)
         }
         Effect::Starts { start, request } => {
             Ok(Reached::Asks(Question::Starts { start, request }))
         }
+        Effect::Sends(message) => Ok(Reached::Asks(Question::Sends(message))),
         Effect::Receives {
             receive,
             send,
@@ -54,7 +55,7 @@ pub fn ask(
                 mode,
                 answer,
             };
-            completing(alloc, &call, store)
+            completing(alloc, &call, state)
         }
         Effect::Probes {
             comm,
@@ -63,25 +64,29 @@ pub fn ask(
             waits,
             flag,
             status,
-        } => Ok(probing(comm, source, tag, waits, flag, status, store)),
+        } => Ok(probing(comm, source, tag, waits, flag, status, state)),
         Effect::Joins(collective) => Ok(Reached::Asks(Question::Joins(collective))),
         Effect::Aborts(code) => Ok(Reached::Asks(Question::Abort(code))),
     }
 }
 
 /// A completion call, which asks nothing where no handle names a start.
-fn completing(alloc: Global, call: &Completion, store: &mut Store) -> Result<Reached, AllocError>
-    ensures comes { IfOk result (λ found. (go : Onward) → perform call.now.rank (Completes call.now.requests call.now.mode call.now.answer) store.old go ≡ reached call.now.rank found store.new go) }
-    ensures left { OnOk result (store.new.left ≤ store.old.left) }
+fn completing(
+    alloc: Global,
+    call: &Completion,
+    state: &mut RankState,
+) -> Result<Reached, AllocError>
+    ensures comes { IfOk result (λ found. (go : Onward) → perform call.now.rank (Completes call.now.requests call.now.mode call.now.answer) state.old go ≡ reached call.now.rank found state.new go) }
+    ensures left { OnOk result (state.new.left ≤ state.old.left) }
 {
-    if are_active(alloc, call.requests, store)? {
+    if are_active(alloc, call.requests, state)? {
         return Ok(Reached::Asks(Question::Completes {
             requests: call.requests,
             mode: call.mode,
             answer: call.answer,
         }));
     }
-    none_active(alloc, call, store)?;
+    none_active(alloc, call, state)?;
     Ok(Reached::Done)
 }
 
@@ -100,14 +105,14 @@ fn probing(
     waits: bool,
     flag: Option<u32>,
     status: Option<u32>,
-    store: &mut Store,
+    state: &mut RankState,
 ) -> Reached
-    ensures comes { (rank : Rank) (go : Onward) → perform rank (Probes comm source tag waits flag status) store.old go ≡ reached rank result store.new go }
-    ensures left { store.new.left ≤ store.old.left }
+    ensures comes { (rank : Rank) (go : Onward) → perform rank (Probes comm source tag waits flag status) state.old go ≡ reached rank result state.new go }
+    ensures left { state.new.left ≤ state.old.left }
 {
     if is_null(source) {
-        put_nothing(store, status_cell(status));
-        put_some(store, flag, 1);
+        put_nothing(state, status_cell(status));
+        put_some(state, flag, 1);
         return Reached::Done;
     }
     Reached::Asks(Question::Probes {

@@ -9,13 +9,15 @@ ghost use Rattle.c_program.specs.Performing.{Onward};
 ghost use Rattle.c_run_replies.specs.Questions.{reached};
 ghost use Rattle.mpi_call.specs.declared.call.Call.TheVariants.{Take};
 
-use crate::answers::{NULL, UNDEFINED, completed, int_of, put, put_empty, put_some};
+use crate::answers::{completed, int_of, put, put_empty, put_some};
 use crate::question::{Question, Reached};
-use c_run_cells::store::Store;
+use c_program::constants::{INT_LIMIT, NULL};
 use c_program::effect::{Answer, Rank};
 use c_program::range::Range;
+use c_run_cells::state::RankState;
 use mpi_call::call::{Call, Fault, TakeMode};
 use mpi_call::lists::{Ints, Starts};
+use mpi_call::needs::UNDEFINED;
 use mpi_call::reply::{Got, Item, Reply};
 use std::alloc::{AllocError, Global};
 use std::marker::Model;
@@ -64,11 +66,11 @@ fn active_at(starts: u32, place: u32, handle: i32) -> Option<Active>
 }
 
 /// The handles that name starts.
-fn active_in(alloc: Global, requests: Range, store: &Store) -> Result<Vec<Active>, AllocError>
-    ensures { IfOk result (λ active. active.items ≡ active_in requests store.now) }
+fn active_in(alloc: Global, requests: Range, state: &RankState) -> Result<Vec<Active>, AllocError>
+    ensures { IfOk result (λ active. active.items ≡ active_in requests state.now) }
 {
-    let handles = handles_in(alloc, requests, store)?;
-    active_among(alloc, store.start_count(), handles.as_slice())
+    let handles = handles_in(alloc, requests, state)?;
+    active_among(alloc, state.start_count(), handles.as_slice())
 }
 
 /// Those of some handles, by how many starts there are.
@@ -86,12 +88,12 @@ fn active_among(alloc: Global, starts: u32, handles: &[i32]) -> Result<Vec<Activ
 }
 
 /// The handles of a call.
-fn handles_in(alloc: Global, requests: Range, store: &Store) -> Result<Ints, AllocError>
-    ensures handles { IfOk result (λ handles. handles ≡ ints_in requests store.now) }
+fn handles_in(alloc: Global, requests: Range, state: &RankState) -> Result<Ints, AllocError>
+    ensures handles { IfOk result (λ handles. handles ≡ ints_in requests state.now) }
     ensures few { IfOk result (λ handles. length handles < 2 ^ 32) }
 {
     let _few = requests.length();
-    let handles = store.ints_in(alloc, requests)?;
+    let handles = state.ints_in(alloc, requests)?;
     Ok(handles)
 }
 
@@ -146,37 +148,37 @@ fn takes_all(mode: TakeMode) -> bool
 }
 
 /// The empty status for each handle that names no start.
-fn put_empties(answer: &Answer, starts: u32, handles: &[i32], store: &mut Store)
+fn put_empties(answer: &Answer, starts: u32, handles: &[i32], state: &mut RankState)
     requires { length handles.now < 2 ^ 32 }
-    ensures { store.new ≡ put_empties answer.now.statuses starts 0 handles.now store.old }
+    ensures { state.new ≡ put_empties answer.now.statuses starts 0 handles.now state.old }
 {
     for (index, handle) in handles.iter().enumerate() {
         let place = index as u32;
         if active_at(starts, place, *handle).is_none() {
-            put_empty(store, status_at(answer.statuses, place));
+            put_empty(state, status_at(answer.statuses, place));
         }
     }
 }
 
 /// The same for the handles of a call, where it has a status for each.
-fn empties(alloc: Global, call: &Completion, store: &mut Store) -> Result<(), AllocError>
-    ensures { OnOk result (store.new ≡ empties call.now.requests call.now.mode call.now.answer store.old) }
+fn empties(alloc: Global, call: &Completion, state: &mut RankState) -> Result<(), AllocError>
+    ensures { OnOk result (state.new ≡ empties call.now.requests call.now.mode call.now.answer state.old) }
 {
     if !takes_all(call.mode) {
         return Ok(());
     }
-    let starts = store.start_count();
-    let handles = handles_in(alloc, call.requests, store)?;
-    put_empties(&call.answer, starts, handles.as_slice(), store);
+    let starts = state.start_count();
+    let handles = handles_in(alloc, call.requests, state)?;
+    put_empties(&call.answer, starts, handles.as_slice(), state);
     Ok(())
 }
 
 /// The empty status, where a call that asks for one of the starts finds no handle of one.
-fn put_only_empty(call: &Completion, store: &mut Store)
-    ensures { store.new ≡ put_only_empty call.now.mode call.now.answer store.old }
+fn put_only_empty(call: &Completion, state: &mut RankState)
+    ensures { state.new ≡ put_only_empty call.now.mode call.now.answer state.old }
 {
     if matches!(call.mode, TakeMode::Any | TakeMode::TestAny) {
-        put_empty(store, status_at(call.answer.statuses, 0));
+        put_empty(state, status_at(call.answer.statuses, 0));
     }
 }
 
@@ -188,19 +190,19 @@ fn put_item(
     one: Active,
     number: u32,
     got: &Got,
-    store: &mut Store,
+    state: &mut RankState,
 ) -> Result<bool, AllocError>
     requires { call.now.rank.ranks ≤ 64 }
-    ensures { IfOk result (λ done. IsLeft (item_put call.now.rank.ranks call.now.requests call.now.mode call.now.answer one number got.now store.old) store.old store.new done) }
+    ensures { IfOk result (λ done. IsLeft (item_put call.now.rank.ranks call.now.requests call.now.mode call.now.answer one number got.now state.old) state.old state.new done) }
 {
-    let start = store.start_at(one.start);
+    let start = state.start_at(one.start);
     let place = status_place(call.mode, one.place, number);
     let status = status_at(call.answer.statuses, place);
-    if !completed(call.rank, start, status, got, store)? {
+    if !completed(call.rank, start, status, got, state)? {
         return Ok(false);
     }
     let handle = call.requests.from() as usize + one.place as usize;
-    put(store, handle, NULL);
+    put(state, handle, NULL);
     Ok(true)
 }
 
@@ -209,16 +211,16 @@ fn put_items(
     call: &Completion,
     active: &[Active],
     items: &[Item],
-    store: &mut Store,
+    state: &mut RankState,
 ) -> Result<bool, AllocError>
     requires ranks { call.now.rank.ranks ≤ 64 }
     requires few { length items.now < 2 ^ 31 }
-    ensures comes { IfOk result (λ all. (go : Onward) → put_items call.now.rank.ranks call.now.requests call.now.mode call.now.answer active.now 0 items.now store.old go ≡ if_stood all store.new go) }
-    ensures left { OnOk result (store.new.left ≤ store.old.left) }
+    ensures comes { IfOk result (λ all. (go : Onward) → put_items call.now.rank.ranks call.now.requests call.now.mode call.now.answer active.now 0 items.now state.old go ≡ if_stood all state.new go) }
+    ensures left { OnOk result (state.new.left ≤ state.old.left) }
 {
     for (number, item) in items.iter().enumerate() {
         let one = active_or_none(active, item.index);
-        if !put_item(call, one, number as u32, &item.got, store)? {
+        if !put_item(call, one, number as u32, &item.got, state)? {
             return Ok(false);
         }
     }
@@ -249,47 +251,50 @@ fn first_place(places: &[i32]) -> i32
 
 // ---- answers
 
-/// Puts what a call asks for besides messages, statuses and handles.
+/// Puts what a call asks for besides messages, statuses and handles, in the order in which MPI functions name it.
 fn answered(
     answer: &Answer,
     flag: i32,
     index: i32,
     outcount: i32,
     places: &[i32],
-    store: &mut Store,
+    state: &mut RankState,
 )
-    ensures { store.new ≡ answered answer.now flag index outcount places.now store.old }
+    ensures { state.new ≡ answered answer.now flag index outcount places.now state.old }
 {
-    put_some(store, answer.flag, flag);
-    put_some(store, answer.index, index);
-    put_some(store, answer.outcount, outcount);
+    put_some(state, answer.index, index);
+    put_some(state, answer.flag, flag);
+    put_some(state, answer.outcount, outcount);
     if let Some(indices) = answer.indices {
-        store.put_all(indices.from(), places);
+        state.put_all(indices.from(), places);
     }
 }
 
 /// What a call changes that finds no handle of a start.
-pub fn none_active(alloc: Global, call: &Completion, store: &mut Store) -> Result<(), AllocError>
-    ensures { OnOk result (store.new ≡ none_active call.now.requests call.now.mode call.now.answer store.old) }
+pub fn none_active(
+    alloc: Global,
+    call: &Completion,
+    state: &mut RankState,
+) -> Result<(), AllocError>
+    ensures { OnOk result (state.new ≡ none_active call.now.requests call.now.mode call.now.answer state.old) }
 {
-    empties(alloc, call, store)?;
-    put_only_empty(call, store);
-    answered(&call.answer, 1, UNDEFINED, UNDEFINED, &[], store);
+    empties(alloc, call, state)?;
+    put_only_empty(call, state);
+    answered(&call.answer, 1, UNDEFINED, UNDEFINED, &[], state);
     Ok(())
 }
 
-/// Puts what a call asks for besides, once starts are complete. The want of memory comes also where they are 2^31, as none
-/// of a run are.
+/// Puts what a call asks for besides, once starts are complete. Out of memory also where no int counts them, as in no run.
 fn answered_took(
     answer: &Answer,
     items: &[Item],
     places: &[i32],
-    store: &mut Store,
+    state: &mut RankState,
 ) -> Result<(), AllocError>
-    ensures { OnOk result (store.new ≡ answered answer.now (pos 1) (first_place places.now) (pos (length items.now)) places.now store.old) }
+    ensures { OnOk result (state.new ≡ answered answer.now (pos 1) (first_place places.now) (pos (length items.now)) places.now state.old) }
 {
     let count = int_of(items.len())?;
-    answered(answer, 1, first_place(places), count, places, store);
+    answered(answer, 1, first_place(places), count, places, state);
     Ok(())
 }
 
@@ -298,36 +303,36 @@ fn noted(
     alloc: Global,
     call: &Completion,
     items: &[Item],
-    store: &mut Store,
+    state: &mut RankState,
 ) -> Result<(), AllocError>
-    ensures { OnOk result (store.new ≡ empties call.now.requests call.now.mode call.now.answer (learned items.now store.old)) }
+    ensures { OnOk result (state.new ≡ empties call.now.requests call.now.mode call.now.answer (learned items.now state.old)) }
 {
-    store.learn(items)?;
-    empties(alloc, call, store)
+    state.learn(items)?;
+    empties(alloc, call, state)
 }
 
-/// What follows on items; answers whether the cells of all their messages stand. The want of memory comes also where they
-/// are 2^31, as none of a run are.
+/// What follows on items; answers whether the cells of all their messages stand. Out of memory also where no int counts
+/// them, as in no run.
 fn took(
     alloc: Global,
     call: &Completion,
     active: &[Active],
     items: &[Item],
-    store: &mut Store,
+    state: &mut RankState,
 ) -> Result<bool, AllocError>
     requires { call.now.rank.ranks ≤ 64 }
-    ensures comes { IfOk result (λ all. (go : Onward) → after_take call.now.rank.ranks call.now.requests call.now.mode call.now.answer active.now (Took items.now) store.old go ≡ if_stood all store.new go) }
-    ensures left { OnOk result (store.new.left ≤ store.old.left) }
+    ensures comes { IfOk result (λ all. (go : Onward) → after_take call.now.rank.ranks call.now.requests call.now.mode call.now.answer active.now (Took items.now) state.old go ≡ if_stood all state.new go) }
+    ensures left { OnOk result (state.new.left ≤ state.old.left) }
 {
-    if items.len() >= 2147483648 {
+    if items.len() >= INT_LIMIT as usize {
         return Err(AllocError);
     }
     let places = places_of(alloc, active, items)?;
-    noted(alloc, call, items, store)?;
-    if !put_items(call, active, items, store)? {
+    noted(alloc, call, items, state)?;
+    if !put_items(call, active, items, state)? {
         return Ok(false);
     }
-    answered_took(&call.answer, items, &places, store)?;
+    answered_took(&call.answer, items, &places, state)?;
     Ok(true)
 }
 
@@ -336,28 +341,28 @@ pub fn after_take(
     alloc: Global,
     call: &Completion,
     reply: &Reply,
-    store: &mut Store,
+    state: &mut RankState,
 ) -> Result<Reached, AllocError>
     requires { call.now.rank.ranks ≤ 64 }
-    ensures comes { IfOk result (λ found. (go : Onward) → after_take call.now.rank.ranks call.now.requests call.now.mode call.now.answer (active_in call.now.requests store.old) reply.now store.old go ≡ reached call.now.rank found store.new go) }
-    ensures left { OnOk result (store.new.left ≤ store.old.left) }
+    ensures comes { IfOk result (λ found. (go : Onward) → after_take call.now.rank.ranks call.now.requests call.now.mode call.now.answer (active_in call.now.requests state.old) reply.now state.old go ≡ reached call.now.rank found state.new go) }
+    ensures left { OnOk result (state.new.left ≤ state.old.left) }
 {
     let Reply::Took(items) = reply else {
-        answered(&call.answer, 0, UNDEFINED, 0, &[], store);
+        answered(&call.answer, 0, UNDEFINED, 0, &[], state);
         return Ok(Reached::Done);
     };
-    let active = active_in(alloc, call.requests, store)?;
-    if took(alloc, call, &active, items.as_slice(), store)? {
+    let active = active_in(alloc, call.requests, state)?;
+    if took(alloc, call, &active, items.as_slice(), state)? {
         return Ok(Reached::Done);
     }
     Ok(Reached::Asks(Question::Trap(Fault::OutOfBounds)))
 }
 
 /// Whether handles name starts.
-pub fn are_active(alloc: Global, requests: Range, store: &Store) -> Result<bool, AllocError>
-    ensures { IfOk result (λ are. are ≡ is_more (active_in requests store.now)) }
+pub fn are_active(alloc: Global, requests: Range, state: &RankState) -> Result<bool, AllocError>
+    ensures { IfOk result (λ are. are ≡ is_more (active_in requests state.now)) }
 {
-    let active = active_in(alloc, requests, store)?;
+    let active = active_in(alloc, requests, state)?;
     Ok(!active.is_empty())
 }
 
@@ -366,11 +371,11 @@ pub fn take_call(
     alloc: Global,
     requests: Range,
     mode: TakeMode,
-    store: &Store,
+    state: &RankState,
 ) -> Result<Call, AllocError>
-    ensures { IfOk result (λ call. call ≡ Take (starts_in (active_in requests store.now)) mode) }
+    ensures { IfOk result (λ call. call ≡ Take (starts_in (active_in requests state.now)) mode) }
 {
-    let active = active_in(alloc, requests, store)?;
+    let active = active_in(alloc, requests, state)?;
     let starts = starts_in(alloc, &active)?;
     Ok(Call::Take { starts, mode })
 }

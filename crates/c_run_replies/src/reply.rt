@@ -4,18 +4,18 @@ ghost use Rattle.run_model.specs.Program.{ends};
 ghost use Rattle.c_program.specs.Courses.{behind};
 ghost use Rattle.mpi_call.specs.declared.reply.Reply.{Reply};
 ghost use Rattle.c_program.specs.declared.effect.Rank.{Rank};
-ghost use Rattle.c_program.specs.Performing.{Onward, begun, first_got, items_of, learned, number_of_next, put_message, receiving, sent, start_of};
+ghost use Rattle.c_program.specs.Performing.{Onward, begun, first_got, items_of, learned, number_of_next, put_message, put_result, receiving, sent, start_of, taking_message, taking_result};
 ghost use Rattle.c_program.specs.State.{State, put_some};
 ghost use Rattle.c_run_replies.specs.Questions.{asks, call_of, reached, replied};
 ghost use Rattle.c_run_replies.specs.declared.question.Question.TheVariants.{Receives};
 
 use crate::answers::{completed, probed, put_result, put_some, status_cell};
 use crate::completion::{Completion, after_take};
-use crate::question::{Question, Reached};
-use c_run_cells::store::Store;
-use c_program::effect::{Message, Rank, Receive, Start};
+use crate::question::{Awaited, Question, Reached};
+use c_program::effect::{Into, Message, Rank, Receive, Start};
 use c_program::range::Range;
 use c_program::state::Begun;
+use c_run_cells::state::RankState;
 use mpi_call::call::Fault;
 use mpi_call::reply::{Got, Item, Reply};
 use std::alloc::{AllocError, Global};
@@ -37,16 +37,16 @@ pub fn reply_to(
     rank: Rank,
     question: &Question,
     reply: &Reply,
-    store: &mut Store,
+    state: &mut RankState,
 ) -> Result<Reached, AllocError>
     requires { rank.ranks ≤ 64 }
-    ensures comes { IfOk result (λ found. (go : Onward) → behind (asks rank question.now store.old go) reply.now ≡ reached rank found store.new go) }
-    ensures left { OnOk result (store.new.left ≤ store.old.left) }
+    ensures comes { IfOk result (λ found. (go : Onward) → behind (asks rank question.now state.old go) reply.now ≡ reached rank found state.new go) }
+    ensures left { OnOk result (state.new.left ≤ state.old.left) }
 {
     if ends(question, reply) {
         return Ok(Reached::Over);
     }
-    replied(alloc, rank, question, reply, store)
+    replied(alloc, rank, question, reply, state)
 }
 
 /// What follows on a reply that does not end the rank.
@@ -55,42 +55,36 @@ fn replied(
     rank: Rank,
     question: &Question,
     reply: &Reply,
-    store: &mut Store,
+    state: &mut RankState,
 ) -> Result<Reached, AllocError>
     requires { rank.ranks ≤ 64 }
-    ensures comes { IfOk result (λ found. (go : Onward) → replied rank question.now reply.now store.old go ≡ reached rank found store.new go) }
-    ensures left { OnOk result (store.new.left ≤ store.old.left) }
+    ensures comes { IfOk result (λ found. (go : Onward) → replied rank question.now reply.now state.old go ≡ reached rank found state.new go) }
+    ensures left { OnOk result (state.new.left ≤ state.old.left) }
 {
     match question {
         Question::Starts { start, request } => {
-            begin(start_of(start), *request, store)?;
+            begin(start_of(start), *request, state)?;
             Ok(Reached::Done)
         }
+        Question::Sends(message) => take_result(message.comm, Into::Nowhere, state),
         Question::Receives {
             receive,
             send,
             status,
-        } => received(rank, receive, send, *status, reply, store),
-        Question::Sends {
-            message,
-            receive,
-            number,
-            status,
-        } => {
-            store.begin(sent(message.comm))?;
-            Ok(Reached::Asks(Question::Takes {
-                receive: *receive,
-                number: *number,
-                status: *status,
-            }))
+        } => received(rank, receive, send, *status, reply, state),
+        Question::SendsAfter { message, awaited } => {
+            state.begin(sent(message.comm))?;
+            Ok(Reached::Asks(Question::TakesMessage(*awaited)))
         }
-        Question::Takes {
-            receive,
-            number: _,
-            status,
-        } => {
-            let got = learn(reply, store)?;
-            put_message(rank, receiving(receive), *status, got, store)
+        Question::TakesMessage(awaited) => {
+            let got = learn(reply, state)?;
+            put_message(
+                rank,
+                receiving(&awaited.receive),
+                awaited.status,
+                got,
+                state,
+            )
         }
         Question::Completes {
             requests,
@@ -103,30 +97,21 @@ fn replied(
                 mode: *mode,
                 answer: *answer,
             };
-            after_take(alloc, &call, reply, store)
+            after_take(alloc, &call, reply, state)
         }
         Question::Probes {
             comm,
-            source: _,
-            tag: _,
-            waits: _,
             flag,
             status,
+            ..
         } => {
-            probed(rank, *comm, *flag, *status, reply, store)?;
+            probed(rank, *comm, *flag, *status, reply, state)?;
             Ok(Reached::Done)
         }
-        Question::Joins(collective) => {
-            let number = store.start_count();
-            store.begin(sent(collective.comm))?;
-            Ok(Reached::Asks(Question::Joined {
-                into: collective.into,
-                number,
-            }))
-        }
-        Question::Joined { into, number: _ } => {
-            let got = learn(reply, store)?;
-            put_result(*into, got, store)?;
+        Question::Joins(collective) => take_result(collective.comm, collective.into, state),
+        Question::TakesResult { into, .. } => {
+            let got = learn(reply, state)?;
+            put_result(*into, got, state)?;
             Ok(Reached::Done)
         }
         Question::Trap(_) | Question::Abort(_) | Question::End => Ok(Reached::Over),
@@ -144,12 +129,12 @@ pub fn items_of(reply: &Reply) -> &[Item]
 }
 
 /// Notes what a reply tells; answers what its first item gives.
-fn learn<'a>(reply: &'a Reply, store: &mut Store) -> Result<Option<&'a Got>, AllocError>
+fn learn<'a>(reply: &'a Reply, state: &mut RankState) -> Result<Option<&'a Got>, AllocError>
     ensures got { IfOk result (λ got. option_map (λ got. got.now) got ≡ first_got (items_of reply.now)) }
-    ensures store { OnOk result (store.new ≡ learned (items_of reply.now) store.old) }
+    ensures state { OnOk result (state.new ≡ learned (items_of reply.now) state.old) }
 {
     let items = items_of(reply);
-    store.learn(items)?;
+    state.learn(items)?;
     match items {
         [] => Ok(None),
         [item, ..] => Ok(Some(&item.got)),
@@ -185,13 +170,23 @@ fn start_of(start: &Start) -> Begun
 }
 
 /// Notes a start, and puts its number into its handle.
-fn begin(start: Begun, request: Option<u32>, store: &mut Store) -> Result<(), AllocError>
-    ensures { OnOk result (store.new ≡ put_some request (pos (number_of_next store.old)) (begun start store.old)) }
+fn begin(start: Begun, request: Option<u32>, state: &mut RankState) -> Result<(), AllocError>
+    ensures { OnOk result (state.new ≡ put_some request (pos (number_of_next state.old)) (begun start state.old)) }
 {
-    let number = store.start_count();
-    store.begin(start)?;
-    put_some(store, request, number as i32);
+    let number = state.start_count();
+    state.begin(start)?;
+    put_some(state, request, number as i32);
     Ok(())
+}
+
+/// Notes a start on a communicator, and asks for its completion.
+fn take_result(comm: u32, into: Into, state: &mut RankState) -> Result<Reached, AllocError>
+    ensures comes { IfOk result (λ found. (rank : Rank) (go : Onward) → taking_result into (number_of_next state.old) (begun (sent comm) state.old) go ≡ reached rank found state.new go) }
+    ensures left { OnOk result (state.new.left ≤ state.old.left) }
+{
+    let number = state.start_count();
+    state.begin(sent(comm))?;
+    Ok(Reached::Asks(Question::TakesResult { into, number }))
 }
 
 /// What follows once a receive has started.
@@ -201,24 +196,23 @@ fn received(
     send: &Option<Message>,
     status: Option<u32>,
     reply: &Reply,
-    store: &mut Store,
+    state: &mut RankState,
 ) -> Result<Reached, AllocError>
-    ensures comes { IfOk result (λ found. (go : Onward) → replied rank (Receives receive.now send.now status) reply.now store.old go ≡ reached rank found store.new go) }
-    ensures left { OnOk result (store.new.left ≤ store.old.left) }
+    ensures comes { IfOk result (λ found. (go : Onward) → replied rank (Receives receive.now send.now status) reply.now state.old go ≡ reached rank found state.new go) }
+    ensures left { OnOk result (state.new.left ≤ state.old.left) }
 {
-    let number = store.start_count();
-    store.begin(receiving(receive))?;
+    let number = state.start_count();
+    state.begin(receiving(receive))?;
+    let awaited = Awaited {
+        receive: *receive,
+        number,
+        status,
+    };
     match send {
-        None => Ok(Reached::Asks(Question::Takes {
-            receive: *receive,
-            number,
-            status,
-        })),
-        Some(message) => Ok(Reached::Asks(Question::Sends {
+        None => Ok(Reached::Asks(Question::TakesMessage(awaited))),
+        Some(message) => Ok(Reached::Asks(Question::SendsAfter {
             message: *message,
-            receive: *receive,
-            number,
-            status,
+            awaited,
         })),
     }
 }
@@ -229,16 +223,16 @@ fn put_message(
     start: Begun,
     status: Option<u32>,
     got: Option<&Got>,
-    store: &mut Store,
+    state: &mut RankState,
 ) -> Result<Reached, AllocError>
     requires { rank.ranks ≤ 64 }
-    ensures comes { IfOk result (λ found. (go : Onward) → put_message rank.ranks start status (option_map (λ got. got.now) got.entry) store.old go ≡ reached rank found store.new go) }
-    ensures left { OnOk result (store.new.left ≤ store.old.left) }
+    ensures comes { IfOk result (λ found. (go : Onward) → put_message rank.ranks start status (option_map (λ got. got.now) got.entry) state.old go ≡ reached rank found state.new go) }
+    ensures left { OnOk result (state.new.left ≤ state.old.left) }
 {
     let Some(got) = got else {
         return Ok(Reached::Done);
     };
-    if completed(rank, start, status_cell(status), got, store)? {
+    if completed(rank, start, status_cell(status), got, state)? {
         return Ok(Reached::Done);
     }
     Ok(Reached::Asks(Question::Trap(Fault::OutOfBounds)))

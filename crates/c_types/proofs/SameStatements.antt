@@ -3,7 +3,7 @@ use Rattle.std.proofs.Common.{◌≡◌, ◌∙◌, ℕ, zero, suc, List, Option
 use Rattle.mpi_call.specs.Operations.{is_set}
 use Rattle.c_grammar.specs.Tree as t
 use Rattle.c_check_expr.specs.Scopes.{Env}
-use Rattle.c_program.specs.Equations.{act-block}
+use Rattle.c_program.specs.laws.Equations.{act-block}
 use Rattle.c_program.specs.Meaning as m
 use Rattle.c_program.specs.Meaning.{Calls, Exits, Meaning, Passing, act, act_list, act_part, leaving}
 use Rattle.c_program.specs.Performing.{Onward}

@@ -8,7 +8,7 @@ use Rattle.c_check.specs.Calls.{arguments_of, signature_takes}
 use Rattle.c_check_expr.specs.Constants.{unary_of}
 use Rattle.c_check_expr.specs.Scopes.{Env, token_bytes}
 use Rattle.c_check_expr.specs.Variables.{variable}
-use Rattle.c_program.specs.Equations.{chained_list, value-chain}
+use Rattle.c_program.specs.laws.Equations.{chained_list, value-chain}
 use Rattle.c_program.specs.Meaning.{passed, passed_all}
 use Rattle.c_program.specs.State.{State, cell_at}
 use Rattle.c_program.specs.Values.{cell_of, cells_of, element, elements_from, field_place, given, is_decided, operated, range, value}

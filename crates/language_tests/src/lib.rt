@@ -10,7 +10,7 @@ mod programs;
 #[cfg(test)]
 mod replies;
 #[cfg(test)]
-mod stores;
+mod states;
 #[cfg(test)]
 mod tokens;
 #[cfg(test)]

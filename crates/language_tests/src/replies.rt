@@ -1,12 +1,12 @@
 //! Effects over replies, worked out by hand from the standard.
-use crate::stores::with_array;
+use crate::states::with_array;
 use c_eval::outcome::{Replies, Stop};
 use c_eval::perform::perform;
 use c_program::effect::{Answer, Effect, Message, Rank, Receive, Start};
 use c_program::range::Range;
-use c_run_cells::store::Store;
+use c_run_cells::state::RankState;
 use mpi_call::call::{Call, Fault, Source, Tag, TakeMode};
-use mpi_call::lists::Ints;
+use mpi_call::lists::{Ints, Starts};
 use mpi_call::reply::{Got, Item, Items, Reply};
 use std::alloc::{AllocError, Global};
 use std::process::Abort;
@@ -18,7 +18,14 @@ const RANK: Rank = Rank {
     number: 0,
 };
 
-/// A reply to a Take, with a message from rank 2 of tag 9.
+/// A reply to a Take, with one item.
+fn took_one(alloc: Global, index: u32, got: Got) -> Result<Reply, AllocError> {
+    let mut items = Items::new(alloc);
+    items.push(Item { index, got })?;
+    Ok(Reply::Took(items))
+}
+
+/// The same with a message from rank 2 of tag 9.
 fn took(alloc: Global, index: u32, int: i32) -> Result<Reply, AllocError> {
     let got = Got::Message {
         source: 2,
@@ -26,11 +33,7 @@ fn took(alloc: Global, index: u32, int: i32) -> Result<Reply, AllocError> {
         tag: 9,
         ints: Ints::from_slice(alloc, &[int])?,
     };
-    let mut items = Items::new(alloc);
-    match items.push(Item { index, got }) {
-        Ok(()) => Ok(Reply::Took(items)),
-        Err(_) => Err(AllocError),
-    }
+    took_one(alloc, index, got)
 }
 
 fn receive(cell: u32) -> Result<Receive, AllocError> {
@@ -48,11 +51,11 @@ fn receive(cell: u32) -> Result<Receive, AllocError> {
 /// An effect over these replies.
 fn performed(
     alloc: Global,
-    store: &mut Store,
+    state: &mut RankState,
     effect: Effect,
     given: &[Reply],
 ) -> Result<(), Stop> {
-    perform(alloc, RANK, effect, store, &mut Replies::of(given))
+    perform(alloc, RANK, effect, state, &mut Replies::of(given))
 }
 
 fn waits_for(outcome: &Result<(), Stop>, call: &Call) -> bool {
@@ -62,45 +65,99 @@ fn waits_for(outcome: &Result<(), Stop>, call: &Call) -> bool {
     }
 }
 
-fn check_send(rt: &(impl Abort + AllocGlobal), store: &mut Store) -> Result<(), Fail> {
-    store.put(1, 7);
-    let start = Start::Send(Message {
+/// Two ints from cell 1 on, to rank 1 with tag 5.
+fn message(sync: bool) -> Message {
+    Message {
         comm: 0,
         dest: 1,
         tag: 5,
         ints: Range::new(1, 2, 1),
-    });
-    let effect = Effect::Starts {
-        start,
-        request: Some(0),
-    };
-    let expected = Call::Send {
+        sync,
+    }
+}
+
+/// Its call, where the ints are 7 and 0.
+fn send_of(alloc: Global, sync: bool) -> Result<Call, AllocError> {
+    Ok(Call::Send {
         comm: 0,
         dest: 1,
         tag: 5,
-        ints: Ints::from_slice(rt.alloc(), &[7, 0])?,
+        ints: Ints::from_slice(alloc, &[7, 0])?,
+        sync,
+    })
+}
+
+fn check_send(rt: &(impl Abort + AllocGlobal), state: &mut RankState) -> Result<(), Fail> {
+    state.put(1, 7);
+    let effect = Effect::Starts {
+        start: Start::Send(message(false)),
+        request: Some(0),
     };
-    let outcome = performed(rt.alloc(), store, effect, &[]);
-    assert!(rt; waits_for(&outcome, &expected));
-    assert_eq!(rt; store.start_count(), 0);
+    let outcome = performed(rt.alloc(), state, effect, &[]);
+    assert!(rt; waits_for(&outcome, &send_of(rt.alloc(), false)?));
+    assert_eq!(rt; state.start_count(), 0);
     Ok(())
 }
 
 #[test]
 fn a_send_waits_with_its_ints(rt: HostRuntime) -> Result<(), Fail> {
     let name = Bytes::from_slice(rt.alloc(), b"x")?;
-    let mut store = with_array(rt.alloc(), &name, 3)?;
-    check_send(&rt, &mut store)
+    let mut state = with_array(rt.alloc(), &name, 3)?;
+    check_send(&rt, &mut state)
+}
+
+/// The calls of a synchronous send: the Send, and the Take of it.
+fn check_ssend(rt: &(impl Abort + AllocGlobal), state: &mut RankState) -> Result<(), Fail> {
+    state.put(1, 7);
+    let effect = Effect::Sends(message(true));
+    let outcome = performed(rt.alloc(), state, effect, &[]);
+    assert!(rt; waits_for(&outcome, &send_of(rt.alloc(), true)?));
+    let take = Call::Take {
+        starts: Starts::from_slice(rt.alloc(), &[0])?,
+        mode: TakeMode::All,
+    };
+    let outcome = performed(rt.alloc(), state, effect, &[Reply::Done]);
+    assert!(rt; waits_for(&outcome, &take));
+    Ok(())
+}
+
+#[test]
+fn a_synchronous_send_waits_until_it_is_taken(rt: HostRuntime) -> Result<(), Fail> {
+    let name = Bytes::from_slice(rt.alloc(), b"x")?;
+    let mut state = with_array(rt.alloc(), &name, 3)?;
+    check_ssend(&rt, &mut state)
+}
+
+/// A synchronous send goes through once it is taken, and changes no cell.
+fn check_ssend_done(rt: &(impl Abort + AllocGlobal), state: &mut RankState) -> Result<(), Fail> {
+    state.put(1, 7);
+    let given = [Reply::Done, took_one(rt.alloc(), 0, Got::Sent)?];
+    check_done(rt, state, Effect::Sends(message(true)), &given);
+    assert_eq!(rt; state.start_count(), 1);
+    assert_eq!(rt; (state.cell(0), state.cell(1), state.cell(2)), (0, 7, 0));
+    Ok(())
+}
+
+#[test]
+fn a_synchronous_send_that_is_taken_is_done(rt: HostRuntime) -> Result<(), Fail> {
+    let name = Bytes::from_slice(rt.alloc(), b"x")?;
+    let mut state = with_array(rt.alloc(), &name, 3)?;
+    check_ssend_done(&rt, &mut state)
 }
 
 /// An effect goes through over these replies.
-fn check_done(rt: &(impl Abort + AllocGlobal), store: &mut Store, effect: Effect, given: &[Reply]) {
-    assert!(rt; performed(rt.alloc(), store, effect, given).is_ok());
+fn check_done(
+    rt: &(impl Abort + AllocGlobal),
+    state: &mut RankState,
+    effect: Effect,
+    given: &[Reply],
+) {
+    assert!(rt; performed(rt.alloc(), state, effect, given).is_ok());
 }
 
 fn start_receive(
     rt: &(impl Abort + AllocGlobal),
-    store: &mut Store,
+    state: &mut RankState,
     handle: u32,
     buffer: u32,
 ) -> Result<(), Fail> {
@@ -108,7 +165,7 @@ fn start_receive(
         start: Start::Receive(receive(buffer)?),
         request: Some(handle),
     };
-    check_done(rt, store, effect, &[Reply::Done]);
+    check_done(rt, state, effect, &[Reply::Done]);
     Ok(())
 }
 
@@ -130,31 +187,101 @@ fn waitany() -> Effect {
 /// What stands in these cells after it.
 static CELLS: [i32; 9] = [0, -1, -1, 2, 2, 9, 1, 0, 42];
 
-fn check_cells(rt: &impl Abort, store: &Store) {
+fn check_cells(rt: &impl Abort, state: &RankState) {
     for cell in 0..9 {
-        assert_eq!(rt; store.cell(cell), CELLS[cell as usize], "{cell}");
+        assert_eq!(rt; state.cell(cell), CELLS[cell as usize], "{cell}");
     }
 }
 
-fn check_waitany(rt: &(impl Abort + AllocGlobal), store: &mut Store) -> Result<(), Fail> {
-    store.put(1, -1);
-    start_receive(rt, store, 0, 7)?;
-    start_receive(rt, store, 2, 8)?;
-    check_done(rt, store, waitany(), &[took(rt.alloc(), 1, 42)?]);
-    check_cells(rt, store);
+fn check_waitany(rt: &(impl Abort + AllocGlobal), state: &mut RankState) -> Result<(), Fail> {
+    state.put(1, -1);
+    start_receive(rt, state, 0, 7)?;
+    start_receive(rt, state, 2, 8)?;
+    check_done(rt, state, waitany(), &[took(rt.alloc(), 1, 42)?]);
+    check_cells(rt, state);
     Ok(())
 }
 
 #[test]
 fn waitany_tells_the_place_of_its_handle(rt: HostRuntime) -> Result<(), Fail> {
     let name = Bytes::from_slice(rt.alloc(), b"x")?;
-    let mut store = with_array(rt.alloc(), &name, 9)?;
-    check_waitany(&rt, &mut store)
+    let mut state = with_array(rt.alloc(), &name, 9)?;
+    check_waitany(&rt, &mut state)
+}
+
+/// Handles stand in 0 to 2; the index and the flag are both in 3.
+fn testany() -> Effect {
+    Effect::Completes {
+        requests: Range::new(0, 3, 1),
+        mode: TakeMode::TestAny,
+        answer: Answer {
+            flag: Some(3),
+            index: Some(3),
+            outcount: None,
+            indices: None,
+            statuses: None,
+        },
+    }
+}
+
+/// The flag is set after the index: where nothing is complete, where the start of the handle in 2 is, and where no handle is left.
+fn check_testany(rt: &(impl Abort + AllocGlobal), state: &mut RankState) -> Result<(), Fail> {
+    state.put(0, -1);
+    state.put(1, -1);
+    start_receive(rt, state, 2, 7)?;
+    check_done(rt, state, testany(), &[Reply::NotYet]);
+    assert_eq!(rt; state.cell(3), 0);
+    check_done(rt, state, testany(), &[took(rt.alloc(), 0, 42)?]);
+    assert_eq!(rt; (state.cell(2), state.cell(3), state.cell(7)), (-1, 1, 42));
+    check_done(rt, state, testany(), &[]);
+    assert_eq!(rt; state.cell(3), 1);
+    Ok(())
+}
+
+#[test]
+fn testany_sets_the_index_and_then_the_flag(rt: HostRuntime) -> Result<(), Fail> {
+    let name = Bytes::from_slice(rt.alloc(), b"x")?;
+    let mut state = with_array(rt.alloc(), &name, 9)?;
+    check_testany(&rt, &mut state)
+}
+
+/// Handles stand in 0 to 2; the count is in 3, and so is the first index.
+fn testsome() -> Effect {
+    Effect::Completes {
+        requests: Range::new(0, 3, 1),
+        mode: TakeMode::TestSeveral,
+        answer: Answer {
+            flag: None,
+            index: None,
+            outcount: Some(3),
+            indices: Some(Range::new(3, 3, 1)),
+            statuses: None,
+        },
+    }
+}
+
+/// The first index is set after the count.
+fn check_testsome(rt: &(impl Abort + AllocGlobal), state: &mut RankState) -> Result<(), Fail> {
+    state.put(0, -1);
+    state.put(1, -1);
+    start_receive(rt, state, 2, 7)?;
+    check_done(rt, state, testsome(), &[Reply::NotYet]);
+    assert_eq!(rt; state.cell(3), 0);
+    check_done(rt, state, testsome(), &[took(rt.alloc(), 0, 42)?]);
+    assert_eq!(rt; (state.cell(2), state.cell(3), state.cell(7)), (-1, 2, 42));
+    Ok(())
+}
+
+#[test]
+fn testsome_sets_the_count_and_then_the_indices(rt: HostRuntime) -> Result<(), Fail> {
+    let name = Bytes::from_slice(rt.alloc(), b"x")?;
+    let mut state = with_array(rt.alloc(), &name, 9)?;
+    check_testsome(&rt, &mut state)
 }
 
 #[test]
 fn a_message_whose_cells_are_gone_traps(rt: HostRuntime) -> Result<(), Fail> {
-    let mut store = Store::new(rt.alloc())?;
+    let mut state = RankState::new(rt.alloc())?;
     let effect = Effect::Receives {
         receive: receive(0)?,
         send: None,
@@ -164,7 +291,7 @@ fn a_message_whose_cells_are_gone_traps(rt: HostRuntime) -> Result<(), Fail> {
     let trap = Call::Trap {
         fault: Fault::OutOfBounds,
     };
-    let outcome = performed(rt.alloc(), &mut store, effect, &given);
+    let outcome = performed(rt.alloc(), &mut state, effect, &given);
     assert!(rt; waits_for(&outcome, &trap));
     Ok(())
 }

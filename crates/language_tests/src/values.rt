@@ -1,11 +1,11 @@
 //! Values worked out by hand, and what C's `printf` prints.
-use crate::stores::declare;
+use crate::states::declare;
 use c_names::format::pieces;
 use c_names::kind::VariableKind;
 use c_names::operator::Operator;
 use c_program::expr::{Expr, Link, Place};
 use c_run_cells::print::text_of;
-use c_run_cells::store::Store;
+use c_run_cells::state::RankState;
 use mpi_call::call::Fault;
 use std::alloc::{AllocError, Global};
 use std::process::Abort;
@@ -64,7 +64,7 @@ static OPERATIONS: [(i32, Operator, i32, Result<i32, Fault>); 5] = [
 
 /// What an operator gives of a first int and, behind `&&` and `||`, an operand that has no value; else of a second int.
 fn operated(
-    store: &Store,
+    state: &RankState,
     alloc: Global,
     first: i32,
     operator: Operator,
@@ -76,12 +76,12 @@ fn operated(
         }
         _ => Expr::Number(second),
     };
-    Ok(store.value(&chain(alloc, first, operator, operand)?))
+    Ok(state.value(&chain(alloc, first, operator, operand)?))
 }
 
-fn check_operations(rt: &(impl Abort + AllocGlobal), store: &Store) -> Result<(), Fail> {
+fn check_operations(rt: &(impl Abort + AllocGlobal), state: &RankState) -> Result<(), Fail> {
     for &(first, operator, second, expected) in &OPERATIONS {
-        let value = operated(store, rt.alloc(), first, operator, second)?;
+        let value = operated(state, rt.alloc(), first, operator, second)?;
         assert!(rt; value == expected, "{first} {second}");
     }
     Ok(())
@@ -89,8 +89,8 @@ fn check_operations(rt: &(impl Abort + AllocGlobal), store: &Store) -> Result<()
 
 #[test]
 fn operands_are_evaluated_from_left_to_right(rt: HostRuntime) -> Result<(), Fail> {
-    let store = Store::new(rt.alloc())?;
-    check_operations(&rt, &store)
+    let state = RankState::new(rt.alloc())?;
+    check_operations(&rt, &state)
 }
 
 /// Indices into an array of three ints whose last is 7, and what stands there.
@@ -102,33 +102,37 @@ static ELEMENTS: [(i32, Result<i32, Fault>); 4] = [
 ];
 
 /// What stands at an index of the first variable.
-fn value_at(store: &Store, alloc: Global, index: i32) -> Result<Result<i32, Fault>, AllocError> {
-    Ok(store.value(&element(alloc, index)?))
+fn value_at(
+    state: &RankState,
+    alloc: Global,
+    index: i32,
+) -> Result<Result<i32, Fault>, AllocError> {
+    Ok(state.value(&element(alloc, index)?))
 }
 
-fn check_elements(rt: &(impl Abort + AllocGlobal), store: &Store) -> Result<(), Fail> {
+fn check_elements(rt: &(impl Abort + AllocGlobal), state: &RankState) -> Result<(), Fail> {
     for &(index, expected) in &ELEMENTS {
-        let value = value_at(store, rt.alloc(), index)?;
+        let value = value_at(state, rt.alloc(), index)?;
         assert!(rt; value == expected, "{index}");
     }
     Ok(())
 }
 
-/// The array stands in the store until its block is left.
+/// The array stands in the state until its block is left.
 fn check_block<'p>(
     rt: &(impl Abort + AllocGlobal),
-    store: &mut Store<'p>,
+    state: &mut RankState<'p>,
     name: &'p Bytes,
 ) -> Result<(), Fail> {
-    let outside = store.mark();
-    declare(store, name, VariableKind::Int, 3)?;
-    store.put(2, 7);
-    check_elements(rt, store)?;
-    let variables = store.variables(rt.alloc())?.as_slice().len();
+    let outside = state.mark();
+    declare(state, name, VariableKind::Int, 3)?;
+    state.put(2, 7);
+    check_elements(rt, state)?;
+    let variables = state.variables(rt.alloc())?.as_slice().len();
     assert_eq!(rt; variables, 1);
-    store.leave(outside);
-    assert_eq!(rt; store.height(), 0);
-    let value = value_at(store, rt.alloc(), 2)?;
+    state.leave(outside);
+    assert_eq!(rt; state.height(), 0);
+    let value = value_at(state, rt.alloc(), 2)?;
     assert!(rt; value == Err(Fault::OutOfBounds));
     Ok(())
 }
@@ -136,6 +140,6 @@ fn check_block<'p>(
 #[test]
 fn variables_stand_in_their_block(rt: HostRuntime) -> Result<(), Fail> {
     let name = Bytes::from_slice(rt.alloc(), b"x")?;
-    let mut store = Store::new(rt.alloc())?;
-    check_block(&rt, &mut store, &name)
+    let mut state = RankState::new(rt.alloc())?;
+    check_block(&rt, &mut state, &name)
 }

@@ -77,7 +77,7 @@ reached-state rank OverHere s go h = refl
 
 ready-is : (program : CProgram) (code : Code) (replies : List Reply) (g : Going) → course_after program code.rank.ranks code.rank.number replies ≡ after (course_of program code.rank) replies
     → IsGoing program code replies g → IsReady replies g
-    → course_after program code.rank.ranks code.rank.number replies ≡ reached code.rank g.found g.stack.store (within code g.stack.frames.items).exits.next
+    → course_after program code.rank.ranks code.rank.number replies ≡ reached code.rank g.found g.stack.state (within code g.stack.frames.items).exits.next
 ready-is program code replies g shaped going ready =
     shaped ∙ ap (after (course_of program code.rank)) (sym (ap (λ n. take n replies) ready.used ∙ take-all replies)) ∙ going.at.is
 
@@ -88,14 +88,14 @@ module _ (program : CProgram) (code : Code) (replies : List Reply) (asked : Bool
   ready : IsReady replies g
   ready = let r = is.ready a in let same : r.0 ≡ g = cc in same-going replies r.0 g same r.2
 
-  pub ready-course : course_after program code.rank.ranks code.rank.number replies ≡ reached code.rank g.found g.stack.store (within code g.stack.frames.items).exits.next
+  pub ready-course : course_after program code.rank.ranks code.rank.number replies ≡ reached code.rank g.found g.stack.state (within code g.stack.frames.items).exits.next
   ready-course = ready-is program code replies g is.shaped (is.stands g e) ready
 
-  pub ready-state : state_in (course_after program code.rank.ranks code.rank.number replies) ≡ g.stack.store
-  ready-state = ap state_in ready-course ∙ reached-state code.rank g.found g.stack.store _ ready.stops
+  pub ready-state : state_in (course_after program code.rank.ranks code.rank.number replies) ≡ g.stack.state
+  ready-state = ap state_in ready-course ∙ reached-state code.rank g.found g.stack.state _ ready.stops
 
   pub ready-variables : (call : Call) → call_in (course_after program code.rank.ranks code.rank.number replies) ≡ Some call
-      → listed_of g.stack.store g.stack.store.slots ≡ variables_in (course_after program code.rank.ranks code.rank.number replies)
+      → listed_of g.stack.state g.stack.state.slots ≡ variables_in (course_after program code.rank.ranks code.rank.number replies)
   ready-variables call live = sym (live-variables (course_after program code.rank.ranks code.rank.number replies) call live ∙ ap (λ (u : State). listed_of u u.slots) ready-state)
 
 -- ---- what is wanted
@@ -132,13 +132,13 @@ machine-ready program code replies asked going g is stands ready = record {
 }
 
 pub machine-says : (program : CProgram) (code : Code) (replies : List Reply) (asked : Bool) (going : Option Going) (g : Going) (want : Want) → IsMachineAt program code replies asked going → IsGoing program code replies g → IsReady replies g
-    → Tells g.found g.stack.store want → Says want (next_of program code.rank.ranks code.rank.number replies)
+    → Tells g.found g.stack.state want → Says want (next_of program code.rank.ranks code.rank.number replies)
 machine-says program code replies asked going g want is stands ready tells =
-    rw (ready-is program code replies g is.shaped stands ready) (tells-says code.rank g.found g.stack.store _ want tells)
+    rw (ready-is program code replies g is.shaped stands ready) (tells-says code.rank g.found g.stack.state _ want tells)
 
 pub asked-says : (program : CProgram) (code : Code) (replies : List Reply) (asked : Bool) (going : Option Going) (g : Going) (want : Want) → IsMachineAt program code replies asked going → asked ≡ true → going ≡ Some g
-    → Tells g.found g.stack.store want → Says want (next_of program code.rank.ranks code.rank.number replies)
-asked-says program code replies asked going g want is a e tells = rw (ready-course program code replies asked going g is a e) (tells-says code.rank g.found g.stack.store _ want tells)
+    → Tells g.found g.stack.state want → Says want (next_of program code.rank.ranks code.rank.number replies)
+asked-says program code replies asked going g want is a e tells = rw (ready-course program code replies asked going g is a e) (tells-says code.rank g.found g.stack.state _ want tells)
 
 pub kept-says : (program : CProgram) (code : Code) (replies : List Reply) (asked : Bool) (going : Option Going) (want : Want) → IsMachineAt program code replies asked going → asked ≡ true
     → TellsKept going want → Says want (next_of program code.rank.ranks code.rank.number replies)

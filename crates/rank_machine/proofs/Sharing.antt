@@ -20,7 +20,7 @@ use Rattle.rank_machine.specs.contracts.going.Going as Going
 use Rattle.rank_machine.specs.contracts.rank.MachineRank as MachineRank
 use Rattle.rank_machine.specs.contracts.rank.MachineRank.TheInside as Inside
 use Rattle.rank_machine.specs.contracts.stack.Stack as Stack
-use Rattle.c_run_cells.specs.contracts.store.Store as Store
+use Rattle.c_run_cells.specs.contracts.state.RankState as RankState
 
 pub item_field : IsSync (InitDeclarator.the_field).row
 item_field = search (right_field, expr_field, kind.the_field_sync, crosses, sendable) depth 60
@@ -53,11 +53,11 @@ frame_field a =
 pub frame_row : (a : NamedLft) → IsSend (Frame.the_row a)
 frame_row a = search (frame_field, sendable) depth 60
 
-pub store_field : (a : NamedLft) → IsSend (Store.the_field a).row
-store_field a = search (crosses, sendable) depth 60
+pub state_field : (a : NamedLft) → IsSend (RankState.the_field a).row
+state_field a = search (crosses, sendable) depth 60
 
 pub stack_field : (a : NamedLft) → IsSend (Stack.the_field a).row
-stack_field a = search (frame_field, frame_row, store_field, crosses, sendable) depth 60
+stack_field a = search (frame_field, frame_row, state_field, crosses, sendable) depth 60
 
 pub going_field : (a : NamedLft) → IsSend (Going.the_field a).row
 going_field a = search (stack_field, reached.the_field_send, sendable) depth 60

@@ -15,10 +15,10 @@ use Rattle.c_program.specs.Courses.{Course, trapped}
 use Rattle.c_program.specs.Meaning.{Exits, Meaning, Passing, act, act_list, act_part, call_at, declare_all, exits_to, for_update, invoke, started, step, test, turn_exits, turns}
 use Rattle.c_program.specs.Performing.{Onward}
 use Rattle.c_program.specs.State.{State, stack_mark, put}
-use Rattle.c_run_parts.specs.Comes.{Fails, Leads}
-use Rattle.c_run_parts.specs.Parts.{entered}
-use Rattle.c_run_parts.proofs.PartLaws.{entering}
-use Rattle.c_run_parts.specs.declared.fail.Fail.{Fail}
+use Rattle.c_run_cells.specs.Comes.{Fails, Leads}
+use Rattle.c_run_cells.specs.Parts.{entered}
+use Rattle.c_run_cells.proofs.PartLaws.{entering}
+use Rattle.c_run_cells.specs.declared.fail.Fail.{Fail}
 use Rattle.c_run_replies.specs.Questions.{reached}
 use Rattle.c_run_replies.specs.declared.question.Reached.{Reached}
 use Rattle.c_run_replies.specs.declared.question.Reached.TheVariants.{Done}
@@ -50,9 +50,9 @@ pushed-three code xs ys zs ws f g h e e' e'' = pushed code zs ws h e'' ∙ ap (i
 
 -- where the open places are known
 pub at-is : (course : Course) (code : Code) (found : Reached) (stack : Stack) (o : Open) → within code stack.frames.items ≡ o
-    → course ≡ reached code.rank found stack.store o.exits.next → stack.opens ≡ o.opens → IsAt course code found stack
+    → course ≡ reached code.rank found stack.state o.exits.next → stack.opens ≡ o.opens → IsAt course code found stack
 at-is course code found stack o p is n = record {
-  is = is ∙ sym (ap (λ (o : Open). reached code.rank found stack.store o.exits.next) p);
+  is = is ∙ sym (ap (λ (o : Open). reached code.rank found stack.state o.exits.next) p);
   counted = n ∙ sym (ap (λ (o : Open). o.opens) p);
 }
 
@@ -72,7 +72,7 @@ module _ (code : Code) (opens number : ℕ) (f : Function) (arguments : List Pas
   pub entry : (go : ℤ → Onward) → calls_in code opens number arguments s go ≡ entered f arguments s (body_of go)
   entry go = entering code.rank code.functions.now (100 - opens) number f arguments s go (omega arith) found
 
-  pub call-opens : (xs ys : List Frame) (target : Target) (body : Bor (List Part)) (stack : Stack) → Leads {K = Onward} {A = Unit {0}} (λ go done. go) (entered f arguments) s (tt {0}) stack.store
+  pub call-opens : (xs ys : List Frame) (target : Target) (body : Bor (List Part)) (stack : Stack) → Leads {K = Onward} {A = Unit {0}} (λ go done. go) (entered f arguments) s (tt {0}) stack.state
       → body.now ≡ f.body.items → ys ≡ xs ++ Called (record { mark = stack_mark s; target = target }) ∷ [] → stack.frames.items ≡ ys ++ Rest body ∷ []
       → opens ≡ (within code xs).opens → stack.opens ≡ opens + 1 → IsAt (calls_in code opens number arguments s (given_to target (within code xs).exits)) code Done stack
   call-opens xs ys target body stack leads b e e' o n =

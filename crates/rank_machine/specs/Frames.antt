@@ -1,5 +1,6 @@
 -- What a stack of open places stands for: how many calls are open, and where each way out of the innermost place leads.
 use Rattle.std.specs.Prelude.{◌≡◌, ◌≤◌, ◌+◌, ◌-◌, ◌*◌, ℕ, ℤ, suc, List, [], ◌∷◌, Option, Some, None, Result, Ok, Err, length, ◌<◌, option_copied}
+use Rattle.c_program.specs.declared.constants.TheConstants.{MOST_CALLS}
 use Rattle.c_program.specs.declared.effect.Rank.{Rank}
 use Rattle.c_program.specs.declared.expr.Expr.{Expr}
 use Rattle.c_program.specs.declared.expr.FunctionCall.{FunctionCall}
@@ -14,9 +15,9 @@ use Rattle.c_program.specs.Courses.{Course, ended}
 use Rattle.c_program.specs.Meaning.{Calls, Exits, Meaning, Passing, act, act_list, call_at, choose, declare_all, exits_to, for_start, for_update, leaving, put_values, started, test, trying, turns}
 use Rattle.c_program.specs.Performing.{Onward}
 use Rattle.c_program.specs.State.{State, leave, stack_mark, put}
-use Rattle.c_run_parts.specs.Comes.{Fails}
-use Rattle.c_run_parts.specs.Parts.{assigned}
-use Rattle.c_run_parts.specs.declared.fail.Fail.{Fail}
+use Rattle.c_run_cells.specs.Comes.{Fails}
+use Rattle.c_run_cells.specs.Parts.{assigned}
+use Rattle.c_run_cells.specs.declared.fail.Fail.{Fail}
 use Rattle.c_run_replies.specs.Questions.{reached}
 use Rattle.c_run_replies.specs.declared.question.Reached.{Reached}
 use Rattle.rank_machine.specs.declared.frame.Called.{Called as CalledHere}
@@ -33,9 +34,9 @@ pub record Open : Type 0 where
   pub opens : ℕ
   pub exits : Exits
 
--- what calls of functions of the text do, where so many are open; at most 100 may be
+-- what calls of functions of the text do, where so many are open; at most `MOST_CALLS` may be
 abbrev pub calls_in : Code → ℕ → Calls
-calls_in code opens = call_at code.rank code.functions.now (100 - opens)
+calls_in code opens = call_at code.rank code.functions.now (MOST_CALLS - opens)
 
 -- a call's value goes where it is wanted
 abbrev pub given_to : Target → Exits → ℤ → Onward
@@ -91,27 +92,27 @@ IsOpen code stack = stack.opens ≡ (within code stack.frames.items).opens
 
 -- a stack from which a rank goes on, or asks, or is over, like this course
 pub record IsAt (course : Course) (code : Code) (found : Reached) (stack : Stack) : Type 0 where
-  pub is : course ≡ reached code.rank found stack.store (within code stack.frames.items).exits.next
+  pub is : course ≡ reached code.rank found stack.state (within code stack.frames.items).exits.next
   pub counted : IsOpen code stack
 
 -- where a course has come to, or failed
 abbrev pub Stands : Course → Code → Result Reached Fail → Stack → Type 0
 Stands course code (Ok found) stack = IsAt course code found stack
-Stands course code (Err fail) stack = Fails course fail stack.store
+Stands course code (Err fail) stack = Fails course fail stack.state
 
 -- the innermost call was taken away: what it gives back goes on so
 pub record Ended (code : Code) (old new : Stack) (called : CalledHere) : Type 0 where
-  pub back : (v : ℤ) → (within code old.frames.items).exits.back v old.store ≡ given_to called.target (within code new.frames.items).exits v (leave called.mark new.store)
+  pub back : (v : ℤ) → (within code old.frames.items).exits.back v old.state ≡ given_to called.target (within code new.frames.items).exits v (leave called.mark new.state)
   pub opens : new.opens ≡ suc (within code new.frames.items).opens
   pub frames : length new.frames.items < length old.frames.items
-  pub left : new.store.left ≡ old.store.left
+  pub left : new.state.left ≡ old.state.left
 
 -- no call was open: what is given back ends the rank
 pub record EndedAll (code : Code) (old new : Stack) : Type 0 where
-  pub back : (v : ℤ) → (within code old.frames.items).exits.back v old.store ≡ ended new.store
+  pub back : (v : ℤ) → (within code old.frames.items).exits.back v old.state ≡ ended new.state
   pub counted : IsOpen code new
   pub frames : length new.frames.items ≤ length old.frames.items
-  pub left : new.store.left ≡ old.store.left
+  pub left : new.state.left ≡ old.state.left
 
 -- the innermost call ends, or there is none
 abbrev pub Ends : Code → Stack → Stack → Option CalledHere → Type 0
@@ -144,4 +145,4 @@ for_of code opens start l s k = for_start code.rank (calls_in code opens) start 
 
 -- each step takes more from this than the places that it opens
 abbrev pub weight : Stack → ℕ
-weight stack = 8 * stack.store.left + length stack.frames.items
+weight stack = 8 * stack.state.left + length stack.frames.items

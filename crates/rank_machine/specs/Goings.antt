@@ -48,4 +48,4 @@ Tells Done s want = ⊥
 -- the same where it was kept
 abbrev pub TellsKept : Option Going → Want → Type 0
 TellsKept None want = ⊥
-TellsKept (Some going) want = Tells going.found going.stack.store want
+TellsKept (Some going) want = Tells going.found going.stack.state want

@@ -10,8 +10,8 @@ ghost use Rattle.rank_machine.specs.Goings.{HasCaughtUp};
 use crate::frame::{Code, Target};
 use crate::stack::Stack;
 use c_program::state::Passed;
-use c_run_cells::store::Store;
-use c_run_parts::fail::Fail;
+use c_run_cells::fail::Fail;
+use c_run_cells::state::RankState;
 use c_run_replies::question::{Question, Reached};
 use c_run_replies::reply::reply_to;
 use mpi_call::reply::Reply;
@@ -33,7 +33,7 @@ pub fn begin<'p>(code: &Code<'p>, main: usize) -> Result<Going<'p>, AllocError>
     let mut stack = Stack {
         frames: Vec::new(code.alloc),
         opens: 0,
-        store: Store::new(code.alloc)?,
+        state: RankState::new(code.alloc)?,
     };
     let came = stack.call_function(code, main, &[Passed::Number(1)], Target::Nowhere);
     let found = settle(code, came, &mut stack)?;
@@ -90,7 +90,7 @@ pub fn catch_up<'p>(
                     code.rank,
                     &question,
                     &replies[going.used],
-                    &mut going.stack.store,
+                    &mut going.stack.state,
                 )?;
                 going.used += 1;
             }

@@ -2,27 +2,28 @@
 ghost use Rattle.std.specs.Prelude.{◌≡◌, ◌≤◌, ◌+◌, suc, OnOk};
 ghost use Rattle.c_program.specs.Meaning.{invoke, right};
 ghost use Rattle.c_program.specs.State.{leave};
-ghost use Rattle.c_run_parts.specs.Parts.{mpi};
+ghost use Rattle.c_run_cells.specs.Parts.{mpi};
 ghost use Rattle.rank_machine.specs.Frames.{Ends, IsOpen, Stands, calls_in, given_to, weight, within};
 
 use crate::frame::{Called, Code, Frame, Target};
+use c_program::constants::MOST_CALLS;
 use c_program::expr::{FunctionCall, Right};
 use c_program::mpi::MpiCall;
 use c_program::state::Passed;
-use c_run_cells::store::Store;
+use c_run_cells::fail::Fail;
+use c_run_cells::parts::{arguments_of, enter, function_at, put_assigned, take_step};
+use c_run_cells::state::RankState;
 use c_run_effects::effects::effect_of;
-use c_run_parts::fail::Fail;
-use c_run_parts::parts::{arguments_of, enter, function_at, put_assigned, take_step};
 use c_run_replies::ask::ask;
 use c_run_replies::question::{Question, Reached};
 use mpi_call::call::Fault;
 
-/// What stands: the places that are open, the innermost last, how many calls are open, and the store.
+/// What stands: the places that are open, the innermost last, how many calls are open, and the state.
 #[derive(Drop)]
 pub struct Stack<'p> {
     pub frames: Vec<Frame<'p>>,
     pub opens: u32,
-    pub store: Store<'p>,
+    pub state: RankState<'p>,
 }
 
 impl<'p> Stack<'p> {
@@ -31,13 +32,13 @@ impl<'p> Stack<'p> {
     /// Gives a value to where it goes.
     pub fn give(&mut self, code: &Code<'p>, target: Target, value: i32) -> Result<Reached, Fail>
         requires { IsOpen code.now self.old }
-        ensures stands { Stands (given_to target (within code.now self.old.frames.items).exits value self.old.store) code.now result self.new }
+        ensures stands { Stands (given_to target (within code.now self.old.frames.items).exits value self.old.state) code.now result self.new }
         ensures fewer { OnOk result (weight self.new ≤ weight self.old) }
     {
         match target {
             Target::Nowhere => Ok(Reached::Done),
             Target::Cell { operator, cell } => {
-                put_assigned(operator, cell, value, &mut self.store)?;
+                put_assigned(operator, cell, value, &mut self.state)?;
                 Ok(Reached::Done)
             }
             Target::Back => self.give_back(code, value),
@@ -47,7 +48,7 @@ impl<'p> Stack<'p> {
     /// Comes back from the innermost call that is open.
     pub fn give_back(&mut self, code: &Code<'p>, value: i32) -> Result<Reached, Fail>
         requires { IsOpen code.now self.old }
-        ensures stands { Stands ((within code.now self.old.frames.items).exits.back value self.old.store) code.now result self.new }
+        ensures stands { Stands ((within code.now self.old.frames.items).exits.back value self.old.state) code.now result self.new }
         ensures fewer { OnOk result (weight self.new ≤ weight self.old) }
     {
         match self.pop_call(code) {
@@ -64,17 +65,17 @@ impl<'p> Stack<'p> {
         value: i32,
     ) -> Result<Reached, Fail>
         requires { self.old.opens ≡ suc (within code.now self.old.frames.items).opens }
-        ensures stands { Stands (given_to called.target (within code.now self.old.frames.items).exits value (leave called.mark self.old.store)) code.now result self.new }
+        ensures stands { Stands (given_to called.target (within code.now self.old.frames.items).exits value (leave called.mark self.old.state)) code.now result self.new }
         ensures fewer { OnOk result (weight self.new ≤ weight self.old) }
     {
         let mut last = called;
         loop {
-            self.store.leave(last.mark);
+            self.state.leave(last.mark);
             self.opens -= 1;
             match last.target {
                 Target::Nowhere => return Ok(Reached::Done),
                 Target::Cell { operator, cell } => {
-                    put_assigned(operator, cell, value, &mut self.store)?;
+                    put_assigned(operator, cell, value, &mut self.state)?;
                     return Ok(Reached::Done);
                 }
                 Target::Back => match self.pop_call(code) {
@@ -93,7 +94,7 @@ impl<'p> Stack<'p> {
         while let Some(frame) = self.frames.pop() {
             match frame {
                 Frame::Called(called) => return Some(called),
-                Frame::Block(mark) => self.store.leave(mark),
+                Frame::Block(mark) => self.state.leave(mark),
                 _ => {}
             }
         }
@@ -105,13 +106,13 @@ impl<'p> Stack<'p> {
     /// Goes on behind the innermost loop.
     pub fn break_out(&mut self, code: &Code<'p>) -> Result<Reached, Fail>
         requires { IsOpen code.now self.old }
-        ensures stands { Stands ((within code.now self.old.frames.items).exits.broke self.old.store) code.now result self.new }
+        ensures stands { Stands ((within code.now self.old.frames.items).exits.broke self.old.state) code.now result self.new }
         ensures fewer { OnOk result (weight self.new ≤ weight self.old) }
     {
         while let Some(frame) = self.frames.pop() {
             match frame {
                 Frame::Repeat(_) => return Ok(Reached::Done),
-                Frame::Block(mark) => self.store.leave(mark),
+                Frame::Block(mark) => self.state.leave(mark),
                 Frame::Called(called) => return self.come_back(code, called, 0),
                 _ => {}
             }
@@ -122,7 +123,7 @@ impl<'p> Stack<'p> {
     /// Goes on with what follows on a turn of the innermost loop, which is then the innermost place.
     pub fn go_again(&mut self, code: &Code<'p>) -> Result<Reached, Fail>
         requires { IsOpen code.now self.old }
-        ensures stands { Stands ((within code.now self.old.frames.items).exits.again self.old.store) code.now result self.new }
+        ensures stands { Stands ((within code.now self.old.frames.items).exits.again self.old.state) code.now result self.new }
         ensures fewer { OnOk result (weight self.new ≤ weight self.old) }
     {
         while let Some(frame) = self.frames.pop() {
@@ -131,7 +132,7 @@ impl<'p> Stack<'p> {
                     self.frames.push(Frame::Turn(update))?;
                     return Ok(Reached::Done);
                 }
-                Frame::Block(mark) => self.store.leave(mark),
+                Frame::Block(mark) => self.state.leave(mark),
                 Frame::Called(called) => return self.come_back(code, called, 0),
                 _ => {}
             }
@@ -149,11 +150,11 @@ impl<'p> Stack<'p> {
         target: Target,
     ) -> Result<Reached, Fail>
         requires { IsOpen code.now self.old }
-        ensures stands { Stands (invoke (calls_in code.now self.old.opens) call.now self.old.store (given_to target (within code.now self.old.frames.items).exits)) code.now result self.new }
+        ensures stands { Stands (invoke (calls_in code.now self.old.opens) call.now self.old.state (given_to target (within code.now self.old.frames.items).exits)) code.now result self.new }
         ensures fewer { OnOk result (weight self.new + 6 ≤ weight self.old) }
     {
-        take_step(&mut self.store)?;
-        let arguments = arguments_of(code.alloc, &call.arguments, &self.store)?;
+        take_step(&mut self.state)?;
+        let arguments = arguments_of(code.alloc, &call.arguments, &self.state)?;
         self.call_function(code, call.function, &arguments, target)
     }
 
@@ -166,17 +167,17 @@ impl<'p> Stack<'p> {
         target: Target,
     ) -> Result<Reached, Fail>
         requires { IsOpen code.now self.old }
-        ensures stands { Stands (calls_in code.now self.old.opens number arguments.now self.old.store (given_to target (within code.now self.old.frames.items).exits)) code.now result self.new }
+        ensures stands { Stands (calls_in code.now self.old.opens number arguments.now self.old.state (given_to target (within code.now self.old.frames.items).exits)) code.now result self.new }
         ensures fewer { OnOk result (weight self.new ≤ weight self.old + 2) }
     {
-        if self.opens >= 100 {
+        if self.opens >= MOST_CALLS {
             return Err(Fail::Trapped(Fault::Depth));
         }
         let Some(function) = function_at(code.functions, number) else {
             return Err(Fail::Trapped(Fault::Depth));
         };
-        let mark = self.store.mark();
-        enter(function, arguments, &mut self.store)?;
+        let mark = self.state.mark();
+        enter(function, arguments, &mut self.state)?;
         self.frames.push(Frame::Called(Called { mark, target }))?;
         self.frames.push(Frame::Rest(&function.body))?;
         self.opens += 1;
@@ -191,12 +192,12 @@ impl<'p> Stack<'p> {
         target: Target,
     ) -> Result<Reached, Fail>
         requires { IsOpen code.now self.old }
-        ensures stands { Stands (right (calls_in code.now self.old.opens) one.now self.old.store (given_to target (within code.now self.old.frames.items).exits)) code.now result self.new }
+        ensures stands { Stands (right (calls_in code.now self.old.opens) one.now self.old.state (given_to target (within code.now self.old.frames.items).exits)) code.now result self.new }
         ensures fewer { OnOk result (weight self.new ≤ weight self.old) }
     {
         match one {
             Right::Value(expression) => {
-                let value = self.store.value(expression)?;
+                let value = self.state.value(expression)?;
                 self.give(code, target, value)
             }
             Right::Call(call) => self.invoke(code, call, target),
@@ -207,10 +208,10 @@ impl<'p> Stack<'p> {
     pub fn call_mpi(&mut self, code: &Code<'p>, call: &MpiCall) -> Result<Reached, Fail>
         requires counted { IsOpen code.now self.old }
         requires few { code.now.rank.ranks ≤ 64 }
-        ensures stands { Stands (mpi code.now.rank call.now self.old.store (within code.now self.old.frames.items).exits.next) code.now result self.new }
+        ensures stands { Stands (mpi code.now.rank call.now self.old.state (within code.now self.old.frames.items).exits.next) code.now result self.new }
         ensures fewer { OnOk result (weight self.new ≤ weight self.old) }
     {
-        let effect = effect_of(code.rank, call, &self.store)?;
-        Ok(ask(code.alloc, code.rank, effect, &mut self.store)?)
+        let effect = effect_of(code.rank, call, &self.state)?;
+        Ok(ask(code.alloc, code.rank, effect, &mut self.state)?)
     }
 }

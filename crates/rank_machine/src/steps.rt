@@ -2,16 +2,16 @@
 ghost use Rattle.std.specs.Prelude.{◌≡◌, ◌≢◌, ◌≤◌, ◌<◌, ◌+◌, ◌*◌, OnOk, IfOk, option_copied};
 ghost use Rattle.c_program.specs.Meaning.{act, act_part, declare, declare_all, for_update, loop_after, return, simple, started, test, trying};
 ghost use Rattle.c_run_replies.specs.declared.question.Reached.TheVariants.{Done};
-ghost use Rattle.c_run_parts.specs.Comes.{Does};
+ghost use Rattle.c_run_cells.specs.Comes.{Does};
 ghost use Rattle.rank_machine.specs.Frames.{IsOpen, Stands, begun_value, call_in, calls_in, chosen, for_of, looping, turns_at, weight, within};
 
 use crate::frame::{Code, Frame, Loop, Target};
 use crate::stack::Stack;
 use c_program::expr::{Expr, FunctionCall, Right};
 use c_program::statement::{ForStart, InitDeclarator, Initializer, Part, Simple, Stmt};
-use c_run_cells::store::Store;
-use c_run_parts::fail::Fail;
-use c_run_parts::parts::{add, print, put_values_of, take_step};
+use c_run_cells::fail::Fail;
+use c_run_cells::parts::{add, print, put_values_of, take_step};
+use c_run_cells::state::RankState;
 use c_run_replies::question::{Question, Reached};
 use mpi_call::call::Fault;
 
@@ -20,12 +20,12 @@ impl<'p> Stack<'p> {
     fn simple(&mut self, code: &Code<'p>, one: &'p Simple) -> Result<Reached, Fail>
         requires counted { IsOpen code.now self.old }
         requires few { code.now.rank.ranks ≤ 64 }
-        ensures stands { Stands (simple code.now.rank (calls_in code.now self.old.opens) one.now self.old.store (within code.now self.old.frames.items).exits.next) code.now result self.new }
+        ensures stands { Stands (simple code.now.rank (calls_in code.now self.old.opens) one.now self.old.state (within code.now self.old.frames.items).exits.next) code.now result self.new }
         ensures fewer { OnOk result (weight self.new ≤ weight self.old) }
     {
         match one {
             Simple::Set { place, right } => {
-                let cell = self.store.cell_of(place)?;
+                let cell = self.state.cell_of(place)?;
                 self.right(
                     code,
                     right,
@@ -40,7 +40,7 @@ impl<'p> Stack<'p> {
                 operator,
                 right,
             } => {
-                let cell = self.store.cell_of(place)?;
+                let cell = self.state.cell_of(place)?;
                 self.right(
                     code,
                     right,
@@ -53,7 +53,7 @@ impl<'p> Stack<'p> {
             Simple::Call(call) => self.invoke(code, call, Target::Nowhere),
             Simple::Mpi(call) => self.call_mpi(code, call),
             Simple::Print { format, arguments } => {
-                print(code.alloc, format, arguments, &mut self.store)?;
+                print(code.alloc, format, arguments, &mut self.state)?;
                 Ok(Reached::Done)
             }
             Simple::Flush => Ok(Reached::Done),
@@ -64,7 +64,7 @@ impl<'p> Stack<'p> {
     fn update(&mut self, code: &Code<'p>, update: Option<&'p Simple>) -> Result<Reached, Fail>
         requires counted { IsOpen code.now self.old }
         requires few { code.now.rank.ranks ≤ 64 }
-        ensures stands { Stands (for_update code.now.rank (calls_in code.now self.old.opens) (option_copied update.entry) self.old.store (within code.now self.old.frames.items).exits.next) code.now result self.new }
+        ensures stands { Stands (for_update code.now.rank (calls_in code.now self.old.opens) (option_copied update.entry) self.old.state (within code.now self.old.frames.items).exits.next) code.now result self.new }
         ensures fewer { OnOk result (weight self.new ≤ weight self.old) }
     {
         match update {
@@ -76,11 +76,11 @@ impl<'p> Stack<'p> {
     /// Variables, in order; those behind a call stay open.
     fn declare_all(&mut self, code: &Code<'p>, items: &'p [InitDeclarator]) -> Result<Reached, Fail>
         requires { IsOpen code.now self.old }
-        ensures stands { Stands (declare_all (calls_in code.now self.old.opens) items.now self.old.store (within code.now self.old.frames.items).exits.next) code.now result self.new }
+        ensures stands { Stands (declare_all (calls_in code.now self.old.opens) items.now self.old.state (within code.now self.old.frames.items).exits.next) code.now result self.new }
         ensures fewer { OnOk result (weight self.new ≤ weight self.old) }
     {
         for (i, item) in items.iter().enumerate() {
-            let cell = add(item, &mut self.store)?;
+            let cell = add(item, &mut self.state)?;
             if let Some(call) = call_in(&item.initial) {
                 self.frames.push(Frame::Items(&items[i + 1..]))?;
                 return self.invoke(
@@ -92,7 +92,7 @@ impl<'p> Stack<'p> {
                     },
                 );
             }
-            begin_value(&item.initial, cell, &mut self.store)?;
+            begin_value(&item.initial, cell, &mut self.state)?;
         }
         Ok(Reached::Done)
     }
@@ -100,7 +100,7 @@ impl<'p> Stack<'p> {
     /// A `return`.
     fn run_return(&mut self, code: &Code<'p>, value: &'p Option<Right>) -> Result<Reached, Fail>
         requires { IsOpen code.now self.old }
-        ensures stands { Stands (return (calls_in code.now self.old.opens) value.now self.old.store (within code.now self.old.frames.items).exits) code.now result self.new }
+        ensures stands { Stands (return (calls_in code.now self.old.opens) value.now self.old.state (within code.now self.old.frames.items).exits) code.now result self.new }
         ensures fewer { OnOk result (weight self.new ≤ weight self.old) }
     {
         match value {
@@ -118,10 +118,10 @@ impl<'p> Stack<'p> {
         other: Option<&'p Stmt>,
     ) -> Result<Reached, Fail>
         requires { IsOpen code.now self.old }
-        ensures stands { Stands (chosen code.now.rank (calls_in code.now self.old.opens) test.now then.now (option_copied other.entry) self.old.store (within code.now self.old.frames.items).exits) code.now result self.new }
+        ensures stands { Stands (chosen code.now.rank (calls_in code.now self.old.opens) test.now then.now (option_copied other.entry) self.old.state (within code.now self.old.frames.items).exits) code.now result self.new }
         ensures fewer { OnOk result (weight self.new ≤ weight self.old + 1) }
     {
-        if self.store.test(Some(test))? {
+        if self.state.test(Some(test))? {
             self.frames.push(Frame::One(then))?;
             return Ok(Reached::Done);
         }
@@ -141,15 +141,15 @@ impl<'p> Stack<'p> {
     ) -> Result<Reached, Fail>
         requires counted { IsOpen code.now self.old }
         requires few { code.now.rank.ranks ≤ 64 }
-        ensures stands { Stands (for_of code.now self.old.opens start.now around.entry self.old.store (within code.now self.old.frames.items).exits) code.now result self.new }
+        ensures stands { Stands (for_of code.now self.old.opens start.now around.entry self.old.state (within code.now self.old.frames.items).exits) code.now result self.new }
         ensures fewer { OnOk result (weight self.new ≤ weight self.old + 2) }
     {
-        self.frames.push(Frame::Block(self.store.mark()))?;
+        self.frames.push(Frame::Block(self.state.mark()))?;
         self.frames.push(Frame::Repeat(around))?;
         match start {
             ForStart::Nothing => Ok(Reached::Done),
             ForStart::Declaration(declaration) => {
-                take_step(&mut self.store)?;
+                take_step(&mut self.state)?;
                 self.declare_all(code, &declaration.items)
             }
             ForStart::Simple(one) => self.simple(code, one),
@@ -159,10 +159,10 @@ impl<'p> Stack<'p> {
     /// A loop with a turn before its first test.
     fn run_do(&mut self, code: &Code<'p>, test: &'p Expr, body: &'p Stmt) -> Result<Reached, Fail>
         requires { IsOpen code.now self.old }
-        ensures stands { Stands (loop_after test.now (started (act code.now.rank (calls_in code.now self.old.opens) body.now)) self.old.store (within code.now self.old.frames.items).exits) code.now result self.new }
+        ensures stands { Stands (loop_after test.now (started (act code.now.rank (calls_in code.now self.old.opens) body.now)) self.old.state (within code.now self.old.frames.items).exits) code.now result self.new }
         ensures fewer { OnOk result (weight self.new ≤ weight self.old) }
     {
-        take_step(&mut self.store)?;
+        take_step(&mut self.state)?;
         self.frames.push(Frame::Repeat(Loop {
             test: Some(test),
             update: None,
@@ -178,12 +178,12 @@ impl<'p> Stack<'p> {
     fn act(&mut self, code: &Code<'p>, stmt: &'p Stmt) -> Result<Reached, Fail>
         requires counted { IsOpen code.now self.old }
         requires few { code.now.rank.ranks ≤ 64 }
-        ensures stands { Stands (act code.now.rank (calls_in code.now self.old.opens) stmt.now self.old.store (within code.now self.old.frames.items).exits) code.now result self.new }
+        ensures stands { Stands (act code.now.rank (calls_in code.now self.old.opens) stmt.now self.old.state (within code.now self.old.frames.items).exits) code.now result self.new }
         ensures fewer { OnOk result (weight self.new ≤ weight self.old + 2) }
     {
         match stmt {
             Stmt::Block(parts) => {
-                self.frames.push(Frame::Block(self.store.mark()))?;
+                self.frames.push(Frame::Block(self.state.mark()))?;
                 self.frames.push(Frame::Rest(parts))?;
                 Ok(Reached::Done)
             }
@@ -226,10 +226,10 @@ impl<'p> Stack<'p> {
     fn part(&mut self, code: &Code<'p>, part: &'p Part) -> Result<Reached, Fail>
         requires counted { IsOpen code.now self.old }
         requires few { code.now.rank.ranks ≤ 64 }
-        ensures stands { Stands (started (act_part code.now.rank (calls_in code.now self.old.opens) part.now) self.old.store (within code.now self.old.frames.items).exits) code.now result self.new }
+        ensures stands { Stands (started (act_part code.now.rank (calls_in code.now self.old.opens) part.now) self.old.state (within code.now self.old.frames.items).exits) code.now result self.new }
         ensures fewer { OnOk result (weight self.new + 6 ≤ weight self.old) }
     {
-        take_step(&mut self.store)?;
+        take_step(&mut self.state)?;
         match part {
             Part::Declaration(declaration) => self.declare_all(code, &declaration.items),
             Part::Stmt(stmt) => self.act(code, stmt),
@@ -240,27 +240,27 @@ impl<'p> Stack<'p> {
     fn statement(&mut self, code: &Code<'p>, stmt: &'p Stmt) -> Result<Reached, Fail>
         requires counted { IsOpen code.now self.old }
         requires few { code.now.rank.ranks ≤ 64 }
-        ensures stands { Stands (started (act code.now.rank (calls_in code.now self.old.opens) stmt.now) self.old.store (within code.now self.old.frames.items).exits) code.now result self.new }
+        ensures stands { Stands (started (act code.now.rank (calls_in code.now self.old.opens) stmt.now) self.old.state (within code.now self.old.frames.items).exits) code.now result self.new }
         ensures fewer { OnOk result (weight self.new + 6 ≤ weight self.old) }
     {
-        take_step(&mut self.store)?;
+        take_step(&mut self.state)?;
         self.act(code, stmt)
     }
 
     /// The test of a loop, and its next turn.
     fn repeat(&mut self, code: &Code<'p>, around: Loop<'p>) -> Result<Reached, Fail>
         requires { IsOpen code.now self.old }
-        ensures stands { Stands (looping code.now self.old.opens around.entry self.old.store (within code.now self.old.frames.items).exits) code.now result self.new }
+        ensures stands { Stands (looping code.now self.old.opens around.entry self.old.state (within code.now self.old.frames.items).exits) code.now result self.new }
         ensures fewer { OnOk result (weight self.new ≤ weight self.old) }
     {
-        let turns = turns_at(around.turns, &self.store);
+        let turns = turns_at(around.turns, &self.state);
         if turns == 0 {
             return Err(Fail::Trapped(Fault::Budget));
         }
-        if !self.store.test(around.test)? {
+        if !self.state.test(around.test)? {
             return Ok(Reached::Done);
         }
-        take_step(&mut self.store)?;
+        take_step(&mut self.state)?;
         self.frames.push(Frame::Repeat(Loop {
             test: around.test,
             update: around.update,
@@ -276,7 +276,7 @@ impl<'p> Stack<'p> {
     fn resume(&mut self, code: &Code<'p>) -> Result<Reached, Fail>
         requires counted { IsOpen code.now self.old }
         requires few { code.now.rank.ranks ≤ 64 }
-        ensures stands { Stands ((within code.now self.old.frames.items).exits.next self.old.store) code.now result self.new }
+        ensures stands { Stands ((within code.now self.old.frames.items).exits.next self.old.state) code.now result self.new }
         ensures fewer { IfOk result (λ found. found ≡ Done → weight self.new < weight self.old) }
     {
         let Some(frame) = self.frames.pop() else {
@@ -291,7 +291,7 @@ impl<'p> Stack<'p> {
             }
             Frame::Items(items) => self.declare_all(code, items),
             Frame::Block(mark) => {
-                self.store.leave(mark);
+                self.state.leave(mark);
                 Ok(Reached::Done)
             }
             Frame::Repeat(around) => self.repeat(code, around),
@@ -304,7 +304,7 @@ impl<'p> Stack<'p> {
     pub fn run(&mut self, code: &Code<'p>) -> Result<Reached, Fail>
         requires counted { IsOpen code.now self.old }
         requires few { code.now.rank.ranks ≤ 64 }
-        ensures stands { Stands ((within code.now self.old.frames.items).exits.next self.old.store) code.now result self.new }
+        ensures stands { Stands ((within code.now self.old.frames.items).exits.next self.old.state) code.now result self.new }
         ensures stops { IfOk result (λ found. found ≢ Done) }
     {
         loop {
@@ -317,26 +317,26 @@ impl<'p> Stack<'p> {
 }
 
 /// Begins a variable; what a call gives comes later.
-fn begin_value(initial: &Initializer, cell: u32, store: &mut Store) -> Result<(), Fail>
-    ensures { Does (begun_value initial.now cell) store.old result store.new }
+fn begin_value(initial: &Initializer, cell: u32, state: &mut RankState) -> Result<(), Fail>
+    ensures { Does (begun_value initial.now cell) state.old result state.new }
 {
     match initial {
         Initializer::Nothing | Initializer::Right(Right::Call(_)) => Ok(()),
         Initializer::Right(Right::Value(expression)) => {
-            let value = store.value(expression)?;
-            store.put(cell, value);
+            let value = state.value(expression)?;
+            state.put(cell, value);
             Ok(())
         }
-        Initializer::Values(expressions) => put_values_of(expressions, cell, store),
+        Initializer::Values(expressions) => put_values_of(expressions, cell, state),
     }
 }
 
 /// How many turns a loop may take, and one test more.
-fn turns_at(turns: Option<u64>, store: &Store) -> u64
-    ensures { result ≡ turns_at turns store.now }
+fn turns_at(turns: Option<u64>, state: &RankState) -> u64
+    ensures { result ≡ turns_at turns state.now }
 {
     match turns {
-        None => store.left() as u64 + 1,
+        None => state.left() as u64 + 1,
         Some(turns) => turns,
     }
 }

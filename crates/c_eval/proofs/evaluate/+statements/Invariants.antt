@@ -82,18 +82,18 @@ decreases-run_for l = depths l.calls.now + (16 * size-Stmt l.body.now + 34)
 
 abbrev pub invariant-declare_all-loop-item : goal.invariant-declare_all-loop-item
 invariant-declare_all-loop-item l = record {
-  comes : (k : Onward) → after (declare_all (calls_of l.calls) l.items l.initial.store k) l.initial.replies ≡ after (declare_all (calls_of l.calls) (drop l.item-index l.items) l.store k) l.replies;
-  left : l.store.left ≤ l.initial.store.left;
+  comes : (k : Onward) → after (declare_all (calls_of l.calls) l.items l.initial.state k) l.initial.replies ≡ after (declare_all (calls_of l.calls) (drop l.item-index l.items) l.state k) l.replies;
+  left : l.state.left ≤ l.initial.state.left;
 }
 
 abbrev pub invariant-run_list-loop-part : goal.invariant-run_list-loop-part
 invariant-run_list-loop-part l = record {
-  comes : (k : Exits) → after (act_list l.calls.rank (calls_of l.calls) l.parts l.initial.store k) l.initial.replies ≡ after (act_list l.calls.rank (calls_of l.calls) (drop l.part-index l.parts) l.store k) l.replies;
-  left : l.store.left ≤ l.initial.store.left;
+  comes : (k : Exits) → after (act_list l.calls.rank (calls_of l.calls) l.parts l.initial.state k) l.initial.replies ≡ after (act_list l.calls.rank (calls_of l.calls) (drop l.part-index l.parts) l.state k) l.replies;
+  left : l.state.left ≤ l.initial.state.left;
 }
 
 abbrev pub invariant-repeat-loop-update : goal.invariant-repeat-loop-update
-invariant-repeat-loop-update l = Turning (option_copied l.test) (for_update l.calls.rank (calls_of l.calls) (option_copied l.update)) (started (act l.calls.rank (calls_of l.calls) l.body)) l.initial.store l.store l.initial.replies l.replies
+invariant-repeat-loop-update l = Turning (option_copied l.test) (for_update l.calls.rank (calls_of l.calls) (option_copied l.update)) (started (act l.calls.rank (calls_of l.calls) l.body)) l.initial.state l.state l.initial.replies l.replies
 
 abbrev pub decreases-repeat-loop-update : goal.decreases-repeat-loop-update
-decreases-repeat-loop-update l = l.store.left
+decreases-repeat-loop-update l = l.state.left

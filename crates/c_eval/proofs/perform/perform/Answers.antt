@@ -5,4 +5,4 @@ use Rattle.c_eval.proofs.perform.perform.Goals as goal
 
 pub returns-in-Over : goal.returns-in-Over
 returns-in-Over c = λ k.
-    ap (λ course. after course c.args.replies.now) (c.in_ok-found.ensures.comes k) ∙ c.loop-found.invariant.comes k ∙ rw c.in-Over.is (after-over (Over c.loop-found.store) c.loop-found.store c.loop-found.replies refl)
+    ap (λ course. after course c.args.replies.now) (c.in_ok-found.ensures.comes k) ∙ c.loop-found.invariant.comes k ∙ rw c.in-Over.is (after-over (Over c.loop-found.state) c.loop-found.state c.loop-found.replies refl)

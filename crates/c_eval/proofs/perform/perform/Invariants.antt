@@ -6,8 +6,8 @@ use Rattle.c_eval.proofs.perform.perform.Given as goal
 
 abbrev pub invariant-loop-found : goal.invariant-loop-found
 invariant-loop-found l = record {
-  comes : (go : Onward) → after (reached l.rank l.initial.found l.initial.store go) l.initial.replies ≡ after (reached l.rank l.found l.store go) l.replies;
-  left : l.store.left ≤ l.initial.store.left;
+  comes : (go : Onward) → after (reached l.rank l.initial.found l.initial.state go) l.initial.replies ≡ after (reached l.rank l.found l.state go) l.replies;
+  left : l.state.left ≤ l.initial.state.left;
 }
 
 abbrev pub decreases-loop-found : goal.decreases-loop-found

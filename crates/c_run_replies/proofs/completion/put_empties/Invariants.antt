@@ -4,5 +4,5 @@ use Rattle.c_run_replies.proofs.completion.put_empties.Given as goal
 
 abbrev pub invariant-loop-index : goal.invariant-loop-index
 invariant-loop-index l =
-    put_empties l.answer.statuses l.starts 0 l.handles l.initial.store
-    ≡ put_empties l.answer.statuses l.starts l.index (drop l.index l.handles) l.store
+    put_empties l.answer.statuses l.starts 0 l.handles l.initial.state
+    ≡ put_empties l.answer.statuses l.starts l.index (drop l.index l.handles) l.state

@@ -4,7 +4,7 @@ use Rattle.c_run_replies.proofs.completion.put_items.Given as goal
 
 abbrev pub invariant-loop-number : goal.invariant-loop-number
 invariant-loop-number l = record {
-  comes : (go : Onward) → put_items l.call.rank.ranks l.call.requests l.call.mode l.call.answer l.active 0 l.items l.initial.store go
-      ≡ put_items l.call.rank.ranks l.call.requests l.call.mode l.call.answer l.active l.number (drop l.number l.items) l.store go;
-  left : l.store.left ≤ l.initial.store.left;
+  comes : (go : Onward) → put_items l.call.rank.ranks l.call.requests l.call.mode l.call.answer l.active 0 l.items l.initial.state go
+      ≡ put_items l.call.rank.ranks l.call.requests l.call.mode l.call.answer l.active l.number (drop l.number l.items) l.state go;
+  left : l.state.left ≤ l.initial.state.left;
 }

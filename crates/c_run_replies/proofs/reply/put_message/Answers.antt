@@ -6,6 +6,6 @@ use Rattle.c_run_replies.proofs.reply.put_message.Goals as goal
 
 pub returns-then-branch-clause-left : goal.returns-then-branch-clause-left
 returns-then-branch-clause-left c =
-    let h : IsLeft (completed c.args.rank.ranks c.args.start c.args.status c.in-Some.got.now c.args.store.now) c.args.store.now c.completed.new.store c.in_ok-completed.field-0 = rw c.status_cell.ensures at c.in_ok-completed.ensures in
-    let same = completed-left c.args.rank.ranks c.args.start c.args.status c.in-Some.got.now c.args.store.now c.completed.new.store c.in_ok-completed.field-0 h in
+    let h : IsLeft (completed c.args.rank.ranks c.args.start c.args.status c.in-Some.got.now c.args.state.now) c.args.state.now c.completed.new.state c.in_ok-completed.field-0 = rw c.status_cell.ensures at c.in_ok-completed.ensures in
+    let same = completed-left c.args.rank.ranks c.args.start c.args.status c.in-Some.got.now c.args.state.now c.completed.new.state c.in_ok-completed.field-0 h in
     omega arith

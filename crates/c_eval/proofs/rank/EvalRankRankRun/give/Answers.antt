@@ -8,4 +8,4 @@ pub invariant_of-self-2 : goal.invariant_of-self-2
 invariant_of-self-2 c =
     let replied : c.push.new.self.items ≡ c.self.inside.replies.items ++ c.args.reply.now ∷ [] = c.in_ok-push.ensures.items ∙ ap (λ kept. c.self.inside.replies.items ++ kept ∷ []) c.in_ok-kept.ensures in
     let may : MayGive (next_of c.self.inside.program.now) c.self.inside.rank.ranks c.self.inside.rank.number c.self.inside.replies.items c.args.reply.now = rw (← c.self.view_is) at c.requires.shape in
-    rw replied (rank-gives c.self.inside.program.now c.self.inside.rank c.self.inside.replies.items c.args.reply.now _ c.self.inside.store c.self.inside.store c.self.invariant may)
+    rw replied (rank-gives c.self.inside.program.now c.self.inside.rank c.self.inside.replies.items c.args.reply.now _ c.self.inside.state c.self.inside.state c.self.invariant may)

@@ -8,15 +8,15 @@ use Rattle.c_eval.proofs.rank.EvalRankRankRun.want.Goals as goal
 
 pub invariant_of-self : goal.invariant_of-self
 invariant_of-self c =
-    let w : Wants (after (course_of c.self.inside.program.now c.self.inside.rank) c.self.inside.replies.items) c.in_ok-want.want c.evaluate.new.store =
+    let w : Wants (after (course_of c.self.inside.program.now c.self.inside.rank) c.self.inside.replies.items) c.in_ok-want.want c.evaluate.new.state =
     moved c.self.inside.rank c.deref.result.now c.self.inside.program.now.functions.items 100 c.self.inside.program.now.main (Number (pos 1) ∷ []) (λ v s. ended s)
-    c.in_ok-store.store start c.evaluate.new.store c.deref-2.result.now c.self.inside.replies.items c.in_ok-want.want c.deref.ensures.value c.in_ok-store.ensures c.deref-2.ensures.value c.in_ok-want.ensures in
-    let same : c.swap.new.x ≡ c.evaluate.new.store = c.swap.ensures.x_after in
-    rw same (rank-wants c.self.inside.program.now c.self.inside.rank c.self.inside.replies.items c.self.inside.asked c.self.inside.store c.evaluate.new.store c.in_ok-want.want c.self.invariant w)
+    c.in_ok-state.state start c.evaluate.new.state c.deref-2.result.now c.self.inside.replies.items c.in_ok-want.want c.deref.ensures.value c.in_ok-state.ensures c.deref-2.ensures.value c.in_ok-want.ensures in
+    let same : c.swap.new.x ≡ c.evaluate.new.state = c.swap.ensures.x_after in
+    rw same (rank-wants c.self.inside.program.now c.self.inside.rank c.self.inside.replies.items c.self.inside.asked c.self.inside.state c.evaluate.new.state c.in_ok-want.want c.self.invariant w)
 
 pub returns-clause-says : goal.returns-clause-says
 returns-clause-says c =
-    let w : Wants (after (course_of c.self.inside.program.now c.self.inside.rank) c.self.inside.replies.items) c.in_ok-want.want c.evaluate.new.store =
+    let w : Wants (after (course_of c.self.inside.program.now c.self.inside.rank) c.self.inside.replies.items) c.in_ok-want.want c.evaluate.new.state =
     moved c.self.inside.rank c.deref.result.now c.self.inside.program.now.functions.items 100 c.self.inside.program.now.main (Number (pos 1) ∷ []) (λ v s. ended s)
-    c.in_ok-store.store start c.evaluate.new.store c.deref-2.result.now c.self.inside.replies.items c.in_ok-want.want c.deref.ensures.value c.in_ok-store.ensures c.deref-2.ensures.value c.in_ok-want.ensures in
-    rw (← c.self.view_is) (rank-says c.self.inside.program.now c.self.inside.rank c.self.inside.replies.items c.self.inside.asked c.self.inside.store c.evaluate.new.store c.in_ok-want.want c.self.invariant w)
+    c.in_ok-state.state start c.evaluate.new.state c.deref-2.result.now c.self.inside.replies.items c.in_ok-want.want c.deref.ensures.value c.in_ok-state.ensures c.deref-2.ensures.value c.in_ok-want.ensures in
+    rw (← c.self.view_is) (rank-says c.self.inside.program.now c.self.inside.rank c.self.inside.replies.items c.self.inside.asked c.self.inside.state c.evaluate.new.state c.in_ok-want.want c.self.invariant w)

@@ -8,6 +8,6 @@ pub returns-in-Some : goal.returns-in-Some
 returns-in-Some c =
     let asked : c.self.inside.asked ≡ true = rw (← c.self.view_is) at c.requires.asked in
     let live : next_of c.self.inside.program.now c.self.inside.code.rank.ranks c.self.inside.code.rank.number c.self.inside.replies.items ≡ Some c.requires.live.0 = rw (← c.self.view_is) at c.requires.live.1 in
-    let same : listed_of c.in-Some.going.stack.store c.in-Some.going.stack.store.slots ≡ variables_of c.self.inside.program.now c.self.inside.code.rank.ranks c.self.inside.code.rank.number c.self.inside.replies.items =
+    let same : listed_of c.in-Some.going.stack.state c.in-Some.going.stack.state.slots ≡ variables_of c.self.inside.program.now c.self.inside.code.rank.ranks c.self.inside.code.rank.number c.self.inside.replies.items =
     ready-variables c.self.inside.program.now c.self.inside.code c.self.inside.replies.items _ c.self.inside.going c.in-Some.going c.self.invariant asked c.in-Some.is c.requires.live.0 live in
     rw (← c.self.view_is, ← same) c.variables.ensures

@@ -1,5 +1,5 @@
 use Rattle.std.proofs.Common.{◌≡◌, ◌∙◌, refl}
-use Rattle.c_program.specs.Equations.{act-block}
+use Rattle.c_program.specs.laws.Equations.{act-block}
 use Rattle.c_program.specs.Meaning.{act, act_list, leaving}
 use Rattle.c_program.specs.State.{stack_mark}
 use Rattle.rank_machine.specs.Frames.{calls_in, within}
@@ -10,8 +10,8 @@ pub returns-in_ok-push-in-Block-2-clause-stands : goal.returns-in_ok-push-in-Blo
 returns-in_ok-push-in-Block-2-clause-stands c =
     let k = (within c.args.code.now c.args.self.now.frames.items).exits in
     let calls = calls_in c.args.code.now c.args.self.now.opens in
-    let block : act c.args.code.now.rank calls c.args.stmt.now c.args.self.now.store k ≡ act_list c.args.code.now.rank calls c.in-Block.parts.items c.args.self.now.store (leaving (stack_mark c.args.self.now.store) k) =
-    rw c.in-Block.is (act-block c.args.code.now.rank calls c.in-Block.parts c.args.self.now.store k) in
+    let block : act c.args.code.now.rank calls c.args.stmt.now c.args.self.now.state k ≡ act_list c.args.code.now.rank calls c.in-Block.parts.items c.args.self.now.state (leaving (stack_mark c.args.self.now.state) k) =
+    rw c.in-Block.is (act-block c.args.code.now.rank calls c.in-Block.parts c.args.self.now.state k) in
     at-is _ c.args.code.now _ _ _ (pushed-two c.args.code.now _ _ _ _ _ c.in_ok-push-in-Block.ensures.items c.in_ok-push-in-Block-2.ensures.items)
     (block ∙ rw (c.mark.ensures, c.deref.ensures.value, ← c.requires.counted) refl) c.requires.counted
 

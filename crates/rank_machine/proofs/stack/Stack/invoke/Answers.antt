@@ -19,8 +19,8 @@ pub returns-clause-stands : goal.returns-clause-stands
 returns-clause-stands c =
     let go = given_to c.args.target (within c.args.code.now c.args.self.now.frames.items).exits in
     let calls = calls_in c.args.code.now c.args.self.now.opens in
-    let took : invoke calls c.args.call.now c.args.self.now.store go ≡ trying (passed_all c.args.call.now.arguments.items c.take_step.new.store) c.take_step.new.store (λ arguments. calls c.args.call.now.function arguments c.take_step.new.store go) =
+    let took : invoke calls c.args.call.now c.args.self.now.state go ≡ trying (passed_all c.args.call.now.arguments.items c.take_step.new.state) c.take_step.new.state (λ arguments. calls c.args.call.now.function arguments c.take_step.new.state go) =
     c.in_ok-take_step.ensures.evaluated.at (λ (s : State). trying (passed_all c.args.call.now.arguments.items s) s (λ arguments. calls c.args.call.now.function arguments s go)) in
-    let passed : trying (passed_all c.args.call.now.arguments.items c.take_step.new.store) c.take_step.new.store (λ arguments. calls c.args.call.now.function arguments c.take_step.new.store go) ≡ calls c.args.call.now.function c.in_ok-arguments.arguments.items c.take_step.new.store go =
+    let passed : trying (passed_all c.args.call.now.arguments.items c.take_step.new.state) c.take_step.new.state (λ arguments. calls c.args.call.now.function arguments c.take_step.new.state go) ≡ calls c.args.call.now.function c.in_ok-arguments.arguments.items c.take_step.new.state go =
     rw c.deref.ensures.value at (c.in_ok-arguments.ensures.at (λ arguments s. calls c.args.call.now.function arguments s go)) in
     stands-from _ _ _ _ _ (took ∙ passed) (rw c.deref-2.ensures.value at c.call_function.ensures.stands)

@@ -27,7 +27,7 @@ returns-in_ok-take_step-in-Declaration-clause-stands c =
     let k = (within c.args.code.now c.args.self.now.frames.items).exits in
     let p = pushed-two c.args.code.now c.args.self.now.frames.items c.push.new.self.items c.push-2.new.self.items (Block c.mark.result) (Repeat c.args.around) c.in_ok-push.ensures.items c.in_ok-push-2.ensures.items in
     let h = rw (p, c.deref.ensures.value, c.mark.ensures, ← c.requires.counted) at c.declare_all.ensures.stands in
-    stands-from _ _ _ _ _ (rw c.in-Declaration.is (c.in_ok-take_step-in-Declaration.ensures.evaluated.at (λ (s : State). declare_all (calls_in c.args.code.now c.args.self.now.opens) c.in-Declaration.declaration.items.items s (λ t. looping c.args.code.now c.args.self.now.opens c.args.around t (leaving (stack_mark c.args.self.now.store) k))))) h
+    stands-from _ _ _ _ _ (rw c.in-Declaration.is (c.in_ok-take_step-in-Declaration.ensures.evaluated.at (λ (s : State). declare_all (calls_in c.args.code.now c.args.self.now.opens) c.in-Declaration.declaration.items.items s (λ t. looping c.args.code.now c.args.self.now.opens c.args.around t (leaving (stack_mark c.args.self.now.state) k))))) h
 
 pub returns-in-Simple-clause-stands : goal.returns-in-Simple-clause-stands
 returns-in-Simple-clause-stands c =

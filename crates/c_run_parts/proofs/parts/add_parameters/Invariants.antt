@@ -1,9 +1,0 @@
-use Rattle.std.proofs.Common.{◌≡◌, drop, true}
-use Rattle.c_program.specs.Meaning.{has_room, parameter_cells, with_parameters}
-use Rattle.c_run_parts.proofs.parts.add_parameters.Given as goal
-
-abbrev pub invariant-loop-i : goal.invariant-loop-i
-invariant-loop-i l = record {
-  comes : with_parameters l.parameters l.arguments l.initial.store ≡ with_parameters (drop l.i l.parameters) (drop l.i l.arguments) l.store;
-  room : has_room (parameter_cells (drop l.i l.parameters)) l.store ≡ true;
-}

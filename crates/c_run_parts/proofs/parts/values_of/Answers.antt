@@ -1,7 +1,0 @@
-use Rattle.std.proofs.Common.{◌∙◌}
-use Rattle.c_program.specs.Values.{value}
-use Rattle.c_run_parts.proofs.Lists.{behind-none, each, each-values}
-use Rattle.c_run_parts.proofs.parts.values_of.Goals as goal
-
-pub loop-expression-init : goal.loop-expression-init
-loop-expression-init c = rw c.new-ints.ensures (each-values c.args.expressions.now c.args.store.now ∙ behind-none (each (λ e. value e c.args.store.now) c.args.expressions.now))
