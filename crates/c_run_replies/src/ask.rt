@@ -48,15 +48,7 @@ pub fn ask(
             requests,
             mode,
             answer,
-        } => {
-            let call = Completion {
-                rank,
-                requests,
-                mode,
-                answer,
-            };
-            completing(alloc, &call, state)
-        }
+        } => completing(alloc, &Completion::new(rank, requests, mode, answer), state),
         Effect::Probes {
             comm,
             source,

@@ -48,6 +48,21 @@ pub struct Completion {
     pub answer: Answer,
 }
 
+impl Completion {
+    ghost use Rattle.std.specs.Prelude.{◌≡◌};
+
+    pub fn new(rank: Rank, requests: Range, mode: TakeMode, answer: Answer) -> Completion
+        ensures { result ≡ record { rank = rank; requests = requests; mode = mode; answer = answer } }
+    {
+        Completion {
+            rank,
+            requests,
+            mode,
+            answer,
+        }
+    }
+}
+
 // ---- handles
 
 /// The start of a handle, by how many there are.

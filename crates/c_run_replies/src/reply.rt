@@ -76,29 +76,17 @@ fn replied(
             state.begin(sent(message.comm))?;
             Ok(Reached::Asks(Question::TakesMessage(*awaited)))
         }
-        Question::TakesMessage(awaited) => {
-            let got = learn(reply, state)?;
-            put_message(
-                rank,
-                receiving(&awaited.receive),
-                awaited.status,
-                got,
-                state,
-            )
-        }
+        Question::TakesMessage(awaited) => took_message(rank, awaited, reply, state),
         Question::Completes {
             requests,
             mode,
             answer,
-        } => {
-            let call = Completion {
-                rank,
-                requests: *requests,
-                mode: *mode,
-                answer: *answer,
-            };
-            after_take(alloc, &call, reply, state)
-        }
+        } => after_take(
+            alloc,
+            &Completion::new(rank, *requests, *mode, *answer),
+            reply,
+            state,
+        ),
         Question::Probes {
             comm,
             flag,
@@ -109,11 +97,7 @@ fn replied(
             Ok(Reached::Done)
         }
         Question::Joins(collective) => take_result(collective.comm, collective.into, state),
-        Question::TakesResult { into, .. } => {
-            let got = learn(reply, state)?;
-            put_result(*into, got, state)?;
-            Ok(Reached::Done)
-        }
+        Question::TakesResult { into, .. } => took_result(*into, reply, state),
         Question::Trap(_) | Question::Abort(_) | Question::End => Ok(Reached::Over),
     }
 }
@@ -187,6 +171,37 @@ fn take_result(comm: u32, into: Into, state: &mut RankState) -> Result<Reached, 
     let number = state.start_count();
     state.begin(sent(comm))?;
     Ok(Reached::Asks(Question::TakesResult { into, number }))
+}
+
+/// Puts the result of a completed start.
+fn took_result(into: Into, reply: &Reply, state: &mut RankState) -> Result<Reached, AllocError>
+    ensures comes { IfOk result (λ found. (rank : Rank) (go : Onward) → go (put_result into (first_got (items_of reply.now)) (learned (items_of reply.now) state.old)) ≡ reached rank found state.new go) }
+    ensures left { OnOk result (state.new.left ≤ state.old.left) }
+{
+    let got = learn(reply, state)?;
+    put_result(into, got, state)?;
+    Ok(Reached::Done)
+}
+
+/// Puts the message of a receive.
+fn took_message(
+    rank: Rank,
+    awaited: &Awaited,
+    reply: &Reply,
+    state: &mut RankState,
+) -> Result<Reached, AllocError>
+    requires { rank.ranks ≤ 64 }
+    ensures comes { IfOk result (λ found. (go : Onward) → put_message rank.ranks (receiving awaited.now.receive) awaited.now.status (first_got (items_of reply.now)) (learned (items_of reply.now) state.old) go ≡ reached rank found state.new go) }
+    ensures left { OnOk result (state.new.left ≤ state.old.left) }
+{
+    let got = learn(reply, state)?;
+    put_message(
+        rank,
+        receiving(&awaited.receive),
+        awaited.status,
+        got,
+        state,
+    )
 }
 
 /// What follows once a receive has started.
