@@ -9,7 +9,8 @@ use Rattle.mpi_call.specs.Calls.{is_enter}
 use Rattle.mpi_call.specs.Needs.{agree}
 use Rattle.mpi_call.specs.declared.call.Call.{Call}
 use Rattle.mpi_call.specs.declared.call.Call.TheVariants.{Enter}
-use Rattle.collectives.specs.Entrants.{AllAgree, Among, first_against, ints_at, ints_by, place_by}
+use Rattle.mpi_call.specs.Lists.{IsIn}
+use Rattle.collectives.specs.Entrants.{AllAgree, first_against, ints_at, ints_by, place_by}
 use Rattle.collectives.specs.declared.entrants.Entrant.{Entrant}
 
 -- only an Enter agrees with itself
@@ -22,7 +23,7 @@ first_is_enter [] first all some is = absurd (omega arith)
 first_is_enter (x ∷ others) first all some is =
     agree-enter first.call (ap₂ (λ (a b : Entrant). agree a.call b.call) is is ∙ all.pairs x x (inl refl) (inl refl))
 
-none_found : (call : Call) (entrants : List Entrant) → ((e : Entrant) → Among e entrants → agree e.call call ≡ true) → find (λ (e : Entrant). not (agree e.call call)) entrants ≡ None
+none_found : (call : Call) (entrants : List Entrant) → ((e : Entrant) → IsIn e entrants → agree e.call call ≡ true) → find (λ (e : Entrant). not (agree e.call call)) entrants ≡ None
 none_found call [] all = refl
 none_found call (e ∷ others) all = rw (all e (inl refl)) (none_found call others (λ x h. all x (inr h)))
 

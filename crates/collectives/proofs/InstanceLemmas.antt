@@ -9,7 +9,8 @@ use Rattle.mpi_call.proofs.NeedsLemmas.{agree-refl, agree-sym}
 use Rattle.mpi_call.specs.Calls.{is_enter}
 use Rattle.mpi_call.specs.Needs.{agree}
 use Rattle.mpi_call.specs.declared.call.Call.{Call}
-use Rattle.collectives.specs.Entrants.{AllAgree, Among, first_against, has_entered, without}
+use Rattle.mpi_call.specs.Lists.{IsIn}
+use Rattle.collectives.specs.Entrants.{AllAgree, first_against, has_entered, without}
 use Rattle.collectives.specs.Instances.{enters_by, answer_of, instance_at, joins_unless, AreOrderly, Gains, IsKept, Loses}
 use Rattle.collectives.specs.declared.entrants.Entrant.{Entrant}
 use Rattle.collectives.specs.declared.instances.Entered.TheVariants.{Joined, Disagrees}
@@ -124,30 +125,30 @@ entered-without rank (e ∷ others) other =
     ]
 
 -- Enters that agree, with one more that agrees with each, and without a rank's
-among-append : (entrants : List Entrant) (entrant a : Entrant) → Among a (entrants ++ entrant ∷ []) → Among a entrants ⊎ (a ≡ entrant)
-among-append [] entrant a (inl h) = inr h
+among-append : (entrants : List Entrant) (entrant a : Entrant) → IsIn a (entrants ++ entrant ∷ []) → IsIn a entrants ⊎ (a ≡ entrant)
+among-append [] entrant a (inl h) = inr (sym h)
 among-append [] entrant a (inr h) = absurd h
 among-append (e ∷ others) entrant a (inl h) = inl (inl h)
 among-append (e ∷ others) entrant a (inr h) = elim (among-append others entrant a h) [ inl g ↦ inl (inr g) | inr g ↦ inr g ]
 
-among-without : (rank : ℕ) (entrants : List Entrant) (a : Entrant) → Among a (without rank entrants) → Among a entrants
+among-without : (rank : ℕ) (entrants : List Entrant) (a : Entrant) → IsIn a (without rank entrants) → IsIn a entrants
 among-without rank [] a h = h
 among-without rank (e ∷ others) a h =
     elim (cases_Bool (e.rank == rank)) [
       | inl here ↦ inr (among-without rank others a (rw here at h))
-      | inr away ↦ (let there : (a ≡ e) ⊎ Among a (without rank others) = rw away at h in
+      | inr away ↦ (let there : (e ≡ a) ⊎ IsIn a (without rank others) = rw away at h in
           elim there [ inl g ↦ inl g | inr g ↦ inr (among-without rank others a g) ])
     ]
 
 agree-without : (rank : ℕ) (entrants : List Entrant) → AllAgree entrants → AllAgree (without rank entrants)
 agree-without rank entrants all = record { pairs = λ a b h g. all.pairs a b (among-without rank entrants a h) (among-without rank entrants b g) }
 
-each_agrees : (call : Call) (entrants : List Entrant) → first_against entrants call ≡ None → (a : Entrant) → Among a entrants → agree a.call call ≡ true
+each_agrees : (call : Call) (entrants : List Entrant) → first_against entrants call ≡ None → (a : Entrant) → IsIn a entrants → agree a.call call ≡ true
 each_agrees call [] none a h = absurd h
 each_agrees call (e ∷ others) none a h =
     elim (cases_Bool (agree e.call call)) [
       | inl agrees ↦ elim h [
-        | inl same ↦ ap (λ (x : Entrant). agree x.call call) same ∙ agrees
+        | inl same ↦ ap (λ (x : Entrant). agree x.call call) (sym same) ∙ agrees
         | inr deeper ↦ each_agrees call others (rw agrees at none) a deeper
       ]
       | inr differs ↦ absurd (let some : Some e.rank ≡ None = rw differs at none in cc)
@@ -158,7 +159,7 @@ agree-append entrants entrant all enter none = record {
   pairs = λ a b h g. both a b (among-append entrants entrant a h) (among-append entrants entrant b g);
 }
   where
-    both : (a b : Entrant) → Among a entrants ⊎ (a ≡ entrant) → Among b entrants ⊎ (b ≡ entrant) → agree a.call b.call ≡ true
+    both : (a b : Entrant) → IsIn a entrants ⊎ (a ≡ entrant) → IsIn b entrants ⊎ (b ≡ entrant) → agree a.call b.call ≡ true
     both a b (inl h) (inl g) = all.pairs a b h g
     both a b (inl h) (inr g) = ap (λ (x : Entrant). agree a.call x.call) g ∙ each_agrees entrant.call entrants none a h
     both a b (inr h) (inl g) = agree-sym a.call b.call ∙ (ap (λ (x : Entrant). agree b.call x.call) h ∙ each_agrees entrant.call entrants none b g)

@@ -1,8 +1,9 @@
 -- The Enters of one instance of a collective, in the order in which they were made.
 -- (MPI 3.1, Collective Communication, "Correctness": all members call a communicator's collectives in the same order.)
-use Rattle.std.specs.Prelude.{◌≡◌, ◌⊎◌, true, ℕ, ℤ, List, [], ◌∷◌, Bool, not, filter, find, option_map, unwrap_or, slice_get, Option, ◌==◌, if◌then◌else◌}
+use Rattle.std.specs.Prelude.{◌≡◌, true, ℕ, ℤ, List, [], ◌∷◌, Bool, not, filter, find, option_map, unwrap_or, slice_get, Option, ◌==◌, if◌then◌else◌}
 use Rattle.std.specs.List.{list_any, position_or_len}
 use Rattle.mpi_call.specs.Calls.{ints_of}
+use Rattle.mpi_call.specs.Lists.{IsIn}
 use Rattle.mpi_call.specs.Needs.{agree}
 use Rattle.mpi_call.specs.declared.call.Call.{Call}
 use Rattle.collectives.specs.declared.entrants.Entrant.{Entrant}
@@ -31,11 +32,6 @@ first_against entrants call = option_map (λ entrant. entrant.rank) (find (λ en
 abbrev pub without : ℕ → List Entrant → List Entrant
 without rank entrants = filter (λ entrant. not (entrant.rank == rank)) entrants
 
--- an Enter is one of these
-abbrev pub Among : Entrant → List Entrant → Type 0
-Among entrant [] = ⊥
-Among entrant (first ∷ others) = (entrant ≡ first) ⊎ Among entrant others
-
 -- any two agree, so that all are Enters
 pub record AllAgree (entrants : List Entrant) : Type 0 where
-  pub pairs : (a b : Entrant) → Among a entrants → Among b entrants → agree a.call b.call ≡ true
+  pub pairs : (a b : Entrant) → IsIn a entrants → IsIn b entrants → agree a.call b.call ≡ true

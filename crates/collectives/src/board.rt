@@ -109,19 +109,12 @@ fn reserve(alloc: Global, stages: &mut Vec<Instances>, comm: Comm) -> Result<(),
     Ok(())
 }
 
-/// The communicator of an Enter.
-fn comm_of(call: &Call) -> Comm
+/// The communicator of an Enter. Takes no memory.
+pub fn comm_of(call: &Call) -> Comm
     ensures { result ≡ comm_of call.now }
 {
     match call {
-        Call::Enter {
-            comm,
-            kind: _,
-            root: _,
-            op: _,
-            count: _,
-            ints: _,
-        } => *comm,
+        Call::Enter { comm, .. } => *comm,
         _ => 0,
     }
 }

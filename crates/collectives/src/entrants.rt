@@ -6,7 +6,7 @@ ghost use Rattle.collectives.specs.Entrants.{first_against, ints_at, ints_by, pl
 use mpi_call::call::Call;
 use mpi_call::lists::{Inputs, Ints};
 use mpi_call::needs::agree;
-use std::alloc::{AllocError, Global};
+use std::alloc::{AllocError, AllocFailed, Global};
 use std::marker::Model;
 
 /// An Enter, and the rank that made it.
@@ -41,16 +41,13 @@ impl Entrants {
         }
     }
 
-    /// Adds an Enter at the end. For want of memory it comes back and nothing has changed.
-    pub fn push(&mut self, entrant: Entrant) -> Result<(), Entrant>
+    /// Adds an Enter at the end. When out of memory, the error gives it back and nothing has changed.
+    pub fn push(&mut self, entrant: Entrant) -> Result<(), AllocFailed<Entrant>>
         ensures ok { OnOk result (self.new ≡ self.old ++ entrant ∷ []) }
         ensures err { OnErr result (self.new ≡ self.old) }
-        ensures back { IfErr result (λ refused. refused ≡ entrant) }
+        ensures back { IfErr result (λ refused. refused.value ≡ entrant) }
     {
-        match self.values.push(entrant) {
-            Ok(()) => Ok(()),
-            Err(refused) => Err(refused.value),
-        }
+        self.values.push(entrant)
     }
 
     /// The earliest rank whose Enter does not agree with this one. Takes no memory.
@@ -114,7 +111,7 @@ fn places_of(entrants: &[Entrant]) -> [usize; 256]
     places
 }
 
-/// Adds the ints of the Enter at a place, and none behind the last.
+/// Adds the ints of the Enter at a place, and none after the last.
 fn add_input(
     alloc: Global,
     inputs: &mut Inputs,
@@ -127,10 +124,8 @@ fn add_input(
         Some(entrant) => ints_of(alloc, &entrant.call)?,
         None => Ints::new(alloc),
     };
-    match inputs.push(ints) {
-        Ok(()) => Ok(()),
-        Err(_) => Err(AllocError),
-    }
+    inputs.push(ints)?;
+    Ok(())
 }
 
 /// A copy of the ints that a call carries.
@@ -138,20 +133,10 @@ fn ints_of(alloc: Global, call: &Call) -> Result<Ints, AllocError>
     ensures { IfOk result (λ ints. ints ≡ ints_of call.now) }
 {
     match call {
-        Call::Send {
-            comm: _,
-            dest: _,
-            tag: _,
-            ints,
-        }
-        | Call::Enter {
-            comm: _,
-            kind: _,
-            root: _,
-            op: _,
-            count: _,
-            ints,
-        } => Ints::from_slice(alloc, ints.as_slice()),
+        Call::Send { ints, .. } | Call::Enter { ints, .. } => Ints::from_slice(
+            alloc,
+            ints.as_slice(),
+        ),
         _ => Ok(Ints::new(alloc)),
     }
 }

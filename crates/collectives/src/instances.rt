@@ -158,15 +158,11 @@ fn add(
     ensures err { OnErr result (lists.new.items ≡ lists.old.items) }
 {
     if (instance as usize) < lists.len() {
-        return match lists[instance as usize].push(entrant) {
-            Ok(()) => Ok(()),
-            Err(_) => Err(AllocError),
-        };
+        lists[instance as usize].push(entrant)?;
+        return Ok(());
     }
     let mut entrants = Entrants::new(alloc);
-    if entrants.push(entrant).is_err() {
-        return Err(AllocError);
-    }
+    entrants.push(entrant)?;
     lists.push(entrants)?;
     Ok(())
 }

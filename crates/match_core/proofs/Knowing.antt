@@ -11,12 +11,15 @@ use Rattle.run_model.specs.Run.{HasMate}
 use Rattle.run_model.specs.Views.{is_done, is_start}
 use Rattle.run_model.proofs.Views.{option_cases, test_cases}
 use Rattle.match_core.specs.declared.start.Start.{Start}
-use Rattle.match_core.specs.Starts.{AreBelow, IsAmong, IsEarliest, fits, fits_start, is_message, left_by, start_of, without, without_ints}
-use Rattle.match_core.specs.Histories.{FitsAt, IsChoice, IsKept, IsOther, IsUnpaired, Knows, KnowsMore, event_of}
+use Rattle.mpi_call.specs.Lists.{IsIn}
+use Rattle.run_model.specs.Choice.{suits}
+use Rattle.match_core.specs.Starts.{AreBelow, IsEarliest, suits_start, is_message, left_by, start_of, without, without_ints}
+use Rattle.match_core.specs.Histories.{SuitsAt, IsChoice, IsKept, IsOther, IsUnpaired, Knows, KnowsMore, event_of}
 use Rattle.match_core.proofs.Pairing.{AreMatched-alone, AreMatched-paired, free_before, new_free, new_partner, old_partner, partner_of-past, same_name-true}
-use Rattle.match_core.proofs.Grown.{Grows-event, named-new, named-other, new_name, pairs_of-push}
-use Rattle.match_core.proofs.Positions.{name_at-below, name_at-kept, name_at-lower, name_at-new, name_at-one}
-use Rattle.match_core.proofs.Fitting.{fit_takes, fits-kept, fits-message, takes_fit, takes_itself}
+use Rattle.match_core.proofs.Grown.{Grows-event, named-new, named-other, pairs_of-push}
+use Rattle.run_model.proofs.Positions.{name_at-below, name_at-lower, new_name}
+use Rattle.match_core.proofs.Positions.{name_at-kept, name_at-new, name_at-one}
+use Rattle.match_core.proofs.Fitting.{fit_takes, suits-kept, suits-message, takes_fit, takes_itself}
 use Rattle.match_core.proofs.Queues.{among_cases, among_front, among_last, among_without, without_among}
 
 pub knows_below : (events : List Event) (starts : List Start) → Knows events starts → AreBelow (length events) starts
@@ -24,20 +27,20 @@ knows_below events starts knows start among =
     let k = knows.each start among in
     name_at-below events start.at k.name k.unpaired.there
 
-kept_fits : (events : List Event) (start : Start) (rank : ℕ) (call : Call) (k : IsKept events start) → fits_start rank call start ≡ fits rank call k.name.0 k.call
-kept_fits events start rank call k =
-    ap (λ (r : ℕ). fits rank call r start.call) k.rank ∙ (ap (λ (c : Call). fits rank call k.name.0 c) k.kept ∙ fits-kept rank call k.name.0 k.call)
+kept_suits : (events : List Event) (start : Start) (rank : ℕ) (call : Call) (k : IsKept events start) → suits_start rank call start ≡ suits rank call k.name.0 k.call
+kept_suits events start rank call k =
+    ap (λ (r : ℕ). suits rank call r start.call) k.rank ∙ (ap (λ (c : Call). suits rank call k.name.0 c) k.kept ∙ suits-kept rank call k.name.0 k.call)
 
 -- the kept start that stands for an unpaired one
 record IsHeld (starts : List Start) (rank : ℕ) (call : Call) (at : ℕ) : Type 0 where
   start : Start
-  among : IsAmong start starts
+  among : IsIn start starts
   position : start.at ≡ at
-  fit : fits_start rank call start ≡ true
+  fit : suits_start rank call start ≡ true
 
-held : (events : List Event) (starts : List Start) (rank : ℕ) (call : Call) (at : ℕ) → Knows events starts → FitsAt events rank call at → IsHeld starts rank call at
+held : (events : List Event) (starts : List Start) (rank : ℕ) (call : Call) (at : ℕ) → Knows events starts → SuitsAt events rank call at → IsHeld starts rank call at
 held events starts rank call at knows f =
-    let s = knows.all f.name f.start f.unpaired.made (fits-message rank call f.name.0 f.start f.fit) f.unpaired.free in
+    let s = knows.all f.name f.start f.unpaired.made (suits-message rank call f.name.0 f.start f.fit) f.unpaired.free in
     let k = knows.each s.start s.among in
     let names : Some k.name ≡ Some f.name = sym k.unpaired.there ∙ s.there in
     let name : k.name ≡ f.name = cc in
@@ -47,7 +50,7 @@ held events starts rank call at knows f =
       start = s.start;
       among = s.among;
       position = name_at-one events s.start.at at f.name f.name s.there f.unpaired.there refl;
-      fit = kept_fits events s.start rank call k ∙ (ap (λ (n : Name). fits rank call n.0 k.call) name ∙ (ap (λ (c : Call). fits rank call f.name.0 c) call_is ∙ f.fit));
+      fit = kept_suits events s.start rank call k ∙ (ap (λ (n : Name). suits rank call n.0 k.call) name ∙ (ap (λ (c : Call). suits rank call f.name.0 c) call_is ∙ f.fit));
     }
 
 -- the earliest of the kept starts is the earliest unpaired start of the history
@@ -61,7 +64,7 @@ choice_of events starts rank call (Some at) knows e =
         name = k.name;
         start = k.call;
         unpaired = subst F e.position k.unpaired;
-        fit = sym (kept_fits events e.start rank call k) ∙ e.fit;
+        fit = sym (kept_suits events e.start rank call k) ∙ e.fit;
       },
       λ other f. (
           let h = held events starts rank call other knows f in
@@ -90,7 +93,7 @@ pairs_paired events event at old h there = pairs_of-push events event ∙ rw (h,
 takes_there : (N : Name → Option Call) (a b : Name) → (Takes N a b ⊎ Takes N b a) → (call : Call) × (N a ≡ Some call)
 takes_there N a b takes = elim takes [ inl t ↦ (t.post_call, t.post_is) | inr t ↦ (t.send_call, t.send_is) ]
 
--- a new start that fits nothing
+-- a new start that suits nothing
 matched_alone : (events : List Event) (starts : List Start) (event : Event) → Knows events starts → is_start (event.call, event.reply) ≡ true → event.mate ≡ None → IsChoice events event.rank event.call None → IsMatched (events ++ event ∷ [])
 matched_alone events starts event knows start mate choice =
     let M : Name → Option Call = named (events ++ event ∷ []) in
@@ -244,7 +247,7 @@ knows_paired events starts event at knows start message mate choice =
           ];
     }
 
--- a new Send or Post with the earliest partner, or with none where nothing fits
+-- a new Send or Post with the earliest partner, or with none where nothing suits
 pub knows_more : (events : List Event) (starts : List Start) (rank : ℕ) (call : Call) (mate : Option ℕ) → Knows events starts → is_message call ≡ true → IsEarliest rank call starts mate → KnowsMore events (event_of rank call mate) (left_by starts (start_of (length events) rank call) mate)
 knows_more events starts rank call None knows message e =
     let choice = choice_of events starts rank call None knows e in

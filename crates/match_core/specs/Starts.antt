@@ -1,10 +1,10 @@
 -- The starts that have no partner, as the matcher keeps them, and the one that a call finds among them.
 -- (MPI 3.1, Point-to-Point Communication, "Semantics of Point-to-Point Communication": order and progress.)
-use Rattle.std.specs.Prelude.{◌≡◌, ◌<◌, ◌≤◌, ◌⊎◌, ℕ, List, [], ◌∷◌, ◌++◌, Option, Some, None, Bool, true, false, not, ◌==◌, filter, option_map, slice_get}
+use Rattle.std.specs.Prelude.{◌≡◌, ◌<◌, ◌≤◌, ℕ, List, [], ◌∷◌, ◌++◌, Option, Some, None, Bool, true, false, not, ◌==◌, filter, option_map, slice_get}
 use Rattle.mpi_call.specs.declared.call.Call.{Call}
 use Rattle.mpi_call.specs.declared.call.Call.TheVariants.{Send, Post, Peek, End}
-use Rattle.mpi_call.specs.Acceptance.{accepts}
-use Rattle.run_model.specs.Pairs.{post_accepts}
+use Rattle.mpi_call.specs.Lists.{IsIn}
+use Rattle.run_model.specs.Choice.{suits}
 use Rattle.match_core.specs.declared.start.Start.{Start}
 
 abbrev pub is_send : Call → Bool
@@ -31,30 +31,21 @@ without_ints (Send comm dest tag ints sync) = Send comm dest tag [] sync
 without_ints (Post comm source tag room) = Post comm source tag room
 without_ints call = End
 
--- a call of `rank` fits a start of `owner`: a Send fits a Post that accepts it, a Post or Peek fits a Send that it accepts
-abbrev pub fits : ℕ → Call → ℕ → Call → Bool
-fits rank (Send comm dest tag ints sync) owner start = post_accepts owner start rank (Send comm dest tag ints sync)
-fits rank (Peek comm source tag wait) owner start = accepts rank comm source tag owner start
-fits rank call owner start = post_accepts rank call owner start
+-- a call of `rank` suits a start as it is kept
+abbrev pub suits_start : ℕ → Call → Start → Bool
+suits_start rank call start = suits rank call start.rank start.call
 
-abbrev pub fits_start : ℕ → Call → Start → Bool
-fits_start rank call start = fits rank call start.rank start.call
-
-abbrev pub IsAmong : Start → List Start → Type 0
-IsAmong start [] = ⊥
-IsAmong start (other ∷ starts) = (other ≡ start) ⊎ IsAmong start starts
-
--- the position of the earliest of those starts that the call of `rank` fits
+-- the position of the earliest of those starts that the call of `rank` suits
 pub record IsEarliestAt (rank : ℕ) (call : Call) (starts : List Start) (at : ℕ) : Type 0 where
   pub start : Start
-  pub among : IsAmong start starts
+  pub among : IsIn start starts
   pub position : start.at ≡ at
-  pub fit : fits_start rank call start ≡ true
-  pub first : (other : Start) → IsAmong other starts → fits_start rank call other ≡ true → at ≤ other.at
+  pub fit : suits_start rank call start ≡ true
+  pub first : (other : Start) → IsIn other starts → suits_start rank call other ≡ true → at ≤ other.at
 
--- a call finds the earliest start that it fits, and nothing exactly where it fits none
+-- a call finds the earliest start that it suits, and nothing if and only if it suits none
 abbrev pub IsEarliest : ℕ → Call → List Start → Option ℕ → Type 0
-IsEarliest rank call starts None = (start : Start) → IsAmong start starts → fits_start rank call start ≡ false
+IsEarliest rank call starts None = (start : Start) → IsIn start starts → suits_start rank call start ≡ false
 IsEarliest rank call starts (Some at) = IsEarliestAt rank call starts at
 
 -- those at another position
@@ -71,13 +62,13 @@ start_of at rank call = record { at = at; rank = rank; call = without_ints call 
 
 -- all positions are below this one
 abbrev pub AreBelow : ℕ → List Start → Type 0
-AreBelow at starts = (start : Start) → IsAmong start starts → start.at < at
+AreBelow at starts = (start : Start) → IsIn start starts → start.at < at
 
--- positions rise
+-- each position is below the later ones
 abbrev pub Rises : List Start → Type 0
 Rises [] = Unit {0}
-Rises (start ∷ starts) = ((later : Start) → IsAmong later starts → start.at < later.at) × Rises starts
+Rises (start ∷ starts) = ((later : Start) → IsIn later starts → start.at < later.at) × Rises starts
 
--- the position of the first that fits
+-- the position of the first that suits
 abbrev pub first_of : ℕ → Call → List Start → Option ℕ
-first_of rank call starts = option_map (λ (start : Start). start.at) (slice_get (filter (λ start. fits_start rank call start) starts) 0)
+first_of rank call starts = option_map (λ (start : Start). start.at) (slice_get (filter (λ start. suits_start rank call start) starts) 0)

@@ -42,7 +42,7 @@ impl Matcher {
     }
 
     /// Adds the Send at position `at` of the history and answers the position of its partner: the earliest unpaired Post
-    /// that accepts it. After the want of memory nothing has changed.
+    /// that accepts it. When out of memory, nothing has changed.
     pub fn send(&mut self, at: u32, rank: u8, call: &Call) -> Result<Option<u32>, AllocError>
         requires kind { IsTrue (is_send call.now) }
         requires position { AreBelow at self.old }
@@ -55,7 +55,7 @@ impl Matcher {
     }
 
     /// Adds the Post at position `at` of the history and answers the position of its partner: the earliest unpaired Send
-    /// that it accepts. After the want of memory nothing has changed.
+    /// that it accepts. When out of memory, nothing has changed.
     pub fn post(&mut self, at: u32, rank: u8, call: &Call) -> Result<Option<u32>, AllocError>
         requires kind { IsTrue (is_post call.now) }
         requires position { AreBelow at self.old }

@@ -1,7 +1,7 @@
-//! Starts without a partner, and what fits them.
+//! Starts without a partner, and what suits them.
 ghost use Rattle.std.specs.Prelude.{◌≡◌};
 ghost use Rattle.run_model.specs.Pairs.{post_accepts};
-ghost use Rattle.match_core.specs.Starts.{first_of, fits_start, without, without_ints};
+ghost use Rattle.match_core.specs.Starts.{first_of, suits_start, without, without_ints};
 
 use mpi_call::acceptance::accepts;
 use mpi_call::call::Call;
@@ -27,12 +27,14 @@ pub fn without_ints(alloc: Global, call: &Call) -> Call
             comm,
             dest,
             tag,
-            ints: _,
+            sync,
+            ..
         } => Call::Send {
             comm: *comm,
             dest: *dest,
             tag: *tag,
             ints: Ints::new(alloc),
+            sync: *sync,
         },
         Call::Post {
             comm,
@@ -58,40 +60,35 @@ fn post_accepts(rank: u8, post: &Call, sender: u8, send: &Call) -> bool
             comm,
             source,
             tag,
-            room: _,
+            ..
         } => accepts(rank, *comm, source, tag, sender, send),
         _ => false,
     }
 }
 
-/// Whether a call of `rank` fits a start. Takes no memory.
-pub fn fits(rank: u8, call: &Call, start: &Start) -> bool
-    ensures { result ≡ fits_start rank call.now start.now }
+/// Whether a call of `rank` suits a start. Takes no memory.
+pub fn suits(rank: u8, call: &Call, start: &Start) -> bool
+    ensures { result ≡ suits_start rank call.now start.now }
 {
     match call {
-        Call::Send {
-            comm: _,
-            dest: _,
-            tag: _,
-            ints: _,
-        } => post_accepts(start.rank, &start.call, rank, call),
+        Call::Send { .. } => post_accepts(start.rank, &start.call, rank, call),
         Call::Peek {
             comm,
             source,
             tag,
-            wait: _,
+            ..
         } => accepts(rank, *comm, source, tag, start.rank, &start.call),
         _ => post_accepts(rank, call, start.rank, &start.call),
     }
 }
 
-/// The position of the first start that a call of `rank` fits. Takes no memory.
+/// The position of the first start that a call of `rank` suits. Takes no memory.
 pub fn first_of(rank: u8, call: &Call, starts: &[Start]) -> Option<u32>
     ensures { result ≡ first_of rank call.now starts.now }
 {
     let mut rest = starts;
     while let [start, after @ ..] = rest {
-        if fits(rank, call, start) {
+        if suits(rank, call, start) {
             return Some(start.at);
         }
         rest = after;
