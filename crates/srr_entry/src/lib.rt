@@ -5,6 +5,7 @@
 pub mod entry;
 mod inner;
 pub mod log;
+pub mod members;
 pub mod place;
 mod reply_entry;
 pub mod run_log;
