@@ -19,7 +19,7 @@ use Rattle.group_plan.specs.Lines.{IsFirstBad}
 use Rattle.group_plan.specs.Listing.{groups_of, times, IsListedOnce, IsListingFault, IsSmall}
 use Rattle.group_plan.specs.OrderText.{IsRankLine, IsOrderText, order_lines, IsFault as IsOrderFault}
 use Rattle.group_plan.specs.PlanText.{plan_lines, IsPlanText, IsFault}
-use Rattle.group_plan.specs.Reads.{kept, IsRangeRead, IsTop, IsUpward}
+use Rattle.group_plan.specs.Reads.{kept, IsRangeRead, IsRankCount, IsUpward}
 use Rattle.group_plan.specs.Words.{IsSpan, IsPlanLine, before_comment, words_in}
 use Rattle.group_plan.proofs.KeptLaws.{lines_upward, times_large, times_of_large}
 use Rattle.group_plan.proofs.ReadLaws.{listing_fault}
@@ -175,14 +175,14 @@ small_or_fault : (listing said : List (List Span)) → listing ≡ map (map kept
 small_or_fault listing said is small =
     let found = top_below listing 64 in
     let n : ℕ = found.0 in
-    let top : IsTop listing n = (found.1, found.2, found.3) in
+    let count : IsRankCount listing n = (found.1, found.2, found.3) in
     elim (cases_eq n 0) [
-      | inl nothing ↦ inr (Empty, none_listed listing said n small top nothing is)
+      | inl nothing ↦ inr (Empty, none_listed listing said n small count nothing is)
       | inr some ↦ elim (least (λ rank. 1 < times rank listing) (λ rank. times rank listing ≤ 1) (λ rank. cases_lt 1 (times rank listing)) 64) [
         | inl (rank, below, twice, before) ↦ inr (Repeated rank, is_repeated listing said rank small is below twice before)
         | inr single ↦ elim (least (λ rank. times rank listing ≡ 0) (λ rank. 0 < times rank listing) (λ rank. none_or_some (times rank listing)) n) [
-          | inl (rank, below, missing, before) ↦ inr (Gap rank, is_gap listing said n rank small is top single below missing before)
-          | inr all ↦ inl (n, is_once listing said n small is top some single all)
+          | inl (rank, below, missing, before) ↦ inr (Gap rank, is_gap listing said n rank small is count single below missing before)
+          | inr all ↦ inl (n, is_once listing said n small is count some single all)
         ]
       ]
     ]

@@ -8,7 +8,7 @@ use Rattle.std.proofs.lemmas.List.Folds.{list_any-append}
 use Rattle.mpi_call.specs.Members.{is_member}
 use Rattle.group_plan.specs.declared.span.Span.{Span}
 use Rattle.group_plan.specs.Listing.{count, times, group, groups_of, listed, IsListedOnce}
-use Rattle.group_plan.specs.Plans.{top, number_of_ranks, holders, Rises, IsGroup, IsPlan}
+use Rattle.group_plan.specs.Plans.{rank_bound, number_of_ranks, holders, Rises, IsGroup, IsPlan}
 use Rattle.group_plan.specs.Reads.{IsUpward}
 
 -- the ranks that a line lists are those of its group
@@ -73,37 +73,37 @@ holders_some rank ((span ∷ spans) ∷ listing) small some = elim (cases_lt 0 (
 ]
 
 -- the greatest rank
-top_append : (xs ys : List ℕ) → top (xs ++ ys) ≡ max (top xs) (top ys)
-top_append [] ys = omega arith
-top_append (x ∷ xs) ys = let others = top_append xs ys in omega arith
+rank_bound_append : (xs ys : List ℕ) → rank_bound (xs ++ ys) ≡ max (rank_bound xs) (rank_bound ys)
+rank_bound_append [] ys = omega arith
+rank_bound_append (x ∷ xs) ys = let others = rank_bound_append xs ys in omega arith
 
-top_listed : (rank n : ℕ) (spans : List Span) → (0 < count rank spans → rank < n) → top (listed rank spans) ≤ n
-top_listed rank n spans below = elim (cases_lt 0 (count rank spans)) [
+rank_bound_listed : (rank n : ℕ) (spans : List Span) → (0 < count rank spans → rank < n) → rank_bound (listed rank spans) ≤ n
+rank_bound_listed rank n spans below = elim (cases_lt 0 (count rank spans)) [
   | inl some ↦ let under = below some in rw (listed_some rank spans some) (omega arith)
   | inr none ↦ rw (listed_none rank spans (omega arith)) (omega arith)
 ]
 
-top_group_le : (k n : ℕ) (spans : List Span) → ((rank : ℕ) → rank < k → 0 < count rank spans → rank < n) → top (group k spans) ≤ n
+rank_bound_group_le : (k n : ℕ) (spans : List Span) → ((rank : ℕ) → rank < k → 0 < count rank spans → rank < n) → rank_bound (group k spans) ≤ n
 unfolding group
-top_group_le zero n spans below = omega arith
-top_group_le (suc k) n spans below =
-    let front : top (group k spans) ≤ n = top_group_le k n spans (λ rank less. below rank (omega arith)) in
-    let last : top (listed k spans) ≤ n = top_listed k n spans (below k (omega arith)) in
-    rw (top_append (group k spans) (listed k spans)) (omega arith)
+rank_bound_group_le zero n spans below = omega arith
+rank_bound_group_le (suc k) n spans below =
+    let front : rank_bound (group k spans) ≤ n = rank_bound_group_le k n spans (λ rank less. below rank (omega arith)) in
+    let last : rank_bound (listed k spans) ≤ n = rank_bound_listed k n spans (below k (omega arith)) in
+    rw (rank_bound_append (group k spans) (listed k spans)) (omega arith)
 
-top_group_ge : (k rank : ℕ) (spans : List Span) → rank < k → 0 < count rank spans → rank + 1 ≤ top (group k spans)
+rank_bound_group_ge : (k rank : ℕ) (spans : List Span) → rank < k → 0 < count rank spans → rank + 1 ≤ rank_bound (group k spans)
 unfolding group
-top_group_ge zero rank spans below some = absurd (omega arith)
-top_group_ge (suc k) rank spans below some = rw (top_append (group k spans) (listed k spans)) (elim (cases_eq k rank) [
+rank_bound_group_ge zero rank spans below some = absurd (omega arith)
+rank_bound_group_ge (suc k) rank spans below some = rw (rank_bound_append (group k spans) (listed k spans)) (elim (cases_eq k rank) [
   | inl same ↦ rw (listed_some k spans (rw same some)) (omega arith)
-  | inr apart ↦ let front : rank + 1 ≤ top (group k spans) = top_group_ge k rank spans (omega (arith, apart)) some in omega arith
+  | inr apart ↦ let front : rank + 1 ≤ rank_bound (group k spans) = rank_bound_group_ge k rank spans (omega (arith, apart)) some in omega arith
 ])
 
 ranks_le : (n : ℕ) (listing : List (List Span)) → ((rank : ℕ) → 0 < times rank listing → rank < n) → number_of_ranks (groups_of listing) ≤ n
 ranks_le n [] below = omega arith
 ranks_le n ([] ∷ listing) below = ranks_le n listing (λ rank some. below rank (omega arith))
 ranks_le n ((span ∷ spans) ∷ listing) below =
-    let here : top (group 64 (span ∷ spans)) ≤ n = top_group_le 64 n (span ∷ spans) (λ rank less some. below rank (omega arith)) in
+    let here : rank_bound (group 64 (span ∷ spans)) ≤ n = rank_bound_group_le 64 n (span ∷ spans) (λ rank less some. below rank (omega arith)) in
     let others : number_of_ranks (groups_of listing) ≤ n = ranks_le n listing (λ rank some. below rank (omega arith)) in
     omega arith
 
@@ -111,12 +111,12 @@ ranks_ge : (rank : ℕ) (listing : List (List Span)) → rank < 64 → 0 < times
 ranks_ge rank [] small some = absurd (omega arith)
 ranks_ge rank ([] ∷ listing) small some = ranks_ge rank listing small (omega arith)
 ranks_ge rank ((span ∷ spans) ∷ listing) small some = elim (cases_lt 0 (count rank (span ∷ spans))) [
-  | inl here ↦ let first : rank + 1 ≤ top (group 64 (span ∷ spans)) = top_group_ge 64 rank (span ∷ spans) small here in omega arith
+  | inl here ↦ let first : rank + 1 ≤ rank_bound (group 64 (span ∷ spans)) = rank_bound_group_ge 64 rank (span ∷ spans) small here in omega arith
   | inr none ↦ let others : rank + 1 ≤ number_of_ranks (groups_of listing) = ranks_ge rank listing small (omega arith) in omega arith
 ]
 
 -- groups rise
-rises_push : (least k : ℕ) (xs : List ℕ) → Rises least xs → top xs ≤ k → least ≤ k → Rises least (xs ++ k ∷ [])
+rises_push : (least k : ℕ) (xs : List ℕ) → Rises least xs → rank_bound xs ≤ k → least ≤ k → Rises least (xs ++ k ∷ [])
 rises_push least k [] rises below at_least = (at_least, tt)
 rises_push least k (x ∷ xs) (first, rises) below at_least = (first, rises_push (suc x) k xs rises (omega arith) (omega arith))
 
@@ -125,7 +125,7 @@ unfolding group
 rises_group zero spans = tt
 rises_group (suc k) spans =
     let front : Rises 0 (group k spans) = rises_group k spans in
-    let below : top (group k spans) ≤ k = top_group_le k k spans (λ rank less some. less) in
+    let below : rank_bound (group k spans) ≤ k = rank_bound_group_le k k spans (λ rank less some. less) in
     elim (cases_lt 0 (count k spans)) [
       | inl some ↦ rw (listed_some k spans some) (rises_push 0 k (group k spans) front below (omega arith))
       | inr none ↦ rw (listed_none k spans (omega arith)) (nothing_more (group k spans) front)
@@ -145,8 +145,8 @@ groups_rise n ([] ∷ listing) few below (here, upward) = groups_rise n listing 
 groups_rise n ((span ∷ spans) ∷ listing) few below ((first, more), upward) =
     let some : 0 < count span.first (span ∷ spans) = first_listed span spans first in
     let under : span.first < n = below span.first (omega arith) in
-    let large : span.first + 1 ≤ top (group 64 (span ∷ spans)) = top_group_ge 64 span.first (span ∷ spans) (omega arith) some in (
-      ((λ e. let none : top (group 64 (span ∷ spans)) ≡ 0 = ap top e in omega arith), rises_group 64 (span ∷ spans)),
+    let large : span.first + 1 ≤ rank_bound (group 64 (span ∷ spans)) = rank_bound_group_ge 64 span.first (span ∷ spans) (omega arith) some in (
+      ((λ e. let none : rank_bound (group 64 (span ∷ spans)) ≡ 0 = ap rank_bound e in omega arith), rises_group 64 (span ∷ spans)),
       groups_rise n listing few (λ rank some. below rank (omega arith)) upward,
     )
 

@@ -1,17 +1,18 @@
 -- A plan: groups, each a rising list of ranks.
 use Rattle.std.specs.Prelude.{◌≡◌, ◌≢◌, ℕ, suc, ◌+◌, ◌<◌, ◌≤◌, if◌then◌else◌, max, List, [], ◌∷◌, length}
 use Rattle.std.specs.List.{AllByRecursion, position_or_len}
+use Rattle.mpi_call.specs.declared.limits.TheConstants.{MOST_RANKS}
 use Rattle.mpi_call.specs.Members.{is_member}
 
 -- one more than the greatest rank of a list, 0 without one
-abbrev pub top : List ℕ → ℕ
-top [] = 0
-top (rank ∷ ranks) = max (suc rank) (top ranks)
+abbrev pub rank_bound : List ℕ → ℕ
+rank_bound [] = 0
+rank_bound (rank ∷ ranks) = max (suc rank) (rank_bound ranks)
 
 -- the number of ranks: one more than the greatest
 abbrev pub number_of_ranks : List (List ℕ) → ℕ
 number_of_ranks [] = 0
-number_of_ranks (group ∷ groups) = max (top group) (number_of_ranks groups)
+number_of_ranks (group ∷ groups) = max (rank_bound group) (number_of_ranks groups)
 
 -- how many groups have the rank
 abbrev pub holders : ℕ → List (List ℕ) → ℕ
@@ -34,7 +35,7 @@ IsGroup ranks = (ranks ≢ []) × Rises 0 ranks
 -- 1 to 64 ranks, each in exactly one group, and at most 64 groups
 pub record IsPlan (groups : List (List ℕ)) : Type 0 where
   pub some : 0 < number_of_ranks groups
-  pub few : number_of_ranks groups ≤ 64
-  pub few_groups : length groups ≤ 64
+  pub few : number_of_ranks groups ≤ MOST_RANKS
+  pub few_groups : length groups ≤ MOST_RANKS
   pub once : (rank : ℕ) → rank < number_of_ranks groups → holders rank groups ≡ 1
   pub rising : AllByRecursion IsGroup groups

@@ -2,6 +2,7 @@
 use Rattle.std.specs.Prelude.{◌≡◌, ℕ, ◌-◌, ◌<◌, ◌≤◌, ◌++◌, min, map, List, [], ◌∷◌, length, Option, Some, None, Result, Ok, Err}
 use Rattle.std.specs.Borrow.{Bor}
 use Rattle.std.specs.List.{AllByRecursion}
+use Rattle.mpi_call.specs.declared.limits.TheConstants.{MOST_RANKS}
 use Rattle.wiz_base.specs.Decimals.{decimal_text}
 use Rattle.wiz_base.specs.Readings.{IsDecimal}
 use Rattle.group_plan.specs.declared.fault.OrderFault.{OrderFault}
@@ -19,11 +20,11 @@ use Rattle.group_plan.specs.Words.{IsSpan, IsPlanLine, IsGoodLine, words_in}
 
 -- 64 stands for each rank above 63
 abbrev pub kept : Span → Span
-kept span = record { first = min span.first 64; last = min span.last 64 }
+kept span = record { first = min span.first MOST_RANKS; last = min span.last MOST_RANKS }
 
 -- the number that the text spells, or none where it spells none
 abbrev pub IsRankRead : List ℕ → Option ℕ → Type 0
-IsRankRead text (Some rank) = (value : ℕ) × (text ≡ decimal_text value) × (rank ≡ min value 64)
+IsRankRead text (Some rank) = (value : ℕ) × (text ≡ decimal_text value) × (rank ≡ min value MOST_RANKS)
 IsRankRead text None = ¬ (IsDecimal text)
 
 -- what the word says, or none where it says nothing
@@ -73,8 +74,8 @@ IsListingRead text (Err NoMemory) = Unit {0}
 IsListingRead text (Err fault) = ⊥
 
 -- one more than the greatest rank below 64 that is listed, or 0
-abbrev pub IsTop : List (List Span) → ℕ → Type 0
-IsTop listing n = (n ≤ 64) × ((rank : ℕ) → n ≤ rank → rank < 64 → times rank listing ≡ 0) × (0 < n → 0 < times (n - 1) listing)
+abbrev pub IsRankCount : List (List Span) → ℕ → Type 0
+IsRankCount listing n = (n ≤ MOST_RANKS) × ((rank : ℕ) → n ≤ rank → rank < MOST_RANKS → times rank listing ≡ 0) × (0 < n → 0 < times (n - 1) listing)
 
 -- a range does not run downward
 abbrev pub IsUpward : Span → Type 0
