@@ -8,7 +8,8 @@ use Rattle.std.proofs.lemmas.List.Folds.{list_any-append}
 use Rattle.mpi_call.specs.Members.{is_member}
 use Rattle.group_plan.specs.declared.span.Span.{Span}
 use Rattle.group_plan.specs.Listing.{count, times, group, groups_of, listed, IsListedOnce}
-use Rattle.group_plan.specs.Plans.{rank_bound, number_of_ranks, holders, Rises, IsGroup, IsPlan}
+use Rattle.group_plan.specs.Plans.{rank_bound, number_of_ranks, holders, IsGroup, IsPlan}
+use Rattle.mpi_call.specs.Lists.{Rises}
 use Rattle.group_plan.specs.Reads.{IsUpward}
 
 -- the ranks that a line lists are those of its group

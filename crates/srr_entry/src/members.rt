@@ -6,8 +6,8 @@ ghost use Rattle.srr_entry.specs.Entries.{all_within};
 
 use mpi_call::call::Call;
 use mpi_call::lists::Ranks;
-use mpi_call::needs::needs;
 use mpi_call::members::is_member;
+use mpi_call::needs::needs;
 use std::alloc::{AllocError, Global};
 
 /// All ranks below a number, rising.
