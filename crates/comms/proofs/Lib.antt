@@ -1,4 +1,3 @@
 pub mod ColourLemmas
 pub mod CommsLemmas
-pub mod GroupLemmas
 pub mod NumberLemmas

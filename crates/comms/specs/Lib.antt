@@ -1,3 +1,2 @@
 pub mod Communicators
-pub mod Candidates
 pub mod Colours

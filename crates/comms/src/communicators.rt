@@ -147,9 +147,7 @@ fn all_ranks(alloc: Global, ranks: u8) -> Result<Ranks, AllocError>
 {
     let mut all = Ranks::new(alloc);
     for rank in 0..ranks {
-        if all.push(rank).is_err() {
-            return Err(AllocError);
-        }
+        all.push(rank)?;
     }
     Ok(all)
 }

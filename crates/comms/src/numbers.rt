@@ -1,8 +1,8 @@
 //! Lists of communicators' numbers.
-ghost use Rattle.std.specs.Prelude.{◌≡◌, ◌++◌, ◌∷◌, [], IfOk, OnErr, OnOk, replicate, slice_index};
+ghost use Rattle.std.specs.Prelude.{◌≡◌, ◌++◌, ◌∷◌, [], IfErr, IfOk, OnErr, OnOk, replicate, slice_index};
 
 use mpi_call::call::Comm;
-use std::alloc::{AllocError, Global};
+use std::alloc::{AllocError, AllocFailed, Global};
 use std::marker::Model;
 
 /// The communicator that each member got, in member order, 0 for none; contracts see a list.
@@ -29,13 +29,13 @@ impl Numbers {
         }
     }
 
-    /// Adds the next member's number. After the want of memory the list is as before.
-    pub fn push(&mut self, number: Comm) -> Result<(), AllocError>
+    /// Adds the next member's number. When out of memory, the error gives it back and nothing has changed.
+    pub fn push(&mut self, number: Comm) -> Result<(), AllocFailed<Comm>>
         ensures ok { OnOk result (self.new ≡ self.old ++ number ∷ []) }
         ensures err { OnErr result (self.new ≡ self.old) }
+        ensures back { IfErr result (λ refused. refused.value ≡ number) }
     {
-        self.values.push(number)?;
-        Ok(())
+        self.values.push(number)
     }
 
     /// The same number for each of so many members.
