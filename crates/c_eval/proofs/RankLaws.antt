@@ -1,4 +1,5 @@
 use Rattle.std.proofs.Common.{◌≡◌, ◌∙◌, ◌++◌, ◌<◌, ◌≤◌, ℕ, ℤ, Bool, true, false, List, [], ◌∷◌, Some, refl, sym, ap, subst}
+use Rattle.mpi_call.specs.declared.limits.TheConstants.{MOST_RANKS}
 use Rattle.mpi_call.specs.declared.call.Call.{Call}
 use Rattle.mpi_call.specs.declared.reply.Reply.{Reply}
 use Rattle.run_model.specs.declared.program.Want.{Want}
@@ -26,7 +27,7 @@ pub wants-says : (course : Course) (want : Want) (s : State) → Wants course wa
 wants-says course (Ask call) s w = ap call_in w.is
 wants-says course Ended s w = ap call_in w
 
-pub rank-starts : (program : CProgram) (rank : Rank) (s : State) → rank.number < rank.ranks → rank.ranks ≤ 64 → IsRankAt program rank [] false s
+pub rank-starts : (program : CProgram) (rank : Rank) (s : State) → rank.number < rank.ranks → rank.ranks ≤ MOST_RANKS → IsRankAt program rank [] false s
 rank-starts program rank s member few = record { member = member; few = few; shaped = refl; stands = λ asked. absurd (cc) }
 
 pub rank-wants : (program : CProgram) (rank : Rank) (replies : List Reply) (asked : Bool) (s t : State) (want : Want) → IsRankAt program rank replies asked s

@@ -1,5 +1,6 @@
 -- Where a rank stands that evaluates anew at each call.
 use Rattle.std.specs.Prelude.{◌≡◌, ◌<◌, ◌≤◌, List, Bool, true}
+use Rattle.mpi_call.specs.declared.limits.TheConstants.{MOST_RANKS}
 use Rattle.mpi_call.specs.declared.reply.Reply.{Reply}
 use Rattle.run_model.specs.declared.program.Want.{Want}
 use Rattle.run_model.specs.declared.program.Want.TheVariants.{Ask, Ended}
@@ -19,6 +20,6 @@ Wants course Ended s = course ≡ Over s
 -- the replies were in shape, and the state is that of the last call that was asked for
 pub record IsRankAt (program : CProgram) (rank : Rank) (replies : List Reply) (asked : Bool) (state : State) : Type 0 where
   pub member : rank.number < rank.ranks
-  pub few : rank.ranks ≤ 64
+  pub few : rank.ranks ≤ MOST_RANKS
   pub shaped : course_after program rank.ranks rank.number replies ≡ after (course_of program rank) replies
   pub stands : asked ≡ true → state_in (after (course_of program rank) replies) ≡ state

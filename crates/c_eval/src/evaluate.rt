@@ -19,6 +19,7 @@ use c_run_cells::parts::{
 };
 use c_run_cells::state::RankState;
 use mpi_call::call::Fault;
+use mpi_call::limits::MOST_RANKS;
 
 // ---- what has one way out
 
@@ -30,7 +31,7 @@ fn invoke<'p>(
     state: &mut RankState<'p>,
     replies: &mut Replies,
 ) -> Result<i32, Stop>
-    requires { calls.now.rank.ranks ≤ 64 }
+    requires { calls.now.rank.ranks ≤ MOST_RANKS }
     ensures { Gives (invoke (calls_of calls.now) call.now) state.old replies.old result state.new replies.new }
 {
     take_step(state)?;
@@ -47,7 +48,7 @@ pub fn call_function<'p>(
     state: &mut RankState<'p>,
     replies: &mut Replies,
 ) -> Result<i32, Stop>
-    requires { calls.now.rank.ranks ≤ 64 }
+    requires { calls.now.rank.ranks ≤ MOST_RANKS }
     ensures { Gives (calls_of calls.now number arguments.now) state.old replies.old result state.new replies.new }
 {
     if calls.depth == 0 {
@@ -87,7 +88,7 @@ fn value_of<'p>(
     state: &mut RankState<'p>,
     replies: &mut Replies,
 ) -> Result<i32, Stop>
-    requires { calls.now.rank.ranks ≤ 64 }
+    requires { calls.now.rank.ranks ≤ MOST_RANKS }
     ensures { Gives (right (calls_of calls.now) one.now) state.old replies.old result state.new replies.new }
 {
     match one {
@@ -106,7 +107,7 @@ fn assign<'p>(
     state: &mut RankState<'p>,
     replies: &mut Replies,
 ) -> Result<(), Stop>
-    requires { calls.now.rank.ranks ≤ 64 }
+    requires { calls.now.rank.ranks ≤ MOST_RANKS }
     ensures { Passes (assigns (calls_of calls.now) place.now operator right.now) state.old replies.old result state.new replies.new }
 {
     let cell = state.cell_of(place)?;
@@ -122,7 +123,7 @@ fn run_simple<'p>(
     state: &mut RankState<'p>,
     replies: &mut Replies,
 ) -> Result<(), Stop>
-    requires { calls.now.rank.ranks ≤ 64 }
+    requires { calls.now.rank.ranks ≤ MOST_RANKS }
     ensures { Passes (simple calls.now.rank (calls_of calls.now) one.now) state.old replies.old result state.new replies.new }
 {
     match one {
@@ -150,7 +151,7 @@ fn declare<'p>(
     state: &mut RankState<'p>,
     replies: &mut Replies,
 ) -> Result<(), Stop>
-    requires { calls.now.rank.ranks ≤ 64 }
+    requires { calls.now.rank.ranks ≤ MOST_RANKS }
     ensures { Passes (declare (calls_of calls.now) item.now) state.old replies.old result state.new replies.new }
 {
     let cell = add(item, state)?;
@@ -173,7 +174,7 @@ fn declare_all<'p>(
     state: &mut RankState<'p>,
     replies: &mut Replies,
 ) -> Result<(), Stop>
-    requires { calls.now.rank.ranks ≤ 64 }
+    requires { calls.now.rank.ranks ≤ MOST_RANKS }
     ensures { Passes (declare_all (calls_of calls.now) items.now) state.old replies.old result state.new replies.new }
 {
     for item in items {
@@ -192,7 +193,7 @@ fn start_for<'p>(
     state: &mut RankState<'p>,
     replies: &mut Replies,
 ) -> Result<(), Stop>
-    requires { calls.now.rank.ranks ≤ 64 }
+    requires { calls.now.rank.ranks ≤ MOST_RANKS }
     ensures { Passes (for_start calls.now.rank (calls_of calls.now) start.now) state.old replies.old result state.new replies.new }
 {
     match start {
@@ -213,7 +214,7 @@ fn run_update<'p>(
     state: &mut RankState<'p>,
     replies: &mut Replies,
 ) -> Result<(), Stop>
-    requires { calls.now.rank.ranks ≤ 64 }
+    requires { calls.now.rank.ranks ≤ MOST_RANKS }
     ensures { Passes (for_update calls.now.rank (calls_of calls.now) (option_copied update.entry)) state.old replies.old result state.new replies.new }
 {
     match update {
@@ -231,7 +232,7 @@ fn take_turn<'p>(
     state: &mut RankState<'p>,
     replies: &mut Replies,
 ) -> Result<Option<Flow>, Stop>
-    requires { calls.now.rank.ranks ≤ 64 }
+    requires { calls.now.rank.ranks ≤ MOST_RANKS }
     ensures evaluated { Evaluated way (turn (for_update calls.now.rank (calls_of calls.now) (option_copied update.entry)) (started (act calls.now.rank (calls_of calls.now) body.now))) state.old replies.old result state.new replies.new }
     ensures fewer { OnOk result (state.new.left < state.old.left) }
 {
@@ -255,7 +256,7 @@ fn repeat<'p>(
     state: &mut RankState<'p>,
     replies: &mut Replies,
 ) -> Result<Flow, Stop>
-    requires { calls.now.rank.ranks ≤ 64 }
+    requires { calls.now.rank.ranks ≤ MOST_RANKS }
     ensures { Leaves (loop (option_copied test.entry) (for_update calls.now.rank (calls_of calls.now) (option_copied update.entry)) (started (act calls.now.rank (calls_of calls.now) body.now))) state.old replies.old result state.new replies.new }
 {
     loop {
@@ -278,7 +279,7 @@ fn repeat_after<'p>(
     state: &mut RankState<'p>,
     replies: &mut Replies,
 ) -> Result<Flow, Stop>
-    requires { calls.now.rank.ranks ≤ 64 }
+    requires { calls.now.rank.ranks ≤ MOST_RANKS }
     ensures { Leaves (loop_after test.now (started (act calls.now.rank (calls_of calls.now) body.now))) state.old replies.old result state.new replies.new }
 {
     match take_turn(calls, None, body, state, replies)? {
@@ -298,7 +299,7 @@ fn run_for<'p>(
     state: &mut RankState<'p>,
     replies: &mut Replies,
 ) -> Result<Flow, Stop>
-    requires { calls.now.rank.ranks ≤ 64 }
+    requires { calls.now.rank.ranks ≤ MOST_RANKS }
     ensures { Leaves (for_of calls.now.rank (calls_of calls.now) start.now (option_copied test.entry) (option_copied update.entry) (started (act calls.now.rank (calls_of calls.now) body.now))) state.old replies.old result state.new replies.new }
 {
     let mark = state.mark();
@@ -318,7 +319,7 @@ fn run<'p>(
     state: &mut RankState<'p>,
     replies: &mut Replies,
 ) -> Result<Flow, Stop>
-    requires { calls.now.rank.ranks ≤ 64 }
+    requires { calls.now.rank.ranks ≤ MOST_RANKS }
     ensures { Leaves (started (act calls.now.rank (calls_of calls.now) stmt.now)) state.old replies.old result state.new replies.new }
 {
     take_step(state)?;
@@ -333,7 +334,7 @@ fn act<'p>(
     state: &mut RankState<'p>,
     replies: &mut Replies,
 ) -> Result<Flow, Stop>
-    requires { calls.now.rank.ranks ≤ 64 }
+    requires { calls.now.rank.ranks ≤ MOST_RANKS }
     ensures { Leaves (act calls.now.rank (calls_of calls.now) stmt.now) state.old replies.old result state.new replies.new }
 {
     match stmt {
@@ -379,7 +380,7 @@ fn run_if<'p>(
     state: &mut RankState<'p>,
     replies: &mut Replies,
 ) -> Result<Flow, Stop>
-    requires { calls.now.rank.ranks ≤ 64 }
+    requires { calls.now.rank.ranks ≤ MOST_RANKS }
     ensures { Leaves (chosen test.now (started (act calls.now.rank (calls_of calls.now) then.now)) (otherwise calls.now.rank (calls_of calls.now) (option_copied other.entry))) state.old replies.old result state.new replies.new }
 {
     if state.test(Some(test))? {
@@ -399,7 +400,7 @@ fn run_return<'p>(
     state: &mut RankState<'p>,
     replies: &mut Replies,
 ) -> Result<Flow, Stop>
-    requires { calls.now.rank.ranks ≤ 64 }
+    requires { calls.now.rank.ranks ≤ MOST_RANKS }
     ensures { Leaves (return (calls_of calls.now) value.now) state.old replies.old result state.new replies.new }
 {
     match value {
@@ -419,7 +420,7 @@ fn run_part<'p>(
     state: &mut RankState<'p>,
     replies: &mut Replies,
 ) -> Result<Flow, Stop>
-    requires { calls.now.rank.ranks ≤ 64 }
+    requires { calls.now.rank.ranks ≤ MOST_RANKS }
     ensures { Leaves (started (act_part calls.now.rank (calls_of calls.now) part.now)) state.old replies.old result state.new replies.new }
 {
     take_step(state)?;
@@ -440,7 +441,7 @@ fn run_list<'p>(
     state: &mut RankState<'p>,
     replies: &mut Replies,
 ) -> Result<Flow, Stop>
-    requires { calls.now.rank.ranks ≤ 64 }
+    requires { calls.now.rank.ranks ≤ MOST_RANKS }
     ensures { Leaves (act_list calls.now.rank (calls_of calls.now) parts.now) state.old replies.old result state.new replies.new }
 {
     for part in parts {
@@ -460,7 +461,7 @@ fn run_block<'p>(
     state: &mut RankState<'p>,
     replies: &mut Replies,
 ) -> Result<Flow, Stop>
-    requires { calls.now.rank.ranks ≤ 64 }
+    requires { calls.now.rank.ranks ≤ MOST_RANKS }
     ensures { Leaves (blocked (act_list calls.now.rank (calls_of calls.now) parts.now)) state.old replies.old result state.new replies.new }
 {
     let mark = state.mark();

@@ -14,6 +14,7 @@ use c_run_replies::ask::ask;
 use c_run_replies::call::call_of;
 use c_run_replies::question::{Question, Reached};
 use c_run_replies::reply::reply_to;
+use mpi_call::limits::MOST_RANKS;
 use std::alloc::Global;
 
 /// Calls an MPI function.
@@ -24,7 +25,7 @@ pub fn call_mpi(
     state: &mut RankState,
     replies: &mut Replies,
 ) -> Result<(), Stop>
-    requires { rank.ranks ≤ 64 }
+    requires { rank.ranks ≤ MOST_RANKS }
     ensures { Passes (mpi rank call.now) state.old replies.old result state.new replies.new }
 {
     match effect_of(rank, call, state) {
@@ -41,7 +42,7 @@ pub fn perform(
     state: &mut RankState,
     replies: &mut Replies,
 ) -> Result<(), Stop>
-    requires { rank.ranks ≤ 64 }
+    requires { rank.ranks ≤ MOST_RANKS }
     ensures { Passes (perform rank effect) state.old replies.old result state.new replies.new }
 {
     let mut found = ask(alloc, rank, effect, state)?;
@@ -62,7 +63,7 @@ fn answered(
     state: &mut RankState,
     replies: &mut Replies,
 ) -> Result<Reached, Stop>
-    requires { rank.ranks ≤ 64 }
+    requires { rank.ranks ≤ MOST_RANKS }
     ensures evaluated { Evaluated (λ (go : Onward) found s. reached rank found s go) (asks rank question.now) state.old replies.old result state.new replies.new }
     ensures fewer { OnOk result (length replies.new < length replies.old) }
 {

@@ -15,6 +15,7 @@ use c_program::effect::Rank;
 use c_program::state::Passed;
 use c_run_cells::state::RankState;
 use mpi_call::call::Call;
+use mpi_call::limits::MOST_RANKS;
 use mpi_call::reply;
 use mpi_call::reply::Reply;
 use run_model::lists::Variables;
@@ -56,7 +57,7 @@ impl<'p> EvalRank<'p> {
     /// A rank that has got no reply yet.
     pub fn start(alloc: Global, program: &'p CProgram, n: u8, rank: u8) -> Result<Self, AllocError>
         requires member { rank < n }
-        requires few { n ≤ 64 }
+        requires few { n ≤ MOST_RANKS }
         ensures { IfOk result (λ run. run ≡ record { program = program.now; ranks = n; rank = rank; replies = []; asked = false }) }
     {
         Ok(EvalRank {
@@ -116,7 +117,7 @@ fn evaluate<'p>(
     replies: &[Reply],
     state: &mut RankState<'p>,
 ) -> Result<Want, AllocError>
-    requires { calls.now.rank.ranks ≤ 64 }
+    requires { calls.now.rank.ranks ≤ MOST_RANKS }
     ensures { IfOk result (λ want. Wants (after (calls_of calls.now main (Number (pos 1) ∷ []) state.old (λ v s. ended s)) replies.now) want state.new) }
 {
     let mut rest = Replies::of(replies);

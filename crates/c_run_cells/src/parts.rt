@@ -61,9 +61,7 @@ fn values_of(alloc: Global, expressions: &[Expr], state: &RankState) -> Result<I
     let mut ints = Ints::new(alloc);
     for expression in expressions {
         let value = state.value(expression)?;
-        if ints.push(value).is_err() {
-            return Err(Fail::Memory);
-        }
+        ints.push(value)?;
     }
     Ok(ints)
 }

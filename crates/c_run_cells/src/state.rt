@@ -18,6 +18,7 @@ use c_program::program::{Parameter, ParameterKind};
 use c_program::range::Range;
 use c_program::state::{Begun, MadeCommunicator, Passed, StackMark};
 use mpi_call::call::Fault;
+use mpi_call::limits::MOST_RANKS;
 use mpi_call::lists::{Ints, Ranks};
 use mpi_call::reply::{Got, Item};
 use run_model::lists::{Variable, Variables};
@@ -46,7 +47,7 @@ pub struct RankState<'p> {
     left: u32,
     starts: Vec<Begun>,
     made: Vec<MadeCommunicator>,
-    /// The ranks from 0 to 63.
+    /// The ranks of the largest run.
     world: Vec<u8>,
 }
 
@@ -54,6 +55,7 @@ impl<'p> Model for RankState<'p> {
     ghost use Rattle.std.specs.Prelude.{◌≡◌, ◌≤◌, ◌<◌, ◌^◌, length, map};
     ghost use Rattle.c_program.specs.State.{State};
     ghost use Rattle.c_program.specs.declared.constants.TheConstants.{MOST_CELLS};
+    ghost use Rattle.mpi_call.specs.declared.limits.TheConstants.{MOST_RANKS};
     ghost use Rattle.run_model.specs.Lists as lists;
     ghost use Rattle.c_run_cells.specs.Sizes.{HaveIntSizes};
     ghost use Rattle.c_run_cells.specs.SlotView.{slot_view};
@@ -62,7 +64,7 @@ impl<'p> Model for RankState<'p> {
 
     ghost view = { λ s. record { cells = s.cells.items; slots = map slot_view s.slots.items; base = s.base; opens = s.opens; printed = s.printed.items; left = s.left; starts = s.starts.items; made = s.made.items } };
 
-    ghost invariant = { λ s. (s.world.items ≡ lists.world 64 0) × (length s.cells.items ≤ MOST_CELLS) × (length s.starts.items < 2 ^ 31) × HaveIntSizes s.made.items };
+    ghost invariant = { λ s. (s.world.items ≡ lists.world MOST_RANKS 0) × (length s.cells.items ≤ MOST_CELLS) × (length s.starts.items < 2 ^ 31) × HaveIntSizes s.made.items };
 }
 
 impl<'p> RankState<'p> {
@@ -286,7 +288,7 @@ impl<'p> RankState<'p> {
 
     /// The members of a communicator, fewer than 2^31.
     pub fn members(&self, rank: Rank, comm: u32) -> Option<&[u8]>
-        requires { rank.ranks ≤ 64 }
+        requires { rank.ranks ≤ MOST_RANKS }
         ensures members { option_map (λ members. members.now) result ≡ members_of rank.ranks self.now comm }
         ensures bound { IfSome result (λ members. length members.now < 2 ^ 31) }
     {
@@ -376,7 +378,7 @@ impl<'p> RankState<'p> {
     {
         if slot.is_listed {
             let variable = self.variable_of(self.alloc, slot)?;
-            push_variable(found, variable)?;
+            found.push(variable)?;
         }
         Ok(())
     }
@@ -393,13 +395,13 @@ impl<'p> RankState<'p> {
     }
 }
 
-/// The ranks from 0 to 63.
+/// The ranks of the largest run.
 #[tactic(auto, using(crate::proofs::StateLaws::world_last))]
 fn all_ranks(alloc: Global) -> Result<Vec<u8>, AllocError>
-    ensures { IfOk result (λ all. all.items ≡ world 64 0) }
+    ensures { IfOk result (λ all. all.items ≡ world MOST_RANKS 0) }
 {
     let mut all = Vec::new(alloc);
-    for rank in 0..64 {
+    for rank in 0..MOST_RANKS {
         all.push(rank)?;
     }
     Ok(all)
@@ -453,15 +455,6 @@ fn cells_in(passed: Option<Passed>) -> Range
     match &passed {
         Some(Passed::Cells(cells)) => *cells,
         _ => Range::nothing(),
-    }
-}
-
-fn push_variable(found: &mut Variables, variable: Variable) -> Result<(), AllocError>
-    ensures { OnOk result (found.new ≡ found.old ++ variable ∷ []) }
-{
-    match found.push(variable) {
-        Ok(()) => Ok(()),
-        Err(_) => Err(AllocError),
     }
 }
 

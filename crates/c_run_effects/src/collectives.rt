@@ -16,6 +16,7 @@ use c_program::mpi::{Buffer, CollectiveCall, Reduction};
 use c_program::range::Range;
 use c_run_cells::state::RankState;
 use mpi_call::call::{Fault, Kind};
+use mpi_call::limits::MOST_RANKS;
 
 /// A collective with no root and no operation.
 pub fn joined(
@@ -40,7 +41,7 @@ pub fn joined(
 
 /// The communicator of an expression.
 fn comm_of<'a>(rank: Rank, comm: &Expr, state: &'a RankState) -> Result<Communicator<'a>, Fault>
-    requires { rank.ranks ≤ 64 }
+    requires { rank.ranks ≤ MOST_RANKS }
     ensures comm { IfOk result (λ found. (number : ℤ) × (value comm.now state.now ≡ Ok number) × (communicator_of rank state.now number ≡ Ok found)) }
     ensures fault { IfErr result (λ fault. HasFault fault (value comm.now state.now) (λ number. communicator_of rank state.now number ≡ Err fault)) }
 {
@@ -88,7 +89,7 @@ fn gets_at_root(is_root: bool, n: usize, cells: Range) -> Result<Into, Fault>
 
 /// `MPI_Barrier`.
 fn barrier(rank: Rank, comm: &Expr, state: &RankState) -> Result<Effect, Fault>
-    requires { rank.ranks ≤ 64 }
+    requires { rank.ranks ≤ MOST_RANKS }
     ensures { result ≡ collective_effect rank (calls.Barrier comm.now) state.now }
 {
     let comm = comm_of(rank, comm, state)?;
@@ -103,7 +104,7 @@ fn bcast(
     comm: &Expr,
     state: &RankState,
 ) -> Result<Effect, Fault>
-    requires { rank.ranks ≤ 64 }
+    requires { rank.ranks ≤ MOST_RANKS }
     ensures { result ≡ collective_effect rank (calls.Bcast buffer.now root.now comm.now) state.now }
 {
     let ints = ints_of(buffer, state)?;
@@ -132,7 +133,7 @@ fn gather(
     comm: &Expr,
     state: &RankState,
 ) -> Result<Effect, Fault>
-    requires { rank.ranks ≤ 64 }
+    requires { rank.ranks ≤ MOST_RANKS }
     ensures { result ≡ collective_effect rank (calls.Gather out.now buffer.now root.now comm.now) state.now }
 {
     let buffers = buffers_of(out, buffer, state)?;
@@ -157,7 +158,7 @@ fn scatter(
     comm: &Expr,
     state: &RankState,
 ) -> Result<Effect, Fault>
-    requires { rank.ranks ≤ 64 }
+    requires { rank.ranks ≤ MOST_RANKS }
     ensures { result ≡ collective_effect rank (calls.Scatter out.now buffer.now root.now comm.now) state.now }
 {
     let buffers = buffers_of(out, buffer, state)?;
@@ -181,7 +182,7 @@ fn allgather(
     comm: &Expr,
     state: &RankState,
 ) -> Result<Effect, Fault>
-    requires { rank.ranks ≤ 64 }
+    requires { rank.ranks ≤ MOST_RANKS }
     ensures { result ≡ collective_effect rank (calls.Allgather out.now buffer.now comm.now) state.now }
 {
     let buffers = buffers_of(out, buffer, state)?;
@@ -200,7 +201,7 @@ fn alltoall(
     comm: &Expr,
     state: &RankState,
 ) -> Result<Effect, Fault>
-    requires { rank.ranks ≤ 64 }
+    requires { rank.ranks ≤ MOST_RANKS }
     ensures { result ≡ collective_effect rank (calls.Alltoall out.now buffer.now comm.now) state.now }
 {
     let buffers = buffers_of(out, buffer, state)?;
@@ -219,7 +220,7 @@ fn reduce(
     comm: &Expr,
     state: &RankState,
 ) -> Result<Effect, Fault>
-    requires { rank.ranks ≤ 64 }
+    requires { rank.ranks ≤ MOST_RANKS }
     ensures { result ≡ collective_effect rank (calls.Reduce reduction.now root.now comm.now) state.now }
 {
     let operands = operands_of(reduction, state)?;
@@ -244,7 +245,7 @@ fn reduces_for_all(
     comm: &Expr,
     state: &RankState,
 ) -> Result<Effect, Fault>
-    requires { rank.ranks ≤ 64 }
+    requires { rank.ranks ≤ MOST_RANKS }
     ensures { result ≡ reduces_for_all rank kind reduction.now comm.now state.now }
 {
     let operands = operands_of(reduction, state)?;
@@ -264,7 +265,7 @@ pub fn collective_effect(
     call: &CollectiveCall,
     state: &RankState,
 ) -> Result<Effect, Fault>
-    requires { rank.ranks ≤ 64 }
+    requires { rank.ranks ≤ MOST_RANKS }
     ensures { result ≡ collective_effect rank call.now state.now }
 {
     match call {

@@ -7,6 +7,7 @@ use c_program::constants::{ANY_SOURCE, NULL};
 use c_program::effect::Rank;
 use c_run_cells::state::RankState;
 use mpi_call::call::{Fault, Source};
+use mpi_call::limits::MOST_RANKS;
 use mpi_call::needs::UNDEFINED;
 use std::marker::Model;
 
@@ -34,7 +35,7 @@ pub fn communicator_of<'a>(
     state: &'a RankState,
     number: i32,
 ) -> Result<Communicator<'a>, Fault>
-    requires { rank.ranks ≤ 64 }
+    requires { rank.ranks ≤ MOST_RANKS }
     ensures { result ≡ communicator_of rank state.now number }
 {
     if number < 0 {

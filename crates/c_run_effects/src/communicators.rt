@@ -13,10 +13,11 @@ use c_program::expr::{Expr, Reference};
 use c_program::mpi::CommunicatorCall;
 use c_run_cells::state::RankState;
 use mpi_call::call::{Fault, Kind};
+use mpi_call::limits::MOST_RANKS;
 
 /// `MPI_Comm_size`.
 fn comm_size(rank: Rank, comm: &Expr, into: &Reference, state: &RankState) -> Result<Effect, Fault>
-    requires { rank.ranks ≤ 64 }
+    requires { rank.ranks ≤ MOST_RANKS }
     ensures { result ≡ communicator_effect rank (calls.Size comm.now into.now) state.now }
 {
     let comm = state.value(comm)?;
@@ -31,7 +32,7 @@ fn comm_size(rank: Rank, comm: &Expr, into: &Reference, state: &RankState) -> Re
 
 /// `MPI_Comm_rank`.
 fn comm_rank(rank: Rank, comm: &Expr, into: &Reference, state: &RankState) -> Result<Effect, Fault>
-    requires { rank.ranks ≤ 64 }
+    requires { rank.ranks ≤ MOST_RANKS }
     ensures { result ≡ communicator_effect rank (calls.Rank comm.now into.now) state.now }
 {
     let comm = state.value(comm)?;
@@ -46,7 +47,7 @@ fn comm_rank(rank: Rank, comm: &Expr, into: &Reference, state: &RankState) -> Re
 
 /// `MPI_Comm_dup`.
 fn comm_dup(rank: Rank, comm: &Expr, into: &Reference, state: &RankState) -> Result<Effect, Fault>
-    requires { rank.ranks ≤ 64 }
+    requires { rank.ranks ≤ MOST_RANKS }
     ensures { result ≡ communicator_effect rank (calls.Dup comm.now into.now) state.now }
 {
     let comm = state.value(comm)?;
@@ -65,7 +66,7 @@ fn comm_split(
     into: &Reference,
     state: &RankState,
 ) -> Result<Effect, Fault>
-    requires { rank.ranks ≤ 64 }
+    requires { rank.ranks ≤ MOST_RANKS }
     ensures { result ≡ communicator_effect rank (calls.Split comm.now color.now key.now into.now) state.now }
 {
     let comm = state.value(comm)?;
@@ -102,7 +103,7 @@ pub fn communicator_effect(
     call: &CommunicatorCall,
     state: &RankState,
 ) -> Result<Effect, Fault>
-    requires { rank.ranks ≤ 64 }
+    requires { rank.ranks ≤ MOST_RANKS }
     ensures { result ≡ communicator_effect rank call.now state.now }
 {
     match call {

@@ -14,10 +14,11 @@ use c_program::expr::Expr;
 use c_program::mpi::MpiCall;
 use c_run_cells::state::RankState;
 use mpi_call::call::Fault;
+use mpi_call::limits::MOST_RANKS;
 
 /// `MPI_Abort`.
 fn abort(rank: Rank, comm: &Expr, code: &Expr, state: &RankState) -> Result<Effect, Fault>
-    requires { rank.ranks ≤ 64 }
+    requires { rank.ranks ≤ MOST_RANKS }
     ensures { result ≡ effect_of rank (calls.Abort comm.now code.now) state.now }
 {
     let comm = state.value(comm)?;
@@ -28,7 +29,7 @@ fn abort(rank: Rank, comm: &Expr, code: &Expr, state: &RankState) -> Result<Effe
 
 /// The effect of a call, or its fault. Takes no memory.
 pub fn effect_of(rank: Rank, call: &MpiCall, state: &RankState) -> Result<Effect, Fault>
-    requires { rank.ranks ≤ 64 }
+    requires { rank.ranks ≤ MOST_RANKS }
     ensures { result ≡ effect_of rank call.now state.now }
 {
     match call {

@@ -12,6 +12,7 @@ use c_program::mpi::{Incoming, MessageCall, Outgoing};
 use c_program::range::Range;
 use c_run_cells::state::RankState;
 use mpi_call::call::{Fault, Source, Tag};
+use mpi_call::limits::MOST_RANKS;
 
 fn message(comm: &Communicator, dest: u8, tag: u32, ints: Range, sync: bool) -> Message
     ensures { result ≡ message comm.now dest tag ints sync }
@@ -88,7 +89,7 @@ fn send(
     sync: bool,
     state: &RankState,
 ) -> Result<Effect, Fault>
-    requires { rank.ranks ≤ 64 }
+    requires { rank.ranks ≤ MOST_RANKS }
     ensures { result ≡ send_effect rank outgoing.now comm.now sync state.now }
 {
     let ints = ints_of(&outgoing.buffer, state)?;
@@ -109,7 +110,7 @@ fn recv(
     kept: &Option<Reference>,
     state: &RankState,
 ) -> Result<Effect, Fault>
-    requires { rank.ranks ≤ 64 }
+    requires { rank.ranks ≤ MOST_RANKS }
     ensures { result ≡ message_effect rank (calls.Recv incoming.now comm.now kept.now) state.now }
 {
     let ints = ints_of(&incoming.buffer, state)?;
@@ -137,7 +138,7 @@ fn isend(
     sync: bool,
     state: &RankState,
 ) -> Result<Effect, Fault>
-    requires { rank.ranks ≤ 64 }
+    requires { rank.ranks ≤ MOST_RANKS }
     ensures { result ≡ isend_effect rank outgoing.now comm.now request.now sync state.now }
 {
     let ints = ints_of(&outgoing.buffer, state)?;
@@ -160,7 +161,7 @@ fn irecv(
     request: &Reference,
     state: &RankState,
 ) -> Result<Effect, Fault>
-    requires { rank.ranks ≤ 64 }
+    requires { rank.ranks ≤ MOST_RANKS }
     ensures { result ≡ message_effect rank (calls.Irecv incoming.now comm.now request.now) state.now }
 {
     let ints = ints_of(&incoming.buffer, state)?;
@@ -187,7 +188,7 @@ fn sendrecv(
     kept: &Option<Reference>,
     state: &RankState,
 ) -> Result<Effect, Fault>
-    requires { rank.ranks ≤ 64 }
+    requires { rank.ranks ≤ MOST_RANKS }
     ensures { result ≡ message_effect rank (calls.Sendrecv outgoing.now incoming.now comm.now kept.now) state.now }
 {
     let out = ints_of(&outgoing.buffer, state)?;
@@ -215,7 +216,7 @@ fn sendrecv(
 
 /// The effect of a send or a receive, or its fault.
 pub fn message_effect(rank: Rank, call: &MessageCall, state: &RankState) -> Result<Effect, Fault>
-    requires { rank.ranks ≤ 64 }
+    requires { rank.ranks ≤ MOST_RANKS }
     ensures { result ≡ message_effect rank call.now state.now }
 {
     match call {

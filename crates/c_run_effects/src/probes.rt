@@ -12,6 +12,7 @@ use c_program::expr::{Expr, Reference};
 use c_program::mpi::ProbeCall;
 use c_run_cells::state::RankState;
 use mpi_call::call::Fault;
+use mpi_call::limits::MOST_RANKS;
 
 /// The envelope of the messages that a probe looks for (MPI 3.1, 3.2.3).
 #[derive(Drop)]
@@ -28,7 +29,7 @@ fn probe(
     kept: &Option<Reference>,
     state: &RankState,
 ) -> Result<Effect, Fault>
-    requires { rank.ranks ≤ 64 }
+    requires { rank.ranks ≤ MOST_RANKS }
     ensures { result ≡ probe_effect rank (calls.Probe wanted.now.source.now wanted.now.tag.now wanted.now.comm.now kept.now) state.now }
 {
     let envelope = envelope_of(wanted.source, wanted.tag, wanted.comm, state)?;
@@ -55,7 +56,7 @@ fn iprobe(
     kept: &Option<Reference>,
     state: &RankState,
 ) -> Result<Effect, Fault>
-    requires { rank.ranks ≤ 64 }
+    requires { rank.ranks ≤ MOST_RANKS }
     ensures { result ≡ probe_effect rank (calls.Iprobe wanted.now.source.now wanted.now.tag.now wanted.now.comm.now flag.now kept.now) state.now }
 {
     let envelope = envelope_of(wanted.source, wanted.tag, wanted.comm, state)?;
@@ -92,7 +93,7 @@ fn get_count(kept: &Option<Reference>, into: &Reference, state: &RankState) -> R
 
 /// The effect of a probe or of a look into a status, or its fault.
 pub fn probe_effect(rank: Rank, call: &ProbeCall, state: &RankState) -> Result<Effect, Fault>
-    requires { rank.ranks ≤ 64 }
+    requires { rank.ranks ≤ MOST_RANKS }
     ensures { result ≡ probe_effect rank call.now state.now }
 {
     match call {

@@ -11,6 +11,7 @@ use c_program::effect::{Into, Rank};
 use c_program::range::Range;
 use c_program::state::Begun;
 use c_run_cells::state::RankState;
+use mpi_call::limits::MOST_RANKS;
 use mpi_call::needs::UNDEFINED;
 use mpi_call::reply::{Got, Reply};
 use std::alloc::AllocError;
@@ -95,7 +96,7 @@ fn place_of(members: &[u8], rank: u8) -> Option<usize>
 
 /// A sender as a rank of the communicator.
 fn source_in(rank: Rank, comm: u32, source: u8, state: &RankState) -> Result<i32, AllocError>
-    requires { rank.ranks ≤ 64 }
+    requires { rank.ranks ≤ MOST_RANKS }
     ensures { IfOk result (λ found. found ≡ source_in rank.ranks comm source state.now) }
 {
     let members = match state.members(rank, comm) {
@@ -124,7 +125,7 @@ pub fn completed(
     got: &Got,
     state: &mut RankState,
 ) -> Result<bool, AllocError>
-    requires { rank.ranks ≤ 64 }
+    requires { rank.ranks ≤ MOST_RANKS }
     ensures { IfOk result (λ done. IsLeft (completed rank.ranks start status got.now state.old) state.old state.new done) }
 {
     match got {
@@ -212,7 +213,7 @@ pub fn probed(
     reply: &Reply,
     state: &mut RankState,
 ) -> Result<(), AllocError>
-    requires { rank.ranks ≤ 64 }
+    requires { rank.ranks ≤ MOST_RANKS }
     ensures { OnOk result (state.new ≡ probed rank.ranks comm flag status reply.now state.old) }
 {
     let Reply::Peeked {

@@ -12,6 +12,7 @@ use crate::question::{Question, Reached};
 use c_program::effect::{Effect, Rank};
 use c_run_cells::state::RankState;
 use mpi_call::call::{Source, Tag};
+use mpi_call::limits::MOST_RANKS;
 use std::alloc::{AllocError, Global};
 
 /// Begins an effect: it is done, or asks.
@@ -21,7 +22,7 @@ pub fn ask(
     effect: Effect,
     state: &mut RankState,
 ) -> Result<Reached, AllocError>
-    requires { rank.ranks ≤ 64 }
+    requires { rank.ranks ≤ MOST_RANKS }
     ensures comes { IfOk result (λ found. (go : Onward) → perform rank effect state.old go ≡ reached rank found state.new go) }
     ensures left { OnOk result (state.new.left ≤ state.old.left) }
 {

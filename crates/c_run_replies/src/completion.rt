@@ -16,6 +16,7 @@ use c_program::effect::{Answer, Rank};
 use c_program::range::Range;
 use c_run_cells::state::RankState;
 use mpi_call::call::{Call, Fault, TakeMode};
+use mpi_call::limits::MOST_RANKS;
 use mpi_call::lists::{Ints, Starts};
 use mpi_call::needs::UNDEFINED;
 use mpi_call::reply::{Got, Item, Reply};
@@ -207,7 +208,7 @@ fn put_item(
     got: &Got,
     state: &mut RankState,
 ) -> Result<bool, AllocError>
-    requires { call.now.rank.ranks ≤ 64 }
+    requires { call.now.rank.ranks ≤ MOST_RANKS }
     ensures { IfOk result (λ done. IsLeft (item_put call.now.rank.ranks call.now.requests call.now.mode call.now.answer one number got.now state.old) state.old state.new done) }
 {
     let start = state.start_at(one.start);
@@ -228,7 +229,7 @@ fn put_items(
     items: &[Item],
     state: &mut RankState,
 ) -> Result<bool, AllocError>
-    requires ranks { call.now.rank.ranks ≤ 64 }
+    requires ranks { call.now.rank.ranks ≤ MOST_RANKS }
     requires few { length items.now < 2 ^ 31 }
     ensures comes { IfOk result (λ all. (go : Onward) → put_items call.now.rank.ranks call.now.requests call.now.mode call.now.answer active.now 0 items.now state.old go ≡ if_stood all state.new go) }
     ensures left { OnOk result (state.new.left ≤ state.old.left) }
@@ -335,7 +336,7 @@ fn took(
     items: &[Item],
     state: &mut RankState,
 ) -> Result<bool, AllocError>
-    requires { call.now.rank.ranks ≤ 64 }
+    requires { call.now.rank.ranks ≤ MOST_RANKS }
     ensures comes { IfOk result (λ all. (go : Onward) → after_take call.now.rank.ranks call.now.requests call.now.mode call.now.answer active.now (Took items.now) state.old go ≡ if_stood all state.new go) }
     ensures left { OnOk result (state.new.left ≤ state.old.left) }
 {
@@ -358,7 +359,7 @@ pub fn after_take(
     reply: &Reply,
     state: &mut RankState,
 ) -> Result<Reached, AllocError>
-    requires { call.now.rank.ranks ≤ 64 }
+    requires { call.now.rank.ranks ≤ MOST_RANKS }
     ensures comes { IfOk result (λ found. (go : Onward) → after_take call.now.rank.ranks call.now.requests call.now.mode call.now.answer (active_in call.now.requests state.old) reply.now state.old go ≡ reached call.now.rank found state.new go) }
     ensures left { OnOk result (state.new.left ≤ state.old.left) }
 {

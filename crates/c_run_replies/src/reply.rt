@@ -17,6 +17,7 @@ use c_program::range::Range;
 use c_program::state::Begun;
 use c_run_cells::state::RankState;
 use mpi_call::call::Fault;
+use mpi_call::limits::MOST_RANKS;
 use mpi_call::reply::{Got, Item, Reply};
 use std::alloc::{AllocError, Global};
 
@@ -39,7 +40,7 @@ pub fn reply_to(
     reply: &Reply,
     state: &mut RankState,
 ) -> Result<Reached, AllocError>
-    requires { rank.ranks ≤ 64 }
+    requires { rank.ranks ≤ MOST_RANKS }
     ensures comes { IfOk result (λ found. (go : Onward) → behind (asks rank question.now state.old go) reply.now ≡ reached rank found state.new go) }
     ensures left { OnOk result (state.new.left ≤ state.old.left) }
 {
@@ -57,7 +58,7 @@ fn replied(
     reply: &Reply,
     state: &mut RankState,
 ) -> Result<Reached, AllocError>
-    requires { rank.ranks ≤ 64 }
+    requires { rank.ranks ≤ MOST_RANKS }
     ensures comes { IfOk result (λ found. (go : Onward) → replied rank question.now reply.now state.old go ≡ reached rank found state.new go) }
     ensures left { OnOk result (state.new.left ≤ state.old.left) }
 {
@@ -190,7 +191,7 @@ fn took_message(
     reply: &Reply,
     state: &mut RankState,
 ) -> Result<Reached, AllocError>
-    requires { rank.ranks ≤ 64 }
+    requires { rank.ranks ≤ MOST_RANKS }
     ensures comes { IfOk result (λ found. (go : Onward) → put_message rank.ranks (receiving awaited.now.receive) awaited.now.status (first_got (items_of reply.now)) (learned (items_of reply.now) state.old) go ≡ reached rank found state.new go) }
     ensures left { OnOk result (state.new.left ≤ state.old.left) }
 {
@@ -240,7 +241,7 @@ fn put_message(
     got: Option<&Got>,
     state: &mut RankState,
 ) -> Result<Reached, AllocError>
-    requires { rank.ranks ≤ 64 }
+    requires { rank.ranks ≤ MOST_RANKS }
     ensures comes { IfOk result (λ found. (go : Onward) → put_message rank.ranks start status (option_map (λ got. got.now) got.entry) state.old go ≡ reached rank found state.new go) }
     ensures left { OnOk result (state.new.left ≤ state.old.left) }
 {

@@ -1,5 +1,6 @@
 -- What a rank that uses replies up stands for.
 use Rattle.std.specs.Prelude.{◌≡◌, ◌≢◌, ◌<◌, ◌≤◌, List, Option, Some, None, Bool, true, drop, length, take}
+use Rattle.mpi_call.specs.declared.limits.TheConstants.{MOST_RANKS}
 use Rattle.mpi_call.specs.declared.reply.Reply.{Reply}
 use Rattle.c_program.specs.declared.program.CProgram.{CProgram}
 use Rattle.c_program.specs.Courses.{Course, after}
@@ -34,7 +35,7 @@ pub record IsGoing (program : CProgram) (code : Code) (replies : List Reply) (go
 pub record IsMachineAt (program : CProgram) (code : Code) (replies : List Reply) (asked : Bool) (going : Option Going) : Type 0 where
   pub functions : code.functions.now ≡ program.functions.items
   pub member : code.rank.number < code.rank.ranks
-  pub few : code.rank.ranks ≤ 64
+  pub few : code.rank.ranks ≤ MOST_RANKS
   pub shaped : course_after program code.rank.ranks code.rank.number replies ≡ after (course_of program code.rank) replies
   pub stands : (g : Going) → going ≡ Some g → IsGoing program code replies g
   pub ready : asked ≡ true → (g : Going) × (going ≡ Some g) × IsReady replies g

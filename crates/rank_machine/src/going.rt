@@ -14,6 +14,7 @@ use c_run_cells::fail::Fail;
 use c_run_cells::state::RankState;
 use c_run_replies::question::{Question, Reached};
 use c_run_replies::reply::reply_to;
+use mpi_call::limits::MOST_RANKS;
 use mpi_call::reply::Reply;
 use std::alloc::AllocError;
 
@@ -70,7 +71,7 @@ pub fn catch_up<'p>(
     replies: &[Reply],
     going: &mut Going<'p>,
 ) -> Result<(), AllocError>
-    requires few { code.now.rank.ranks ≤ 64 }
+    requires few { code.now.rank.ranks ≤ MOST_RANKS }
     requires counted { IsOpen code.now going.old.stack }
     requires used { going.old.used ≤ length replies.now }
     ensures { OnOk result (HasCaughtUp code.now replies.now going.old going.new) }

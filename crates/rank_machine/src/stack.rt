@@ -17,6 +17,7 @@ use c_run_effects::effects::effect_of;
 use c_run_replies::ask::ask;
 use c_run_replies::question::{Question, Reached};
 use mpi_call::call::Fault;
+use mpi_call::limits::MOST_RANKS;
 
 /// What stands: the places that are open, the innermost last, how many calls are open, and the state.
 #[derive(Drop)]
@@ -207,7 +208,7 @@ impl<'p> Stack<'p> {
     /// A call of an MPI function.
     pub fn call_mpi(&mut self, code: &Code<'p>, call: &MpiCall) -> Result<Reached, Fail>
         requires counted { IsOpen code.now self.old }
-        requires few { code.now.rank.ranks ≤ 64 }
+        requires few { code.now.rank.ranks ≤ MOST_RANKS }
         ensures stands { Stands (mpi code.now.rank call.now self.old.state (within code.now self.old.frames.items).exits.next) code.now result self.new }
         ensures fewer { OnOk result (weight self.new ≤ weight self.old) }
     {

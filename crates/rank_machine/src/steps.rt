@@ -14,12 +14,13 @@ use c_run_cells::parts::{add, print, put_values_of, take_step};
 use c_run_cells::state::RankState;
 use c_run_replies::question::{Question, Reached};
 use mpi_call::call::Fault;
+use mpi_call::limits::MOST_RANKS;
 
 impl<'p> Stack<'p> {
     /// A statement that stands before a `;`.
     fn simple(&mut self, code: &Code<'p>, one: &'p Simple) -> Result<Reached, Fail>
         requires counted { IsOpen code.now self.old }
-        requires few { code.now.rank.ranks ≤ 64 }
+        requires few { code.now.rank.ranks ≤ MOST_RANKS }
         ensures stands { Stands (simple code.now.rank (calls_in code.now self.old.opens) one.now self.old.state (within code.now self.old.frames.items).exits.next) code.now result self.new }
         ensures fewer { OnOk result (weight self.new ≤ weight self.old) }
     {
@@ -63,7 +64,7 @@ impl<'p> Stack<'p> {
     /// What stands behind the second `;` of a `for`.
     fn update(&mut self, code: &Code<'p>, update: Option<&'p Simple>) -> Result<Reached, Fail>
         requires counted { IsOpen code.now self.old }
-        requires few { code.now.rank.ranks ≤ 64 }
+        requires few { code.now.rank.ranks ≤ MOST_RANKS }
         ensures stands { Stands (for_update code.now.rank (calls_in code.now self.old.opens) (option_copied update.entry) self.old.state (within code.now self.old.frames.items).exits.next) code.now result self.new }
         ensures fewer { OnOk result (weight self.new ≤ weight self.old) }
     {
@@ -140,7 +141,7 @@ impl<'p> Stack<'p> {
         around: Loop<'p>,
     ) -> Result<Reached, Fail>
         requires counted { IsOpen code.now self.old }
-        requires few { code.now.rank.ranks ≤ 64 }
+        requires few { code.now.rank.ranks ≤ MOST_RANKS }
         ensures stands { Stands (for_of code.now self.old.opens start.now around.entry self.old.state (within code.now self.old.frames.items).exits) code.now result self.new }
         ensures fewer { OnOk result (weight self.new ≤ weight self.old + 2) }
     {
@@ -177,7 +178,7 @@ impl<'p> Stack<'p> {
     /// A statement whose step is taken.
     fn act(&mut self, code: &Code<'p>, stmt: &'p Stmt) -> Result<Reached, Fail>
         requires counted { IsOpen code.now self.old }
-        requires few { code.now.rank.ranks ≤ 64 }
+        requires few { code.now.rank.ranks ≤ MOST_RANKS }
         ensures stands { Stands (act code.now.rank (calls_in code.now self.old.opens) stmt.now self.old.state (within code.now self.old.frames.items).exits) code.now result self.new }
         ensures fewer { OnOk result (weight self.new ≤ weight self.old + 2) }
     {
@@ -225,7 +226,7 @@ impl<'p> Stack<'p> {
     /// What stands in a block, which takes a step.
     fn part(&mut self, code: &Code<'p>, part: &'p Part) -> Result<Reached, Fail>
         requires counted { IsOpen code.now self.old }
-        requires few { code.now.rank.ranks ≤ 64 }
+        requires few { code.now.rank.ranks ≤ MOST_RANKS }
         ensures stands { Stands (started (act_part code.now.rank (calls_in code.now self.old.opens) part.now) self.old.state (within code.now self.old.frames.items).exits) code.now result self.new }
         ensures fewer { OnOk result (weight self.new + 6 ≤ weight self.old) }
     {
@@ -239,7 +240,7 @@ impl<'p> Stack<'p> {
     /// A statement, which takes a step.
     fn statement(&mut self, code: &Code<'p>, stmt: &'p Stmt) -> Result<Reached, Fail>
         requires counted { IsOpen code.now self.old }
-        requires few { code.now.rank.ranks ≤ 64 }
+        requires few { code.now.rank.ranks ≤ MOST_RANKS }
         ensures stands { Stands (started (act code.now.rank (calls_in code.now self.old.opens) stmt.now) self.old.state (within code.now self.old.frames.items).exits) code.now result self.new }
         ensures fewer { OnOk result (weight self.new + 6 ≤ weight self.old) }
     {
@@ -275,7 +276,7 @@ impl<'p> Stack<'p> {
     /// What follows when the innermost place is done.
     fn resume(&mut self, code: &Code<'p>) -> Result<Reached, Fail>
         requires counted { IsOpen code.now self.old }
-        requires few { code.now.rank.ranks ≤ 64 }
+        requires few { code.now.rank.ranks ≤ MOST_RANKS }
         ensures stands { Stands ((within code.now self.old.frames.items).exits.next self.old.state) code.now result self.new }
         ensures fewer { IfOk result (λ found. found ≡ Done → weight self.new < weight self.old) }
     {
@@ -303,7 +304,7 @@ impl<'p> Stack<'p> {
     /// Goes on until the rank asks or has ended.
     pub fn run(&mut self, code: &Code<'p>) -> Result<Reached, Fail>
         requires counted { IsOpen code.now self.old }
-        requires few { code.now.rank.ranks ≤ 64 }
+        requires few { code.now.rank.ranks ≤ MOST_RANKS }
         ensures stands { Stands ((within code.now self.old.frames.items).exits.next self.old.state) code.now result self.new }
         ensures stops { IfOk result (λ found. found ≢ Done) }
     {

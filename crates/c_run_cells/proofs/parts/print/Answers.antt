@@ -10,8 +10,8 @@ returns-in_err-ints c =
     let p = err_from_is_err_and c.from_residual.result c.from_residual.ensures.1 in
     rw (p.1, p.2) (λ k. c.in_err-ints.ensures (λ vs t. print_of (text_of c.args.format.now vs) t k))
 
-pub returns-then-printed-len-le65536 : goal.returns-then-printed-len-le65536
-returns-then-printed-len-le65536 c =
+pub returns-then-printed-len : goal.returns-then-printed-len
+returns-then-printed-len c =
     let text : c.in_ok-text.text.items ≡ text_of c.args.format.now c.in_ok-ints.ints = c.in_ok-text.ensures ∙ ap (text_of c.args.format.now) c.as_slice.ensures in
     record {
       at = λ k. c.in_ok-ints.ensures.at (λ vs t. print_of (text_of c.args.format.now vs) t k)
