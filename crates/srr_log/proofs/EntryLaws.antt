@@ -16,7 +16,8 @@ use Rattle.srr_entry.specs.declared.entry.Entry.TheVariants.{Sent, Posted, Enter
 use Rattle.wiz_base.specs.Decimals.{decimal_text, number_text}
 use Rattle.wiz_base.proofs.DecimalLaws.{decimal_text-excludes, decimal_text-digit}
 use Rattle.srr_text.specs.EntryText.{each_after, name_text, mark_text, item_text, halt_number, halt_details, entry_line}
-use Rattle.srr_text.specs.Bounds.{RiseFrom, IsSmallNumber, IsSender, IsTag, IsMark, IsHalt, IsEntry}
+use Rattle.mpi_call.specs.Lists.{Rises}
+use Rattle.srr_text.specs.Bounds.{IsSmallNumber, IsSender, IsTag, IsMark, IsHalt, IsEntry}
 use Rattle.srr_log.specs.Pieces.{◌>>=◌, behind, cut, number_in, int_in, rank_in}
 use Rattle.srr_log.specs.EntryReading.{rises, indices, inside_in, outside_in, mark_in, item_in, all_items_in, items_in, peek_cut, peek_in, fault_of, detail_in, detailed_in, named_in, halt_in, long_entry, long_entry_in, entry_in}
 use Rattle.srr_log.proofs.PieceLaws.{some, bind_some, guard_some, same_word, behind_some, cut_at, cut_some, number_read, number_said, int_read, int_said, rank_read, rank_said}
@@ -49,7 +50,7 @@ item_said n group text item e =
     let P : Marked → Type 0 = λ item. IsItem n group item × (text ≡ item_text item) in
     subst P same ((index.0, mark.0), cut_some 61 text a.0.0 a.0.1 a.1 ∙ ap (λ xs. xs ++ 61 ∷ a.0.1) index.1 ∙ ap (λ xs. decimal_text b.0 ++ 61 ∷ xs) mark.1)
 
-items_read : (n : ℕ) (group : List ℕ) → n ≤ 256 → (item : Marked) (items : List Marked) → RiseFrom 0 (indices (item ∷ items)) → All (IsItem n group) (item ∷ items)
+items_read : (n : ℕ) (group : List ℕ) → n ≤ 256 → (item : Marked) (items : List Marked) → Rises 0 (indices (item ∷ items)) → All (IsItem n group) (item ∷ items)
     → items_in n group (item_text item ++ each_after 32 (map item_text items)) ≡ some (item ∷ items)
 unfolding items_in
 items_read n group few item items up good =

@@ -15,7 +15,8 @@ use Rattle.srr_entry.specs.declared.entry.Mark.TheVariants.{Sent as MarkSent, No
 use Rattle.wiz_base.specs.Decimals.{decimal_text, number_text}
 use Rattle.wiz_base.proofs.DecimalLaws.{decimal_text-bytes, decimal_text-nonempty, decimal_text-excludes, number_text-nonempty}
 use Rattle.srr_text.specs.EntryText.{each_after, by_commas, ints_text, name_text, mark_text}
-use Rattle.srr_text.specs.Bounds.{RiseFrom, IsSmallNumber, IsTag, AreInts, IsSender, IsMark}
+use Rattle.mpi_call.specs.Lists.{Rises}
+use Rattle.srr_text.specs.Bounds.{IsSmallNumber, IsTag, AreInts, IsSender, IsMark}
 use Rattle.srr_log.specs.Pieces.{◌>>=◌, behind, cut, pieces, all_of, number_in, int_in, rank_in}
 use Rattle.srr_log.specs.EntryReading.{rises, ints_in, few_ints_in, ranks_in, inside_in, outside_in, message_cut, message_in, made_cut, made_in, long_mark, long_mark_in, mark_in}
 use Rattle.srr_log.proofs.PieceLaws.{some, bind_some, guard_some, guard_none, same_word, behind_some, cut_at, cut_none, cut_some, pieces_joined, joined_pieces, some_pieces, all_of_map, map_all_of, number_read, number_said, int_read, int_said, rank_read, rank_said}
@@ -96,13 +97,13 @@ ranks_said mark n text ranks e =
     (l.0, l.1, l.2, all_below n ranks l.3, l.4)
 
 -- rising lists
-pub rises_rise : (least : ℕ) (numbers : List ℕ) → rises least numbers ≡ true → RiseFrom least numbers
+pub rises_rise : (least : ℕ) (numbers : List ℕ) → rises least numbers ≡ true → Rises least numbers
 rises_rise least [] up = tt
 rises_rise least (number ∷ numbers) up =
     let parts = and_parts (nat_le least number) (rises (number + 1) numbers) up in
     (leb-true least number parts.0, rises_rise (number + 1) numbers parts.1)
 
-pub rise_rises : (least : ℕ) (numbers : List ℕ) → RiseFrom least numbers → rises least numbers ≡ true
+pub rise_rises : (least : ℕ) (numbers : List ℕ) → Rises least numbers → rises least numbers ≡ true
 rise_rises least [] up = refl
 rise_rises least (number ∷ numbers) (here, up) = and_from (nat_le least number) (rises (number + 1) numbers) (le-leb least number here) (rise_rises (number + 1) numbers up)
 

@@ -4,7 +4,7 @@ use Rattle.std.specs.Prelude.{if◌then◌else◌, ◌==◌}
 use Rattle.std.proofs.lemmas.Bool.{cases_Bool, ne_eqb, eq-eqb, eqb-true, and_parts, lt-ltb, ltb-true}
 use Rattle.mpi_call.specs.Collectives.{is_member}
 use Rattle.run_model.specs.Lists.{are_below}
-use Rattle.srr_text.specs.Bounds.{RiseFrom}
+use Rattle.mpi_call.specs.Lists.{Rises}
 use Rattle.srr_log2.specs.LogBytes.{bits_from}
 use Rattle.srr_log2.specs.Reading.{bits_set}
 
@@ -29,7 +29,7 @@ member_first rank ranks = rw (eq-eqb rank rank refl) refl
 member_other : (rank first : ℕ) (ranks : List ℕ) → rank ≢ first → is_member (rank ∷ ranks) first ≡ is_member ranks first
 member_other rank first ranks apart = rw (ne_eqb rank first apart) refl
 
-not_member : (first least : ℕ) (ranks : List ℕ) → RiseFrom least ranks → first < least → is_member ranks first ≡ false
+not_member : (first least : ℕ) (ranks : List ℕ) → Rises least ranks → first < least → is_member ranks first ≡ false
 not_member first least [] rise less = refl
 not_member first least (rank ∷ ranks) rise less =
     let above = rise.0 in
@@ -67,7 +67,7 @@ set_step false count first higher =
     rw (even, half) refl
 
 -- the bits of a group say the group
-pub set_of_bits : (count m first n : ℕ) (ranks : List ℕ) → count ≤ m → RiseFrom first ranks → are_below n ranks ≡ true → n ≤ first + count → bits_set count first (bits_from m first ranks) ≡ ranks
+pub set_of_bits : (count m first n : ℕ) (ranks : List ℕ) → count ≤ m → Rises first ranks → are_below n ranks ≡ true → n ≤ first + count → bits_set count first (bits_from m first ranks) ≡ ranks
 set_of_bits zero m first n [] few rise below over = refl
 set_of_bits zero m first n (rank ∷ ranks) few rise below over =
     let p = and_parts _ _ below in
@@ -82,7 +82,7 @@ set_of_bits (suc count) (suc m) first n (rank ∷ ranks) few rise below over =
       | inl same ↦
           let is : rank ≡ first = eqb-true _ _ same in
           let member : is_member (rank ∷ ranks) first ≡ true = ap (is_member (rank ∷ ranks)) (sym is) ∙ member_first rank ranks in
-          let rise' : RiseFrom (first + 1) ranks = subst (λ k. RiseFrom (k + 1) ranks) is rise.1 in
+          let rise' : Rises (first + 1) ranks = subst (λ k. Rises (k + 1) ranks) is rise.1 in
           ap (λ b. bits_set (suc count) first (bit b + 2 * bits_from m (first + 1) (rank ∷ ranks))) member
           ∙ set_step true count first (bits_from m (first + 1) (rank ∷ ranks))
           ∙ ap (λ k. first ∷ bits_set count (first + 1) k) (bits_skip m (first + 1) rank ranks (omega arith))
@@ -92,7 +92,7 @@ set_of_bits (suc count) (suc m) first n (rank ∷ ranks) few rise below over =
           let apart : rank ≢ first = λ is. let yes : (rank == first) ≡ true = eq-eqb rank first is in absurd cc in
           let low = rise.0 in
           let more : first + 1 ≤ rank = omega arith in
-          let rise' : RiseFrom (first + 1) (rank ∷ ranks) = (more, rise.1) in
+          let rise' : Rises (first + 1) (rank ∷ ranks) = (more, rise.1) in
           ap (λ b. bits_set (suc count) first (bit b + 2 * bits_from m (first + 1) (rank ∷ ranks))) (not_member first (first + 1) (rank ∷ ranks) rise' (omega arith))
           ∙ set_step false count first (bits_from m (first + 1) (rank ∷ ranks))
           ∙ set_of_bits count m (first + 1) n (rank ∷ ranks) (omega arith) rise' below (omega arith)
@@ -106,7 +106,7 @@ bits_small (suc count) (suc m) first n ranks few below over =
     let low = bit_low (is_member ranks first) in
     rw (pow-suc 2 count) (omega arith)
 
-pub bits_some : (m first n rank : ℕ) (ranks : List ℕ) → RiseFrom first (rank ∷ ranks) → are_below n (rank ∷ ranks) ≡ true → n ≤ first + m → 0 < bits_from m first (rank ∷ ranks)
+pub bits_some : (m first n rank : ℕ) (ranks : List ℕ) → Rises first (rank ∷ ranks) → are_below n (rank ∷ ranks) ≡ true → n ≤ first + m → 0 < bits_from m first (rank ∷ ranks)
 bits_some zero first n rank ranks rise below over =
     let p = and_parts _ _ below in
     let less : rank < n = ltb-true _ _ p.0 in
@@ -127,15 +127,15 @@ bits_some (suc m) first n rank ranks rise below over =
     ]
 
 -- what the bits of a number say
-rise_down : (least : ℕ) (ranks : List ℕ) → RiseFrom (least + 1) ranks → RiseFrom least ranks
+rise_down : (least : ℕ) (ranks : List ℕ) → Rises (least + 1) ranks → Rises least ranks
 rise_down least [] rise = tt
 rise_down least (rank ∷ ranks) rise = let above = rise.0 in (omega arith, rise.1)
 
-pub set_rises : (count first bits : ℕ) → RiseFrom first (bits_set count first bits)
+pub set_rises : (count first bits : ℕ) → Rises first (bits_set count first bits)
 set_rises zero first bits = tt
 set_rises (suc count) first bits = both (bits % 2 == 1) (bits_set count (first + 1) (bits / 2)) (set_rises count (first + 1) (bits / 2))
   where
-    both : (b : Bool) (ranks : List ℕ) → RiseFrom (first + 1) ranks → RiseFrom first (if b then first ∷ ranks else ranks)
+    both : (b : Bool) (ranks : List ℕ) → Rises (first + 1) ranks → Rises first (if b then first ∷ ranks else ranks)
     both true ranks rise = (omega arith, rise)
     both false ranks rise = rise_down first ranks rise
 

@@ -5,7 +5,8 @@ use Rattle.std.proofs.lemmas.Bool.{lt-ltb, ltb-true}
 use Rattle.std.proofs.lemmas.List.Elements.{All-head, All-tail, All-cons, All-nil}
 use Rattle.srr_entry.specs.declared.entry.Marked.{Marked}
 use Rattle.srr_log.specs.declared.fault.LogWhy.TheVariants.{BadEntry}
-use Rattle.srr_text.specs.Bounds.{RiseFrom, IsMark}
+use Rattle.mpi_call.specs.Lists.{Rises}
+use Rattle.srr_text.specs.Bounds.{IsMark}
 use Rattle.srr_log2.specs.EntryBytes.{word_bytes, mark_bytes, items_bytes}
 use Rattle.srr_log2.specs.Fields.{reads, onward, ◌>>=◌, give, word_in}
 use Rattle.srr_log2.specs.EntryReading.{mark_in, item_in, items_in, some_items_in}
@@ -32,7 +33,7 @@ module _ (n : ℕ) (group : List ℕ) (mark_exact : IsExact (mark_in n group) ma
         subst P g.0 (along text (word_bytes a.0) a.1 (mark_bytes b.0) rest a.2 (b.2 ∙ ap (λ xs. mark_bytes b.0 ++ xs) g.1), (a.3.0, (a.3.1, b.3)));
   }
 
-  pub items_written : (least : ℕ) (items : List Marked) (rest : List ℕ) → RiseFrom least (map (λ item. item.index) items) → All (IsItem n group) items
+  pub items_written : (least : ℕ) (items : List Marked) (rest : List ℕ) → Rises least (map (λ item. item.index) items) → All (IsItem n group) items
       → items_in n group least (length items) (items_bytes items ++ rest) ≡ reads items rest
   items_written least [] rest rise ok = refl
   items_written least (item ∷ items) rest rise ok =
@@ -42,7 +43,7 @@ module _ (n : ℕ) (group : List ℕ) (mark_exact : IsExact (mark_in n group) ma
       (ap (λ o. onward o (λ v. items_in n group (v.index + 1) (length items) >>= λ values. give (v ∷ values))) first ∙ ap (λ o. onward o (λ values. give (item ∷ values))) others)
 
   abbrev WereItems : ℕ → ℕ → List ℕ → List ℕ → List Marked → Type 0
-  WereItems least count text rest items = (text ≡ items_bytes items ++ rest) × (length items ≡ count) × RiseFrom least (map (λ item. item.index) items) × All (IsItem n group) items
+  WereItems least count text rest items = (text ≡ items_bytes items ++ rest) × (length items ≡ count) × Rises least (map (λ item. item.index) items) × All (IsItem n group) items
 
   pub items_read : (least count : ℕ) (text rest : List ℕ) (items : List Marked) → items_in n group least count text ≡ reads items rest → WereItems least count text rest items
   items_read least zero text rest items e = let g = given {A = List Marked} [] items text rest e in subst (WereItems least 0 text rest) g.0 (g.1, refl, tt, All-nil (IsItem n group))
@@ -55,7 +56,7 @@ module _ (n : ℕ) (group : List ℕ) (mark_exact : IsExact (mark_in n group) ma
       (along text (item_bytes a.0) a.1 (items_bytes b.0) rest a.2 (others.0 ∙ ap (λ xs. items_bytes b.0 ++ xs) g.1), (let m = others.1 in omega arith), (a.3.0, others.2), All-cons (IsItem n group) a.0 b.0 a.3.1 others.3)
 
   -- how many, and then these
-  pub some_items_written : (items : List Marked) (rest : List ℕ) → 0 < length items → RiseFrom 0 (map (λ item. item.index) items) → All (IsItem n group) items
+  pub some_items_written : (items : List Marked) (rest : List ℕ) → 0 < length items → Rises 0 (map (λ item. item.index) items) → All (IsItem n group) items
       → some_items_in n group ((word_bytes (length items) ++ items_bytes items) ++ rest) ≡ reads items rest
   unfolding some_items_in
   some_items_written items rest some' rise ok =
@@ -64,7 +65,7 @@ module _ (n : ℕ) (group : List ℕ) (mark_exact : IsExact (mark_in n group) ma
       (ap (λ o. onward o (λ count. items_in n group 0 count)) (word_written BadEntry (λ count. nat_lt 0 count) (length items) (items_bytes items ++ rest) (omega (arith, few)) (lt-ltb _ _ some')) ∙ items_written 0 items rest rise ok)
 
   pub some_items_read : (text rest : List ℕ) (items : List Marked) → some_items_in n group text ≡ reads items rest
-      → (text ≡ (word_bytes (length items) ++ items_bytes items) ++ rest) × (0 < length items) × RiseFrom 0 (map (λ item. item.index) items) × All (IsItem n group) items
+      → (text ≡ (word_bytes (length items) ++ items_bytes items) ++ rest) × (0 < length items) × Rises 0 (map (λ item. item.index) items) × All (IsItem n group) items
   unfolding some_items_in
   some_items_read text rest items e =
       let a = onward_reads (word_in BadEntry (λ count. nat_lt 0 count) text) (λ count. items_in n group 0 count) items rest e in

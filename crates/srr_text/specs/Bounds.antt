@@ -1,29 +1,28 @@
 -- The bounds of a log that can be written as a text.
-use Rattle.std.specs.Prelude.{◌≡◌, ◌<◌, ◌≤◌, ◌+◌, ℕ, List, [], ◌∷◌, map, length, Bool, true, false, All, ℤ, FitsSigned}
+use Rattle.std.specs.Prelude.{◌≡◌, ◌<◌, ◌≤◌, ℕ, List, [], ◌∷◌, map, length, Bool, true, false, All, ℤ, FitsSigned}
 use mir.Syntax.{w32}
 use Rattle.mpi_call.specs.declared.call.Halt.{Halt}
 use Rattle.mpi_call.specs.declared.call.Halt.TheVariants.{Aborted, Trapped, Truncated, Mismatched, BadRequest, Limit, Stuck}
+use Rattle.mpi_call.specs.declared.limits.TheConstants.{GREATEST_TAG, MOST_INTS, MOST_RANKS, MOST_RESULT_INTS}
 use Rattle.mpi_call.specs.Collectives.{is_member}
+use Rattle.mpi_call.specs.Lists.{Rises}
 use Rattle.run_model.specs.Lists.{are_below}
 use Rattle.srr_entry.specs.declared.entry.Mark.{Mark}
 use Rattle.srr_entry.specs.declared.entry.Mark.TheVariants.{Sent as MarkSent, Nothing, Inside, Outside, Inner, Outer, Made, MadeOutside}
 use Rattle.srr_entry.specs.declared.entry.Entry.{Entry}
 use Rattle.srr_entry.specs.declared.entry.Entry.TheVariants.{Sent, Posted, Entered, Ended, Took, NotYet, PeekedInside, PeekedOutside, Stopped}
 use Rattle.srr_entry.specs.declared.log.Log.{Log}
+use Rattle.srr_text.specs.declared.limits.TheConstants.{GREATEST_NUMBER, MOST_ENTRIES, MOST_PROGRAM_BYTES}
 
--- each number is above the one before it, and the first is at least `least`
-abbrev pub RiseFrom : ℕ → List ℕ → Type 0
-RiseFrom least [] = Unit {0}
-RiseFrom least (number ∷ numbers) = (least ≤ number) × RiseFrom (number + 1) numbers
-
--- the numbers of a rank's starts, and those of its communicators
+-- the number of a start of a rank, or of a communicator
 abbrev pub IsSmallNumber : ℕ → Type 0
-IsSmallNumber number = number ≤ 999999
+IsSmallNumber number = number ≤ GREATEST_NUMBER
 
+-- the tag of a message
 abbrev pub IsTag : ℕ → Type 0
-IsTag tag = tag ≤ 2147483647
+IsTag tag = tag ≤ GREATEST_TAG
 
--- so many ints of 32 bits at most
+-- ints of 32 bits, at most this many
 abbrev pub AreInts : ℕ → List ℤ → Type 0
 AreInts most ints = (length ints ≤ most) × All (λ int. FitsSigned w32 int) ints
 
@@ -37,12 +36,12 @@ IsMark n group MarkSent = Unit {0}
 IsMark n group Nothing = Unit {0}
 IsMark n group (Inside source start) = IsSender n group true source × IsSmallNumber start
 IsMark n group (Outside source start tag ints) =
-    IsSender n group false source × IsSmallNumber start × IsTag tag × AreInts 65536 ints
+    IsSender n group false source × IsSmallNumber start × IsTag tag × AreInts MOST_INTS ints
 IsMark n group Inner = Unit {0}
-IsMark n group (Outer ints) = AreInts 262144 ints
+IsMark n group (Outer ints) = AreInts MOST_RESULT_INTS ints
 IsMark n group (Made comm) = IsSmallNumber comm
 IsMark n group (MadeOutside comm members) =
-    (0 < comm) × IsSmallNumber comm × (0 < length members) × (length members ≤ 64) × (are_below n members ≡ true)
+    (0 < comm) × IsSmallNumber comm × (0 < length members) × (length members ≤ MOST_RANKS) × (are_below n members ≡ true)
 
 -- the bounds of a halt
 abbrev pub IsHalt : ℕ → Halt → Type 0
@@ -61,12 +60,12 @@ IsEntry n group Posted = Unit {0}
 IsEntry n group Entered = Unit {0}
 IsEntry n group Ended = Unit {0}
 IsEntry n group (Took items) =
-    (0 < length items) × RiseFrom 0 (map (λ item. item.index) items)
+    (0 < length items) × Rises 0 (map (λ item. item.index) items)
     × All (λ item. IsSmallNumber item.index × IsMark n group item.mark) items
 IsEntry n group NotYet = Unit {0}
 IsEntry n group (PeekedInside source start) = IsSender n group true source × IsSmallNumber start
 IsEntry n group (PeekedOutside source start tag count) =
-    IsSender n group false source × IsSmallNumber start × IsTag tag × (count ≤ 65536)
+    IsSender n group false source × IsSmallNumber start × IsTag tag × (count ≤ MOST_INTS)
 IsEntry n group (Stopped halt) = IsHalt n halt
 
 -- the entries after which a rank has none
@@ -83,16 +82,16 @@ AreEntries n group (entry ∷ entries) =
 
 -- the ranks of a group: some, rising, below n
 abbrev pub IsGroup : ℕ → List ℕ → Type 0
-IsGroup n group = (0 < length group) × RiseFrom 0 group × (are_below n group ≡ true)
+IsGroup n group = (0 < length group) × Rises 0 group × (are_below n group ≡ true)
 
 -- the list of a rank: not too long, and of such entries
 abbrev pub IsList : ℕ → List ℕ → List Entry → Type 0
-IsList n group entries = (length entries ≤ 999064) × AreEntries n group entries
+IsList n group entries = (length entries ≤ MOST_ENTRIES) × AreEntries n group entries
 
 -- a log that has a text
 pub record IsInBounds (log : Log) : Type 0 where
-  pub ranks : (0 < log.ranks) × (log.ranks ≤ 64)
+  pub ranks : (0 < log.ranks) × (log.ranks ≤ MOST_RANKS)
   pub group : IsGroup log.ranks log.group
-  pub program : length log.program ≤ 65536
+  pub program : length log.program ≤ MOST_PROGRAM_BYTES
   pub as_many : length log.lists ≡ length log.group
   pub lists : All (IsList log.ranks log.group) log.lists

@@ -20,6 +20,7 @@ abbrev pub by_commas : List (List ℕ) → List ℕ
 by_commas [] = []
 by_commas (piece ∷ pieces) = piece ++ each_after 44 pieces
 
+-- ints, a comma between each two
 abbrev pub ints_text : List ℤ → List ℕ
 ints_text ints = by_commas (map number_text ints)
 
@@ -27,7 +28,7 @@ ints_text ints = by_commas (map number_text ints)
 abbrev pub name_text : ℕ → ℕ → List ℕ
 name_text source start = decimal_text source ++ (46 ∷ decimal_text start)
 
--- what is kept of a completed start: contents come behind a colon
+-- what is kept of a completed start: contents come after a colon
 abbrev pub mark_text : Mark → List ℕ
 mark_text MarkSent = codes "s"
 mark_text Nothing = codes "n"

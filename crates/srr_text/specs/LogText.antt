@@ -6,7 +6,7 @@ use Rattle.wiz_base.specs.Decimals.{decimal_text}
 use Rattle.srr_text.specs.EntryText.{each_after, entry_line}
 use Rattle.srr_text.specs.Bounds.{IsInBounds}
 
--- a line, its newline, and what stands behind
+-- a line, its newline, and what comes after it
 abbrev pub line : List ℕ → List ℕ → List ℕ
 line bytes behind = bytes ++ 10 ∷ behind
 
@@ -14,6 +14,7 @@ line bytes behind = bytes ++ 10 ∷ behind
 abbrev pub head_text : ℕ → List ℕ → List ℕ
 head_text ranks behind = line (codes "srr 1") (line (codes "ranks " ++ decimal_text ranks) behind)
 
+-- the ranks of the group, in order
 abbrev pub group_text : List ℕ → List ℕ → List ℕ
 group_text group behind = line (codes "group" ++ each_after 32 (map decimal_text group)) behind
 

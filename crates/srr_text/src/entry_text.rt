@@ -1,9 +1,10 @@
 //! The text of an entry.
 ghost use Rattle.std.specs.Prelude.{◌≡◌, ◌∷◌, ◌++◌, OnOk, OnErr, map};
 ghost use Rattle.mpi_call.specs.Halts.{fault_number};
-ghost use Rattle.srr_text.specs.EntryText.{each_after, by_commas, ints_text, name_text, mark_text, item_text, halt_number, halt_details, entry_line};
+ghost use Rattle.srr_text.specs.EntryText.{each_after, by_commas, name_text, mark_text, item_text, halt_number, halt_details, entry_line};
 ghost use Rattle.wiz_base.specs.Decimals.{decimal_text, number_text};
 
+use crate::spelled::{Spelled, push_by_commas};
 use mpi_call::call::{Fault, Halt};
 use srr_entry::entry::{Entry, Mark, Marked};
 use std::alloc::{AllocError, Global};
@@ -69,18 +70,6 @@ fn push_int_after(out: &mut Bytes, word: &[u8], int: i32) -> Result<(), AllocErr
     push_number(out, int as i64)
 }
 
-/// Numbers, a mark before each.
-pub(crate) fn push_each_after(out: &mut Bytes, mark: u8, numbers: &[u8]) -> Result<(), AllocError>
-    ensures { OnOk result (out.new ≡ out.old ++ each_after mark (map decimal_text numbers.now)) }
-{
-    let mut rest = numbers;
-    while let [number, after @ ..] = rest {
-        push_after(out, &[mark], *number as u64)?;
-        rest = after;
-    }
-    Ok(())
-}
-
 fn push_name(out: &mut Bytes, source: u8, start: u32) -> Result<(), AllocError>
     ensures { OnOk result (out.new ≡ out.old ++ name_text source start) }
 {
@@ -96,7 +85,7 @@ fn push_tagged(out: &mut Bytes, source: u8, start: u32, tag: u32) -> Result<(), 
     push_after(out, b".", tag as u64)
 }
 
-/// Each item behind a blank.
+/// A blank and an item, for each.
 fn push_items(out: &mut Bytes, items: &[Marked]) -> Result<(), AllocError>
     ensures { OnOk result (out.new ≡ out.old ++ each_after 32 (map item_text items.now)) }
 {
@@ -124,53 +113,27 @@ fn push_mark(out: &mut Bytes, mark: &Mark) -> Result<(), AllocError>
             ints,
         } => {
             push_tagged(out, *source, *start, *tag)?;
-            push_ints(out, ints.as_slice())
+            push_listed(out, ints.as_slice())
         }
         Mark::Inner => push_text(out, b"c"),
         Mark::Outer { ints } => {
             push_text(out, b"c")?;
-            push_ints(out, ints.as_slice())
+            push_listed(out, ints.as_slice())
         }
         Mark::Made { comm } => push_after(out, b"m.", *comm as u64),
         Mark::MadeOutside { comm, members } => {
             push_after(out, b"m.", *comm as u64)?;
-            push_members(out, members.as_slice())
+            push_listed(out, members.as_slice())
         }
     }
 }
 
-/// A colon, and ints with commas between.
-fn push_ints(out: &mut Bytes, ints: &[i32]) -> Result<(), AllocError>
-    ensures { OnOk result (out.new ≡ out.old ++ 58 ∷ ints_text ints.now) }
+/// A colon, and numbers with commas between.
+fn push_listed<T: Spelled>(out: &mut Bytes, numbers: &[T]) -> Result<(), AllocError>
+    ensures { OnOk result (out.new ≡ out.old ++ 58 ∷ by_commas (map T.text numbers.now)) }
 {
-    let [first, others @ ..] = ints else {
-        return push_text(out, b":");
-    };
-    push_int_after(out, b":", *first)?;
-    push_others(out, others)
-}
-
-/// Each int behind a comma.
-fn push_others(out: &mut Bytes, ints: &[i32]) -> Result<(), AllocError>
-    ensures { OnOk result (out.new ≡ out.old ++ each_after 44 (map number_text ints.now)) }
-{
-    let mut rest = ints;
-    while let [int, after @ ..] = rest {
-        push_int_after(out, b",", *int)?;
-        rest = after;
-    }
-    Ok(())
-}
-
-/// A colon, and ranks with commas between.
-fn push_members(out: &mut Bytes, members: &[u8]) -> Result<(), AllocError>
-    ensures { OnOk result (out.new ≡ out.old ++ 58 ∷ by_commas (map decimal_text members.now)) }
-{
-    let [first, others @ ..] = members else {
-        return push_text(out, b":");
-    };
-    push_after(out, b":", *first as u64)?;
-    push_each_after(out, b',', others)
+    push_text(out, b":")?;
+    push_by_commas(out, numbers)
 }
 
 fn halt_number(halt: &Halt) -> u8
@@ -193,7 +156,7 @@ fn fault_number(fault: Fault) -> u8
     fault as u8 + 1
 }
 
-/// What a halt names, each behind a blank.
+/// What a halt names, a blank before each.
 fn push_details(out: &mut Bytes, halt: &Halt) -> Result<(), AllocError>
     ensures { OnOk result (out.new ≡ out.old ++ halt_details halt.now) }
 {

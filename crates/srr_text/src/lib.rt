@@ -2,4 +2,6 @@
 #![tactic(auto)]
 
 pub mod entry_text;
+pub mod limits;
+pub mod spelled;
 pub mod write_log;

@@ -3,7 +3,8 @@ ghost use Rattle.std.specs.Prelude.{◌≡◌, ◌++◌, [], OnOk, IfOk, length}
 ghost use Rattle.srr_text.specs.LogText.{entries_text, line, group_text, head_text, list_text, lists_text, log_text, program_text};
 ghost use Rattle.wiz_base.specs.Decimals.{decimal_text};
 
-use crate::entry_text::{push_after, push_each_after, push_entry};
+use crate::entry_text::{push_after, push_entry};
+use crate::spelled::push_each_after;
 use srr_entry::entry::Entry;
 use srr_entry::log::{Entries, Log};
 use std::alloc::{AllocError, Global};

@@ -4,7 +4,7 @@ use Rattle.std.proofs.lemmas.Bool.{eqb-true}
 use Rattle.mpi_call.specs.Collectives.{is_distinct, is_member}
 use Rattle.run_model.proofs.Views.{test_cases}
 use Rattle.srr_entry.specs.declared.log.Log.{Log}
-use Rattle.srr_text.specs.Bounds.{RiseFrom}
+use Rattle.mpi_call.specs.Lists.{Rises}
 use Rattle.srr_text.specs.LogText.{IsLogText}
 use Rattle.srr_replay.specs.Rounds.{IsReplayable}
 use Rattle.wiz_trace.specs.StatsTexts.{IsCountable}
@@ -17,7 +17,7 @@ use Rattle.wiz_cli.specs.Inputs.{AreHeld, option_input, text_limit}
 use Rattle.wiz_cli.specs.Steps.{IsSubjectOf, listed, used_text}
 
 -- numbers that rise from above a number do not have it
-rise_without : (numbers : List ℕ) (least number : ℕ) → RiseFrom least numbers → number < least → is_member numbers number ≡ false
+rise_without : (numbers : List ℕ) (least number : ℕ) → Rises least numbers → number < least → is_member numbers number ≡ false
 rise_without [] least number rise low = refl
 rise_without (first ∷ numbers) least number rise low =
     elim (test_cases (first == number)) [
@@ -25,7 +25,7 @@ rise_without (first ∷ numbers) least number rise low =
       | inr h ↦ rw (h, rise_without numbers (first + 1) number rise.1 (omega (arith, rise.0, low)))
     ]
 
-rise_distinct : (numbers : List ℕ) (least : ℕ) → RiseFrom least numbers → is_distinct numbers ≡ true
+rise_distinct : (numbers : List ℕ) (least : ℕ) → Rises least numbers → is_distinct numbers ≡ true
 rise_distinct [] least rise = refl
 rise_distinct (first ∷ numbers) least rise =
     rw (rise_without numbers (first + 1) first rise.1 (omega arith), rise_distinct numbers (first + 1) rise.1)

@@ -2,21 +2,17 @@
 use Rattle.std.proofs.Common.{◌≡◌, ◌<◌, ◌≤◌, ◌+◌, ℕ, List, [], ◌∷◌, true, suc, length, map, arith, refl}
 use Rattle.std.specs.List.{AllByRecursion}
 use Rattle.std.proofs.lemmas.Bool.{lt-ltb}
-use Rattle.group_plan.specs.Plans.{IsPlan, Rises, number_of_ranks, top, IsGroup as IsPlanGroup}
+use Rattle.group_plan.specs.Plans.{IsPlan, number_of_ranks, rank_bound, IsGroup as IsPlanGroup}
 use Rattle.log_bounds.specs.RunBounds.{RepliesFit32, LogsAreInBounds, LogTextsAreShort}
 use Rattle.run_model.specs.declared.event.Event.{Event}
 use Rattle.run_model.specs.Chosen.{IsChosen}
 use Rattle.run_model.specs.Lists.{are_below}
 use Rattle.run_model.specs.Views.{Next}
 use Rattle.srr_entry.specs.Entries.{log_of}
-use Rattle.srr_text.specs.Bounds.{IsGroup, RiseFrom}
+use Rattle.srr_text.specs.Bounds.{IsGroup}
 use Rattle.wiz_cli.specs.Recordings.{IsReadable}
 
-rise_from : (least other : ℕ) (ranks : List ℕ) → least ≡ other → Rises least ranks → RiseFrom other ranks
-rise_from least other [] e h = tt
-rise_from least other (rank ∷ ranks) e h = (let low = h.0 in omega (arith, low, e), rise_from (suc rank) (rank + 1) ranks (omega arith) h.1)
-
-below : (n : ℕ) (ranks : List ℕ) → top ranks ≤ n → are_below n ranks ≡ true
+below : (n : ℕ) (ranks : List ℕ) → rank_bound ranks ≤ n → are_below n ranks ≡ true
 below n [] h = refl
 below n (rank ∷ ranks) h = rw (lt-ltb rank n (omega (arith, h)), below n ranks (omega (arith, h))) refl
 
@@ -24,8 +20,8 @@ some : (ranks : List ℕ) → ((ranks ≡ []) → ⊥) → 0 < length ranks
 some [] h = absurd (h refl)
 some (rank ∷ ranks) h = omega arith
 
-group_is : (n : ℕ) (ranks : List ℕ) → IsPlanGroup ranks → top ranks ≤ n → IsGroup n ranks
-group_is n ranks h low = (some ranks h.0, rise_from 0 0 ranks refl h.1, below n ranks low)
+group_is : (n : ℕ) (ranks : List ℕ) → IsPlanGroup ranks → rank_bound ranks ≤ n → IsGroup n ranks
+group_is n ranks h low = (some ranks h.0, h.1, below n ranks low)
 
 readable_from : (next : Next) (n : ℕ) (text : List ℕ) (events : List Event) (groups : List (List ℕ)) → LogsAreInBounds next n → LogTextsAreShort next n → IsChosen next n events → RepliesFit32 events
     → length text ≤ 65536 → AllByRecursion IsPlanGroup groups → number_of_ranks groups ≤ n → AllByRecursion IsReadable (map (log_of text n events) groups)
