@@ -3,6 +3,7 @@ ghost use Rattle.std.specs.Prelude.{◌≡◌, ◌+◌, ◌<◌, ◌≤◌, ◌�
 ghost use Rattle.std.specs.Option.{option_copied};
 ghost use Rattle.std.specs.List.{range_with_len, slice_index_or};
 ghost use Rattle.mpi_call.specs.Members.{place_of};
+ghost use Rattle.comms.specs.declared.communicators.TheConstants.{MOST_COMMUNICATORS};
 ghost use Rattle.comms.specs.Communicators.{given_in, members_of, number_at, world, old_members, AreColoursOf, AreSmall, IsDup, IsSplit, Makes};
 
 use crate::colours::{colours_of, numbers_for};
@@ -14,6 +15,9 @@ use mpi_call::members::place_of;
 use std::alloc::{AllocError, Global};
 use std::collections::BTreeMap;
 use std::marker::Model;
+
+/// The most communicators before a Split or Dup, so that those that it makes have numbers of 32 bits.
+pub const MOST_COMMUNICATORS: usize = 4_000_000_000;
 
 /// The communicators that were made, and what each Split and Dup gave to each member.
 #[derive(Drop)]
@@ -65,7 +69,7 @@ impl Comms {
     /// each member in order.
     pub fn split(&mut self, comm: Comm, instance: u32, inputs: &Inputs) -> Result<(), AllocError>
         requires made { comm < length self.old.members }
-        requires count { length self.old.members ≤ 4000000000 }
+        requires count { length self.old.members ≤ MOST_COMMUNICATORS }
         requires first { IsNone (given_in self.old.given comm instance) }
         requires inputs { AreColoursOf (old_members self.old comm) inputs.now }
         ensures ok { OnOk result (IsSplit self.old self.new comm instance inputs.now) }
@@ -82,7 +86,7 @@ impl Comms {
     /// Gives the next number to the communicator of a Dup.
     pub fn dup(&mut self, comm: Comm, instance: u32) -> Result<(), AllocError>
         requires made { comm < length self.old.members }
-        requires count { length self.old.members ≤ 4000000000 }
+        requires count { length self.old.members ≤ MOST_COMMUNICATORS }
         requires first { IsNone (given_in self.old.given comm instance) }
         ensures ok { OnOk result (IsDup self.old self.new comm instance) }
         ensures err { OnErr result (self.new ≡ self.old) }

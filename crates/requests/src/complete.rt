@@ -61,7 +61,7 @@ pub fn is_complete(rows: &[Row], board: &Board, comms: &Comms, me: u8, number: u
         return false;
     };
     match &start.call {
-        Call::Send { .. } => true,
+        Call::Send { sync, .. } => !*sync || start.mate.is_some(),
         Call::Post { source, .. } => match source {
             Source::Null => true,
             _ => start.mate.is_some(),
@@ -90,7 +90,8 @@ pub fn readiness(rows: &[Row], board: &Board, comms: &Comms, me: u8, number: u32
     }
 }
 
-fn is_among(numbers: &[u32], number: u32) -> bool
+/// Whether a number stands in a list.
+fn is_listed(numbers: &[u32], number: u32) -> bool
     ensures { result ≡ is_member numbers.now number }
 {
     numbers.iter().any(|other| *other == number)
@@ -113,7 +114,7 @@ pub fn first_bad(rows: &[Row], me: u8, starts: &[u32]) -> Option<u32>
     let mut at = 0;
     let mut rest = starts;
     while let [number, after @ ..] = rest {
-        if !can_take(rows, me, *number) || is_among(&starts[..at], *number) {
+        if !can_take(rows, me, *number) || is_listed(&starts[..at], *number) {
             return Some(*number);
         }
         at += 1;

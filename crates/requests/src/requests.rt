@@ -22,12 +22,11 @@ ghost use Rattle.requests.specs.Taking.{answer_in, hands_out, readiness_of, rows
 ghost use Rattle.requests.specs.Histories.{Answers, IsIdle, IsReadiness, Knows, KnowsStarted, KnowsTaken};
 
 use crate::answer::answer;
-use crate::collected::comm_of;
 use crate::complete::readiness;
 use crate::enter::{entered, joined, left};
 use crate::rows::{add_start, drop_start, mark_in, name_in, pair, put_name, reserve_to};
 use crate::start::{Name, Row};
-use collectives::board::Board;
+use collectives::board::{Board, comm_of};
 use collectives::instances::Entered;
 use comms::communicators::Comms;
 use match_core::matcher::Matcher;
@@ -110,7 +109,7 @@ impl Requests {
 
     /// Adds the Send, Post or Enter of a rank that stands at position `at` of the history. A Send or Post gets the earliest
     /// partner that fits. An Enter that does not agree with an earlier one of its instance is not added, changes nothing and
-    /// takes no memory. After the want of memory nothing has changed.
+    /// takes no memory. When out of memory, nothing has changed.
     pub fn start(&mut self, at: u32, rank: u8, call: &Call) -> Result<Started, AllocError>
         requires kind { IsTrue (is_starting call.now) }
         requires enter { is_enter call.now ≡ true → MayEnter self.old.table.comms rank call.now }
@@ -129,7 +128,7 @@ impl Requests {
         }
     }
 
-    /// Adds a Send or Post. After the want of memory nothing has changed.
+    /// Adds a Send or Post. When out of memory, nothing has changed.
     fn message(&mut self, at: u32, rank: u8, call: &Call) -> Result<Started, AllocError>
         requires kind { IsTrue (is_message call.now) }
         requires position { IsAbove at self.old }
@@ -150,7 +149,7 @@ impl Requests {
         Ok(Started::Made { start, mate })
     }
 
-    /// Adds an Enter: first to the board, from which the want of memory later takes it back. Then nothing has changed.
+    /// Adds an Enter: first to the board, from which it is taken back when memory runs out later. Then nothing has changed.
     fn enter(&mut self, at: u32, rank: u8, call: &Call) -> Result<Started, AllocError>
         requires kind { is_enter call.now ≡ true }
         requires may { MayEnter self.old.table.comms rank call.now }
