@@ -3,8 +3,9 @@ ghost use Rattle.std.specs.Prelude.{◌≡◌, ◌++◌, OnOk, codes, true};
 ghost use Rattle.mpi_call.specs.Calls.{is_enter};
 ghost use Rattle.mpi_call.specs.declared.call.Call.TheVariants.{Post, Send};
 ghost use Rattle.wiz_base.specs.Decimals.{number_text};
-ghost use Rattle.wiz_trace.specs.CallTexts.{aborter_text, at_start_text, call_text, envelope_text, fault_text, got_text, halt_text, ints_text, item_text, joined, kind_text, mode_text, name_text, numbers_text, op_text, probe_text, reply_text, root_text, send_text, source_text, tag_text};
+ghost use Rattle.wiz_trace.specs.CallTexts.{aborter_text, at_start_text, call_text, envelope_text, fault_text, got_text, halt_text, item_text, joined, kind_text, mode_text, name_text, op_text, probe_text, reply_text, root_text, send_text, source_text, tag_text};
 
+use crate::joined::{HasText, push_joined};
 use mpi_call::call::{Call, Fault, Halt, Kind, Op, Source, Tag, TakeMode};
 use mpi_call::reply::{Got, Item, Reply};
 use std::alloc::AllocError;
@@ -16,55 +17,11 @@ fn push_int(out: &mut Bytes, int: i32) -> Result<(), AllocError>
     push_number(out, int as i64)
 }
 
-/// Ints with commas between them.
-pub fn push_ints(out: &mut Bytes, ints: &[i32]) -> Result<(), AllocError>
-    ensures { OnOk result (out.new ≡ out.old ++ ints_text ints.now) }
+/// Some things with commas between them.
+pub fn push_list<T: HasText>(out: &mut Bytes, things: &[T]) -> Result<(), AllocError>
+    ensures { OnOk result (out.new ≡ out.old ++ joined (codes ",") T.text_of things.now) }
 {
-    let [first, others @ ..] = ints else {
-        return Ok(());
-    };
-    push_int(out, *first)?;
-    let mut rest = others;
-    while let [int, after @ ..] = rest {
-        push_text(out, b",")?;
-        push_int(out, *int)?;
-        rest = after;
-    }
-    Ok(())
-}
-
-/// Start numbers with commas between them.
-fn push_starts(out: &mut Bytes, starts: &[u32]) -> Result<(), AllocError>
-    ensures { OnOk result (out.new ≡ out.old ++ numbers_text starts.now) }
-{
-    let [first, others @ ..] = starts else {
-        return Ok(());
-    };
-    push_decimal(out, *first as u64)?;
-    let mut rest = others;
-    while let [start, after @ ..] = rest {
-        push_text(out, b",")?;
-        push_decimal(out, *start as u64)?;
-        rest = after;
-    }
-    Ok(())
-}
-
-/// Ranks with commas between them.
-fn push_ranks(out: &mut Bytes, ranks: &[u8]) -> Result<(), AllocError>
-    ensures { OnOk result (out.new ≡ out.old ++ numbers_text ranks.now) }
-{
-    let [first, others @ ..] = ranks else {
-        return Ok(());
-    };
-    push_decimal(out, *first as u64)?;
-    let mut rest = others;
-    while let [rank, after @ ..] = rest {
-        push_text(out, b",")?;
-        push_decimal(out, *rank as u64)?;
-        rest = after;
-    }
-    Ok(())
+    push_joined(out, b",", things)
 }
 
 /// A message's name.
@@ -193,7 +150,7 @@ pub fn push_call(out: &mut Bytes, call: &Call) -> Result<(), AllocError>
             push_text(out, b"take ")?;
             push_mode(out, *mode)?;
             push_text(out, b" ")?;
-            push_starts(out, starts.as_slice())
+            push_list(out, starts.as_slice())
         }
         Call::Peek {
             comm,
@@ -235,7 +192,7 @@ fn push_send(
     push_text(out, b" tag=")?;
     push_decimal(out, tag as u64)?;
     push_text(out, b" data=")?;
-    push_ints(out, ints)
+    push_list(out, ints)
 }
 
 fn push_send_verb(out: &mut Bytes, sync: bool) -> Result<(), AllocError>
@@ -311,7 +268,7 @@ fn push_enter(out: &mut Bytes, call: &Call) -> Result<(), AllocError>
     push_text(out, b" count=")?;
     push_decimal(out, *count as u64)?;
     push_text(out, b" data=")?;
-    push_ints(out, ints.as_slice())?;
+    push_list(out, ints.as_slice())?;
     Ok(())
 }
 
@@ -387,44 +344,30 @@ fn push_got(out: &mut Bytes, got: &Got) -> Result<(), AllocError>
             push_text(out, b" tag=")?;
             push_decimal(out, *tag as u64)?;
             push_text(out, b" data=")?;
-            push_ints(out, ints.as_slice())
+            push_list(out, ints.as_slice())
         }
         Got::Joined { ints } => {
             push_text(out, b"result data=")?;
-            push_ints(out, ints.as_slice())?;
+            push_list(out, ints.as_slice())?;
             Ok(())
         }
         Got::Made { comm, members } => {
             push_text(out, b"made comm=")?;
             push_decimal(out, *comm as u64)?;
             push_text(out, b" members=")?;
-            push_ranks(out, members.as_slice())
+            push_list(out, members.as_slice())
         }
     }
 }
 
-fn push_item(out: &mut Bytes, item: &Item) -> Result<(), AllocError>
-    ensures { OnOk result (out.new ≡ out.old ++ item_text item.now) }
-{
-    push_decimal(out, item.index as u64)?;
-    push_text(out, b"=")?;
-    push_got(out, &item.got)
-}
+impl HasText for Item {
+    ghost text_of = { item_text };
 
-fn push_items(out: &mut Bytes, items: &[Item]) -> Result<(), AllocError>
-    ensures { OnOk result (out.new ≡ out.old ++ joined (codes "; ") item_text items.now) }
-{
-    let [first, others @ ..] = items else {
-        return Ok(());
-    };
-    push_item(out, first)?;
-    let mut rest = others;
-    while let [item, after @ ..] = rest {
-        push_text(out, b"; ")?;
-        push_item(out, item)?;
-        rest = after;
+    fn push_to(&self, out: &mut Bytes) -> Result<(), AllocError> {
+        push_decimal(out, self.index as u64)?;
+        push_text(out, b"=")?;
+        push_got(out, &self.got)
     }
-    Ok(())
 }
 
 /// The text of a reply.
@@ -435,7 +378,7 @@ pub fn push_reply(out: &mut Bytes, reply: &Reply) -> Result<(), AllocError>
         Reply::Done => push_text(out, b"done"),
         Reply::Took(items) => {
             push_text(out, b"took ")?;
-            push_items(out, items.as_slice())
+            push_joined(out, b"; ", items.as_slice())
         }
         Reply::NotYet => push_text(out, b"notyet"),
         Reply::Peeked {

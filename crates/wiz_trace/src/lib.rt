@@ -5,6 +5,7 @@ mod call_text;
 mod calls;
 pub mod check;
 pub mod demo;
+mod joined;
 pub mod order;
 pub mod recording;
 pub mod show;

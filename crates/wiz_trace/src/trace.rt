@@ -3,7 +3,7 @@ ghost use Rattle.std.specs.Prelude.{◌≡◌, ◌++◌, ◌∷◌, [], OnOk, If
 ghost use Rattle.run_model.specs.Views.{view_of};
 ghost use Rattle.wiz_trace.specs.TraceTexts.{calls_text, divergence_text, found_text, missing_text, output_text, rank_text, ranks_text, stand_text, trace_text, variable_text};
 
-use crate::call_text::{push_call, push_ints, push_name, push_reply};
+use crate::call_text::{push_call, push_list, push_name, push_reply};
 use replay_model::replayed::{Replayed, Stand};
 use replay_model::step::{Divergence, Found, Missing};
 use run_model::event::Event;
@@ -161,7 +161,7 @@ fn push_variable(out: &mut Bytes, variable: &Variable) -> Result<(), AllocError>
     push_text(out, b" ")?;
     push_text(out, variable.name.as_slice())?;
     push_text(out, b" ")?;
-    push_ints(out, variable.values.as_slice())?;
+    push_list(out, variable.values.as_slice())?;
     push_text(out, b"\n")?;
     Ok(())
 }
