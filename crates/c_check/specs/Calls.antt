@@ -1,6 +1,7 @@
 -- The faults of calls and of what stands on the right of an assignment. (ISO C, "Function calls"; MPI 3.1, the C bindings.)
+-- Beside a name without a meaning a fault is told if and only if it would be one whatever that name meant.
 use Rattle.std.specs.Prelude.{◌++◌, ◌||◌, ◌==◌, ℕ, Bool, true, false, List, [], ◌∷◌, length, if◌then◌else◌, Option, Some, None, slice_get, take, drop, ◌-◌}
-use Rattle.std.specs.Option.{option_map}
+use Rattle.std.specs.Option.{is_some, option_map}
 use Rattle.c_lex.specs.declared.fault.Why.TheVariants.{Unknown, WrongType, WrongCount, BadFormat, LeftOut}
 use Rattle.c_grammar.specs.declared.terminal.Span.{Span}
 use Rattle.c_grammar.specs.declared.terminal.Symbol.{Symbol}
@@ -17,13 +18,13 @@ use Rattle.c_names.specs.declared.predefined.Predefined.TheVariants as p
 use Rattle.c_names.specs.declared.kind.VariableKind.{VariableKind}
 use Rattle.c_names.specs.declared.kind.VariableKind.TheVariants.{Int, Status, Request, Communicator}
 use Rattle.c_check_expr.specs.Least.{fault, unless}
-use Rattle.c_check_expr.specs.Kinds.{is_same_kind, kind_faults, first_token}
+use Rattle.c_check_expr.specs.Kinds.{first_token, is_same_kind, kind_faults}
 use Rattle.c_check_expr.specs.Signatures.{listed}
 use Rattle.c_check_expr.specs.Scopes.{Env, Signature, token_bytes, meaning, name_faults}
-use Rattle.c_check_expr.specs.Expressions.{int_faults, wanted_faults}
+use Rattle.c_check_expr.specs.Expressions.{expr_faults, int_faults, wanted_faults}
 use Rattle.c_check_expr.specs.declared.fault.TypingFault.{TypingFault}
 use Rattle.c_check_expr.specs.declared.meaning.ExprKind.{ExprKind}
-use Rattle.c_check_expr.specs.declared.meaning.ExprKind.TheVariants.{Of, Other}
+use Rattle.c_check_expr.specs.declared.meaning.ExprKind.TheVariants.{Of}
 use Rattle.c_check_expr.specs.declared.meaning.Meaning.{Meaning}
 use Rattle.c_check_expr.specs.declared.meaning.Meaning.TheVariants as m
 use Rattle.c_check_expr.specs.declared.meaning.Entity.TheVariants as d
@@ -63,6 +64,12 @@ abbrev pub accepts_predefined : ArgumentKind → Option Predefined → Bool
 accepts_predefined kind None = false
 accepts_predefined kind (Some known) = accepts kind known
 
+-- a name without a meaning: unknown, or left out
+abbrev pub is_nameless : Meaning → Bool
+is_nameless m.LeftOut = true
+is_nameless m.Unknown = true
+is_nameless _ = false
+
 -- main's own parameter
 abbrev pub is_own : ArgumentKind → Meaning → Bool
 is_own a.ArgumentCount (m.Declared d.ArgumentCount) = true
@@ -73,11 +80,29 @@ abbrev pub accepts_own : Env → ArgumentKind → t.Argument → Bool
 accepts_own env kind (t.address mark (t.whole name)) = is_own kind (meaning env name)
 accepts_own env kind _ = false
 
--- an argument that is not what is wanted, at its first token; nothing follows from a name without a meaning
+-- an argument that is not what is wanted, whatever a name without a meaning in it means: at its first token
 abbrev pub misfit_faults : Env → t.Argument → List TypingFault
 misfit_faults env (t.text at) = fault at WrongType
 misfit_faults env (t.address mark place) = fault mark WrongType
-misfit_faults env (t.value e) = wanted_faults env Other e
+misfit_faults env (t.value e) = expr_faults env e ++ fault (first_token e) WrongType
+
+-- the name without a meaning that an argument is, alone and behind `&`
+abbrev pub nameless_of : Env → Option Span → Option Span
+nameless_of env None = None
+nameless_of env (Some name) = if is_nameless (meaning env name) then Some name else None
+
+abbrev pub nameless_value : Env → t.Argument → Option Span
+nameless_value env (t.value e) = nameless_of env (name_alone e)
+nameless_value env _ = None
+
+abbrev pub nameless_address : Env → t.Argument → Option Span
+nameless_address env (t.address mark (t.whole name)) = nameless_of env (Some name)
+nameless_address env _ = None
+
+-- a name without a meaning may be what is wanted, so that it alone is told; where there is none, other faults
+abbrev pub nameless_or : Env → Option Span → List TypingFault → List TypingFault
+nameless_or env None others = others
+nameless_or env (Some name) others = name_faults (meaning env name) name
 
 -- where an expression of a kind is wanted
 abbrev pub value_faults : Env → ExprKind → t.Argument → List TypingFault
@@ -95,10 +120,9 @@ is_place_of wanted (m.Declared (d.Variable kind)) = is_same_kind wanted kind
 is_place_of wanted (m.Declared d.ArgumentCount) = is_same_kind wanted Int
 is_place_of wanted other = is_array_of wanted other
 
-abbrev pub is_nameless : Meaning → Bool
-is_nameless m.LeftOut = true
-is_nameless m.Unknown = true
-is_nameless _ = false
+-- the name of such an array, or one that may be
+abbrev pub may_be_array_of : VariableKind → Meaning → Bool
+may_be_array_of wanted meant = is_nameless meant || is_array_of wanted meant
 
 -- a name and what is added to it: the name of an array stands on the whole left side
 abbrev pub is_plus : Symbol → Bool
@@ -113,16 +137,20 @@ abbrev pub array_sum : t.Expr → Option (Span × t.Expr)
 array_sum (t.chain level first links) = sum_base (name_alone first) links
 array_sum _ = None
 
-abbrev pub is_array_name : Env → VariableKind → Option Span → Bool
-is_array_name env wanted None = false
-is_array_name env wanted (Some name) = is_array_of wanted (meaning env name)
-
 abbrev pub sum_faults : Env → VariableKind → t.Expr → Option (Span × t.Expr) → List TypingFault
-sum_faults env wanted e None = wanted_faults env Other e
-sum_faults env wanted e (Some sum) = if is_array_of wanted (meaning env sum.0) then int_faults env sum.1 else wanted_faults env Other e
+sum_faults env wanted e None = misfit_faults env (t.value e)
+sum_faults env wanted e (Some sum) =
+    if may_be_array_of wanted (meaning env sum.0)
+    then name_faults (meaning env sum.0) sum.0 ++ int_faults env sum.1
+    else misfit_faults env (t.value e)
+
+abbrev pub name_or_sum_faults : Env → VariableKind → t.Expr → Option Span → List TypingFault
+name_or_sum_faults env wanted e None = sum_faults env wanted e (array_sum e)
+name_or_sum_faults env wanted e (Some name) =
+    if may_be_array_of wanted (meaning env name) then name_faults (meaning env name) name else misfit_faults env (t.value e)
 
 abbrev pub array_faults : Env → VariableKind → t.Expr → List TypingFault
-array_faults env wanted e = if is_array_name env wanted (name_alone e) then [] else sum_faults env wanted e (array_sum e)
+array_faults env wanted e = name_or_sum_faults env wanted e (name_alone e)
 
 abbrev pub address_faults : Env → VariableKind → Span → t.Place → List TypingFault
 address_faults env wanted mark (t.whole name) =
@@ -146,7 +174,15 @@ unaccepted_faults env a.NewCommunicator argument = reference_faults env Communic
 unaccepted_faults env a.Requests argument = reference_faults env Request argument
 unaccepted_faults env a.Status argument = reference_faults env Status argument
 unaccepted_faults env a.Statuses argument = reference_faults env Status argument
-unaccepted_faults env _ argument = misfit_faults env argument
+-- predefined names alone
+unaccepted_faults env a.Datatype argument = nameless_or env (nameless_value env argument) (misfit_faults env argument)
+unaccepted_faults env a.Operation argument = nameless_or env (nameless_value env argument) (misfit_faults env argument)
+unaccepted_faults env a.NoReference argument = nameless_or env (nameless_value env argument) (misfit_faults env argument)
+unaccepted_faults env a.Output argument = nameless_or env (nameless_value env argument) (misfit_faults env argument)
+-- main's own parameters behind `&`
+unaccepted_faults env a.ArgumentCount argument = nameless_or env (nameless_address env argument) (misfit_faults env argument)
+unaccepted_faults env a.ArgumentTexts argument = nameless_or env (nameless_address env argument) (misfit_faults env argument)
+unaccepted_faults env a.Nothing argument = misfit_faults env argument
 
 -- an argument, by what it has to be
 abbrev pub argument_faults : Env → ArgumentKind → t.Argument → List TypingFault
@@ -163,13 +199,16 @@ abbrev pub signature_takes : Option Signature → List ArgumentKind
 signature_takes None = []
 signature_takes (Some signature) = signature.takes
 
--- `NULL` for both arguments, or main's own parameters
-abbrev pub first_is_null : Env → List t.Argument → Bool
-first_is_null env [] = false
-first_is_null env (argument ∷ arguments) = accepts_predefined a.NoReference (predefined_of env argument)
+-- `NULL` for both arguments, or main's own parameters; a name without a meaning may be `NULL`
+abbrev pub may_be_null : Env → t.Argument → Bool
+may_be_null env argument = accepts_predefined a.NoReference (predefined_of env argument) || is_some (nameless_value env argument)
+
+abbrev pub first_may_be_null : Env → List t.Argument → Bool
+first_may_be_null env [] = false
+first_may_be_null env (argument ∷ arguments) = may_be_null env argument
 
 abbrev pub mpi_takes : Env → MpiFunction → List t.Argument → List ArgumentKind
-mpi_takes env f.Init arguments_given = if first_is_null env arguments_given then a.NoReference ∷ a.NoReference ∷ [] else arguments f.Init
+mpi_takes env f.Init arguments_given = if first_may_be_null env arguments_given then a.NoReference ∷ a.NoReference ∷ [] else arguments f.Init
 mpi_takes env function _ = arguments function
 
 -- what the name of a call takes, or nothing where it is no function

@@ -16,7 +16,7 @@ use Rattle.c_check_expr.specs.Expressions.{int_faults, place_faults}
 use Rattle.c_check.specs.Calls.{call_faults, right_faults, right_first_token}
 use Rattle.c_check_expr.specs.declared.fault.TypingFault.{TypingFault}
 use Rattle.c_check_expr.specs.declared.meaning.ExprKind.{ExprKind}
-use Rattle.c_check_expr.specs.declared.meaning.ExprKind.TheVariants.{Of, Other, Nothing}
+use Rattle.c_check_expr.specs.declared.meaning.ExprKind.TheVariants.{Of, Element, Other, Nothing}
 use Rattle.c_check_expr.specs.declared.meaning.Entity.{Entity}
 use Rattle.c_check_expr.specs.declared.meaning.Entity.TheVariants as d
 
@@ -30,11 +30,13 @@ lvalue_kind env (t.cell name opening index closing) = cell_kind (meaning env nam
 abbrev pub is_assignable : ExprKind → Bool
 is_assignable (Of Status) = false
 is_assignable (Of kind) = true
+is_assignable Element = true
 is_assignable Nothing = true
 is_assignable _ = false
 
 abbrev pub is_int_lvalue : ExprKind → Bool
 is_int_lvalue (Of Int) = true
+is_int_lvalue Element = true
 is_int_lvalue Nothing = true
 is_int_lvalue _ = false
 

@@ -2,15 +2,16 @@
 ghost use Rattle.std.specs.Prelude.{◌≡◌, ◌++◌, ◌||◌, length, map, option_map, slice_get};
 ghost use Rattle.c_grammar.specs.StmtView.{argument_view, call_view, head_view, parameter_view, parameters_view, right_view};
 ghost use Rattle.c_grammar.specs.View.{links_from, piece, place_view, view};
-ghost use Rattle.c_check.specs.Calls.{accepts_own, accepts_predefined, address_faults, argument_faults, array_faults, array_sum, arguments_faults, arguments_of, call_faults, counted_faults, first_is_null, format_faults, gives_int, inside, is_array_name, is_array_of, is_nameless, is_own, is_place_of, is_plus, meant_faults, misfit_faults, mpi_takes, name_alone, name_predefined, numbers_faults, print_faults, reference_faults, result_faults, right_faults, right_first_token, sum_base, sum_faults, takes, unaccepted_faults, value_faults, predefined_meant, predefined_of};
+ghost use Rattle.c_check.specs.Calls.{accepts_own, accepts_predefined, address_faults, argument_faults, arguments_faults, arguments_of, array_faults, array_sum, call_faults, counted_faults, first_may_be_null, format_faults, gives_int, inside, is_array_of, is_nameless, is_own, is_place_of, is_plus, may_be_array_of, may_be_null, meant_faults, misfit_faults, mpi_takes, name_alone, name_or_sum_faults, name_predefined, nameless_address, nameless_of, nameless_or, nameless_value, numbers_faults, predefined_meant, predefined_of, print_faults, reference_faults, result_faults, right_faults, right_first_token, sum_base, sum_faults, takes, unaccepted_faults, value_faults};
 ghost use Rattle.c_check.specs.CallView.{takes_view};
+ghost use Rattle.c_grammar.specs.Tree as t;
 ghost use Rattle.c_lex.specs.declared.fault.Why.TheVariants.{WrongType};
 ghost use Rattle.c_check_expr.specs.Least.{least_from, unless};
 ghost use Rattle.c_check_expr.specs.Scopes.{meaning, name_faults};
 ghost use Rattle.c_check_expr.specs.Signatures.{is_int, parameter_takes, parameters_listed};
 
 use c_check_expr::comma_list::{item_at, item_count};
-use c_check_expr::expression::{want_expr, want_int};
+use c_check_expr::expression::{check_expr, want_expr, want_int};
 use c_check_expr::fault::{TypingFault, note_at, note_unless};
 use c_check_expr::kind::{first_token, is_same_kind, want_kind};
 use c_check_expr::meaning::{Entity, ExprKind, Meaning};
@@ -86,6 +87,15 @@ fn accepts_own(scope: &Scope, kind: ArgumentKind, argument: &Argument) -> bool
     }
 }
 
+/// An expression that is not what is wanted.
+#[tactic(auto, using(c_check_expr::proofs::Least::least_from_append))]
+fn misfit_expr(best: &mut Option<TypingFault>, scope: &Scope, e: &Expr)
+    ensures { best.new ≡ least_from best.old (misfit_faults scope.now (t.value (view e.now))) }
+{
+    check_expr(best, scope, e);
+    note_at(best, first_token(e), Why::WrongType);
+}
+
 /// An argument that is not what is wanted.
 fn misfit(best: &mut Option<TypingFault>, scope: &Scope, argument: &Argument)
     ensures { best.new ≡ least_from best.old (misfit_faults scope.now (argument_view argument.now)) }
@@ -93,7 +103,61 @@ fn misfit(best: &mut Option<TypingFault>, scope: &Scope, argument: &Argument)
     match argument {
         Argument::Text(at) => note_at(best, *at, Why::WrongType),
         Argument::Address { mark, .. } => note_at(best, *mark, Why::WrongType),
-        Argument::Value(e) => want_expr(best, scope, ExprKind::Other, e),
+        Argument::Value(e) => misfit_expr(best, scope, e),
+    }
+}
+
+/// A name, if it has no meaning.
+fn nameless_of(scope: &Scope, name: Option<Span>) -> Option<Span>
+    ensures { result ≡ nameless_of scope.now name }
+{
+    match name {
+        None => None,
+        Some(name) => {
+            if is_nameless(scope.meaning(name)) {
+                Some(name)
+            } else {
+                None
+            }
+        }
+    }
+}
+
+/// The name without a meaning that an argument is.
+fn nameless_value(scope: &Scope, argument: &Argument) -> Option<Span>
+    ensures { result ≡ nameless_value scope.now (argument_view argument.now) }
+{
+    match argument {
+        Argument::Value(e) => nameless_of(scope, name_alone(e)),
+        _ => None,
+    }
+}
+
+/// The name without a meaning that stands behind `&`.
+fn nameless_address(scope: &Scope, argument: &Argument) -> Option<Span>
+    ensures { result ≡ nameless_address scope.now (argument_view argument.now) }
+{
+    match argument {
+        Argument::Address { place, .. } => match place {
+            Place::Whole(name) => nameless_of(scope, Some(*name)),
+            Place::Cell { .. } => None,
+        },
+        _ => None,
+    }
+}
+
+/// A name without a meaning, which may be what is wanted, or an argument that is not.
+fn misfit_unless_nameless(
+    best: &mut Option<TypingFault>,
+    scope: &Scope,
+    nameless: Option<Span>,
+    argument: &Argument,
+)
+    ensures { best.new ≡ least_from best.old (nameless_or scope.now nameless (misfit_faults scope.now (argument_view argument.now))) }
+{
+    match nameless {
+        Some(name) => want_meaning(best, scope.meaning(name), name),
+        None => misfit(best, scope, argument),
     }
 }
 
@@ -200,16 +264,15 @@ pub fn array_sum(e: &Expr) -> Option<(Span, &Expr)>
     }
 }
 
-fn is_array_name(scope: &Scope, wanted: VariableKind, name: Option<Span>) -> bool
-    ensures { result ≡ is_array_name scope.now wanted name }
+/// The name of an array of this kind, or one that may be.
+fn may_be_array_of(wanted: VariableKind, meaning: Meaning) -> bool
+    ensures { result ≡ may_be_array_of wanted meaning }
 {
-    match name {
-        Some(name) => is_array_of(wanted, scope.meaning(name)),
-        None => false,
-    }
+    is_nameless(meaning) || is_array_of(wanted, meaning)
 }
 
 /// What is added to the name of an array.
+#[tactic(auto, using(c_check_expr::proofs::Least::least_from_append))]
 fn want_sum(
     best: &mut Option<TypingFault>,
     scope: &Scope,
@@ -221,13 +284,15 @@ fn want_sum(
 {
     match sum {
         Some((name, operand)) => {
-            if is_array_of(wanted, scope.meaning(name)) {
+            let meaning = scope.meaning(name);
+            if may_be_array_of(wanted, meaning) {
+                want_meaning(best, meaning, name);
                 want_int(best, scope, operand);
             } else {
-                want_expr(best, scope, ExprKind::Other, e);
+                misfit_expr(best, scope, e);
             }
         }
-        None => want_expr(best, scope, ExprKind::Other, e),
+        None => misfit_expr(best, scope, e),
     }
 }
 
@@ -235,8 +300,16 @@ fn want_sum(
 fn want_array(best: &mut Option<TypingFault>, scope: &Scope, wanted: VariableKind, e: &Expr)
     ensures { best.new ≡ least_from best.old (array_faults scope.now wanted (view e.now)) }
 {
-    if !is_array_name(scope, wanted, name_alone(e)) {
-        want_sum(best, scope, wanted, e, array_sum(e));
+    match name_alone(e) {
+        Some(name) => {
+            let meaning = scope.meaning(name);
+            if may_be_array_of(wanted, meaning) {
+                want_meaning(best, meaning, name);
+            } else {
+                misfit_expr(best, scope, e);
+            }
+        }
+        None => want_sum(best, scope, wanted, e, array_sum(e)),
     }
 }
 
@@ -322,7 +395,16 @@ fn want_unaccepted(
         ArgumentKind::Status | ArgumentKind::Statuses => {
             want_reference(best, scope, VariableKind::Status, argument)
         }
-        _ => misfit(best, scope, argument),
+        ArgumentKind::Datatype
+        | ArgumentKind::Operation
+        | ArgumentKind::NoReference
+        | ArgumentKind::Output => {
+            misfit_unless_nameless(best, scope, nameless_value(scope, argument), argument)
+        }
+        ArgumentKind::ArgumentCount | ArgumentKind::ArgumentTexts => {
+            misfit_unless_nameless(best, scope, nameless_address(scope, argument), argument)
+        }
+        ArgumentKind::Nothing => misfit(best, scope, argument),
     }
 }
 
@@ -427,14 +509,21 @@ pub fn kind_at(takes: Takes, place: usize) -> Option<ArgumentKind>
     }
 }
 
-fn first_is_null(scope: &Scope, call: &Call) -> bool
-    ensures { result ≡ first_is_null scope.now (arguments_of (call_view call.now)) }
+/// `NULL`, or a name without a meaning.
+fn may_be_null(scope: &Scope, argument: &Argument) -> bool
+    ensures { result ≡ may_be_null scope.now (argument_view argument.now) }
+{
+    accepts_predefined(
+        ArgumentKind::NoReference,
+        predefined_of(scope, argument),
+    ) || nameless_value(scope, argument).is_some()
+}
+
+fn first_may_be_null(scope: &Scope, call: &Call) -> bool
+    ensures { result ≡ first_may_be_null scope.now (arguments_of (call_view call.now)) }
 {
     match argument_at(call, 0) {
-        Some(argument) => accepts_predefined(
-            ArgumentKind::NoReference,
-            predefined_of(scope, argument),
-        ),
+        Some(argument) => may_be_null(scope, argument),
         None => false,
     }
 }
@@ -443,7 +532,7 @@ fn mpi_takes(scope: &Scope, function: MpiFunction, call: &Call) -> &'static [Arg
     ensures { result.now ≡ mpi_takes scope.now function (arguments_of (call_view call.now)) }
 {
     if let MpiFunction::Init = function {
-        if first_is_null(scope, call) {
+        if first_may_be_null(scope, call) {
             return &[ArgumentKind::NoReference, ArgumentKind::NoReference];
         }
     }

@@ -305,7 +305,8 @@ pub fn text_scope<'a>(
     Ok(scope)
 }
 
-fn is_main_external(text: &[u8], external: &ExternalDeclaration) -> bool
+/// Whether a declaration of the text is main.
+pub fn is_main_external(text: &[u8], external: &ExternalDeclaration) -> bool
     ensures { result ≡ list_any (is_main text.now) (with_head (external_view external.now) []) }
 {
     match external {

@@ -45,7 +45,7 @@ fn is_assignable(kind: ExprKind) -> bool
     match kind {
         ExprKind::Of(VariableKind::Status) => false,
         ExprKind::Of(_) => true,
-        ExprKind::Nothing => true,
+        ExprKind::Element | ExprKind::Nothing => true,
         _ => false,
     }
 }
@@ -55,7 +55,7 @@ fn is_int_lvalue(kind: ExprKind) -> bool
 {
     match kind {
         ExprKind::Of(VariableKind::Int) => true,
-        ExprKind::Nothing => true,
+        ExprKind::Element | ExprKind::Nothing => true,
         _ => false,
     }
 }

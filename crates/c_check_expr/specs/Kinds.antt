@@ -12,7 +12,7 @@ use Rattle.c_check_expr.specs.Least.{unless}
 use Rattle.c_check_expr.specs.Scopes.{Env, meaning}
 use Rattle.c_check_expr.specs.declared.fault.TypingFault.{TypingFault}
 use Rattle.c_check_expr.specs.declared.meaning.ExprKind.{ExprKind}
-use Rattle.c_check_expr.specs.declared.meaning.ExprKind.TheVariants.{Of, NullRequest, Other, Nothing}
+use Rattle.c_check_expr.specs.declared.meaning.ExprKind.TheVariants.{Of, NullRequest, Element, Other, Nothing}
 use Rattle.c_check_expr.specs.declared.meaning.Meaning.{Meaning}
 use Rattle.c_check_expr.specs.declared.meaning.Meaning.TheVariants as m
 use Rattle.c_check_expr.specs.declared.meaning.Entity.TheVariants as d
@@ -43,10 +43,12 @@ whole_kind (m.Declared _) = Other
 whole_kind m.LeftOut = Nothing
 whole_kind m.Unknown = Nothing
 
--- a name with an index; nothing where it is no array
+-- a name with an index; nothing where the name is no array
 abbrev pub cell_kind : Meaning → ExprKind
 cell_kind (m.Declared (d.Array kind length)) = Of kind
 cell_kind (m.Declared d.ArrayParameter) = Of Int
+cell_kind m.LeftOut = Element
+cell_kind m.Unknown = Element
 cell_kind _ = Nothing
 
 -- where something can be assigned: a define is an int, but no place
@@ -79,13 +81,17 @@ first_token (t.unary sign at operand) = at
 first_token (t.chain level first links) = first_token first
 first_token (t.choice test question taken colon spared) = first_token test
 
--- whether something of one kind may stand where one is wanted; anything may stand where nothing is
+-- whether something of one kind may stand where one is wanted. What has no meaning fits where it would fit for one of its meanings:
+-- an element is an int, a status, a request or a communicator
 abbrev pub fits : ExprKind → ExprKind → Bool
 fits Nothing given = true
 fits wanted Nothing = true
 fits (Of Int) (Of Int) = true
 fits (Of Status) (Of Status) = true
 fits (Of Communicator) (Of Communicator) = true
+fits (Of Int) Element = true
+fits (Of Status) Element = true
+fits (Of Communicator) Element = true
 -- requests are not copied
 fits (Of Request) NullRequest = true
 fits wanted given = false
@@ -94,9 +100,11 @@ fits wanted given = false
 abbrev pub kind_faults : ExprKind → ExprKind → Span → List TypingFault
 kind_faults wanted given at = unless (fits wanted given) at WrongType
 
--- the two sides of `==` and `!=` that may be handles
+-- the two sides of `==` and `!=` that may be handles: for what has no meaning, where one of its meanings makes them so
 abbrev pub compares : ExprKind → ExprKind → Bool
 compares (Of Communicator) (Of Communicator) = true
+compares (Of Communicator) Element = true
+compares Element (Of Communicator) = true
 compares (Of Communicator) Nothing = true
 compares Nothing (Of Communicator) = true
 compares (Of Request) NullRequest = true
@@ -104,6 +112,8 @@ compares (Of Request) Nothing = true
 compares Nothing (Of Request) = true
 compares NullRequest (Of Request) = true
 compares NullRequest NullRequest = true
+compares NullRequest Element = true
+compares Element NullRequest = true
 compares NullRequest Nothing = true
 compares Nothing NullRequest = true
 compares _ _ = false

@@ -49,6 +49,7 @@ pub fn cell_kind(meaning: Meaning) -> ExprKind
     match meaning {
         Meaning::Declared(Entity::Array(kind, _)) => ExprKind::Of(kind),
         Meaning::Declared(Entity::ArrayParameter) => ExprKind::Of(VariableKind::Int),
+        Meaning::LeftOut | Meaning::Unknown => ExprKind::Element,
         _ => ExprKind::Nothing,
     }
 }
@@ -126,6 +127,9 @@ pub fn fits(wanted: ExprKind, given: ExprKind) -> bool
         (ExprKind::Of(VariableKind::Status), ExprKind::Of(VariableKind::Status)) => true,
         (ExprKind::Of(VariableKind::Communicator), ExprKind::Of(VariableKind::Communicator)) =>
             true,
+        (ExprKind::Of(VariableKind::Int), ExprKind::Element) => true,
+        (ExprKind::Of(VariableKind::Status), ExprKind::Element) => true,
+        (ExprKind::Of(VariableKind::Communicator), ExprKind::Element) => true,
         (ExprKind::Of(VariableKind::Request), ExprKind::NullRequest) => true,
         _ => false,
     }
@@ -145,6 +149,8 @@ pub fn compares(left: ExprKind, right: ExprKind) -> bool
     match (left, right) {
         (ExprKind::Of(VariableKind::Communicator), ExprKind::Of(VariableKind::Communicator)) =>
             true,
+        (ExprKind::Of(VariableKind::Communicator), ExprKind::Element) => true,
+        (ExprKind::Element, ExprKind::Of(VariableKind::Communicator)) => true,
         (ExprKind::Of(VariableKind::Communicator), ExprKind::Nothing) => true,
         (ExprKind::Nothing, ExprKind::Of(VariableKind::Communicator)) => true,
         (ExprKind::Of(VariableKind::Request), ExprKind::NullRequest) => true,
@@ -152,6 +158,8 @@ pub fn compares(left: ExprKind, right: ExprKind) -> bool
         (ExprKind::Nothing, ExprKind::Of(VariableKind::Request)) => true,
         (ExprKind::NullRequest, ExprKind::Of(VariableKind::Request)) => true,
         (ExprKind::NullRequest, ExprKind::NullRequest) => true,
+        (ExprKind::NullRequest, ExprKind::Element) => true,
+        (ExprKind::Element, ExprKind::NullRequest) => true,
         (ExprKind::NullRequest, ExprKind::Nothing) => true,
         (ExprKind::Nothing, ExprKind::NullRequest) => true,
         _ => false,

@@ -39,6 +39,8 @@ pub enum ExprKind {
     Of(VariableKind),
     /// `MPI_REQUEST_NULL`.
     NullRequest,
+    /// An element of an array whose name has no meaning: an int, a status, a request or a communicator.
+    Element,
     /// None of these, as the name of an array.
     Other,
     /// Nothing is known, and nothing follows.

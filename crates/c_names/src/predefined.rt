@@ -28,7 +28,7 @@ pub enum Predefined {
     Fflush,
 }
 
-/// The numbers behind the MPI names are this language's own.
+/// Each name and what it means: the rows of the definition, in its order.
 pub const NAMES: [(&str, Predefined); 61] = [
     ("MPI_ANY_TAG", Predefined::Number(-1)),
     ("MPI_PROC_NULL", Predefined::Number(-1)),

@@ -2,7 +2,6 @@
 use Rattle.std.proofs.Common.{◌≡◌, ◌⊎◌, inl, inr, ℕ, Bool, true, false, ◌==◌, List, [], ◌∷◌, ◌++◌, length, Option, Some, None, refl, arith, if◌then◌else◌, slice_get}
 use Rattle.std.specs.Option.{is_some}
 use Rattle.std.proofs.lemmas.Bool.{eqb-true}
-use Rattle.c_lex.specs.declared.fault.Why.{Why}
 use Rattle.c_lex.specs.declared.fault.Why.TheVariants.{WrongType}
 use Rattle.c_grammar.specs.declared.terminal.Span.{Span}
 use Rattle.c_grammar.specs.Tree as t
@@ -15,14 +14,14 @@ use Rattle.c_names.specs.declared.predefined.Predefined.{Predefined}
 use Rattle.c_names.specs.declared.predefined.Predefined.TheVariants as p
 use Rattle.c_names.specs.declared.kind.VariableKind.{VariableKind}
 use Rattle.c_names.specs.declared.kind.VariableKind.TheVariants.{Int, Status, Request, Communicator}
-use Rattle.c_check.specs.Calls.{accepts_own, accepts_predefined, argument_faults, arguments_faults, arguments_of, array_faults, array_sum, call_faults, counted_faults, first_is_null, is_array_of, is_own, meant_faults, misfit_faults, mpi_takes, reference_faults, result_faults, right_faults, signature_takes, sum_faults, unaccepted_faults, value_faults, predefined_meant, predefined_of}
-use Rattle.c_check_expr.specs.Expressions.{expr_faults, takes_index, wanted_faults}
-use Rattle.c_check_expr.specs.Kinds.{cell_kind, fits, kind_faults, kind_of, first_token, whole_kind}
-use Rattle.c_check_expr.specs.Least.{unless}
+use Rattle.c_check.specs.Calls.{accepts_own, accepts_predefined, argument_faults, arguments_faults, arguments_of, array_faults, array_sum, call_faults, counted_faults, first_may_be_null, is_nameless, is_own, may_be_array_of, meant_faults, misfit_faults, mpi_takes, name_alone, nameless_of, nameless_or, nameless_value, predefined_meant, predefined_of, reference_faults, result_faults, right_faults, signature_takes, sum_faults, unaccepted_faults, value_faults}
+use Rattle.c_check_expr.specs.Expressions.{expr_faults}
+use Rattle.c_check_expr.specs.Kinds.{first_token}
+use Rattle.c_check_expr.specs.Least.{fault}
 use Rattle.c_check_expr.specs.Scopes.{Env, meaning, name_faults}
 use Rattle.c_check_expr.specs.declared.fault.TypingFault.{TypingFault}
 use Rattle.c_check_expr.specs.declared.meaning.ExprKind.{ExprKind}
-use Rattle.c_check_expr.specs.declared.meaning.ExprKind.TheVariants.{Of, NullRequest, Other, Nothing}
+use Rattle.c_check_expr.specs.declared.meaning.ExprKind.TheVariants.{Of}
 use Rattle.c_check_expr.specs.declared.meaning.Meaning.{Meaning}
 use Rattle.c_check_expr.specs.declared.meaning.Meaning.TheVariants as m
 use Rattle.c_check_expr.specs.declared.meaning.Entity.TheVariants as d
@@ -43,87 +42,31 @@ pub none_behind : {A : Type 0} (xs ys : List A) → xs ++ ys ≡ [] → ys ≡ [
 none_behind [] ys h = h
 none_behind (x ∷ xs) ys h = cc
 
-pub unless_tells : (b : Bool) (at : Span) (why : Why) → unless b at why ≡ [] → b ≡ true
-unless_tells true at why h = refl
-unless_tells false at why h = cc
+-- ---- what is never without faults
 
--- ---- nothing is of no kind at all
-
-whole_named : (meant : Meaning) (at : Span) → whole_kind meant ≡ Nothing → name_faults meant at ≡ [] → ⊥
-whole_named m.LeftOut at k n = cc
-whole_named m.Unknown at k n = cc
-whole_named (m.Known (p.Number value)) at k n = cc
-whole_named (m.Known (p.Communicator number)) at k n = cc
-whole_named (m.Known p.NullRequest) at k n = cc
-whole_named (m.Known p.NoReference) at k n = cc
-whole_named (m.Known p.Datatype) at k n = cc
-whole_named (m.Known (p.Operation op)) at k n = cc
-whole_named (m.Known p.IgnoredStatus) at k n = cc
-whole_named (m.Known p.IgnoredStatuses) at k n = cc
-whole_named (m.Known p.Output) at k n = cc
-whole_named (m.Known (p.Mpi function)) at k n = cc
-whole_named (m.Known p.Printf) at k n = cc
-whole_named (m.Known p.Fflush) at k n = cc
-whole_named (m.Declared (d.Function number)) at k n = cc
-whole_named (m.Declared (d.Define value)) at k n = cc
-whole_named (m.Declared (d.Variable kind)) at k n = cc
-whole_named (m.Declared (d.Array kind length)) at k n = cc
-whole_named (m.Declared d.ArrayParameter) at k n = cc
-whole_named (m.Declared d.ArgumentCount) at k n = cc
-whole_named (m.Declared d.ArgumentTexts) at k n = cc
-
-cell_named : (meant : Meaning) (at : Span) → cell_kind meant ≡ Nothing → name_faults meant at ≡ [] → takes_index meant ≡ true → ⊥
-cell_named m.LeftOut at k n i = cc
-cell_named m.Unknown at k n i = cc
-cell_named (m.Known known) at k n i = cc
-cell_named (m.Declared (d.Function number)) at k n i = cc
-cell_named (m.Declared (d.Define value)) at k n i = cc
-cell_named (m.Declared (d.Variable kind)) at k n i = cc
-cell_named (m.Declared (d.Array kind length)) at k n i = cc
-cell_named (m.Declared d.ArrayParameter) at k n i = cc
-cell_named (m.Declared d.ArgumentCount) at k n i = cc
-cell_named (m.Declared d.ArgumentTexts) at k n i = cc
-
-other_fits : (given : ExprKind) → fits Other given ≡ true → given ≡ Nothing
-other_fits (Of kind) h = cc
-other_fits NullRequest h = cc
-other_fits Other h = cc
-other_fits Nothing h = refl
-
-other_kind : (fs : List TypingFault) (given : ExprKind) (at : Span) → fs ++ kind_faults Other given at ≡ [] → given ≡ Nothing
-other_kind fs given at h = other_fits given (unless_tells (fits Other given) at WrongType (none_behind fs (kind_faults Other given at) h))
-
-other_int : (fs : List TypingFault) (at : Span) → fs ++ kind_faults Other (Of Int) at ≡ [] → ⊥
-other_int fs at h = let e : Of Int ≡ Nothing = other_kind fs (Of Int) at h in cc
-
--- an expression that is no value is at fault
-pub other_never : (env : Env) (e : t.Expr) → wanted_faults env Other e ≡ [] → ⊥
-other_never env (t.read (t.whole name)) h =
-    whole_named (meaning env name) name
-    (other_kind (name_faults (meaning env name) name) (whole_kind (meaning env name)) name h)
-    (none_before (name_faults (meaning env name) name) (kind_faults Other (whole_kind (meaning env name)) name) h)
-other_never env (t.read (t.cell name opening index closing)) h =
-    let named : List TypingFault = name_faults (meaning env name) name in
-    let indexed : List TypingFault = unless (takes_index (meaning env name)) name WrongType in
-    let inner : List TypingFault = expr_faults env index ++ kind_faults (Of Int) (kind_of env index) (first_token index) in
-    let all : (named ++ indexed) ++ inner ≡ [] = none_before ((named ++ indexed) ++ inner) (kind_faults Other (cell_kind (meaning env name)) name) h in
-    let front : named ++ indexed ≡ [] = none_before (named ++ indexed) inner all in
-    cell_named (meaning env name) name
-    (other_kind ((named ++ indexed) ++ inner) (cell_kind (meaning env name)) name h)
-    (none_before named indexed front)
-    (unless_tells (takes_index (meaning env name)) name WrongType (none_behind named indexed front))
-other_never env (t.number at) h = other_int [] at h
-other_never env (t.field place dot name) h = other_int (expr_faults env (t.field place dot name)) (first_token (t.field place dot name)) h
-other_never env (t.paren opening inner closing) h = other_int (expr_faults env (t.paren opening inner closing)) opening h
-other_never env (t.unary sign at operand) h = other_int (expr_faults env (t.unary sign at operand)) at h
-other_never env (t.chain level first links) h = other_int (expr_faults env (t.chain level first links)) (first_token first) h
-other_never env (t.choice test question taken colon spared) h =
-    other_int (expr_faults env (t.choice test question taken colon spared)) (first_token test) h
+named_never : (meant : Meaning) (at : Span) → is_nameless meant ≡ true → name_faults meant at ≡ [] → ⊥
+named_never m.LeftOut at n h = cc
+named_never m.Unknown at n h = cc
+named_never (m.Known known) at n h = cc
+named_never (m.Declared entity) at n h = cc
 
 pub misfit_never : (env : Env) (given : t.Argument) → misfit_faults env given ≡ [] → ⊥
 misfit_never env (t.text at) h = cc
 misfit_never env (t.address mark place) h = cc
-misfit_never env (t.value e) h = other_never env e h
+misfit_never env (t.value e) h = let k = none_behind (expr_faults env e) (fault (first_token e) WrongType) h in cc
+
+-- a name without a meaning, or what is not wanted
+nameless_never : (env : Env) (name : Option Span) (given : t.Argument) → nameless_or env (nameless_of env name) (misfit_faults env given) ≡ [] → ⊥
+nameless_never env None given h = misfit_never env given h
+nameless_never env (Some name) given h = elim (cases (is_nameless (meaning env name))) [
+  | inl e ↦ named_never (meaning env name) name e (rw e at h)
+  | inr e ↦ misfit_never env given (rw e at h)
+]
+
+predefined_never : (env : Env) (given : t.Argument) → nameless_or env (nameless_value env given) (misfit_faults env given) ≡ [] → ⊥
+predefined_never env (t.text at) h = misfit_never env (t.text at) h
+predefined_never env (t.address mark place) h = misfit_never env (t.address mark place) h
+predefined_never env (t.value e) h = nameless_never env (name_alone e) (t.value e) h
 
 -- ---- values and references
 
@@ -132,14 +75,14 @@ value_shape env wanted (t.text at) h = cc
 value_shape env wanted (t.address mark place) h = cc
 value_shape env wanted (t.value e) h = refl
 
-array_word : (wanted : VariableKind) (meant : Meaning) → is_array_of wanted meant ≡ true → predefined_meant meant ≡ None
+array_word : (wanted : VariableKind) (meant : Meaning) → may_be_array_of wanted meant ≡ true → predefined_meant meant ≡ None
 array_word wanted m.LeftOut h = refl
 array_word wanted m.Unknown h = refl
 array_word wanted (m.Known known) h = cc
 array_word wanted (m.Declared entity) h = refl
 
 sum_shape : (env : Env) (wanted : VariableKind) (e : t.Expr) (sum : Option (Span × t.Expr)) → sum_faults env wanted e sum ≡ [] → is_some sum ≡ true
-sum_shape env wanted e None h = absurd (other_never env e h)
+sum_shape env wanted e None h = absurd (misfit_never env (t.value e) h)
 sum_shape env wanted e (Some sum) h = refl
 
 -- cells, and no predefined name
@@ -148,18 +91,18 @@ pub record HasCells (env : Env) (given : t.Argument) : Type 0 where
   pub cells : has_cells given ≡ true
 
 array_shape : (env : Env) (wanted : VariableKind) (e : t.Expr) → array_faults env wanted e ≡ [] → HasCells env (t.value e)
-array_shape env wanted (t.read (t.whole name)) h = elim (cases (is_array_of wanted (meaning env name))) [
+array_shape env wanted (t.read (t.whole name)) h = elim (cases (may_be_array_of wanted (meaning env name))) [
   | inl e ↦ record { word = array_word wanted (meaning env name) e; cells = refl }
-  | inr e ↦ absurd (other_never env (t.read (t.whole name)) (rw e at h))
+  | inr e ↦ absurd (misfit_never env (t.value (t.read (t.whole name))) (rw e at h))
 ]
 array_shape env wanted (t.chain level first links) h =
     record { word = refl; cells = sum_shape env wanted (t.chain level first links) (array_sum (t.chain level first links)) h }
-array_shape env wanted (t.read (t.cell name opening index closing)) h = absurd (other_never env (t.read (t.cell name opening index closing)) h)
-array_shape env wanted (t.number at) h = absurd (other_never env (t.number at) h)
-array_shape env wanted (t.field place dot name) h = absurd (other_never env (t.field place dot name) h)
-array_shape env wanted (t.paren opening inner closing) h = absurd (other_never env (t.paren opening inner closing) h)
-array_shape env wanted (t.unary sign at operand) h = absurd (other_never env (t.unary sign at operand) h)
-array_shape env wanted (t.choice test question taken colon spared) h = absurd (other_never env (t.choice test question taken colon spared) h)
+array_shape env wanted (t.read (t.cell name opening index closing)) h = absurd (misfit_never env (t.value (t.read (t.cell name opening index closing))) h)
+array_shape env wanted (t.number at) h = absurd (misfit_never env (t.value (t.number at)) h)
+array_shape env wanted (t.field place dot name) h = absurd (misfit_never env (t.value (t.field place dot name)) h)
+array_shape env wanted (t.paren opening inner closing) h = absurd (misfit_never env (t.value (t.paren opening inner closing)) h)
+array_shape env wanted (t.unary sign at operand) h = absurd (misfit_never env (t.value (t.unary sign at operand)) h)
+array_shape env wanted (t.choice test question taken colon spared) h = absurd (misfit_never env (t.value (t.choice test question taken colon spared)) h)
 
 pub cells_shape : (env : Env) (wanted : VariableKind) (given : t.Argument) → reference_faults env wanted given ≡ [] → HasCells env given
 cells_shape env wanted (t.text at) h = cc
@@ -280,7 +223,7 @@ shape env a.Statuses given h = elim (told env a.Statuses given (λ meant. refl) 
 ]
 shape env a.Operation given h = elim (told env a.Operation given (λ meant. refl) h) [
   | inl e ↦ operation_word (predefined_of env given) e
-  | inr e ↦ absurd (misfit_never env given e)
+  | inr e ↦ absurd (predefined_never env given e)
 ]
 shape env a.Datatype given h = refl
 shape env a.ArgumentCount given h = refl
@@ -327,7 +270,7 @@ init_count env name given false h = (counted env name (a.ArgumentCount ∷ a.Arg
 
 taken : (env : Env) (name : Span) (function : MpiFunction) (given : List t.Argument) → counted_faults env name (Some (mpi_takes env function given)) given ≡ []
     → Fits env function given
-taken env name f.Init given h = record { count = init_count env name given (first_is_null env given) h; shapes = (refl, (refl, tt)) }
+taken env name f.Init given h = record { count = init_count env name given (first_may_be_null env given) h; shapes = (refl, (refl, tt)) }
 taken env name f.Finalize given h = fitting env name f.Finalize given h
 taken env name f.CommRank given h = fitting env name f.CommRank given h
 taken env name f.CommSize given h = fitting env name f.CommSize given h
