@@ -16,11 +16,11 @@ use Rattle.srr_entry.specs.declared.entry.Entry.TheVariants.{Sent, Posted, Enter
 use Rattle.wiz_base.specs.Decimals.{decimal_text, number_text}
 use Rattle.wiz_base.proofs.DecimalLaws.{decimal_text-excludes, decimal_text-digit}
 use Rattle.srr_text.specs.EntryText.{each_after, name_text, mark_text, item_text, halt_number, halt_details, entry_line}
-use Rattle.mpi_call.specs.Lists.{Rises}
+use Rattle.mpi_call.specs.Lists.{Rises, rises}
 use Rattle.srr_text.specs.Bounds.{IsSmallNumber, IsSender, IsTag, IsMark, IsHalt, IsEntry}
-use Rattle.srr_log.specs.Pieces.{◌>>=◌, behind, cut, number_in, int_in, rank_in}
-use Rattle.srr_log.specs.EntryReading.{rises, indices, inside_in, outside_in, mark_in, item_in, all_items_in, items_in, peek_cut, peek_in, fault_of, detail_in, detailed_in, named_in, halt_in, long_entry, long_entry_in, entry_in}
-use Rattle.srr_log.proofs.PieceLaws.{some, bind_some, guard_some, same_word, behind_some, cut_at, cut_some, number_read, number_said, int_read, int_said, rank_read, rank_said}
+use Rattle.srr_log.specs.Pieces.{◌>>=◌, behind, split_once, number_in, int_in, rank_in}
+use Rattle.srr_log.specs.EntryReading.{indices, inside_in, outside_in, mark_in, item_in, all_items_in, items_in, peek_split, peek_in, fault_of, detail_in, detailed_in, named_in, halt_in, long_entry, long_entry_in, entry_in}
+use Rattle.srr_log.proofs.PieceLaws.{some, bind_some, guard_some, same_word, behind_some, split_once_at, split_once_some, number_read, number_said, int_read, int_said, rank_read, rank_said}
 use Rattle.srr_log.proofs.NoByteLaws.{no_byte_decimal, no_byte_item}
 use Rattle.srr_log.proofs.MarkLaws.{listed_read, listed_said, rises_rise, rise_rises, inside_read, inside_said, tagged_text, outside_read, outside_said, short_name, long_name, mark_read, mark_said, pick, branch}
 
@@ -32,7 +32,7 @@ item_read : (n : ℕ) (group : List ℕ) → n ≤ 256 → (item : Marked) → I
 unfolding item_in
 item_read n group few item good =
     rw (
-      cut_at 61 (decimal_text item.index) (mark_text item.mark) (decimal_text-excludes item.index 61 (λ digit. omega (arith, digit.1))),
+      split_once_at 61 (decimal_text item.index) (mark_text item.mark) (decimal_text-excludes item.index 61 (λ digit. omega (arith, digit.1))),
       number_read 999999 item.index good.0,
       mark_read n group few item.mark good.1,
     ) refl
@@ -40,7 +40,7 @@ item_read n group few item good =
 item_said : (n : ℕ) (group text : List ℕ) (item : Marked) → item_in n group text ≡ some item → IsItem n group item × (text ≡ item_text item)
 unfolding item_in
 item_said n group text item e =
-    let a = bind_some (cut 61 text) (λ parts. number_in 999999 parts.0 >>= λ index. mark_in n group parts.1 >>= λ mark. some (record { index = index; mark = mark })) item e in
+    let a = bind_some (split_once 61 text) (λ parts. number_in 999999 parts.0 >>= λ index. mark_in n group parts.1 >>= λ mark. some (record { index = index; mark = mark })) item e in
     let b = bind_some (number_in 999999 a.0.0) (λ index. mark_in n group a.0.1 >>= λ mark. some (record { index = index; mark = mark })) item a.2 in
     let d = bind_some (mark_in n group a.0.1) (λ mark. some (record { index = b.0; mark = mark })) item b.2 in
     let index = number_said 999999 a.0.0 b.0 b.1 in
@@ -48,7 +48,7 @@ item_said n group text item e =
     let made : Marked = record { index = b.0; mark = d.0 } in
     let same : made ≡ item = let s = d.2 in cc in
     let P : Marked → Type 0 = λ item. IsItem n group item × (text ≡ item_text item) in
-    subst P same ((index.0, mark.0), cut_some 61 text a.0.0 a.0.1 a.1 ∙ ap (λ xs. xs ++ 61 ∷ a.0.1) index.1 ∙ ap (λ xs. decimal_text b.0 ++ 61 ∷ xs) mark.1)
+    subst P same ((index.0, mark.0), split_once_some 61 text a.0.0 a.0.1 a.1 ∙ ap (λ xs. xs ++ 61 ∷ a.0.1) index.1 ∙ ap (λ xs. decimal_text b.0 ++ 61 ∷ xs) mark.1)
 
 items_read : (n : ℕ) (group : List ℕ) → n ≤ 256 → (item : Marked) (items : List Marked) → Rises 0 (indices (item ∷ items)) → All (IsItem n group) (item ∷ items)
     → items_in n group (item_text item ++ each_after 32 (map item_text items)) ≡ some (item ∷ items)
@@ -83,7 +83,7 @@ unfolding peek_in
 peek_read_long n group few source start tag count sender small tag_small fits =
     rw (long_name source start tag (decimal_text count), outside_read n group source start tag few sender small tag_small, number_read 65536 count fits) refl
 
-peek_said_cut : (n : ℕ) (group text : List ℕ) (parts : Option (List ℕ × List ℕ)) (entry : Entry) → cut 58 text ≡ parts → peek_cut n group text parts ≡ some entry → IsLineOf n group (107 ∷ 32 ∷ text) entry
+peek_said_cut : (n : ℕ) (group text : List ℕ) (parts : Option (List ℕ × List ℕ)) (entry : Entry) → split_once 58 text ≡ parts → peek_split n group text parts ≡ some entry → IsLineOf n group (107 ∷ 32 ∷ text) entry
 peek_said_cut n group text None entry is e =
     let a = bind_some (inside_in n group text) (λ name. some (PeekedInside name.0 name.1)) entry e in
     let said = inside_said n group text a.0.0 a.0.1 a.1 in
@@ -96,11 +96,11 @@ peek_said_cut n group text (Some parts) entry is e =
     let count = number_said 65536 parts.1 b.0 b.1 in
     let same : PeekedOutside a.0.0 a.0.1 a.0.2 b.0 ≡ entry = let s = b.2 in cc in
     subst (IsLineOf n group (107 ∷ 32 ∷ text)) same
-    ((said.0, said.1, said.2, count.0), ap (λ xs. 107 ∷ 32 ∷ xs) (cut_some 58 text parts.0 parts.1 is ∙ ap (λ xs. xs ++ 58 ∷ parts.1) said.3 ∙ ap (λ xs. tagged_text a.0.0 a.0.1 a.0.2 ++ 58 ∷ xs) count.1))
+    ((said.0, said.1, said.2, count.0), ap (λ xs. 107 ∷ 32 ∷ xs) (split_once_some 58 text parts.0 parts.1 is ∙ ap (λ xs. xs ++ 58 ∷ parts.1) said.3 ∙ ap (λ xs. tagged_text a.0.0 a.0.1 a.0.2 ++ 58 ∷ xs) count.1))
 
 peek_said : (n : ℕ) (group text : List ℕ) (entry : Entry) → peek_in n group text ≡ some entry → IsLineOf n group (107 ∷ 32 ∷ text) entry
 unfolding peek_in
-peek_said n group text entry e = peek_said_cut n group text (cut 58 text) entry refl e
+peek_said n group text entry e = peek_said_cut n group text (split_once 58 text) entry refl e
 
 -- faults
 fault_read : (fault : Fault) → (fault_number fault ≤ 10) × (fault_of (fault_number fault) ≡ some fault)
@@ -160,7 +160,7 @@ one_digit n rest below = ap (λ xs. xs ++ rest) (decimal_text-digit n below)
 detailed_read : (n rank : ℕ) (kind other : List ℕ) → n ≤ 256 → rank < n → detailed_in n kind (decimal_text rank ++ 32 ∷ other) ≡ detail_in kind rank other
 unfolding detailed_in
 detailed_read n rank kind other few below =
-    rw (cut_at 32 (decimal_text rank) other (no_byte_decimal 32 rank (omega arith)), rank_read n rank (omega arith) below) refl
+    rw (split_once_at 32 (decimal_text rank) other (no_byte_decimal 32 rank (omega arith)), rank_read n rank (omega arith) below) refl
 
 detail_read : (rank : ℕ) → ((code : ℤ) → FitsSigned w32 code → detail_in (codes "1") rank (number_text code) ≡ some (Aborted rank code))
     × ((fault : Fault) → detail_in (codes "2") rank (decimal_text (fault_number fault)) ≡ some (Trapped rank fault))
@@ -177,11 +177,11 @@ detail_read rank = (
 -- a digit, a blank and more is a halt that names a rank
 digit_named : (n : ℕ) (other : List ℕ) → (halt_in n (49 ∷ 32 ∷ other) ≡ detailed_in n (codes "1") other) × (halt_in n (50 ∷ 32 ∷ other) ≡ detailed_in n (codes "2") other)
     × (halt_in n (51 ∷ 32 ∷ other) ≡ detailed_in n (codes "3") other) × (halt_in n (53 ∷ 32 ∷ other) ≡ detailed_in n (codes "5") other)
-unfolding halt_in named_in cut
+unfolding halt_in named_in split_once
 digit_named n other = (refl, refl, refl, refl)
 
 halt_read : (n : ℕ) → n ≤ 256 → (halt : Halt) → IsHalt n halt → halt_in n (decimal_text (halt_number halt) ++ halt_details halt) ≡ some halt
-unfolding halt_in named_in cut
+unfolding halt_in named_in split_once
 halt_read n few (Aborted rank code) good =
     ap (halt_in n) (one_digit 1 (halt_details (Aborted rank code)) (omega arith)) ∙ (digit_named n (decimal_text rank ++ 32 ∷ number_text code)).0
     ∙ detailed_read n rank (codes "1") (number_text code) few good.0 ∙ (detail_read rank).0 code good.1
@@ -240,17 +240,17 @@ detail_said n kind rank other halt below e = elim (branch (bytes_eq kind (codes 
 detailed_said : (n : ℕ) (kind text : List ℕ) (halt : Halt) → detailed_in n kind text ≡ some halt → IsHaltText n (kind ++ 32 ∷ text) halt
 unfolding detailed_in
 detailed_said n kind text halt e =
-    let a = bind_some (cut 32 text) (λ parts. rank_in n parts.0 >>= λ rank. detail_in kind rank parts.1) halt e in
+    let a = bind_some (split_once 32 text) (λ parts. rank_in n parts.0 >>= λ rank. detail_in kind rank parts.1) halt e in
     let b = bind_some (rank_in n a.0.0) (λ rank. detail_in kind rank a.0.1) halt a.2 in
     let rank = rank_said n a.0.0 b.0 b.1 in
     let said = detail_said n kind b.0 a.0.1 halt rank.0 b.2 in
-    (said.0, ap (λ xs. kind ++ 32 ∷ xs) (cut_some 32 text a.0.0 a.0.1 a.1 ∙ ap (λ xs. xs ++ 32 ∷ a.0.1) rank.1) ∙ said.1)
+    (said.0, ap (λ xs. kind ++ 32 ∷ xs) (split_once_some 32 text a.0.0 a.0.1 a.1 ∙ ap (λ xs. xs ++ 32 ∷ a.0.1) rank.1) ∙ said.1)
 
 named_said : (n : ℕ) (text : List ℕ) (halt : Halt) → named_in n text ≡ some halt → IsHaltText n text halt
 unfolding named_in
 named_said n text halt e =
-    let a = bind_some (cut 32 text) (λ parts. if bytes_eq parts.0 (codes "4") then (rank_in n parts.1 >>= λ rank. some (Mismatched rank)) else detailed_in n parts.0 parts.1) halt e in
-    let whole = cut_some 32 text a.0.0 a.0.1 a.1 in
+    let a = bind_some (split_once 32 text) (λ parts. if bytes_eq parts.0 (codes "4") then (rank_in n parts.1 >>= λ rank. some (Mismatched rank)) else detailed_in n parts.0 parts.1) halt e in
+    let whole = split_once_some 32 text a.0.0 a.0.1 a.1 in
     elim (branch (bytes_eq a.0.0 (codes "4")) _ _ (some halt) a.2) [
       | inl (same, e₁) ↦
           let b = bind_some (rank_in n a.0.1) (λ rank. some (Mismatched rank)) halt e₁ in

@@ -13,11 +13,11 @@ use Rattle.srr_text.specs.Bounds.{IsInBounds}
 use Rattle.srr_log.specs.Parts.{Part, head_line, ranks_line, group_line, size_line, program_bytes, rank_line, entry_part, end_line, part_line, part_text, parts_text, lists_parts, log_parts}
 use Rattle.srr_log.specs.Faults.{IsWhole, HasNoEnd, IsReason, IsShort, IsBad, IsExtra, IsFirstFault, no_memory}
 use Rattle.srr_log.specs.Reading.{State, at_head, at_ranks, at_group, at_size, at_program, at_list, at_entry, at_end, Allows, next, after, Runs, expected, IsOpen, FaultAt, FaultFrom, Reads, IsWithin, IsPlaced}
-use Rattle.srr_log.proofs.PieceLaws.{some, cut_at}
+use Rattle.srr_log.proofs.PieceLaws.{some, split_once_at}
 use Rattle.std.proofs.Math.Seq.{drop-length}
-use Rattle.srr_log.specs.declared.stop.Stop.{Stop}
-use Rattle.srr_log.specs.declared.stop.Stop.TheVariants.{NoMemory, Fault}
-use Rattle.srr_log.specs.Pieces.{cut}
+use Rattle.srr_log.specs.declared.read_error.ReadError.{ReadError}
+use Rattle.srr_log.specs.declared.read_error.ReadError.TheVariants.{NoMemory, Fault}
+use Rattle.srr_log.specs.Pieces.{split_once}
 use Rattle.srr_log.proofs.ReadLaws.{lists_before}
 use Rattle.std.proofs.lemmas.Option.{some_pair_parts}
 use Rattle.srr_log.proofs.StateLaws.{IsLineState, IsSmallState, line_in, line_read, no_newline, AreRead, after_lists, after_append, runs_split}
@@ -36,7 +36,7 @@ same_length (x ∷ xs) (y ∷ ys) rest rest' many e =
 
 same_line : (xs ys rest rest' : List ℕ) → HasNoNewline xs → HasNoNewline ys → xs ++ 10 ∷ rest ≡ ys ++ 10 ∷ rest' → (xs ≡ ys) × (rest ≡ rest')
 same_line xs ys rest rest' none none' e =
-    some_pair_parts xs ys rest rest' (sym (cut_at 10 xs rest none) ∙ ap (cut 10) e ∙ cut_at 10 ys rest' none')
+    some_pair_parts xs ys rest rest' (sym (split_once_at 10 xs rest none) ∙ ap (split_once 10) e ∙ split_once_at 10 ys rest' none')
 
 newline_in : (xs rest : List ℕ) → HasNoNewline (xs ++ 10 ∷ rest) → ⊥
 newline_in xs rest none =
@@ -385,11 +385,11 @@ fault_within text why left (parts, rest, run, is, fault) =
       | inr (whole, other) ↦ omega arith
     ]
 
-pub stop_within : (text rest : List ℕ) (stop : Stop) → Reads at_head log_parts text (Err stop) rest → IsWithin stop (length text)
+pub stop_within : (text rest : List ℕ) (stop : ReadError) → Reads at_head log_parts text (Err stop) rest → IsWithin stop (length text)
 stop_within text rest NoMemory fault = tt
 stop_within text rest (Fault why left) fault = fault_within text why left fault
 
-pub stop_fault : (text rest : List ℕ) (stop : Stop) (fault : LogFault) → Reads at_head log_parts text (Err stop) rest → IsPlaced stop (length text) fault → (fault ≡ no_memory) ⊎ IsFirstFault text fault
+pub stop_fault : (text rest : List ℕ) (stop : ReadError) (fault : LogFault) → Reads at_head log_parts text (Err stop) rest → IsPlaced stop (length text) fault → (fault ≡ no_memory) ⊎ IsFirstFault text fault
 stop_fault text rest NoMemory fault read placed = inl placed
 stop_fault text rest (Fault why left) fault read placed =
     inr (subst (IsFirstFault text) (same_fault fault.at fault.at why fault.why refl (sym placed.0)) (first_fault text fault.at left why read placed.1))

@@ -12,10 +12,11 @@ use Rattle.srr_text.specs.EntryText.{each_after, entry_line}
 use Rattle.srr_text.specs.Bounds.{IsGroup, IsEntry, is_last}
 use Rattle.srr_log.specs.Faults.{IsReason}
 use Rattle.srr_log.specs.Parts.{head_line}
-use Rattle.srr_log.specs.Pieces.{◌>>=◌, behind, cut, number_in}
-use Rattle.srr_log.specs.EntryReading.{rises, ranks_in, entry_in}
+use Rattle.srr_log.specs.Pieces.{◌>>=◌, behind, split_once, number_in}
+use Rattle.mpi_call.specs.Lists.{rises}
+use Rattle.srr_log.specs.EntryReading.{ranks_in, entry_in}
 use Rattle.srr_log.specs.LineReading.{ranks_line_in, group_line_in, size_line_in, rank_line_in, entry_line_in}
-use Rattle.srr_log.proofs.PieceLaws.{some, bind_some, guard_some, guard_none, behind_word, behind_some, cut_at, cut_some, number_read, number_said}
+use Rattle.srr_log.proofs.PieceLaws.{some, bind_some, guard_some, guard_none, behind_word, behind_some, split_once_at, split_once_some, number_read, number_said}
 use Rattle.srr_log.proofs.NoByteLaws.{no_byte_decimal}
 use Rattle.srr_log.proofs.MarkLaws.{rises_rise, rise_rises, ranks_read, ranks_said}
 use Rattle.srr_log.proofs.EntryLaws.{entry_read, entry_said}
@@ -71,7 +72,7 @@ unfolding rank_line_in
 rank_line_read rank count small fits =
     rw (
       behind_word (codes "rank ") (decimal_text rank ++ 32 ∷ decimal_text count),
-      cut_at 32 (decimal_text rank) (decimal_text count) (no_byte_decimal 32 rank (omega arith)),
+      split_once_at 32 (decimal_text rank) (decimal_text count) (no_byte_decimal 32 rank (omega arith)),
       number_read 255 rank small,
       number_read 999064 count fits,
       eq-eqb rank rank refl,
@@ -80,8 +81,8 @@ rank_line_read rank count small fits =
 pub rank_line_said : (rank : ℕ) (line : List ℕ) (count : ℕ) → rank_line_in rank line ≡ some count → (count ≤ 999064) × (line ≡ codes "rank " ++ decimal_text rank ++ (32 ∷ decimal_text count))
 unfolding rank_line_in
 rank_line_said rank line count e =
-    let a = bind_some (behind (codes "rank ") line) (λ text. cut 32 text >>= λ parts. number_in 255 parts.0 >>= λ named. number_in 999064 parts.1 >>= λ count. if named == rank then some count else None) count e in
-    let b = bind_some (cut 32 a.0) (λ parts. number_in 255 parts.0 >>= λ named. number_in 999064 parts.1 >>= λ count. if named == rank then some count else None) count a.2 in
+    let a = bind_some (behind (codes "rank ") line) (λ text. split_once 32 text >>= λ parts. number_in 255 parts.0 >>= λ named. number_in 999064 parts.1 >>= λ count. if named == rank then some count else None) count e in
+    let b = bind_some (split_once 32 a.0) (λ parts. number_in 255 parts.0 >>= λ named. number_in 999064 parts.1 >>= λ count. if named == rank then some count else None) count a.2 in
     let d = bind_some (number_in 255 b.0.0) (λ named. number_in 999064 b.0.1 >>= λ count. if named == rank then some count else None) count b.2 in
     let f = bind_some (number_in 999064 b.0.1) (λ count. if d.0 == rank then some count else None) count d.2 in
     let g = guard_some (d.0 == rank) f.0 count f.2 in
@@ -91,7 +92,7 @@ rank_line_said rank line count e =
     subst P g.1 (
       said.0,
       behind_some (codes "rank ") line a.0 a.1
-          ∙ ap (λ xs. codes "rank " ++ xs) (cut_some 32 a.0 b.0.0 b.0.1 b.1 ∙ ap (λ xs. xs ++ 32 ∷ b.0.1) (named.1 ∙ ap decimal_text (eqb-true d.0 rank g.0)) ∙ ap (λ xs. decimal_text rank ++ 32 ∷ xs) said.1),
+          ∙ ap (λ xs. codes "rank " ++ xs) (split_once_some 32 a.0 b.0.0 b.0.1 b.1 ∙ ap (λ xs. xs ++ 32 ∷ b.0.1) (named.1 ∙ ap decimal_text (eqb-true d.0 rank g.0)) ∙ ap (λ xs. decimal_text rank ++ 32 ∷ xs) said.1),
     )
 
 no_others : (others : ℕ) → nat_lt 0 others ≡ false → others ≡ 0

@@ -15,11 +15,11 @@ use Rattle.srr_entry.specs.declared.entry.Mark.TheVariants.{Sent as MarkSent, No
 use Rattle.wiz_base.specs.Decimals.{decimal_text, number_text}
 use Rattle.wiz_base.proofs.DecimalLaws.{decimal_text-bytes, decimal_text-nonempty, decimal_text-excludes, number_text-nonempty}
 use Rattle.srr_text.specs.EntryText.{each_after, by_commas, ints_text, name_text, mark_text}
-use Rattle.mpi_call.specs.Lists.{Rises}
+use Rattle.mpi_call.specs.Lists.{Rises, rises}
 use Rattle.srr_text.specs.Bounds.{IsSmallNumber, IsTag, AreInts, IsSender, IsMark}
-use Rattle.srr_log.specs.Pieces.{◌>>=◌, behind, cut, pieces, all_of, number_in, int_in, rank_in}
-use Rattle.srr_log.specs.EntryReading.{rises, ints_in, few_ints_in, ranks_in, inside_in, outside_in, message_cut, message_in, made_cut, made_in, long_mark, long_mark_in, mark_in}
-use Rattle.srr_log.proofs.PieceLaws.{some, bind_some, guard_some, guard_none, same_word, behind_some, cut_at, cut_none, cut_some, pieces_joined, joined_pieces, some_pieces, all_of_map, map_all_of, number_read, number_said, int_read, int_said, rank_read, rank_said}
+use Rattle.srr_log.specs.Pieces.{◌>>=◌, behind, split_once, pieces, all_of, number_in, int_in, rank_in}
+use Rattle.srr_log.specs.EntryReading.{ints_in, few_ints_in, ranks_in, inside_in, outside_in, message_split, message_in, made_split, made_in, long_mark, long_mark_in, mark_in}
+use Rattle.srr_log.proofs.PieceLaws.{some, bind_some, guard_some, guard_none, same_word, behind_some, split_once_at, split_once_none, split_once_some, pieces_joined, joined_pieces, some_pieces, all_of_map, map_all_of, number_read, number_said, int_read, int_said, rank_read, rank_said}
 use Rattle.srr_log.proofs.NoByteLaws.{NoByte, no_byte_append, no_byte_cons, no_byte_decimal, no_byte_number}
 
 -- elements with such marks between
@@ -111,19 +111,19 @@ rise_rises least (number ∷ numbers) (here, up) = and_from (nat_le least number
 pub inside_read : (n : ℕ) (group : List ℕ) (source start : ℕ) → n ≤ 256 → IsSender n group true source → IsSmallNumber start → inside_in n group (name_text source start) ≡ some (source, start)
 unfolding inside_in
 inside_read n group source start few sender small =
-    rw (cut_at 46 (decimal_text source) (decimal_text start) (no_byte_decimal 46 source (omega arith)), rank_read n source (omega arith) sender.0, number_read 999999 start small, sender.1) refl
+    rw (split_once_at 46 (decimal_text source) (decimal_text start) (no_byte_decimal 46 source (omega arith)), rank_read n source (omega arith) sender.0, number_read 999999 start small, sender.1) refl
 
 pub inside_said : (n : ℕ) (group text : List ℕ) (source start : ℕ) → inside_in n group text ≡ some (source, start)
     → IsSender n group true source × IsSmallNumber start × (text ≡ name_text source start)
 unfolding inside_in
 inside_said n group text source start e =
-    let a = bind_some (cut 46 text) (λ parts. rank_in n parts.0 >>= λ source. number_in 999999 parts.1 >>= λ start. if is_member group source then some (source, start) else None) (source, start) e in
+    let a = bind_some (split_once 46 text) (λ parts. rank_in n parts.0 >>= λ source. number_in 999999 parts.1 >>= λ start. if is_member group source then some (source, start) else None) (source, start) e in
     let b = bind_some (rank_in n a.0.0) (λ source. number_in 999999 a.0.1 >>= λ start. if is_member group source then some (source, start) else None) (source, start) a.2 in
     let d = bind_some (number_in 999999 a.0.1) (λ start. if is_member group b.0 then some (b.0, start) else None) (source, start) b.2 in
     let g = guard_some (is_member group b.0) (b.0, d.0) (source, start) d.2 in
     let rank = rank_said n a.0.0 b.0 b.1 in
     let number = number_said 999999 a.0.1 d.0 d.1 in
-    let is : text ≡ name_text b.0 d.0 = cut_some 46 text a.0.0 a.0.1 a.1 ∙ ap (λ xs. xs ++ 46 ∷ a.0.1) rank.1 ∙ ap (λ xs. decimal_text b.0 ++ 46 ∷ xs) number.1 in
+    let is : text ≡ name_text b.0 d.0 = split_once_some 46 text a.0.0 a.0.1 a.1 ∙ ap (λ xs. xs ++ 46 ∷ a.0.1) rank.1 ∙ ap (λ xs. decimal_text b.0 ++ 46 ∷ xs) number.1 in
     let P : ℕ × ℕ → Type 0 = λ name. IsSender n group true name.0 × IsSmallNumber name.1 × (text ≡ name_text name.0 name.1) in
     subst P g.1 ((rank.0, g.0), number.0, is)
 
@@ -140,8 +140,8 @@ unfolding outside_in
 outside_read n group source start tag few sender small tag_small =
     ap (outside_in n group) (tagged_is source start tag)
     ∙ rw (
-      cut_at 46 (decimal_text source) (decimal_text start ++ 46 ∷ decimal_text tag) (no_byte_decimal 46 source (omega arith)),
-      cut_at 46 (decimal_text start) (decimal_text tag) (no_byte_decimal 46 start (omega arith)),
+      split_once_at 46 (decimal_text source) (decimal_text start ++ 46 ∷ decimal_text tag) (no_byte_decimal 46 source (omega arith)),
+      split_once_at 46 (decimal_text start) (decimal_text tag) (no_byte_decimal 46 start (omega arith)),
       rank_read n source (omega arith) sender.0,
       number_read 999999 start small,
       number_read 2147483647 tag tag_small,
@@ -152,8 +152,8 @@ pub outside_said : (n : ℕ) (group text : List ℕ) (source start tag : ℕ) �
     → IsSender n group false source × IsSmallNumber start × IsTag tag × (text ≡ tagged_text source start tag)
 unfolding outside_in
 outside_said n group text source start tag e =
-    let a = bind_some (cut 46 text) (λ parts. cut 46 parts.1 >>= λ others. rank_in n parts.0 >>= λ source. number_in 999999 others.0 >>= λ start. number_in 2147483647 others.1 >>= λ tag. if is_member group source then None else some (source, start, tag)) (source, start, tag) e in
-    let b = bind_some (cut 46 a.0.1) (λ others. rank_in n a.0.0 >>= λ source. number_in 999999 others.0 >>= λ start. number_in 2147483647 others.1 >>= λ tag. if is_member group source then None else some (source, start, tag)) (source, start, tag) a.2 in
+    let a = bind_some (split_once 46 text) (λ parts. split_once 46 parts.1 >>= λ others. rank_in n parts.0 >>= λ source. number_in 999999 others.0 >>= λ start. number_in 2147483647 others.1 >>= λ tag. if is_member group source then None else some (source, start, tag)) (source, start, tag) e in
+    let b = bind_some (split_once 46 a.0.1) (λ others. rank_in n a.0.0 >>= λ source. number_in 999999 others.0 >>= λ start. number_in 2147483647 others.1 >>= λ tag. if is_member group source then None else some (source, start, tag)) (source, start, tag) a.2 in
     let d = bind_some (rank_in n a.0.0) (λ source. number_in 999999 b.0.0 >>= λ start. number_in 2147483647 b.0.1 >>= λ tag. if is_member group source then None else some (source, start, tag)) (source, start, tag) b.2 in
     let f = bind_some (number_in 999999 b.0.0) (λ start. number_in 2147483647 b.0.1 >>= λ tag. if is_member group d.0 then None else some (d.0, start, tag)) (source, start, tag) d.2 in
     let h = bind_some (number_in 2147483647 b.0.1) (λ tag. if is_member group d.0 then None else some (d.0, f.0, tag)) (source, start, tag) f.2 in
@@ -162,8 +162,8 @@ outside_said n group text source start tag e =
     let number = number_said 999999 b.0.0 f.0 f.1 in
     let last = number_said 2147483647 b.0.1 h.0 h.1 in
     let is : text ≡ tagged_text d.0 f.0 h.0 =
-    cut_some 46 text a.0.0 a.0.1 a.1 ∙ ap (λ xs. xs ++ 46 ∷ a.0.1) rank.1
-    ∙ ap (λ xs. decimal_text d.0 ++ 46 ∷ xs) (cut_some 46 a.0.1 b.0.0 b.0.1 b.1 ∙ ap (λ xs. xs ++ 46 ∷ b.0.1) number.1 ∙ ap (λ xs. decimal_text f.0 ++ 46 ∷ xs) last.1)
+    split_once_some 46 text a.0.0 a.0.1 a.1 ∙ ap (λ xs. xs ++ 46 ∷ a.0.1) rank.1
+    ∙ ap (λ xs. decimal_text d.0 ++ 46 ∷ xs) (split_once_some 46 a.0.1 b.0.0 b.0.1 b.1 ∙ ap (λ xs. xs ++ 46 ∷ b.0.1) number.1 ∙ ap (λ xs. decimal_text f.0 ++ 46 ∷ xs) last.1)
     ∙ sym (tagged_is d.0 f.0 h.0) in
     let P : ℕ × ℕ × ℕ → Type 0 = λ name. IsSender n group false name.0 × IsSmallNumber name.1 × IsTag name.2 × (text ≡ tagged_text name.0 name.1 name.2) in
     subst P g.1 ((rank.0, g.0), number.0, last.0, is)
@@ -181,11 +181,11 @@ no_colon_tagged source start tag =
     no_byte_append 58 (name_text source start) (46 ∷ decimal_text tag) (no_colon_name source start) (no_byte_cons 58 46 (decimal_text tag) (λ e. omega (arith, e)) (no_colon tag))
 
 -- what stands for a short name or a long one
-pub short_name : (source start : ℕ) → cut 58 (name_text source start) ≡ None
-short_name source start = cut_none 58 (name_text source start) (no_colon_name source start)
+pub short_name : (source start : ℕ) → split_once 58 (name_text source start) ≡ None
+short_name source start = split_once_none 58 (name_text source start) (no_colon_name source start)
 
-pub long_name : (source start tag : ℕ) (rest : List ℕ) → cut 58 (tagged_text source start tag ++ 58 ∷ rest) ≡ some (tagged_text source start tag, rest)
-long_name source start tag rest = cut_at 58 (tagged_text source start tag) rest (no_colon_tagged source start tag)
+pub long_name : (source start tag : ℕ) (rest : List ℕ) → split_once 58 (tagged_text source start tag ++ 58 ∷ rest) ≡ some (tagged_text source start tag, rest)
+long_name source start tag rest = split_once_at 58 (tagged_text source start tag) rest (no_colon_tagged source start tag)
 
 -- messages
 message_read : (n : ℕ) (group : List ℕ) → n ≤ 256 → (source start : ℕ) → IsSender n group true source → IsSmallNumber start
@@ -203,7 +203,7 @@ message_read_long n group few source start tag ints sender small tag_small good 
 abbrev pub IsMarkText : ℕ → List ℕ → List ℕ → Mark → Type 0
 IsMarkText n group text mark = IsMark n group mark × (text ≡ mark_text mark)
 
-message_said_cut : (n : ℕ) (group text : List ℕ) (parts : Option (List ℕ × List ℕ)) (mark : Mark) → cut 58 text ≡ parts → message_cut n group text parts ≡ some mark → IsMarkText n group text mark
+message_said_cut : (n : ℕ) (group text : List ℕ) (parts : Option (List ℕ × List ℕ)) (mark : Mark) → split_once 58 text ≡ parts → message_split n group text parts ≡ some mark → IsMarkText n group text mark
 message_said_cut n group text None mark is e =
     let a = bind_some (inside_in n group text) (λ name. some (Inside name.0 name.1)) mark e in
     let said = inside_said n group text a.0.0 a.0.1 a.1 in
@@ -215,16 +215,16 @@ message_said_cut n group text (Some parts) mark is e =
     let said = outside_said n group parts.0 a.0.0 a.0.1 a.0.2 a.1 in
     let ints = few_ints_said 65536 parts.1 b.0 b.1 in
     let same : Outside a.0.0 a.0.1 a.0.2 b.0 ≡ mark = let s = b.2 in cc in
-    subst (IsMarkText n group text) same ((said.0, said.1, said.2, ints.0), cut_some 58 text parts.0 parts.1 is ∙ ap (λ xs. xs ++ 58 ∷ parts.1) said.3 ∙ ap (λ xs. tagged_text a.0.0 a.0.1 a.0.2 ++ 58 ∷ xs) ints.1)
+    subst (IsMarkText n group text) same ((said.0, said.1, said.2, ints.0), split_once_some 58 text parts.0 parts.1 is ∙ ap (λ xs. xs ++ 58 ∷ parts.1) said.3 ∙ ap (λ xs. tagged_text a.0.0 a.0.1 a.0.2 ++ 58 ∷ xs) ints.1)
 
 message_said : (n : ℕ) (group text : List ℕ) (mark : Mark) → message_in n group text ≡ some mark → IsMarkText n group text mark
 unfolding message_in
-message_said n group text mark e = message_said_cut n group text (cut 58 text) mark refl e
+message_said n group text mark e = message_said_cut n group text (split_once 58 text) mark refl e
 
 -- communicators
 made_read : (n comm : ℕ) → IsSmallNumber comm → made_in n (decimal_text comm) ≡ some (Made comm)
 unfolding made_in
-made_read n comm small = rw (cut_none 58 (decimal_text comm) (no_colon comm), number_read 999999 comm small) refl
+made_read n comm small = rw (split_once_none 58 (decimal_text comm) (no_colon comm), number_read 999999 comm small) refl
 
 made_read_long : (n comm : ℕ) (members : List ℕ) → n ≤ 256 → (0 < comm) → IsSmallNumber comm → (0 < length members) → (length members ≤ 64) → (are_below n members ≡ true)
     → made_in n (decimal_text comm ++ 58 ∷ by_commas (map decimal_text members)) ≡ some (MadeOutside comm members)
@@ -232,7 +232,7 @@ unfolding made_in
 made_read_long n comm [] few above small many fits below = absurd (omega arith)
 made_read_long n comm (member ∷ members) few above small many fits below =
     rw (
-      cut_at 58 (decimal_text comm) (decimal_text member ++ each_after 44 (map decimal_text members)) (no_colon comm),
+      split_once_at 58 (decimal_text comm) (decimal_text member ++ each_after 44 (map decimal_text members)) (no_colon comm),
       number_read 999999 comm small,
       ranks_read 44 n member members (omega arith) few below,
       lt-ltb 0 comm above,
@@ -242,7 +242,7 @@ made_read_long n comm (member ∷ members) few above small many fits below =
 abbrev pub IsMadeText : ℕ → List ℕ → List ℕ → Mark → Type 0
 IsMadeText n group text mark = IsMark n group mark × (109 ∷ 46 ∷ text ≡ mark_text mark)
 
-made_said_cut : (n : ℕ) (group text : List ℕ) (parts : Option (List ℕ × List ℕ)) (mark : Mark) → cut 58 text ≡ parts → made_cut n text parts ≡ some mark → IsMadeText n group text mark
+made_said_cut : (n : ℕ) (group text : List ℕ) (parts : Option (List ℕ × List ℕ)) (mark : Mark) → split_once 58 text ≡ parts → made_split n text parts ≡ some mark → IsMadeText n group text mark
 made_said_cut n group text None mark is e =
     let a = bind_some (number_in 999999 text) (λ comm. some (Made comm)) mark e in
     let said = number_said 999999 text a.0 a.1 in
@@ -257,13 +257,13 @@ made_said_cut n group text (Some parts) mark is e =
     let members = ranks_said 44 n parts.1 b.0 b.1 in
     let many : 0 < length b.0 = let long : length b.0 ≡ length (members.0 ∷ members.1) = ap length members.2 in omega arith in
     let is' : text ≡ decimal_text a.0 ++ 58 ∷ by_commas (map decimal_text b.0) =
-    cut_some 58 text parts.0 parts.1 is ∙ ap (λ xs. xs ++ 58 ∷ parts.1) comm.1
+    split_once_some 58 text parts.0 parts.1 is ∙ ap (λ xs. xs ++ 58 ∷ parts.1) comm.1
     ∙ ap (λ xs. decimal_text a.0 ++ 58 ∷ xs) (members.4 ∙ ap (λ xs. by_commas (map decimal_text xs)) (sym members.2)) in
     subst (IsMadeText n group text) g.1 ((ltb-true 0 a.0 tests.0, comm.0, many, leb-true (length b.0) 64 tests.1, members.3), ap (λ xs. 109 ∷ 46 ∷ xs) is')
 
 made_said : (n : ℕ) (group text : List ℕ) (mark : Mark) → made_in n text ≡ some mark → IsMadeText n group text mark
 unfolding made_in
-made_said n group text mark e = made_said_cut n group text (cut 58 text) mark refl e
+made_said n group text mark e = made_said_cut n group text (split_once 58 text) mark refl e
 
 -- a number is no letter
 digit_first : (n : ℕ) → (digit : ℕ) × (others : List ℕ) × (decimal_text n ≡ digit ∷ others) × IsAsciiDigit digit

@@ -22,7 +22,7 @@ use Rattle.wiz_base.specs.Readings.{IsDecimalUpTo, IsReading}
 use Rattle.wiz_base.proofs.ReadingLaws.{IsReading-unique}
 use Rattle.wiz_base.proofs.DecimalLaws.{decimal_text-is, decimal_text-bytes, decimal_text-nonempty, number_text_injective}
 use Rattle.srr_text.specs.EntryText.{each_after}
-use Rattle.srr_log.specs.Pieces.{◌>>=◌, GivesText, GivesCut, behind, with_byte, cut, pieces, all_of, number_in, signed_value, is_int, int_in, rank_in}
+use Rattle.srr_log.specs.Pieces.{◌>>=◌, GivesText, GivesSplit, behind, with_byte, split_once, pieces, all_of, number_in, signed_value, is_int, int_in, rank_in}
 
 abbrev pub some : {A : Type 0} → A → Option A
 some x = Some x
@@ -76,17 +76,17 @@ gives_behind word text None none = elim (said_cases (behind word text)) [
 ]
 
 -- marks
-pub cut_at : (mark : ℕ) (front rest : List ℕ) → All (λ byte. byte ≢ mark) front → cut mark (front ++ mark ∷ rest) ≡ some (front, rest)
-unfolding cut
-cut_at mark [] rest none = rw (eq-eqb mark mark refl) refl
-cut_at mark (byte ∷ front) rest none =
-    rw (ne_eqb byte mark (All-head (λ byte. byte ≢ mark) byte front none), cut_at mark front rest (All-tail (λ byte. byte ≢ mark) byte front none)) refl
+pub split_once_at : (mark : ℕ) (front rest : List ℕ) → All (λ byte. byte ≢ mark) front → split_once mark (front ++ mark ∷ rest) ≡ some (front, rest)
+unfolding split_once
+split_once_at mark [] rest none = rw (eq-eqb mark mark refl) refl
+split_once_at mark (byte ∷ front) rest none =
+    rw (ne_eqb byte mark (All-head (λ byte. byte ≢ mark) byte front none), split_once_at mark front rest (All-tail (λ byte. byte ≢ mark) byte front none)) refl
 
-pub cut_none : (mark : ℕ) (text : List ℕ) → All (λ byte. byte ≢ mark) text → cut mark text ≡ None
-unfolding cut
-cut_none mark [] none = refl
-cut_none mark (byte ∷ text) none =
-    rw (ne_eqb byte mark (All-head (λ byte. byte ≢ mark) byte text none), cut_none mark text (All-tail (λ byte. byte ≢ mark) byte text none)) refl
+pub split_once_none : (mark : ℕ) (text : List ℕ) → All (λ byte. byte ≢ mark) text → split_once mark text ≡ None
+unfolding split_once
+split_once_none mark [] none = refl
+split_once_none mark (byte ∷ text) none =
+    rw (ne_eqb byte mark (All-head (λ byte. byte ≢ mark) byte text none), split_once_none mark text (All-tail (λ byte. byte ≢ mark) byte text none)) refl
 
 with_byte_some : (byte : ℕ) (o : Option (List ℕ × List ℕ)) (front rest : List ℕ) → with_byte byte o ≡ some (front, rest)
     → (before : List ℕ) × (o ≡ some (before, rest)) × (front ≡ byte ∷ before)
@@ -95,30 +95,30 @@ with_byte_some byte (Some parts) front rest e =
     (parts.0, ap (λ (xs : List ℕ). some (parts.0, xs)) same.1, sym same.0)
 with_byte_some byte None front rest e = absurd (cc)
 
-pub cut_some : (mark : ℕ) (text front rest : List ℕ) → cut mark text ≡ some (front, rest) → text ≡ front ++ mark ∷ rest
-unfolding cut
-cut_some mark [] front rest e = absurd (cc)
-cut_some mark (byte ∷ text) front rest e =
+pub split_once_some : (mark : ℕ) (text front rest : List ℕ) → split_once mark text ≡ some (front, rest) → text ≡ front ++ mark ∷ rest
+unfolding split_once
+split_once_some mark [] front rest e = absurd (cc)
+split_once_some mark (byte ∷ text) front rest e =
     elim (cases_Bool (byte == mark)) [
       | inl same ↦
           let here = some_pair_parts [] front text rest (rw same at e) in
           let byte_is : byte ≡ mark = eqb-true byte mark same in
           rw (← here.0, byte_is, here.1) refl
       | inr apart ↦
-          let w = with_byte_some byte (cut mark text) front rest (rw apart at e) in
-          rw (w.2, ← cut_some mark text w.0 rest w.1) refl
+          let w = with_byte_some byte (split_once mark text) front rest (rw apart at e) in
+          rw (w.2, ← split_once_some mark text w.0 rest w.1) refl
     ]
 
 -- a place cuts where the first mark stands
-pub gives_cut_none : (mark : ℕ) (text : List ℕ) → All (λ byte. byte ≢ mark) text → GivesCut None (cut mark text)
-gives_cut_none mark text none = cut_none mark text none
+pub gives_cut_none : (mark : ℕ) (text : List ℕ) → All (λ byte. byte ≢ mark) text → GivesSplit None (split_once mark text)
+gives_cut_none mark text none = split_once_none mark text none
 
-pub cut_place : (mark at : ℕ) (text : List ℕ) → All (λ byte. byte ≢ mark) (take at text) → at < length text → slice_index text at ≡ mark
-    → cut mark text ≡ some (take at text, drop (at + 1) text)
-cut_place mark at text none within here =
+pub split_once_place : (mark at : ℕ) (text : List ℕ) → All (λ byte. byte ≢ mark) (take at text) → at < length text → slice_index text at ≡ mark
+    → split_once mark text ≡ some (take at text, drop (at + 1) text)
+split_once_place mark at text none within here =
     let whole : text ≡ take at text ++ mark ∷ drop (at + 1) text =
     sym (take-append-drop at text) ∙ ap (λ xs. take at text ++ xs) (drop-cons text at 0 within ∙ (let next : suc at ≡ at + 1 = omega arith in rw (here, next) refl)) in
-    ap (cut mark) whole ∙ cut_at mark (take at text) (drop (at + 1) text) none
+    ap (split_once mark) whole ∙ split_once_at mark (take at text) (drop (at + 1) text) none
 
 -- a list with such marks between its pieces
 pub pieces_joined : (mark : ℕ) (piece : List ℕ) (others : List (List ℕ)) → All (λ byte. byte ≢ mark) piece → AllByRecursion (All (λ byte. byte ≢ mark)) others
@@ -141,8 +141,8 @@ some_pieces mark text e = let none : text ≡ [] = sym (join_with_byte-slice_spl
     let one : pieces mark [] ≡ [] = rw none at e in absurd (cc)
 
 -- one piece more, or the last one
-pub pieces_cut : (mark : ℕ) (text front rest : List ℕ) → cut mark text ≡ some (front, rest) → pieces mark text ≡ front ∷ pieces mark rest
-unfolding cut
+pub pieces_cut : (mark : ℕ) (text front rest : List ℕ) → split_once mark text ≡ some (front, rest) → pieces mark text ≡ front ∷ pieces mark rest
+unfolding split_once
 pieces_cut mark [] front rest e = absurd (cc)
 pieces_cut mark (byte ∷ text) front rest e =
     elim (cases_Bool (byte == mark)) [
@@ -150,17 +150,17 @@ pieces_cut mark (byte ∷ text) front rest e =
           let here = some_pair_parts [] front text rest (rw same at e) in
           rw (same, ← here.0, ← here.1) refl
       | inr apart ↦
-          let w = with_byte_some byte (cut mark text) front rest (rw apart at e) in
+          let w = with_byte_some byte (split_once mark text) front rest (rw apart at e) in
           rw apart (ap (onto_first byte) (pieces_cut mark text w.0 rest w.1) ∙ ap (λ (xs : List ℕ). xs ∷ pieces mark rest) (sym w.2))
     ]
 
-pub pieces_last : (mark : ℕ) (text : List ℕ) → cut mark text ≡ None → pieces mark text ≡ text ∷ []
-unfolding cut
+pub pieces_last : (mark : ℕ) (text : List ℕ) → split_once mark text ≡ None → pieces mark text ≡ text ∷ []
+unfolding split_once
 pieces_last mark [] e = refl
 pieces_last mark (byte ∷ text) e =
     elim (cases_Bool (byte == mark)) [
       | inl same ↦ let here : some {A = List ℕ × List ℕ} ([], text) ≡ None = rw same at e in absurd (cc)
-      | inr apart ↦ elim (said_cases (cut mark text)) [
+      | inr apart ↦ elim (said_cases (split_once mark text)) [
         | inl found ↦ let here : some {A = List ℕ × List ℕ} (byte ∷ found.0.0, found.0.1) ≡ None = rw (apart, found.1) at e in absurd (cc)
         | inr none ↦ rw (apart, pieces_last mark text none) refl
       ]

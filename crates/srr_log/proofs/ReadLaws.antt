@@ -6,8 +6,8 @@ use Rattle.std.proofs.lemmas.Bool.{cases_lt}
 use Rattle.std.proofs.lemmas.List.{nil_from_length}
 use Rattle.srr_entry.specs.declared.entry.Entry.{Entry}
 use Rattle.srr_log.specs.declared.fault.LogWhy.TheVariants.{Extra}
-use Rattle.srr_log.specs.declared.stop.Stop.{Stop}
-use Rattle.srr_log.specs.declared.stop.Stop.TheVariants.{Fault}
+use Rattle.srr_log.specs.declared.read_error.ReadError.{ReadError}
+use Rattle.srr_log.specs.declared.read_error.ReadError.TheVariants.{Fault}
 use Rattle.srr_log.specs.Parts.{Part, head_line, ranks_line, group_line, size_line, program_bytes, rank_line, entry_part, end_line, lists_parts}
 use Rattle.srr_log.specs.Reading.{State, Reads, after, at_end, at_group, at_head, at_list, at_ranks, at_size}
 use Rattle.srr_log.proofs.StateLaws.{AreRead, read_then, reads_behind, after_lists, after_append}
@@ -36,7 +36,7 @@ lists_before (rank ∷ group) (entries ∷ lists) parts =
 
 -- the lists, and the last line behind them
 module _ (n : ℕ) (group text first : List ℕ) where
-  pub lists_stopped : (rest : List ℕ) (stop : Stop) → Reads {A = List (List Entry)} (at_list n group group) (λ lists. lists_parts group lists []) text (Err stop) rest
+  pub lists_stopped : (rest : List ℕ) (stop : ReadError) → Reads {A = List (List Entry)} (at_list n group group) (λ lists. lists_parts group lists []) text (Err stop) rest
       → Reads (at_list n group group) (λ lists. lists_parts group lists (end_line ∷ [])) text (Err stop) []
   lists_stopped rest stop fault =
       reads_behind (at_list n group group) [] (λ lists. lists_parts group lists []) (λ lists. lists_parts group lists (end_line ∷ [])) text text rest [] stop tt refl fault
@@ -44,7 +44,7 @@ module _ (n : ℕ) (group text first : List ℕ) where
   after_all : (lists : List (List Entry)) → length lists ≡ length group → after (at_list n group group) (lists_parts group lists []) ≡ at_list n group []
   after_all lists many = after_lists n group group lists (omega arith) ∙ ap (at_list n group) (ap (λ k. drop k group) many ∙ drop-length group)
 
-  pub end_stopped : (rest : List ℕ) (lists : List (List Entry)) (stop : Stop) → length lists ≡ length group → AreRead (at_list n group group) (lists_parts group lists []) text first
+  pub end_stopped : (rest : List ℕ) (lists : List (List Entry)) (stop : ReadError) → length lists ≡ length group → AreRead (at_list n group group) (lists_parts group lists []) text first
       → Reads {A = Unit {0}} (at_list n group []) (λ _. end_line ∷ []) first (Err stop) rest → Reads (at_list n group group) (λ lists. lists_parts group lists (end_line ∷ [])) text (Err stop) []
   end_stopped rest lists stop many front fault =
       let P : State → Type 0 = λ s. Reads {A = Unit {0}} s (λ _. end_line ∷ []) first (Err stop) rest in

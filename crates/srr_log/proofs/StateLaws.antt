@@ -10,10 +10,10 @@ use Rattle.wiz_base.specs.Decimals.{decimal_text}
 use Rattle.wiz_base.specs.Lines.{HasNoNewline}
 use Rattle.srr_log.specs.declared.fault.LogWhy.{LogWhy}
 use Rattle.srr_log.specs.declared.fault.LogWhy.TheVariants.{Short, BadNumber}
-use Rattle.srr_log.specs.declared.stop.Stop.{Stop}
-use Rattle.srr_log.specs.declared.stop.Stop.TheVariants.{NoMemory, Fault}
-use Rattle.srr_log.specs.declared.stop.Unread.{Unread}
-use Rattle.srr_log.specs.declared.stop.Unread.TheVariants.{NotAllowed, NoMemory as UnreadMemory}
+use Rattle.srr_log.specs.declared.read_error.ReadError.{ReadError}
+use Rattle.srr_log.specs.declared.read_error.ReadError.TheVariants.{NoMemory, Fault}
+use Rattle.srr_log.specs.declared.read_error.Unread.{Unread}
+use Rattle.srr_log.specs.declared.read_error.Unread.TheVariants.{NotAllowed, NoMemory as UnreadMemory}
 use Rattle.srr_text.specs.EntryText.{each_after}
 use Rattle.srr_text.specs.LogText.{line}
 use Rattle.srr_log.specs.Parts.{Part, head_line, ranks_line, group_line, size_line, program_bytes, rank_line, entry_part, end_line, part_line, part_text, parts_text, lists_parts}
@@ -225,7 +225,7 @@ module _ {A : Type 0} (state : State) (spelled : A → List Part) where
       let line' = line_said state bytes part said in
       (subst (Runs state) (sym one) (line'.0, tt), is ∙ ap (λ xs. line xs rest) line'.1 ∙ ap (λ parts. parts_text parts rest) (sym one))
 
-  pub reads_short : (text rest rest' : List ℕ) (stop : Stop) → IsLineState state → IsNextLine text (Err stop) rest → Reads state spelled text (Err stop) rest'
+  pub reads_short : (text rest rest' : List ℕ) (stop : ReadError) → IsLineState state → IsNextLine text (Err stop) rest → Reads state spelled text (Err stop) rest'
   reads_short text rest rest' NoMemory is none = tt
   reads_short text rest rest' (Fault why left) is (none, short, end) =
       subst (λ w. FaultFrom state text w left) (sym short) (subst (FaultFrom state text Short) (sym end) (short_line state text is none))
@@ -237,7 +237,7 @@ module _ {A : Type 0} (state : State) (spelled : A → List Part) where
 
 -- what was read behind other parts
 module _ {A B : Type 0} (state : State) (parts : List Part) (spelled : A → List Part) (spelled' : B → List Part) where
-  pub reads_behind : (text middle rest rest' : List ℕ) (stop : Stop) → Runs state parts → text ≡ parts_text parts middle → Reads (after state parts) spelled middle (Err stop) rest → Reads state spelled' text (Err stop) rest'
+  pub reads_behind : (text middle rest rest' : List ℕ) (stop : ReadError) → Runs state parts → text ≡ parts_text parts middle → Reads (after state parts) spelled middle (Err stop) rest → Reads state spelled' text (Err stop) rest'
   reads_behind text middle rest rest' NoMemory run is fault = tt
   reads_behind text middle rest rest' (Fault why left) run is fault = fault_behind state parts text middle why left run is fault
 
@@ -294,7 +294,7 @@ reads_bad_program n group size left text found rest rest' whole many apart all =
     subst (FaultFrom (at_program n group size) text BadNumber) (sym all) (bad_program n group size text found rest whole many apart)
 
 -- the program's size and its bytes; a list's line and its entries
-pub reads_program : (n : ℕ) (group : List ℕ) (size : ℕ) (text middle rest : List ℕ) (r : Result (List ℕ) Stop) → AreRead (at_size n group) (size_line size ∷ []) text middle
+pub reads_program : (n : ℕ) (group : List ℕ) (size : ℕ) (text middle rest : List ℕ) (r : Result (List ℕ) ReadError) → AreRead (at_size n group) (size_line size ∷ []) text middle
     → Reads (at_program n group size) (λ program. program_bytes program ∷ []) middle r rest → Reads (at_size n group) (λ program. size_line (length program) ∷ program_bytes program ∷ []) text r rest
 reads_program n group size text middle rest (Ok program) read behind =
     let both = read_then (at_size n group) (size_line size ∷ []) (program_bytes program ∷ []) text middle rest read behind in
@@ -303,7 +303,7 @@ reads_program n group size text middle rest (Ok program) read behind =
 reads_program n group size text middle rest (Err stop) read behind =
     reads_behind (at_size n group) (size_line size ∷ []) (λ program. program_bytes program ∷ []) (λ program. size_line (length program) ∷ program_bytes program ∷ []) text middle rest rest stop read.0 read.1 behind
 
-pub reads_list : (n : ℕ) (group : List ℕ) (rank count : ℕ) (behind text middle rest : List ℕ) (r : Result (List Entry) Stop) → IfOk r (λ entries. length entries ≡ count)
+pub reads_list : (n : ℕ) (group : List ℕ) (rank count : ℕ) (behind text middle rest : List ℕ) (r : Result (List Entry) ReadError) → IfOk r (λ entries. length entries ≡ count)
     → AreRead (at_list n group (rank ∷ behind)) (rank_line rank count ∷ []) text middle → Reads (entries_left n group count behind) (λ entries. map entry_part entries) middle r rest
     → Reads (at_list n group (rank ∷ behind)) (λ entries. rank_line rank (length entries) ∷ map entry_part entries) text r rest
 reads_list n group rank count behind text middle rest (Ok entries) many read later =
@@ -330,7 +330,7 @@ entries_onward n group count left behind text middle rest entries now entry many
     let Q : List Part → Type 0 = λ parts. AreRead (entries_left n group count behind) parts text rest in
     subst Q (sym (ap (map entry_part) grown ∙ map-append entry_part entries (entry ∷ []))) both
 
-pub entries_stop : (n : ℕ) (group : List ℕ) (count left : ℕ) (behind text middle rest rest' : List ℕ) (entries : List Entry) (stop : Stop) → length entries + left ≡ count → 0 < left
+pub entries_stop : (n : ℕ) (group : List ℕ) (count left : ℕ) (behind text middle rest rest' : List ℕ) (entries : List Entry) (stop : ReadError) → length entries + left ≡ count → 0 < left
     → AreRead (entries_left n group count behind) (map entry_part entries) text middle → Reads (at_entry n group (left - 1) behind) (λ entry. entry_part entry ∷ []) middle (Err stop) rest
     → Reads (entries_left n group count behind) (λ entries. map entry_part entries) text (Err stop) rest'
 entries_stop n group count left behind text middle rest rest' entries stop many some' read one =
@@ -374,7 +374,7 @@ lists_onward n group text middle rest lists now entries index many within read o
     subst Q (sym (ap (λ ls. lists_parts group ls []) grown ∙ lists_snoc group lists entries (omega arith)
     ∙ ap (λ k. lists_parts group lists [] ++ (rank_line (slice_index group k) (length entries) ∷ map entry_part entries)) many)) both
 
-pub lists_stop : (n : ℕ) (group text middle rest rest' : List ℕ) (lists : List (List Entry)) (index : ℕ) (stop : Stop) → length lists ≡ index → index < length group
+pub lists_stop : (n : ℕ) (group text middle rest rest' : List ℕ) (lists : List (List Entry)) (index : ℕ) (stop : ReadError) → length lists ≡ index → index < length group
     → AreRead (at_list n group group) (lists_parts group lists []) text middle
     → Reads (at_list n group (slice_index group index ∷ drop (index + 1) group)) (λ entries. rank_line (slice_index group index) (length entries) ∷ map entry_part entries) middle (Err stop) rest
     → Reads (at_list n group group) (λ lists. lists_parts group lists []) text (Err stop) rest'

@@ -17,7 +17,7 @@ SomeLog parts = (log : Log) × IsInBounds log × (log_parts log ≡ parts)
 abbrev pub NoLog : List Part → List ℕ → Type 0
 NoLog front found = (part : Part) (more : List Part) → SomeLog (front ++ part ∷ more) → part_text part ≢ found
 
--- where a part of that kind ends: the program's behind its bytes and one more, a line with its newline
+-- where a part of that kind ends: the program's after its bytes and one more, a line with its newline
 abbrev pub IsWhole : Part → List ℕ → Type 0
 IsWhole (program_bytes program) found = length found ≡ length program + 1
 IsWhole part found = (line : List ℕ) × HasNoNewline line × (found ≡ line ++ 10 ∷ [])
@@ -61,17 +61,17 @@ pub record IsBad (front : List Part) (rest : List ℕ) (why : LogWhy) : Type 0 w
   pub none : NoLog front found
   pub reason : IsReason next found why
 
--- bytes stand behind the parts of a whole log
+-- bytes come after the parts of a whole log
 abbrev pub IsExtra : List Part → List ℕ → LogWhy → Type 0
 IsExtra front rest why = (why ≡ Extra) × SomeLog front × (rest ≢ [])
 
 -- the text is some parts without fault and the rest. The fault is Short, at the text's end; or it stands where the rest
--- begins: Extra behind a whole log, or at a part that no log has there
+-- begins: Extra after a whole log, or at a part that no log has there
 abbrev pub IsFirstFault : List ℕ → LogFault → Type 0
 IsFirstFault text fault = (front : List Part) × (rest : List ℕ) × (text ≡ parts_text front rest)
     × (((fault.why ≡ Short) × (fault.at ≡ length text) × IsShort front rest)
     ⊎ ((fault.at + length rest ≡ length text) × (IsExtra front rest fault.why ⊎ IsBad front rest fault.why)))
 
--- want of memory has no place
+-- being out of memory has no place
 abbrev pub no_memory : LogFault
 no_memory = record { at = 0; why = NoMemory }

@@ -1,15 +1,18 @@
 -- What a line says that is no entry's.
 use Rattle.std.specs.Prelude.{ℕ, List, ◌&&◌, ◌==◌, if◌then◌else◌, nat_lt, codes, Option, Some, None}
+use Rattle.mpi_call.specs.declared.limits.TheConstants.{MOST_RANKS}
+use Rattle.mpi_call.specs.Lists.{rises}
 use Rattle.srr_entry.specs.declared.entry.Entry.{Entry}
+use Rattle.srr_text.specs.declared.limits.TheConstants.{MOST_ENTRIES, MOST_PROGRAM_BYTES}
 use Rattle.srr_text.specs.Bounds.{is_last}
-use Rattle.srr_log.specs.Pieces.{◌>>=◌, behind, cut, number_in}
-use Rattle.srr_log.specs.EntryReading.{rises, ranks_in, entry_in}
+use Rattle.srr_log.specs.Pieces.{◌>>=◌, behind, split_once, number_in}
+use Rattle.srr_log.specs.EntryReading.{ranks_in, entry_in}
 
 -- how many ranks there are
 unfoldable pub ranks_line_in : List ℕ → Option ℕ
 ranks_line_in line = do
   text ← behind (codes "ranks ") line
-  ranks ← number_in 64 text
+  ranks ← number_in MOST_RANKS text
   if nat_lt 0 ranks then Some ranks else None
 
 -- the ranks of the group
@@ -23,15 +26,15 @@ group_line_in n line = do
 unfoldable pub size_line_in : List ℕ → Option ℕ
 size_line_in line = do
   text ← behind (codes "program ") line
-  number_in 65536 text
+  number_in MOST_PROGRAM_BYTES text
 
 -- how many entries this rank has
 unfoldable pub rank_line_in : ℕ → List ℕ → Option ℕ
 rank_line_in rank line = do
   text ← behind (codes "rank ") line
-  parts ← cut 32 text
+  parts ← split_once 32 text
   named ← number_in 255 parts.0
-  count ← number_in 999064 parts.1
+  count ← number_in MOST_ENTRIES parts.1
   if named == rank then Some count else None
 
 -- an entry before so many others

@@ -1,4 +1,4 @@
--- The parts of a log's text: its lines, and the program's bytes with the newline behind them.
+-- The parts of a log's text: its lines, and the program's bytes with the newline after them.
 use Rattle.std.specs.Prelude.{ℕ, List, [], ◌∷◌, ◌++◌, map, codes, length}
 use Rattle.srr_entry.specs.declared.entry.Entry.{Entry}
 use Rattle.srr_entry.specs.declared.log.Log.{Log}
@@ -6,6 +6,7 @@ use Rattle.wiz_base.specs.Decimals.{decimal_text}
 use Rattle.srr_text.specs.EntryText.{each_after, entry_line}
 use Rattle.srr_text.specs.LogText.{line}
 
+-- a part of a log's text
 pub data Part : Type 0 where
   head_line : Part
   ranks_line : ℕ → Part
@@ -31,12 +32,12 @@ part_line end_line = codes "end"
 abbrev pub part_text : Part → List ℕ
 part_text part = part_line part ++ 10 ∷ []
 
--- parts, and what stands behind them
+-- parts, and what comes after them
 abbrev pub parts_text : List Part → List ℕ → List ℕ
 parts_text [] behind = behind
 parts_text (part ∷ parts) behind = line (part_line part) (parts_text parts behind)
 
--- the list of each rank of the group, in its order, and the parts behind
+-- the list of each rank of the group, in its order, and the parts after them
 abbrev pub lists_parts : List ℕ → List (List Entry) → List Part → List Part
 lists_parts [] lists behind = behind
 lists_parts (rank ∷ group) [] behind = behind

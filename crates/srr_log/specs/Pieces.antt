@@ -5,8 +5,8 @@ use Rattle.std.specs.List.{slice_split}
 use Rattle.std.specs.Str.{bytes_eq}
 use Rattle.std.specs.Str.Parse.{digits_value}
 use Rattle.wiz_base.specs.Decimals.{decimal_text, number_text}
-use Rattle.srr_log.specs.declared.stop.Unread.{Unread}
-use Rattle.srr_log.specs.declared.stop.Unread.TheVariants.{NotAllowed, NoMemory}
+use Rattle.srr_log.specs.declared.read_error.Unread.{Unread}
+use Rattle.srr_log.specs.declared.read_error.Unread.TheVariants.{NotAllowed, NoMemory}
 
 infixl 10 ◌>>=◌
 abbrev pub ◌>>=◌ : {A B : Type 0} → Option A → (A → Option B) → Option B
@@ -23,11 +23,11 @@ abbrev pub GivesText : Option (Bor (List ℕ)) → Option (List ℕ) → Type 0
 GivesText (Some rest) said = said ≡ Some rest.now
 GivesText None said = said ≡ None
 
-abbrev pub GivesCut : Option (Bor (List ℕ) × Bor (List ℕ)) → Option (List ℕ × List ℕ) → Type 0
-GivesCut (Some parts) said = said ≡ Some (parts.0.now, parts.1.now)
-GivesCut None said = said ≡ None
+abbrev pub GivesSplit : Option (Bor (List ℕ) × Bor (List ℕ)) → Option (List ℕ × List ℕ) → Type 0
+GivesSplit (Some parts) said = said ≡ Some (parts.0.now, parts.1.now)
+GivesSplit None said = said ≡ None
 
--- what stands behind a word
+-- what comes after a word
 unfoldable pub behind : List ℕ → List ℕ → Option (List ℕ)
 behind [] text = Some text
 behind (byte ∷ word) [] = None
@@ -37,10 +37,10 @@ abbrev pub with_byte : ℕ → Option (List ℕ × List ℕ) → Option (List �
 with_byte byte (Some parts) = Some (byte ∷ parts.0, parts.1)
 with_byte byte None = None
 
--- what stands before the first such mark, and what behind it
-unfoldable pub cut : ℕ → List ℕ → Option (List ℕ × List ℕ)
-cut mark [] = None
-cut mark (byte ∷ text) = if byte == mark then Some ([], text) else with_byte byte (cut mark text)
+-- what stands before the first such mark, and what comes after it
+unfoldable pub split_once : ℕ → List ℕ → Option (List ℕ × List ℕ)
+split_once mark [] = None
+split_once mark (byte ∷ text) = if byte == mark then Some ([], text) else with_byte byte (split_once mark text)
 
 -- the pieces between such marks
 abbrev pub pieces : ℕ → List ℕ → List (List ℕ)

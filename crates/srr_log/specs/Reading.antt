@@ -1,12 +1,14 @@
 -- Reading a log part by part: which part may come next, and a fault where none does.
 use Rattle.std.specs.Prelude.{◌≡◌, ◌≢◌, ◌≤◌, ◌<◌, ◌+◌, ◌⊎◌, ℕ, zero, suc, List, [], ◌∷◌, ◌++◌, true, length, replicate, Result, Ok, Err}
 use Rattle.std.specs.Borrow.{Bor}
+use Rattle.mpi_call.specs.declared.limits.TheConstants.{MOST_RANKS}
 use Rattle.srr_entry.specs.declared.entry.Entry.TheVariants.{Sent}
+use Rattle.srr_text.specs.declared.limits.TheConstants.{MOST_ENTRIES, MOST_PROGRAM_BYTES}
 use Rattle.wiz_base.specs.Lines.{HasNoNewline}
 use Rattle.srr_log.specs.declared.fault.LogWhy.{LogWhy}
 use Rattle.srr_log.specs.declared.fault.LogWhy.TheVariants.{Short, Extra}
-use Rattle.srr_log.specs.declared.stop.Stop.{Stop}
-use Rattle.srr_log.specs.declared.stop.Stop.TheVariants.{NoMemory, Fault}
+use Rattle.srr_log.specs.declared.read_error.ReadError.{ReadError}
+use Rattle.srr_log.specs.declared.read_error.ReadError.TheVariants.{NoMemory, Fault}
 use Rattle.srr_text.specs.Bounds.{IsGroup, IsEntry, is_last}
 use Rattle.srr_log.specs.Parts.{Part, head_line, ranks_line, group_line, size_line, program_bytes, rank_line, entry_part, end_line, part_text, parts_text}
 use Rattle.srr_log.specs.declared.fault.LogFault.{LogFault}
@@ -24,7 +26,7 @@ pub data State : Type 0 where
   at_entry : ℕ → List ℕ → ℕ → List ℕ → State
   at_end : State
 
--- so many entries are missing
+-- this many entries are missing
 abbrev pub entries_left : ℕ → List ℕ → ℕ → List ℕ → State
 entries_left n group zero ranks = at_list n group ranks
 entries_left n group (suc others) ranks = at_entry n group others ranks
@@ -32,15 +34,16 @@ entries_left n group (suc others) ranks = at_entry n group others ranks
 -- the part may come next
 abbrev pub Allows : State → Part → Type 0
 Allows at_head head_line = Unit {0}
-Allows at_ranks (ranks_line ranks) = (0 < ranks) × (ranks ≤ 64)
+Allows at_ranks (ranks_line ranks) = (0 < ranks) × (ranks ≤ MOST_RANKS)
 Allows (at_group n) (group_line group) = IsGroup n group
-Allows (at_size n group) (size_line size) = size ≤ 65536
+Allows (at_size n group) (size_line size) = size ≤ MOST_PROGRAM_BYTES
 Allows (at_program n group size) (program_bytes program) = length program ≡ size
-Allows (at_list n group (rank ∷ ranks)) (rank_line named count) = (named ≡ rank) × (count ≤ 999064)
+Allows (at_list n group (rank ∷ ranks)) (rank_line named count) = (named ≡ rank) × (count ≤ MOST_ENTRIES)
 Allows (at_list n group []) end_line = Unit {0}
 Allows (at_entry n group others ranks) (entry_part entry) = IsEntry n group entry × (is_last entry ≡ true → others ≡ 0)
 Allows state part = ⊥
 
+-- what is known after one more part
 abbrev pub next : State → Part → State
 next at_head part = at_ranks
 next at_ranks (ranks_line ranks) = at_group ranks
@@ -51,6 +54,7 @@ next (at_list n group (rank ∷ ranks)) (rank_line named count) = entries_left n
 next (at_entry n group others ranks) part = entries_left n group others ranks
 next state part = at_end
 
+-- what is known after some parts
 abbrev pub after : State → List Part → State
 after state [] = state
 after state (part ∷ parts) = after (next state part) parts
@@ -72,6 +76,7 @@ expected (at_list n group []) = end_line
 expected (at_entry n group others ranks) = entry_part Sent
 expected at_end = end_line
 
+-- the log does not end here
 abbrev pub IsOpen : State → Type 0
 IsOpen at_end = ⊥
 IsOpen state = Unit {0}
@@ -92,29 +97,29 @@ FaultAt state rest why left =
     ((why ≡ Short) × (left ≡ 0) × IsOpen state × HasNoEnd (expected state) rest)
     ⊎ ((left ≡ length rest) × (((why ≡ Extra) × (state ≡ at_end) × (rest ≢ [])) ⊎ IsBadAt state rest why))
 
--- parts that may come, and the fault behind them
+-- parts that may come, and the fault after them
 abbrev pub FaultFrom : State → List ℕ → LogWhy → ℕ → Type 0
 FaultFrom state text why left =
     (parts : List Part) × (rest : List ℕ) × Runs state parts × (text ≡ parts_text parts rest) × FaultAt (after state parts) rest why left
 
--- what was read are the parts of the value, and the rest is behind them; or there is a fault
+-- what was read are the parts of the value, and the rest comes after them; or there is a fault
 module _ {A : Type 0} (from : State) (spelled : A → List Part) where
-  abbrev pub Reads : List ℕ → Result A Stop → List ℕ → Type 0
+  abbrev pub Reads : List ℕ → Result A ReadError → List ℕ → Type 0
   Reads text (Ok value) rest = Runs from (spelled value) × (text ≡ parts_text (spelled value) rest)
   Reads text (Err NoMemory) rest = Unit {0}
   Reads text (Err (Fault why left)) rest = FaultFrom from text why left
 
 -- the next line, or the text has no newline
-abbrev pub IsNextLine : List ℕ → Result (Bor (List ℕ)) Stop → List ℕ → Type 0
+abbrev pub IsNextLine : List ℕ → Result (Bor (List ℕ)) ReadError → List ℕ → Type 0
 IsNextLine text (Ok line) rest = HasNoNewline line.now × (text ≡ line.now ++ 10 ∷ rest)
 IsNextLine text (Err NoMemory) rest = ⊥
 IsNextLine text (Err (Fault why left)) rest = HasNoNewline text × (why ≡ Short) × (left ≡ 0)
 
 -- the fault's place is in a text of that length, and the fault with its place
-abbrev pub IsWithin : Stop → ℕ → Type 0
+abbrev pub IsWithin : ReadError → ℕ → Type 0
 IsWithin NoMemory size = Unit {0}
 IsWithin (Fault why left) size = left ≤ size
 
-abbrev pub IsPlaced : Stop → ℕ → LogFault → Type 0
+abbrev pub IsPlaced : ReadError → ℕ → LogFault → Type 0
 IsPlaced NoMemory size fault = fault ≡ no_memory
 IsPlaced (Fault why left) size fault = (fault.why ≡ why) × (fault.at + left ≡ size)

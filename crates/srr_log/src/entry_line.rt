@@ -5,10 +5,12 @@ ghost use Rattle.srr_log.specs.Pieces.{Adds, Gives};
 
 use crate::lists::indices_rise;
 use crate::mark::{inside, mark, outside};
-use crate::pieces::{behind, cut, int, number, rank};
-use crate::stop::Unread;
+use crate::pieces::{behind, int, number, rank, split_once};
+use crate::read_error::Unread;
 use mpi_call::call::{Fault, Halt};
+use mpi_call::limits::MOST_INTS;
 use srr_entry::entry::{Entry, Marked, MarkedItems};
+use srr_text::limits::GREATEST_NUMBER;
 use std::alloc::Global;
 
 /// The entry whose line it is, within the bounds of a log of so many ranks and of this group.
@@ -65,7 +67,7 @@ fn all_items(alloc: Global, text: &[u8], ranks: u8, group: &[u8]) -> Result<Mark
 {
     let mut found = MarkedItems::new(alloc);
     let mut rest = text;
-    while let Some((piece, after)) = cut(rest, b' ') {
+    while let Some((piece, after)) = split_once(rest, b' ') {
         add_item(alloc, &mut found, piece, ranks, group)?;
         rest = after;
     }
@@ -97,10 +99,10 @@ fn add_item(
 fn item(alloc: Global, text: &[u8], ranks: u8, group: &[u8]) -> Result<Marked, Unread>
     ensures { Gives result (item_in ranks group.now text.now) }
 {
-    let Some((index, kept)) = cut(text, b'=') else {
+    let Some((index, kept)) = split_once(text, b'=') else {
         return Err(Unread::NotAllowed);
     };
-    let Some(index) = number(index, 999_999) else {
+    let Some(index) = number(index, GREATEST_NUMBER) else {
         return Err(Unread::NotAllowed);
     };
     let mark = mark(alloc, kept, ranks, group)?;
@@ -112,12 +114,12 @@ fn item(alloc: Global, text: &[u8], ranks: u8, group: &[u8]) -> Result<Marked, U
 fn peek(text: &[u8], ranks: u8, group: &[u8]) -> Option<Entry>
     ensures { result ≡ peek_in ranks group.now text.now }
 {
-    let Some((name, count)) = cut(text, b':') else {
+    let Some((name, count)) = split_once(text, b':') else {
         let (source, start) = inside(text, ranks, group)?;
         return Some(Entry::PeekedInside { source, start });
     };
     let (source, start, tag) = outside(name, ranks, group)?;
-    let count = number(count, 65_536)?;
+    let count = number(count, MOST_INTS)?;
     Some(Entry::PeekedOutside {
         source,
         start,
@@ -142,7 +144,7 @@ fn halt(text: &[u8], ranks: u8) -> Option<Halt>
 fn named(text: &[u8], ranks: u8) -> Option<Halt>
     ensures { result ≡ named_in ranks text.now }
 {
-    let (kind, others) = cut(text, b' ')?;
+    let (kind, others) = split_once(text, b' ')?;
     if let [b'4'] = kind {
         let rank = rank(others, ranks)?;
         return Some(Halt::Mismatched { rank });
@@ -155,7 +157,7 @@ fn named(text: &[u8], ranks: u8) -> Option<Halt>
 fn detailed(kind: &[u8], text: &[u8], ranks: u8) -> Option<Halt>
     ensures { result ≡ detailed_in ranks kind.now text.now }
 {
-    let (named, other) = cut(text, b' ')?;
+    let (named, other) = split_once(text, b' ')?;
     let rank = rank(named, ranks)?;
     detail(kind, rank, other)
 }
@@ -174,11 +176,11 @@ fn detail(kind: &[u8], rank: u8, text: &[u8]) -> Option<Halt>
             Some(Halt::Trapped { rank, fault })
         }
         [b'3'] => {
-            let start = number(text, 999_999)?;
+            let start = number(text, GREATEST_NUMBER)?;
             Some(Halt::Truncated { rank, start })
         }
         [b'5'] => {
-            let start = number(text, 999_999)?;
+            let start = number(text, GREATEST_NUMBER)?;
             Some(Halt::BadRequest { rank, start })
         }
         _ => None,

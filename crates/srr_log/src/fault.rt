@@ -6,7 +6,7 @@ use thiserror::Error;
 pub enum LogWhy {
     /// The first line is not `srr 1`.
     BadHead,
-    /// The `ranks`, the `program` or a `rank` line, or no newline behind the program.
+    /// The `ranks`, the `program` or a `rank` line, or no newline after the program.
     BadNumber,
     /// The `group` line.
     BadGroup,
@@ -14,7 +14,7 @@ pub enum LogWhy {
     BadEntry,
     /// The text ends within a part.
     Short,
-    /// Bytes stand behind the `end` line.
+    /// Bytes come after the `end` line.
     Extra,
     /// The first line is `srr` and the number of another version.
     BadVersion,

@@ -7,5 +7,5 @@ mod line;
 mod lists;
 mod mark;
 mod pieces;
+pub mod read_error;
 pub mod read_log;
-mod stop;

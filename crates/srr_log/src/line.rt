@@ -9,10 +9,12 @@ ghost use Rattle.srr_log.specs.Pieces.{Gives};
 use crate::entry_line::entry;
 use crate::fault::LogWhy;
 use crate::lists::rise;
-use crate::pieces::{behind, cut, number};
-use crate::stop::Unread;
+use crate::pieces::{behind, number, split_once};
+use crate::read_error::Unread;
+use mpi_call::limits::MOST_RANKS;
 use mpi_call::lists::Ranks;
 use srr_entry::entry::Entry;
+use srr_text::limits::{MOST_ENTRIES, MOST_PROGRAM_BYTES};
 use std::alloc::Global;
 use wiz_base::is_decimal;
 
@@ -38,7 +40,7 @@ pub fn head_fault(line: &[u8]) -> LogWhy
 pub fn ranks_line(line: &[u8]) -> Option<u8>
     ensures { result ≡ ranks_line_in line.now }
 {
-    let ranks = number(behind(line, b"ranks ")?, 64)?;
+    let ranks = number(behind(line, b"ranks ")?, MOST_RANKS as u32)?;
     if ranks > 0 { Some(ranks as u8) } else { None }
 }
 
@@ -63,7 +65,7 @@ pub fn group_line(alloc: Global, line: &[u8], ranks: u8) -> Result<Ranks, Unread
 pub fn size_line(line: &[u8]) -> Option<u32>
     ensures { result ≡ size_line_in line.now }
 {
-    number(behind(line, b"program ")?, 65_536)
+    number(behind(line, b"program ")?, MOST_PROGRAM_BYTES)
 }
 
 /// How many entries this rank has.
@@ -71,9 +73,9 @@ pub fn size_line(line: &[u8]) -> Option<u32>
 pub fn rank_line(line: &[u8], rank: u8) -> Option<u32>
     ensures { result ≡ rank_line_in rank line.now }
 {
-    let (named, count) = cut(behind(line, b"rank ")?, b' ')?;
+    let (named, count) = split_once(behind(line, b"rank ")?, b' ')?;
     if number(named, 255)? == rank as u32 {
-        number(count, 999_064)
+        number(count, MOST_ENTRIES)
     } else {
         None
     }

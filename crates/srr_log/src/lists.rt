@@ -1,15 +1,16 @@
 //! Lists within a line, a mark between each two elements.
 ghost use Rattle.std.specs.Prelude.{◌≡◌, ◌++◌, ◌∷◌, [], IsTrue, OnOk, length, map};
-ghost use Rattle.srr_log.specs.EntryReading.{few_ints_in, indices, ints_in, ranks_in, rises};
+ghost use Rattle.mpi_call.specs.Lists.{rises};
+ghost use Rattle.srr_log.specs.EntryReading.{few_ints_in, indices, ints_in, ranks_in};
 ghost use Rattle.srr_log.specs.Pieces.{Adds, Gives, int_in, rank_in};
 
-use crate::pieces::{cut, int, rank};
-use crate::stop::Unread;
+use crate::pieces::{int, rank, split_once};
+use crate::read_error::Unread;
 use mpi_call::lists::{Ints, Ranks};
 use srr_entry::entry::Marked;
 use std::alloc::{AllocError, Global};
 
-/// Ints with commas between, so many at most; none is no byte.
+/// Ints with commas between, at most this many; none is no byte.
 #[tactic(auto, unfolding(crate::specs::EntryReading::few_ints_in))]
 pub fn few_ints(alloc: Global, text: &[u8], most: usize) -> Result<Ints, Unread>
     ensures { Gives result (few_ints_in most text.now) }
@@ -30,7 +31,7 @@ fn ints(alloc: Global, text: &[u8]) -> Result<Ints, Unread>
 {
     let mut found = Ints::new(alloc);
     let mut rest = text;
-    while let Some((piece, after)) = cut(rest, b',') {
+    while let Some((piece, after)) = split_once(rest, b',') {
         add_int(&mut found, piece)?;
         rest = after;
     }
@@ -56,7 +57,7 @@ pub fn ranks(alloc: Global, text: &[u8], mark: u8, ranks: u8) -> Result<Ranks, U
 {
     let mut found = Ranks::new(alloc);
     let mut rest = text;
-    while let Some((piece, after)) = cut(rest, mark) {
+    while let Some((piece, after)) = split_once(rest, mark) {
         add_rank(&mut found, piece, ranks)?;
         rest = after;
     }

@@ -4,9 +4,11 @@ ghost use Rattle.srr_log.specs.EntryReading.{inside_in, long_mark_in, made_in, m
 ghost use Rattle.srr_log.specs.Pieces.{Gives};
 
 use crate::lists::few_ints;
-use crate::pieces::{behind, cut, number, rank};
-use crate::stop::Unread;
+use crate::pieces::{behind, number, rank, split_once};
+use crate::read_error::Unread;
+use mpi_call::limits::{GREATEST_TAG, MOST_INTS, MOST_RANKS, MOST_RESULT_INTS};
 use srr_entry::entry::Mark;
+use srr_text::limits::GREATEST_NUMBER;
 use std::alloc::Global;
 
 /// The name of a message from inside the group.
@@ -14,9 +16,9 @@ use std::alloc::Global;
 pub fn inside(text: &[u8], ranks: u8, group: &[u8]) -> Option<(u8, u32)>
     ensures { result ≡ inside_in ranks group.now text.now }
 {
-    let (source, start) = cut(text, b'.')?;
+    let (source, start) = split_once(text, b'.')?;
     let source = rank(source, ranks)?;
-    let start = number(start, 999_999)?;
+    let start = number(start, GREATEST_NUMBER)?;
     if group.contains(&source) {
         Some((source, start))
     } else {
@@ -29,11 +31,11 @@ pub fn inside(text: &[u8], ranks: u8, group: &[u8]) -> Option<(u8, u32)>
 pub fn outside(text: &[u8], ranks: u8, group: &[u8]) -> Option<(u8, u32, u32)>
     ensures { result ≡ outside_in ranks group.now text.now }
 {
-    let (source, others) = cut(text, b'.')?;
-    let (start, tag) = cut(others, b'.')?;
+    let (source, others) = split_once(text, b'.')?;
+    let (start, tag) = split_once(others, b'.')?;
     let source = rank(source, ranks)?;
-    let start = number(start, 999_999)?;
-    let tag = number(tag, 2_147_483_647)?;
+    let start = number(start, GREATEST_NUMBER)?;
+    let tag = number(tag, GREATEST_TAG)?;
     if group.contains(&source) {
         None
     } else {
@@ -59,7 +61,7 @@ fn long_mark(alloc: Global, text: &[u8], ranks: u8, group: &[u8]) -> Result<Mark
     ensures { Gives result (long_mark_in ranks group.now text.now) }
 {
     if let Some(outer) = behind(text, b"c:") {
-        let ints = few_ints(alloc, outer, 262_144)?;
+        let ints = few_ints(alloc, outer, MOST_RESULT_INTS as usize)?;
         return Ok(Mark::Outer { ints });
     }
     if let Some(new) = behind(text, b"m.") {
@@ -68,34 +70,34 @@ fn long_mark(alloc: Global, text: &[u8], ranks: u8, group: &[u8]) -> Result<Mark
     message(alloc, text, ranks, group)
 }
 
-/// A new communicator: its number, and behind a colon its members.
+/// A new communicator: its number, and after a colon its members.
 #[tactic(auto, unfolding(crate::specs::EntryReading::made_in))]
 fn made(alloc: Global, text: &[u8], ranks: u8) -> Result<Mark, Unread>
     ensures { Gives result (made_in ranks text.now) }
 {
-    let Some((comm, listed)) = cut(text, b':') else {
-        let Some(comm) = number(text, 999_999) else {
+    let Some((comm, listed)) = split_once(text, b':') else {
+        let Some(comm) = number(text, GREATEST_NUMBER) else {
             return Err(Unread::NotAllowed);
         };
         return Ok(Mark::Made { comm });
     };
-    let Some(comm) = number(comm, 999_999) else {
+    let Some(comm) = number(comm, GREATEST_NUMBER) else {
         return Err(Unread::NotAllowed);
     };
     let members = crate::lists::ranks(alloc, listed, b',', ranks)?;
-    if comm > 0 && members.as_slice().len() <= 64 {
+    if comm > 0 && members.as_slice().len() <= MOST_RANKS as usize {
         Ok(Mark::MadeOutside { comm, members })
     } else {
         Err(Unread::NotAllowed)
     }
 }
 
-/// A message: its name, and behind a colon its ints.
+/// A message: its name, and after a colon its ints.
 #[tactic(auto, unfolding(crate::specs::EntryReading::message_in))]
 fn message(alloc: Global, text: &[u8], ranks: u8, group: &[u8]) -> Result<Mark, Unread>
     ensures { Gives result (message_in ranks group.now text.now) }
 {
-    let Some((name, ints)) = cut(text, b':') else {
+    let Some((name, ints)) = split_once(text, b':') else {
         let Some((source, start)) = inside(text, ranks, group) else {
             return Err(Unread::NotAllowed);
         };
@@ -104,7 +106,7 @@ fn message(alloc: Global, text: &[u8], ranks: u8, group: &[u8]) -> Result<Mark, 
     let Some((source, start, tag)) = outside(name, ranks, group) else {
         return Err(Unread::NotAllowed);
     };
-    let ints = few_ints(alloc, ints, 65_536)?;
+    let ints = few_ints(alloc, ints, MOST_INTS as usize)?;
     Ok(Mark::Outside {
         source,
         start,

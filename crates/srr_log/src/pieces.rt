@@ -1,19 +1,19 @@
 //! The pieces of a line, and the numbers that they spell.
 ghost use Rattle.std.specs.Prelude.{◌≡◌, ◌≢◌, ◌<◌, ◌≤◌, ⊤, All, MatchOption, slice_index, take, length};
-ghost use Rattle.srr_log.specs.Pieces.{GivesText, GivesCut, behind, cut, int_in, number_in, rank_in};
+ghost use Rattle.srr_log.specs.Pieces.{GivesText, GivesSplit, behind, split_once, int_in, number_in, rank_in};
 
 use wiz_base::{decimal, number_i64};
 
-/// What stands behind a word.
+/// What comes after a word.
 pub fn behind<'a>(text: &'a [u8], word: &[u8]) -> Option<&'a [u8]>
     ensures { GivesText result (behind word.now text.now) }
 {
     text.strip_prefix(word)
 }
 
-/// What stands before the first such mark, and what behind it.
-pub fn cut(text: &[u8], mark: u8) -> Option<(&[u8], &[u8])>
-    ensures { GivesCut result (cut mark text.now) }
+/// What stands before the first such mark, and what comes after it.
+pub fn split_once(text: &[u8], mark: u8) -> Option<(&[u8], &[u8])>
+    ensures { GivesSplit result (split_once mark text.now) }
 {
     let at = place_of(text, mark)?;
     Some((&text[..at], &text[at + 1..]))

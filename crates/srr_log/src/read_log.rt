@@ -10,7 +10,7 @@ ghost use Rattle.srr_log.specs.Reading.{IsNextLine, IsPlaced, IsWithin, Reads, a
 
 use crate::fault::{LogFault, LogWhy};
 use crate::line;
-use crate::stop::{Stop, refused};
+use crate::read_error::{ReadError, refused};
 use mpi_call::lists::Ranks;
 use srr_entry::entry::Entry;
 use srr_entry::log::{Entries, Lists, Log};
@@ -18,12 +18,12 @@ use std::alloc::{AllocError, Global};
 use wiz_base::{Bytes, Cursor};
 
 /// The next line, without its newline.
-fn next_line<'a>(cursor: &mut Cursor<'a>) -> Result<&'a [u8], Stop>
+fn next_line<'a>(cursor: &mut Cursor<'a>) -> Result<&'a [u8], ReadError>
     ensures { IsNextLine cursor.old result cursor.new }
 {
     match cursor.ended_line() {
         Some(line) => Ok(line),
-        None => Err(Stop::Fault {
+        None => Err(ReadError::Fault {
             why: LogWhy::Short,
             left: 0,
         }),
@@ -31,7 +31,7 @@ fn next_line<'a>(cursor: &mut Cursor<'a>) -> Result<&'a [u8], Stop>
 }
 
 /// The format's line.
-fn head(cursor: &mut Cursor<'_>) -> Result<(), Stop>
+fn head(cursor: &mut Cursor<'_>) -> Result<(), ReadError>
     ensures { Reads at_head (λ _. head_line ∷ []) cursor.old result cursor.new }
 {
     let left = cursor.rest().len();
@@ -40,18 +40,18 @@ fn head(cursor: &mut Cursor<'_>) -> Result<(), Stop>
         return Ok(());
     }
     let why = line::head_fault(line);
-    Err(Stop::Fault { why, left })
+    Err(ReadError::Fault { why, left })
 }
 
 /// The number of ranks.
-fn ranks(cursor: &mut Cursor<'_>) -> Result<u8, Stop>
+fn ranks(cursor: &mut Cursor<'_>) -> Result<u8, ReadError>
     ensures { Reads at_ranks (λ ranks. ranks_line ranks ∷ []) cursor.old result cursor.new }
 {
     let left = cursor.rest().len();
     let line = next_line(cursor)?;
     match line::ranks_line(line) {
         Some(ranks) => Ok(ranks),
-        None => Err(Stop::Fault {
+        None => Err(ReadError::Fault {
             why: LogWhy::BadNumber,
             left,
         }),
@@ -59,7 +59,7 @@ fn ranks(cursor: &mut Cursor<'_>) -> Result<u8, Stop>
 }
 
 /// The ranks of the group.
-fn group(alloc: Global, cursor: &mut Cursor<'_>, ranks: u8) -> Result<Ranks, Stop>
+fn group(alloc: Global, cursor: &mut Cursor<'_>, ranks: u8) -> Result<Ranks, ReadError>
     ensures { Reads (at_group ranks) (λ group. group_line group ∷ []) cursor.old result cursor.new }
 {
     let left = cursor.rest().len();
@@ -71,34 +71,34 @@ fn group(alloc: Global, cursor: &mut Cursor<'_>, ranks: u8) -> Result<Ranks, Sto
 }
 
 /// The program's size.
-fn size(cursor: &mut Cursor<'_>) -> Result<u32, Stop>
+fn size(cursor: &mut Cursor<'_>) -> Result<u32, ReadError>
     ensures { (n : ℕ) (group : List ℕ) → Reads (at_size n group) (λ size. size_line size ∷ []) cursor.old result cursor.new }
 {
     let left = cursor.rest().len();
     let line = next_line(cursor)?;
     match line::size_line(line) {
         Some(size) => Ok(size),
-        None => Err(Stop::Fault {
+        None => Err(ReadError::Fault {
             why: LogWhy::BadNumber,
             left,
         }),
     }
 }
 
-/// The program's bytes, and the newline behind them.
-fn bytes(alloc: Global, cursor: &mut Cursor<'_>, size: u32) -> Result<Bytes, Stop>
+/// The program's bytes, and the newline after them.
+fn bytes(alloc: Global, cursor: &mut Cursor<'_>, size: u32) -> Result<Bytes, ReadError>
     ensures { (n : ℕ) (group : List ℕ) → Reads (at_program n group size) (λ program. program_bytes program ∷ []) cursor.old result cursor.new }
 {
     let left = cursor.rest().len();
     let Some(part) = cursor.take(size as usize + 1) else {
-        return Err(Stop::Fault {
+        return Err(ReadError::Fault {
             why: LogWhy::Short,
             left: 0,
         });
     };
     let (program, end) = part.split_at(size as usize);
     if !is_newline(end) {
-        return Err(Stop::Fault {
+        return Err(ReadError::Fault {
             why: LogWhy::BadNumber,
             left,
         });
@@ -114,7 +114,7 @@ fn is_newline(end: &[u8]) -> bool
 }
 
 /// The program's size, and its bytes.
-fn program(alloc: Global, cursor: &mut Cursor<'_>) -> Result<Bytes, Stop>
+fn program(alloc: Global, cursor: &mut Cursor<'_>) -> Result<Bytes, ReadError>
     ensures { (n : ℕ) (group : List ℕ) → Reads (at_size n group) (λ program. size_line (length program) ∷ program_bytes program ∷ []) cursor.old result cursor.new }
 {
     let size = size(cursor)?;
@@ -122,14 +122,14 @@ fn program(alloc: Global, cursor: &mut Cursor<'_>) -> Result<Bytes, Stop>
 }
 
 /// A rank's line: how many entries it has.
-fn rank(cursor: &mut Cursor<'_>, rank: u8) -> Result<u32, Stop>
+fn rank(cursor: &mut Cursor<'_>, rank: u8) -> Result<u32, ReadError>
     ensures { (n : ℕ) (group ranks : List ℕ) → Reads (at_list n group (rank ∷ ranks)) (λ count. rank_line rank count ∷ []) cursor.old result cursor.new }
 {
     let left = cursor.rest().len();
     let line = next_line(cursor)?;
     match line::rank_line(line, rank) {
         Some(count) => Ok(count),
-        None => Err(Stop::Fault {
+        None => Err(ReadError::Fault {
             why: LogWhy::BadNumber,
             left,
         }),
@@ -143,7 +143,7 @@ fn entry(
     ranks: u8,
     group: &[u8],
     others: u32,
-) -> Result<Entry, Stop>
+) -> Result<Entry, ReadError>
     ensures { (behind : List ℕ) → Reads (at_entry ranks group.now others behind) (λ entry. entry_part entry ∷ []) cursor.old result cursor.new }
 {
     let left = cursor.rest().len();
@@ -154,14 +154,14 @@ fn entry(
     }
 }
 
-/// So many entries of a rank.
+/// This many entries of a rank.
 fn entries(
     alloc: Global,
     cursor: &mut Cursor<'_>,
     ranks: u8,
     group: &[u8],
     count: u32,
-) -> Result<Entries, Stop>
+) -> Result<Entries, ReadError>
     ensures read { (behind : List ℕ) → Reads (entries_left ranks group.now count behind) (λ entries. map entry_part entries) cursor.old result cursor.new }
     ensures many { IfOk result (λ entries. length entries ≡ count) }
 {
@@ -178,10 +178,8 @@ fn entries(
 fn add_entry(entries: &mut Entries, entry: Entry) -> Result<(), AllocError>
     ensures { OnOk result (entries.new ≡ entries.old ++ entry ∷ []) }
 {
-    match entries.push(entry) {
-        Ok(()) => Ok(()),
-        Err(_) => Err(AllocError),
-    }
+    entries.push(entry)?;
+    Ok(())
 }
 
 /// The list of one rank.
@@ -191,7 +189,7 @@ fn list(
     ranks: u8,
     group: &[u8],
     named: u8,
-) -> Result<Entries, Stop>
+) -> Result<Entries, ReadError>
     ensures { (behind : List ℕ) → Reads (at_list ranks group.now (named ∷ behind)) (λ entries. rank_line named (length entries) ∷ map entry_part entries) cursor.old result cursor.new }
 {
     let count = rank(cursor, named)?;
@@ -199,7 +197,12 @@ fn list(
 }
 
 /// The list of each rank of the group.
-fn lists(alloc: Global, cursor: &mut Cursor<'_>, ranks: u8, group: &[u8]) -> Result<Lists, Stop>
+fn lists(
+    alloc: Global,
+    cursor: &mut Cursor<'_>,
+    ranks: u8,
+    group: &[u8],
+) -> Result<Lists, ReadError>
     ensures read { Reads (at_list ranks group.now group.now) (λ lists. lists_parts group.now lists []) cursor.old result cursor.new }
     ensures many { IfOk result (λ lists. length lists ≡ length group.now) }
 {
@@ -214,14 +217,12 @@ fn lists(alloc: Global, cursor: &mut Cursor<'_>, ranks: u8, group: &[u8]) -> Res
 fn add_list(lists: &mut Lists, entries: Entries) -> Result<(), AllocError>
     ensures { OnOk result (lists.new ≡ lists.old ++ entries ∷ []) }
 {
-    match lists.push(entries) {
-        Ok(()) => Ok(()),
-        Err(_) => Err(AllocError),
-    }
+    lists.push(entries)?;
+    Ok(())
 }
 
 /// The last line.
-fn end(cursor: &mut Cursor<'_>) -> Result<(), Stop>
+fn end(cursor: &mut Cursor<'_>) -> Result<(), ReadError>
     ensures { (n : ℕ) (group : List ℕ) → Reads (at_list n group []) (λ _. end_line ∷ []) cursor.old result cursor.new }
 {
     let left = cursor.rest().len();
@@ -229,19 +230,19 @@ fn end(cursor: &mut Cursor<'_>) -> Result<(), Stop>
     if line == b"end".as_slice() {
         return Ok(());
     }
-    Err(Stop::Fault {
+    Err(ReadError::Fault {
         why: LogWhy::BadEntry,
         left,
     })
 }
 
-/// The list of each rank, the last line, and nothing behind it.
+/// The list of each rank, the last line, and nothing after it.
 fn lists_and_end(
     alloc: Global,
     cursor: &mut Cursor<'_>,
     ranks: u8,
     group: &[u8],
-) -> Result<Lists, Stop>
+) -> Result<Lists, ReadError>
     ensures read { Reads (at_list ranks group.now group.now) (λ lists. lists_parts group.now lists (end_line ∷ [])) cursor.old result [] }
     ensures many { IfOk result (λ lists. length lists ≡ length group.now) }
 {
@@ -249,7 +250,7 @@ fn lists_and_end(
     end(cursor)?;
     let left = cursor.rest().len();
     if left > 0 {
-        return Err(Stop::Fault {
+        return Err(ReadError::Fault {
             why: LogWhy::Extra,
             left,
         });
@@ -257,8 +258,8 @@ fn lists_and_end(
     Ok(lists)
 }
 
-/// All parts, and nothing behind them.
-fn read(alloc: Global, text: &[u8]) -> Result<Log, Stop>
+/// All parts, and nothing after them.
+fn read(alloc: Global, text: &[u8]) -> Result<Log, ReadError>
     ensures parts { Reads at_head log_parts text.now result [] }
     ensures many { IfOk result (λ log. length log.lists ≡ length log.group) }
 {
@@ -289,22 +290,22 @@ pub fn read_log(alloc: Global, text: &[u8]) -> Result<Log, LogFault>
 {
     match read(alloc, text) {
         Ok(log) => Ok(log),
-        Err(stop) => Err(fault_of(text, stop)),
+        Err(error) => Err(fault_of(text, error)),
     }
 }
 
 /// The fault with its place.
-fn fault_of(text: &[u8], stop: Stop) -> LogFault
+fn fault_of(text: &[u8], error: ReadError) -> LogFault
     requires few { length text.now < 2 ^ 32 }
-    requires fits { IsWithin stop (length text.now) }
-    ensures { IsPlaced stop (length text.now) result }
+    requires fits { IsWithin error (length text.now) }
+    ensures { IsPlaced error (length text.now) result }
 {
-    match stop {
-        Stop::NoMemory => LogFault {
+    match error {
+        ReadError::NoMemory => LogFault {
             at: 0,
             why: LogWhy::NoMemory,
         },
-        Stop::Fault { why, left } => LogFault {
+        ReadError::Fault { why, left } => LogFault {
             at: (text.len() - left) as u32,
             why,
         },

@@ -1,5 +1,6 @@
 use Rattle.std.proofs.Common.{◌≡◌, length}
-use Rattle.srr_log.specs.EntryReading.{rises, indices}
+use Rattle.mpi_call.specs.Lists.{rises}
+use Rattle.srr_log.specs.EntryReading.{indices}
 use Rattle.srr_log.proofs.lists.indices_rise.Given as goal
 
 abbrev pub invariant-loop-rest : goal.invariant-loop-rest

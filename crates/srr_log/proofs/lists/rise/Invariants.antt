@@ -1,5 +1,5 @@
 use Rattle.std.proofs.Common.{◌≡◌, length}
-use Rattle.srr_log.specs.EntryReading.{rises}
+use Rattle.mpi_call.specs.Lists.{rises}
 use Rattle.srr_log.proofs.lists.rise.Given as goal
 
 abbrev pub invariant-loop-rest : goal.invariant-loop-rest

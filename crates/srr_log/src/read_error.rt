@@ -1,4 +1,4 @@
-//! Why reading stopped, before its place is known.
+//! Why a text was not read, before the place of the fault is known.
 ghost use Rattle.std.specs.Prelude.{◌≡◌};
 ghost use Rattle.srr_log.specs.Refused.{refused};
 
@@ -15,7 +15,7 @@ pub enum Unread {
 
 impl From<AllocError> for Unread {
     ghost use Rattle.std.specs.Prelude.{◌≡◌};
-    ghost use Rattle.srr_log.specs.declared.stop.Unread.TheVariants.{NoMemory};
+    ghost use Rattle.srr_log.specs.declared.read_error.Unread.TheVariants.{NoMemory};
 
     ghost from_gives = { λ _ unread. unread ≡ NoMemory };
 
@@ -24,30 +24,30 @@ impl From<AllocError> for Unread {
     }
 }
 
-/// Why reading stopped: a fault with so many bytes from its place to the text's end.
+/// Why a text was not read: a fault with `left` bytes from its place to the text's end, or out of memory.
 #[derive(Clone, Copy)]
-pub enum Stop {
+pub enum ReadError {
     NoMemory,
     Fault { why: LogWhy, left: usize },
 }
 
-impl From<AllocError> for Stop {
+impl From<AllocError> for ReadError {
     ghost use Rattle.std.specs.Prelude.{◌≡◌};
-    ghost use Rattle.srr_log.specs.declared.stop.Stop.TheVariants.{NoMemory};
+    ghost use Rattle.srr_log.specs.declared.read_error.ReadError.TheVariants.{NoMemory};
 
-    ghost from_gives = { λ _ stop. stop ≡ NoMemory };
+    ghost from_gives = { λ _ error. error ≡ NoMemory };
 
     fn from(_error: AllocError) -> Self {
-        Stop::NoMemory
+        ReadError::NoMemory
     }
 }
 
 /// A line that was not read is a fault with this reason.
-pub fn refused(unread: Unread, why: LogWhy, left: usize) -> Stop
+pub fn refused(unread: Unread, why: LogWhy, left: usize) -> ReadError
     ensures { result ≡ refused unread why left }
 {
     match unread {
-        Unread::NotAllowed => Stop::Fault { why, left },
-        Unread::NoMemory => Stop::NoMemory,
+        Unread::NotAllowed => ReadError::Fault { why, left },
+        Unread::NoMemory => ReadError::NoMemory,
     }
 }
