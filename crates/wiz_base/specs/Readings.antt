@@ -6,7 +6,7 @@ use Rattle.wiz_base.specs.declared.fault.NumberFault.{NumberFault}
 use Rattle.wiz_base.specs.declared.fault.NumberFault.TheVariants.{Empty, NotDigit, LeadingZero, TooLarge}
 use Rattle.wiz_base.specs.Decimals.{decimal_text, number_text}
 
--- where the digits begin: behind a `-`, if the text begins with one
+-- where the digits begin: after a `-`, if the text begins with one
 abbrev pub digits_begin : List ℕ → ℕ
 digits_begin text = if slice_index text 0 == 45 then 1 else 0
 
@@ -19,14 +19,14 @@ abbrev pub with_sign : Bool → ℕ → ℤ
 with_sign true size = neg_ℤ (pos size)
 with_sign false size = pos size
 
--- the first byte behind the sign that is no digit stands there, or it is the end behind a lone `-`
+-- the first byte after the sign that is no digit, or the end after a lone `-`
 pub record IsFirstNotDigit (text : List ℕ) (at : ℕ) : Type 0 where
   pub behind : digits_begin text ≤ at
   pub before : AreDigits text (digits_begin text) at
   pub here : ¬ (IsAsciiDigit (slice_index text at))
   pub within : (at < length text) ⊎ (text ≡ codes "-")
 
--- digits stand behind the sign, the first is a 0, and the text is more than that
+-- there are digits after the sign, the first is a 0, and the text is more than that
 pub record HasLeadingZero (text : List ℕ) : Type 0 where
   pub digits : AreDigits text (digits_begin text) (length text)
   pub zero : slice_index text (digits_begin text) ≡ 48
@@ -44,7 +44,7 @@ IsReading text (Err TooLarge) = (value : ℤ) × (text ≡ number_text value) ×
 abbrev pub IsDecimal : List ℕ → Type 0
 IsDecimal text = (value : ℕ) × (text ≡ decimal_text value)
 
--- the number from 0 up to `most` that is spelled so, and none exactly where there is no such number
+-- the number from 0 up to `most` that is spelled so, and none if and only if there is no such number
 abbrev pub IsDecimalUpTo : List ℕ → ℕ → Option ℕ → Type 0
 IsDecimalUpTo text most (Some value) = (text ≡ decimal_text value) × (value ≤ most)
 IsDecimalUpTo text most None = (value : ℕ) → value ≤ most → text ≢ decimal_text value

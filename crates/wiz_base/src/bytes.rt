@@ -1,7 +1,7 @@
 //! A list of bytes.
 ghost use Rattle.std.specs.Prelude.{◌≡◌, ◌↔◌, ◌++◌, ◌∷◌, [], IsTrue, OnOk, OnErr, IfOk, IfErr, length};
 
-use std::alloc::{AllocError, Global};
+use std::alloc::{AllocError, AllocFailed, Global};
 use std::marker::Model;
 
 /// Bytes that grow at the end. Contracts see the list of them.
@@ -58,16 +58,13 @@ impl Bytes {
         bytes.clone()
     }
 
-    /// One more byte at the end. A refused one is handed back.
-    pub fn push(&mut self, value: u8) -> Result<(), u8>
+    /// One more byte at the end. An error gives it back.
+    pub fn push(&mut self, value: u8) -> Result<(), AllocFailed<u8>>
         ensures ok { OnOk result (self.new ≡ self.old ++ value ∷ []) }
         ensures err { OnErr result (self.new ≡ self.old) }
-        ensures back { IfErr result (λ refused. refused ≡ value) }
+        ensures back { IfErr result (λ refused. refused.value ≡ value) }
     {
-        match self.values.push(value) {
-            Ok(()) => Ok(()),
-            Err(refused) => Err(refused.value),
-        }
+        self.values.push(value)
     }
 
     /// More bytes at the end, all or none.

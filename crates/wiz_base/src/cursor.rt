@@ -46,7 +46,7 @@ impl<'a> Cursor<'a> {
         Some(line)
     }
 
-    /// The next line, without its newline, where a newline ends it. Else all is left as it was.
+    /// The next line, without its newline, if a newline ends it. Otherwise all is left as it was.
     pub fn ended_line(&mut self) -> Option<&'a [u8]>
         ensures { IsEndedLine self.old (option_copied result) self.new }
     {
@@ -56,7 +56,7 @@ impl<'a> Cursor<'a> {
         Some(&text[..end])
     }
 
-    /// The next `count` bytes. Where fewer are left, all is left as it was.
+    /// The next `count` bytes. If fewer are left, all is left as it was.
     pub fn take(&mut self, count: usize) -> Option<&'a [u8]>
         ensures { IsTaken self.old count (option_copied result) self.new }
     {
@@ -70,7 +70,7 @@ impl<'a> Cursor<'a> {
     }
 }
 
-/// Where the first newline stands.
+/// Where the first newline is.
 fn first_newline(text: &[u8]) -> Option<usize>
     ensures none { MatchOption result (HasNoNewline text.now)
         (λ at. HasNoNewline (take at text.now)) }

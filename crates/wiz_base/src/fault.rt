@@ -6,8 +6,8 @@ use thiserror::Error;
 pub enum NumberFault {
     #[error("no digit")]
     Empty,
-    /// The place, from 0, of the first byte behind a leading `-` that is no digit; the text's
-    /// length behind a lone `-`.
+    /// The place, from 0, of the first byte after a leading `-` that is no digit; the text's
+    /// length after a lone `-`.
     #[error("no digit at byte {at}")]
     NotDigit { at: usize },
     #[error("a zero before other digits, or behind a sign")]

@@ -49,7 +49,7 @@ pub fn is_decimal(text: &[u8]) -> bool
     text[0] != b'0' || text.len() == 1
 }
 
-/// Where the digits begin: behind a leading `-`.
+/// Where the digits begin: after a leading `-`.
 fn digits_begin(text: &[u8]) -> usize
     requires { 0 < length text.now }
     ensures { result ≡ digits_begin text.now }
@@ -57,7 +57,7 @@ fn digits_begin(text: &[u8]) -> usize
     if text[0] == b'-' { 1 } else { 0 }
 }
 
-/// Where the first byte from `begin` on stands that is no digit, or the text's length.
+/// Where the first byte from `begin` on is that is no digit, or the text's length.
 fn digits_end(text: &[u8], begin: usize) -> usize
     requires { begin ≤ length text.now }
     ensures from { begin ≤ result }
