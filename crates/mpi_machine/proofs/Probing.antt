@@ -1,6 +1,7 @@
 -- The reply to a probe that finds a message.
-use Rattle.std.proofs.Common.{◌≡◌, ◌∙◌, ◌<◌, ◌++◌, ◌∷◌, Bool, List, Some, [], ap, length, refl, slice_get, suc, subst, sym, take, true, zero, ℕ, ℤ}
-use Rattle.std.proofs.lemmas.Bool.{eq-eqb}
+use Rattle.std.proofs.Common.{◌≡◌, ◌∙◌, ◌<◌, ◌≤◌, ◌++◌, ◌∷◌, Bool, List, None, Some, [], ap, inl, inr, length, refl, slice_get, suc, subst, sym, take, true, zero, ℕ, ℤ}
+use Rattle.std.proofs.lemmas.Bool.{cases_lt, eq-eqb}
+use Rattle.mpi_call.specs.declared.limits.TheConstants.{MOST_INTS}
 use Rattle.mpi_call.specs.declared.call.Call.{Call}
 use Rattle.mpi_call.specs.declared.call.Call.TheVariants.{Abort, End, Enter, Peek, Post, Send, Take, Trap}
 use Rattle.mpi_call.specs.declared.call.Source.{Source}
@@ -11,7 +12,11 @@ use Rattle.run_model.specs.declared.event.Event.{Event}
 use Rattle.run_model.specs.Choice.{choice}
 use Rattle.run_model.specs.Chosen.{chosen_answer, peek_reply, peeked_at, peeked_in}
 use Rattle.run_model.specs.Pairs.{Name, name_at, named}
-use Rattle.run_model.specs.Views.{View, is_start, starts_of, view_of}
+use Rattle.run_model.specs.Program.{AsksInBounds}
+use Rattle.run_model.specs.Run.{IsRun}
+use Rattle.run_model.specs.Views.{Next, View, is_start, start_at, starts_of, view_of}
+use Rattle.run_model.proofs.Orders.{short_sends}
+use Rattle.run_model.proofs.RunLaws.{Lawful, kept_run}
 use Rattle.run_model.proofs.Choosing.{choice_some}
 use Rattle.run_model.proofs.Positions.{name_at-below, name_parts, new_name}
 use Rattle.run_model.proofs.StartLemmas.{starts_of-append}
@@ -62,15 +67,31 @@ pub peeked_from : (events : List Event) (at : ℕ) (name : Name) (event : Event)
 peeked_from events at name event h there =
     ap (peeked_at events) h ∙ ap (peeked_in name) (named_at events at name event h there).made
 
-pub peeked_is : (events : List Event) (at : ℕ) (name : Name) (event : Event) (comm dest tag : ℕ) (ints : List ℤ) (number count : ℕ) → name_at events at ≡ Some name
+pub peeked_is : (events : List Event) (at : ℕ) (name : Name) (event : Event) (comm dest tag : ℕ) (ints : List ℤ) (sync : Bool) (number count : ℕ) → name_at events at ≡ Some name
     → slice_get events at ≡ Some event → event.call ≡ Send comm dest tag ints sync → number ≡ name.1 → count ≡ length ints
     → Peeked event.rank number tag count ≡ peeked_at events (name_at events at)
-peeked_is events at name event comm dest tag ints number count h there call_is number_is count_is =
+peeked_is events at name event comm dest tag ints sync number count h there call_is number_is count_is =
     let rank_is = (named_at events at name event h there).rank in
     rw (rank_is, number_is, count_is) (sym (peeked_from events at name event h there ∙ ap (λ (c : Call). peeked_in name (Some c)) call_is))
 
+-- the ints of a Send of a run are few
+pub sent_short : (next : Next) (n : ℕ) (events : List Event) (at : ℕ) (name : Name) (event : Event) (comm dest tag : ℕ) (ints : List ℤ) (sync : Bool)
+    → Lawful next → AsksInBounds next → IsRun next n events → name_at events at ≡ Some name → slice_get events at ≡ Some event
+    → event.call ≡ Send comm dest tag ints sync → length ints ≤ MOST_INTS
+sent_short next n events at name event comm dest tag ints sync lawful bounds run h there call_is =
+    let kept = kept_run next n events lawful run in
+    let made : start_at (view_of events name.0) name.1 ≡ Some (Send comm dest tag ints sync) =
+    (named_at events at name event h there).made ∙ ap (λ (c : Call). Some c) call_is in
+    elim (cases_lt name.0 n) [
+      | inl below ↦ short_sends next n name.0 (view_of events name.0) bounds (run.some, run.few, below) (kept.came name.0 below) name.1 comm dest tag ints sync made
+      | inr above ↦ (
+          let F : View → Type 0 = λ v. start_at v name.1 ≡ Some (Send comm dest tag ints sync) in
+          let no : None ≡ Some (Send comm dest tag ints sync) = subst F (kept.below.empty name.0 above) made in
+          absurd (cc))
+    ]
+
 no_send : (name : Name) (call : Call) → ((comm dest tag : ℕ) (ints : List ℤ) (sync : Bool) → call ≡ Send comm dest tag ints sync → ⊥) → peeked_in name (Some call) ≡ NotYet
-no_send name (Send comm dest tag ints sync) h = absurd (h comm dest tag ints refl)
+no_send name (Send comm dest tag ints sync) h = absurd (h comm dest tag ints sync refl)
 no_send name (Post comm source tag room) h = refl
 no_send name (Enter comm kind root op count ints) h = refl
 no_send name (Take starts mode) h = refl

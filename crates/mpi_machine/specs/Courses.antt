@@ -4,6 +4,7 @@ use Rattle.std.specs.List.{list_any, slice_index_or}
 use Rattle.mpi_call.specs.declared.call.Call.{Call}
 use Rattle.mpi_call.specs.declared.call.Halt.{Halt}
 use Rattle.mpi_call.specs.declared.call.Halt.TheVariants.{Limit}
+use Rattle.mpi_call.specs.declared.limits.TheConstants.{MOST_EVENTS, MOST_RANKS}
 use Rattle.run_model.specs.declared.event.Event.{Event}
 use Rattle.run_model.specs.Due.{halted, is_full, or_else, total_size}
 use Rattle.run_model.specs.Program.{ends}
@@ -31,13 +32,13 @@ capped sum = min sum (2 ^ 64 - 1)
 
 -- what is kept beside the history is what the history says, and there is room for the last event of each rank
 pub record IsCounted (history : Kept) (halt : Option Halt) (size : ℕ) (ended : List Bool) (kept : List (Option Call)) : Type 0 where
-  pub few : length ended ≤ 64
+  pub few : length ended ≤ MOST_RANKS
   pub as_many : length kept ≡ length ended
   pub halt_is : halt ≡ halted history.events
   pub size_is : size ≡ capped (total_size history.events)
   pub ended_are : (rank : ℕ) → rank < length ended → slice_index_or ended rank false ≡ has_ended history.events rank
   pub room : count_live ended ≤ history.spare
-  pub bound : length history.events + count_live ended ≤ 999000 + length ended
+  pub bound : length history.events + count_live ended ≤ MOST_EVENTS + length ended
 
 -- the halt that is due to every call: the one that stands, or the run's bound
 abbrev pub bound_of : List Event → Option Halt

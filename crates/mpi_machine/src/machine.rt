@@ -2,6 +2,7 @@
 ghost use Rattle.std.specs.Prelude.{◌≡◌, ◌<◌, ◌≤◌, ◌++◌, ◌∷◌, ◌==◌, ◌&&◌, ◌||◌, [], false, is_some, length, not, replicate, true, IfOk, IsOk, None, OnErr, OnOk, Some};
 ghost use Rattle.std.specs.List.{slice_set};
 ghost use Rattle.mpi_call.specs.Calls.{is_starting};
+ghost use Rattle.mpi_call.specs.declared.limits.TheConstants.{MOST_RANKS};
 ghost use Rattle.mpi_call.specs.declared.call.Call.{Call};
 ghost use Rattle.mpi_call.specs.declared.call.Call.TheVariants.{Peek, Take};
 ghost use Rattle.mpi_call.specs.declared.reply.Reply.{Reply};
@@ -12,7 +13,6 @@ ghost use Rattle.run_model.specs.Due.{halted};
 ghost use Rattle.run_model.specs.Pairs.{name_at};
 ghost use Rattle.run_model.specs.Program.{ends, MayGive};
 ghost use Rattle.run_model.specs.Serial.{attempt, call_after, is_stuck, Stage};
-ghost use Rattle.run_model.specs.Shape.{is_test};
 ghost use Rattle.run_model.specs.Views.{is_start, replies_in, taken_of, view_of};
 ghost use Rattle.requests.specs.Histories.{took_event, Knows};
 ghost use Rattle.requests.specs.States.{with_rows, State};
@@ -33,6 +33,7 @@ use requests::requests::{Requests, Started, TakeAnswer};
 use run_model::event::Event;
 use run_model::history::History;
 use run_model::program::Program;
+use run_model::shape::is_test;
 use std::alloc::{AllocError, Global};
 use std::marker::Model;
 
@@ -59,7 +60,7 @@ impl<'a, P: Program> Model for Machine<'a, P> {
 impl<'a, P: Program> Machine<'a, P> {
     /// No events of the program on `ranks` ranks, of which none waits.
     pub fn new(alloc: Global, program: &'a P, ranks: u8) -> Result<Self, AllocError>
-        requires { (0 < ranks) × (ranks ≤ 64) }
+        requires { (0 < ranks) × (ranks ≤ MOST_RANKS) }
         ensures { IfOk result (λ machine. machine ≡ record { program = program.now; ranks = ranks; events = []; kept = replicate ranks None }) }
     {
         Ok(Machine {
@@ -253,32 +254,32 @@ impl<'a, P: Program> Machine<'a, P> {
         };
         match self.requests.peek(rank, &call) {
             Some(at) => {
-                let reply = self.peeked(at)?;
+                let reply = self.peeked(at);
                 self.answer(rank, call, reply)
             }
             None => self.held(rank, call, !wait),
         }
     }
 
-    /// The reply to a probe that finds the message at a position.
-    fn peeked(&self, at: u32) -> Result<Reply, AllocError>
+    /// The reply to a probe that finds the message at a position. Takes no memory.
+    fn peeked(&self, at: u32) -> Reply
         requires { IsStartAt self.now.events at }
-        ensures { IfOk result (λ reply. reply ≡ peeked_at self.now.events (name_at self.now.events at)) }
+        ensures { result ≡ peeked_at self.now.events (name_at self.now.events at) }
     {
         let event = self.course.history().get(at);
         match &event.call {
             Call::Send { tag, ints, .. } => {
                 let Ok(count) = u32::try_from(ints.as_slice().len()) else {
-                    return Err(AllocError);
+                    unreachable!()
                 };
-                Ok(Reply::Peeked {
+                Reply::Peeked {
                     source: event.rank,
                     start: self.requests.name_at(at),
                     tag: *tag,
                     count,
-                })
+                }
             }
-            _ => Ok(Reply::NotYet),
+            _ => Reply::NotYet,
         }
     }
 
@@ -382,16 +383,6 @@ fn last_reply(halt: Option<Halt>) -> Reply
     }
 }
 
-/// Whether a completion that takes nothing is told so.
-fn is_test(mode: TakeMode) -> bool
-    ensures { result ≡ is_test mode }
-{
-    matches!(
-        mode,
-        TakeMode::TestAll | TakeMode::TestAny | TakeMode::TestSeveral
-    )
-}
-
 /// Room for an event, and a copy of its items.
 fn prepare(course: &mut Course, items: &Items) -> Result<Items, AllocError>
     ensures ranks { course.new.ranks ≡ course.old.ranks }
@@ -404,7 +395,7 @@ fn prepare(course: &mut Course, items: &Items) -> Result<Items, AllocError>
     items.clone()
 }
 
-/// The event of a completion that took these items. After the want of memory they are not taken.
+/// The event of a completion that took these items. When out of memory, they are not taken.
 fn took(
     course: &mut Course,
     requests: &mut Requests,
