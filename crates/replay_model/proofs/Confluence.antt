@@ -15,7 +15,8 @@ use Rattle.run_model.proofs.Views.{test_cases, view_of-mine, view_of-other}
 use Rattle.srr_entry.specs.declared.log.Log.{Log}
 use Rattle.replay_model.specs.declared.step.Step.TheVariants.{Replied}
 use Rattle.replay_model.specs.Replays.{IsExhausted, IsStep, IsWholeReplay, Replays, Breakpoint, answer_of}
-use Rattle.replay_model.specs.Stands.{printed_of, stand_of, stand_where}
+use Rattle.replay_model.specs.Stands.{stand_of, stand_where}
+use Rattle.srr_entry.specs.Outputs.{Output, printed_of}
 use Rattle.replay_model.proofs.Answers.{answer_of-replied}
 use mathlib.Core.Path.{fun_ext}
 
@@ -92,7 +93,7 @@ same_views : (next : Next) (log : Log) (stop : Breakpoint) (events other : List 
 same_views next log stop events other all all_other = fun_ext (confluence next log stop events other all all_other)
 
 -- so the same outputs, and the same stands
-pub same_outputs : (next : Next) (output : ℕ → ℕ → List Reply → List ℕ) (log : Log) (stop : Breakpoint) (events other : List Event)
+pub same_outputs : (next : Next) (output : Output) (log : Log) (stop : Breakpoint) (events other : List Event)
     → IsWholeReplay next log stop events → IsWholeReplay next log stop other → (rank : ℕ)
     → printed_of output log.ranks events rank ≡ printed_of output log.ranks other rank
 same_outputs next output log stop events other all all_other rank =

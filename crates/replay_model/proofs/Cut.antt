@@ -3,6 +3,7 @@ use Rattle.std.proofs.Common.{◌++◌, ◌+◌, ◌<◌, ◌==◌, ◌∙◌, �
 use Rattle.std.proofs.lemmas.Bool.{cases_lt, eqb-true}
 use Rattle.mpi_call.specs.declared.call.Call.{Call}
 use Rattle.mpi_call.specs.declared.reply.Reply.{Reply}
+use Rattle.mpi_call.specs.Lists.{IsIn}
 use Rattle.mpi_call.specs.Collectives.{is_member}
 use Rattle.run_model.specs.declared.event.Event.{Event}
 use Rattle.run_model.specs.declared.lists.Variable.{Variable}
@@ -15,6 +16,7 @@ use Rattle.run_model.proofs.RunLaws.{IsRun-event, Lawful}
 use Rattle.run_model.proofs.Views.{test_cases, view_of-append, view_of-mine, view_of-other}
 use Rattle.srr_entry.specs.declared.entry.Entry.{Entry}
 use Rattle.srr_entry.specs.declared.log.Log.{Log}
+use Rattle.srr_entry.specs.Outputs.{Output}
 use Rattle.srr_entry.specs.Entries.{entries_for, entry_of}
 use Rattle.srr_entry.proofs.EntryPlaces.{entry_in_log, entry_past}
 use Rattle.replay_model.specs.declared.replayed.Stand.{Stand}
@@ -28,7 +30,7 @@ use Rattle.replay_model.specs.Filling.{filled}
 use Rattle.replay_model.specs.Fits.{fits}
 use Rattle.replay_model.specs.Laws.{EachStand, HasAllOf, HasTheCut, IsDone, IsRunWith}
 use Rattle.replay_model.specs.Replays.{IsWholeReplay, Replays, Breakpoint, answer_of, diverged, is_break, judged}
-use Rattle.replay_model.specs.Rests.{Among, IsCutOff, follows, rank_of, rests, rests_on, stops}
+use Rattle.replay_model.specs.Rests.{IsCutOff, follows, rank_of, rests, rests_on, stops}
 use Rattle.replay_model.specs.Stands.{stand_where}
 use Rattle.replay_model.proofs.Answers.{answer_of-same, goes, waits}
 use Rattle.replay_model.proofs.Confluence.{step_in}
@@ -150,7 +152,7 @@ missing_there : (n : ℕ) (group : List ℕ) (stop : Breakpoint) (run events bef
     → HasFree n group (view_of run) stop events before → Begins (view_of events) (view_of run)
     → Begins (view_of before) (view_of run) → is_member group rank ≡ true → view_of run rank ≡ view ++ (call, reply) ∷ rest
     → (IsCutOff n group (view_of run) stop rank (length view) → ⊥)
-    → Among missing (rests n view rank call (entry_of n group rank view call reply))
+    → IsIn missing (rests n view rank call (entry_of n group rank view call reply))
     → is_there n (within group (view_of before)) missing ≡ true → is_there n (view_of events) missing ≡ true
 missing_there n group stop run events before rank view rest call reply missing has begins begins_before member e free among there =
     let up : Begins (within group (view_of before)) (view_of run) = λ r. prefix_trans (within group (view_of before) r) (view_of before r) (view_of run r) (within_begins group (view_of before) r) (begins_before r) in
@@ -316,7 +318,7 @@ whole_views next log stop run events rank stopless lawful is all member =
     has_free next log stop run events lawful is all rank number member below (none_cut_off log.ranks log.group (view_of run) stop rank number stopless) in
     nothing_more (view_of events rank) (view_of run rank) (begins_run next log stop run events is all.replays rank) (at_most (length (view_of run rank)) (length (view_of events rank)) all_there)
 
-pub HasAllOf-whole : (next : Next) (output : ℕ → ℕ → List Reply → List ℕ) (log : Log) (stop : Breakpoint) (run events : List Event)
+pub HasAllOf-whole : (next : Next) (output : Output) (log : Log) (stop : Breakpoint) (run events : List Event)
     → stop ≡ None → Lawful next → IsRunWith next log run → IsWholeReplay next log stop events → HasAllOf output log events run
 HasAllOf-whole next output log stop run events stopless lawful is all =
     record {

@@ -3,13 +3,14 @@ use Rattle.std.proofs.Common.{◌++◌, ◌<◌, ◌∙◌, ◌∷◌, ◌≡◌
 use Rattle.std.specs.Prelude.{is_some}
 use Rattle.mpi_call.specs.declared.call.Call.{Call}
 use Rattle.mpi_call.specs.declared.reply.Reply.{Reply}
+use Rattle.mpi_call.specs.Lists.{IsIn}
 use Rattle.run_model.specs.Communicators.{entered_from, is_on, known_first, learned}
 use Rattle.run_model.specs.Views.{View, is_start, start_at}
 use Rattle.run_model.proofs.Prefixes.{Begins}
 use Rattle.run_model.proofs.Views.{option_cases, test_cases}
 use Rattle.replay_model.specs.declared.step.Missing.{Missing}
 use Rattle.replay_model.specs.declared.step.Missing.TheVariants.{Member, Start}
-use Rattle.replay_model.specs.Rests.{Among, is_enter_on, number_of, number_of_nth, one_more, rank_of}
+use Rattle.replay_model.specs.Rests.{is_enter_on, number_of, number_of_nth, one_more, rank_of}
 use Rattle.replay_model.proofs.MissingLemmas.{first_missing, is_there}
 
 -- A replay with a breakpoint has the cut.
@@ -147,7 +148,7 @@ below_there n V W (Member m comm instance) begins h =
     ]
 
 pub missing_among : (n : ℕ) (V : ℕ → View) (xs : List Missing) (x : Missing) → first_missing n V xs ≡ Some x
-    → Among x xs × (is_there n V x ≡ false)
+    → IsIn x xs × (is_there n V x ≡ false)
 missing_among n V [] x h = absurd (cc)
 missing_among n V (y ∷ xs) x h =
     elim (test_cases (is_there n V y)) [
@@ -158,7 +159,7 @@ missing_among n V (y ∷ xs) x h =
           (inl same, ap (is_there n V) (sym same) ∙ t))
     ]
 
-pub none_missing : (n : ℕ) (V : ℕ → View) (xs : List Missing) (x : Missing) → first_missing n V xs ≡ None → Among x xs
+pub none_missing : (n : ℕ) (V : ℕ → View) (xs : List Missing) (x : Missing) → first_missing n V xs ≡ None → IsIn x xs
     → is_there n V x ≡ true
 none_missing n V [] x h among = absurd among
 none_missing n V (y ∷ xs) x h among =

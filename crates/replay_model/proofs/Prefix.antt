@@ -17,6 +17,7 @@ use Rattle.run_model.proofs.RunLaws.{IsRun-event, Lawful, kept_run}
 use Rattle.run_model.proofs.Views.{test_cases, view_of-mine, view_of-other}
 use Rattle.srr_entry.specs.declared.entry.Entry.{Entry}
 use Rattle.srr_entry.specs.declared.log.Log.{Log}
+use Rattle.srr_entry.specs.Outputs.{Output}
 use Rattle.srr_entry.specs.Entries.{entries_for, entry_of}
 use Rattle.srr_entry.proofs.EntryPlaces.{entry_in_log, entry_past}
 use Rattle.replay_model.specs.declared.step.Found.{Found}
@@ -148,7 +149,7 @@ nothing_begun [] prefix = refl
 nothing_begun (x ∷ xs) prefix = absurd (let no : x ∷ (xs ++ prefix.0) ≡ [] = prefix.1 in cc)
 
 -- the law of beginnings, with the printed output
-pub BeginsRun-Replays : (next : Next) (output : ℕ → ℕ → List Reply → List ℕ) (log : Log) (stop : Breakpoint) (run events : List Event)
+pub BeginsRun-Replays : (next : Next) (output : Output) (log : Log) (stop : Breakpoint) (run events : List Event)
     → Lawful next → PrintsOn next output → IsRunWith next log run → Replays next log stop events → BeginsRun output log events run
 BeginsRun-Replays next output log stop run events lawful prints is all =
     let n : ℕ = log.ranks in

@@ -4,6 +4,7 @@ use Rattle.std.proofs.lemmas.Bool.{and_parts, cases_lt, eq-eqb, eqb-true}
 use Rattle.std.proofs.lemmas.Option.{same_Some}
 use Rattle.mpi_call.specs.declared.call.Call.{Call}
 use Rattle.mpi_call.specs.declared.reply.Reply.{Reply}
+use Rattle.mpi_call.specs.Lists.{IsIn}
 use Rattle.mpi_call.specs.Collectives.{is_member}
 use Rattle.run_model.specs.declared.event.Event.{Event}
 use Rattle.run_model.specs.declared.lists.Variable.{Variable}
@@ -25,7 +26,7 @@ use Rattle.replay_model.specs.declared.step.Step.TheVariants.{AtBreak, Diverged,
 use Rattle.replay_model.specs.Filling.{filled}
 use Rattle.replay_model.specs.Laws.{IsRunWith, StarvesBehindABreak}
 use Rattle.replay_model.specs.Replays.{IsWholeReplay, Breakpoint, answer_of, is_break}
-use Rattle.replay_model.specs.Rests.{Among, IsCutOff, follows, number_of, rank_of, rests, rests_on, stops}
+use Rattle.replay_model.specs.Rests.{IsCutOff, follows, number_of, rank_of, rests, rests_on, stops}
 use Rattle.replay_model.specs.Stands.{stand_by, stand_of, stand_where}
 use Rattle.replay_model.proofs.Cut.{at_most, cut_law, cut_off_not, longer_of, nothing_more, same_front, same_length, split_at}
 use Rattle.replay_model.proofs.Fillings.{filled_allowed, within, within_begins}
@@ -66,7 +67,7 @@ there_member n group V (Member m comm instance) there =
 rests_before : (next : Next) (log : Log) (run before after : List Event) (rank : ℕ) (view rest : View) (call : Call) (reply : Reply) (missing : Missing) (number : ℕ)
     → IsRunWith next log run → run ≡ before ++ after → view_of run rank ≡ view ++ (call, reply) ∷ rest
     → length view < length (view_of before rank)
-    → Among missing (rests log.ranks view rank call (entry_of log.ranks log.group rank view call reply))
+    → IsIn missing (rests log.ranks view rank call (entry_of log.ranks log.group rank view call reply))
     → number_of (view_of run) missing ≡ Some number
     → (is_member log.group (rank_of missing) ≡ true) × (number < length (view_of before (rank_of missing)))
 rests_before next log run before after rank view rest call reply missing number is split e below among number_is =

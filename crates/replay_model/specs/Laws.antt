@@ -17,7 +17,8 @@ use Rattle.replay_model.specs.declared.step.Divergence.{Divergence}
 use Rattle.replay_model.specs.declared.step.Missing.{Missing}
 use Rattle.replay_model.specs.Replays.{IsWholeReplay, Replays, Breakpoint}
 use Rattle.replay_model.specs.Rests.{IsInCut}
-use Rattle.replay_model.specs.Stands.{printed_of, stand_of}
+use Rattle.replay_model.specs.Stands.{stand_of}
+use Rattle.srr_entry.specs.Outputs.{Output, printed_of}
 
 -- a run of the program that has this log
 pub record IsRunWith (next : Next) (log : Log) (run : List Event) : Type 0 where
@@ -25,19 +26,19 @@ pub record IsRunWith (next : Next) (log : Log) (run : List Event) : Type 0 where
   pub same_log : log ≡ log_of log.program log.ranks run log.group
 
 -- no rank outside the group has taken a step, and each rank of it has a beginning of its calls, replies and output in the run
-pub record BeginsRun (output : ℕ → ℕ → List Reply → List ℕ) (log : Log) (events run : List Event) : Type 0 where
+pub record BeginsRun (output : Output) (log : Log) (events run : List Event) : Type 0 where
   pub alone : (rank : ℕ) → is_member log.group rank ≡ false → view_of events rank ≡ []
   pub views : (rank : ℕ) → is_member log.group rank ≡ true → IsPrefixOf (view_of events rank) (view_of run rank)
   pub outputs : (rank : ℕ) → is_member log.group rank ≡ true → IsPrefixOf (printed_of output log.ranks events rank) (printed_of output log.ranks run rank)
 
 -- each rank of the group has all of them
-pub record HasAllOf (output : ℕ → ℕ → List Reply → List ℕ) (log : Log) (events run : List Event) : Type 0 where
+pub record HasAllOf (output : Output) (log : Log) (events run : List Event) : Type 0 where
   pub views : (rank : ℕ) → is_member log.group rank ≡ true → view_of events rank ≡ view_of run rank
   pub outputs : (rank : ℕ) → is_member log.group rank ≡ true → printed_of output log.ranks events rank ≡ printed_of output log.ranks run rank
 
 -- whatever the order of the group's ranks: at every moment of a replay each rank has a beginning of what it has in the run, and no
 -- other rank has taken a step; a replay that can go no further has all of it
-pub record ShowsInEveryOrder (next : Next) (output : ℕ → ℕ → List Reply → List ℕ) (log : Log) (run : List Event) : Type 0 where
+pub record ShowsInEveryOrder (next : Next) (output : Output) (log : Log) (run : List Event) : Type 0 where
   pub moments : (events : List Event) → Replays next log None events → BeginsRun output log events run
   pub ends : (events : List Event) → IsWholeReplay next log None events → HasAllOf output log events run
 
@@ -65,7 +66,7 @@ HasTheCut log stop events run =
     (rank number : ℕ) → (number < length (view_of events rank)) ↔ IsInCut log.ranks log.group (view_of run) stop rank number
 
 -- a whole replay beside a run with its log
-pub record IsReplayOfRun (output : ℕ → ℕ → List Reply → List ℕ) (log : Log) (stop : Breakpoint) (run : List Event) (replayed : Replayed) : Type 0 where
+pub record IsReplayOfRun (output : Output) (log : Log) (stop : Breakpoint) (run : List Event) (replayed : Replayed) : Type 0 where
   pub begins : BeginsRun output log replayed.events.events run
   pub cut : HasTheCut log stop replayed.events.events run
   pub agrees : All HasNotDiverged replayed.ends
@@ -75,5 +76,5 @@ pub record IsReplayOfRun (output : ℕ → ℕ → List Reply → List ℕ) (log
   pub ends : stop ≡ None → All IsDone replayed.ends
 
 -- beside every run with its log
-abbrev pub IsReplayOfEveryRun : Next → (ℕ → ℕ → List Reply → List ℕ) → Log → Breakpoint → Replayed → Type 0
+abbrev pub IsReplayOfEveryRun : Next → Output → Log → Breakpoint → Replayed → Type 0
 IsReplayOfEveryRun next output log stop replayed = (run : List Event) → IsRunWith next log run → IsReplayOfRun output log stop run replayed

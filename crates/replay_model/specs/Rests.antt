@@ -1,9 +1,10 @@
 -- What a place of a run rests on, and the places that a breakpoint cuts off.
-use Rattle.std.specs.Prelude.{◌≡◌, ◌<◌, ◌⊎◌, ℕ, zero, suc, List, [], ◌∷◌, ◌++◌, Option, Some, None, Bool, true, false, ◌==◌, if◌then◌else◌, length, slice_index}
+use Rattle.std.specs.Prelude.{◌≡◌, ◌<◌, ℕ, zero, suc, List, [], ◌∷◌, ◌++◌, Option, Some, None, Bool, true, false, ◌==◌, if◌then◌else◌, length, slice_index}
 use Rattle.mpi_call.specs.declared.call.Call.{Call}
 use Rattle.mpi_call.specs.declared.reply.Reply.{Reply}
 use Rattle.mpi_call.specs.Calls.{comm_of, listed_by}
 use Rattle.mpi_call.specs.Collectives.{is_member, needs}
+use Rattle.mpi_call.specs.Lists.{IsIn}
 use Rattle.run_model.specs.Views.{View, is_start, start_at}
 use Rattle.run_model.specs.Communicators.{instance_of, is_on, members_in}
 use Rattle.srr_entry.specs.declared.entry.Entry.{Entry}
@@ -23,6 +24,7 @@ rests_members comm instance needed (m ∷ members) =
     if needed m then Member m comm instance ∷ rests_members comm instance needed members
     else rests_members comm instance needed members
 
+-- what the result of the rank's Enter rests on: the Enters of its instance that it needs
 abbrev pub rests_enter : ℕ → View → ℕ → ℕ → Option Call → List Missing
 rests_enter n own me k None = []
 rests_enter n own me k (Some enter) =
@@ -36,6 +38,7 @@ rests_mark n own me k Inner = rests_enter n own me k (start_at own k)
 rests_mark n own me k (Made comm) = if comm == 0 then [] else rests_enter n own me k (start_at own k)
 rests_mark n own me k mark = []
 
+-- what completed starts rest on, in item order
 abbrev pub rests_marks : ℕ → View → ℕ → List ℕ → List Marked → List Missing
 rests_marks n own me starts [] = []
 rests_marks n own me starts (marked ∷ marks) =
@@ -58,6 +61,7 @@ number_of_nth test (seen ∷ view) zero = if test seen then Some 0 else one_more
 number_of_nth test (seen ∷ view) (suc i) =
     if test seen then one_more (number_of_nth test view i) else one_more (number_of_nth test view (suc i))
 
+-- an Enter on the communicator
 abbrev pub is_enter_on : ℕ → Call × Reply → Bool
 is_enter_on comm seen = if is_start seen then is_on comm seen.0 else false
 
@@ -70,16 +74,12 @@ abbrev pub number_of : (ℕ → View) → Missing → Option ℕ
 number_of V (Start source start) = number_of_nth is_start (V source) start
 number_of V (Member m comm instance) = number_of_nth (is_enter_on comm) (V m) instance
 
-abbrev pub Among : Missing → List Missing → Type 0
-Among x [] = ⊥
-Among x (y ∷ ys) = (y ≡ x) ⊎ Among x ys
-
 -- a call of a rank, by number, is the breakpoint, or comes after a call of the rank that is cut off, or is of the group and
 -- rests on one. V is what each rank has seen in the run.
 pub data IsCutOff (n : ℕ) (group : List ℕ) (V : ℕ → View) (stop : Breakpoint) : ℕ → ℕ → Type 0 where
   stops : (rank number : ℕ) → is_break stop rank number ≡ true → IsCutOff n group V stop rank number
   follows : (rank number : ℕ) → IsCutOff n group V stop rank number → IsCutOff n group V stop rank (suc number)
-  rests_on : (rank : ℕ) (view rest : View) (call : Call) (reply : Reply) (missing : Missing) (number : ℕ) → is_member group rank ≡ true → V rank ≡ view ++ (call, reply) ∷ rest → Among missing (rests n view rank call (entry_of n group rank view call reply)) → number_of V missing ≡ Some number → IsCutOff n group V stop (rank_of missing) number → IsCutOff n group V stop rank (length view)
+  rests_on : (rank : ℕ) (view rest : View) (call : Call) (reply : Reply) (missing : Missing) (number : ℕ) → is_member group rank ≡ true → V rank ≡ view ++ (call, reply) ∷ rest → IsIn missing (rests n view rank call (entry_of n group rank view call reply)) → number_of V missing ≡ Some number → IsCutOff n group V stop (rank_of missing) number → IsCutOff n group V stop rank (length view)
 
 -- the cut of a breakpoint: the group's places that it does not cut off
 pub record IsInCut (n : ℕ) (group : List ℕ) (V : ℕ → View) (stop : Breakpoint) (rank number : ℕ) : Type 0 where

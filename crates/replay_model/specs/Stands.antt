@@ -6,6 +6,7 @@ use Rattle.run_model.specs.declared.event.Event.{Event}
 use Rattle.run_model.specs.declared.lists.Variable.{Variable}
 use Rattle.run_model.specs.Views.{Next, view_of, replies_in}
 use Rattle.srr_entry.specs.declared.log.Log.{Log}
+use Rattle.srr_entry.specs.Outputs.{Output, printed_of}
 use Rattle.replay_model.specs.declared.step.Step.{Step}
 use Rattle.replay_model.specs.declared.step.Step.TheVariants.{Replied, Wait, LogEnded, AtBreak, Diverged}
 use Rattle.replay_model.specs.declared.replayed.Stand.{Stand}
@@ -21,6 +22,7 @@ stand_by variables (Diverged divergence) = Some (StandDiverged divergence)
 stand_by variables (Wait missing) = Some (Starved missing)
 stand_by variables (Replied reply) = None
 
+-- the stand of a rank by its next call
 abbrev pub stand_where : Option Call → List Variable → (Call → Step) → Option Stand
 stand_where None variables answer = Some Ended
 stand_where (Some call) variables answer = stand_by variables (answer call)
@@ -32,12 +34,8 @@ stand_of next variables log stop events rank =
     (variables log.ranks rank (replies_in (view_of events rank)))
     (answer_of log stop (view_of events) (view_of events rank) rank)
 
--- what a rank has printed after some events
-abbrev pub printed_of : (ℕ → ℕ → List Reply → List ℕ) → ℕ → List Event → ℕ → List ℕ
-printed_of output n events rank = output n rank (replies_in (view_of events rank))
-
 -- a whole replay: its events replay the log in order and can go no further; each rank's output and stand are the program's
-pub record IsReplayed (next : Next) (output : ℕ → ℕ → List Reply → List ℕ) (variables : ℕ → ℕ → List Reply → List Variable) (log : Log) (stop : Breakpoint) (replayed : Replayed) : Type 0 where
+pub record IsReplayed (next : Next) (output : Output) (variables : ℕ → ℕ → List Reply → List Variable) (log : Log) (stop : Breakpoint) (replayed : Replayed) : Type 0 where
   pub group : replayed.group ≡ log.group
   pub replays : Replays next log stop replayed.events.events
   pub exhausted : IsExhausted next log stop replayed.events.events

@@ -5,7 +5,8 @@ ghost use Rattle.run_model.specs.declared.event.Event.{Event};
 ghost use Rattle.run_model.specs.Views.{view_of};
 ghost use Rattle.replay_model.specs.Laws.{BeginsRun, EachStand, HasAllOf, HasNotDiverged, HasTheCut, IsDone, IsRunWith, ShowsInEveryOrder, StarvesBehindABreak};
 ghost use Rattle.replay_model.specs.Replays.{IsWholeReplay, Replays};
-ghost use Rattle.replay_model.specs.Stands.{printed_of, stand_of};
+ghost use Rattle.replay_model.specs.Stands.{stand_of};
+ghost use Rattle.srr_entry.specs.Outputs.{printed_of};
 
 use run_model::history::History;
 use run_model::program::Program;

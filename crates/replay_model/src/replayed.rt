@@ -5,7 +5,7 @@ use crate::step::{Divergence, Missing};
 use mpi_call::lists::Ranks;
 use run_model::history::History;
 use run_model::lists::{Outputs, Variables};
-use std::alloc::Global;
+use std::alloc::{AllocFailed, Global};
 use std::marker::Model;
 
 /// Where a rank stands when no rank can go on.
@@ -48,16 +48,13 @@ impl Stands {
         }
     }
 
-    /// Adds a stand at the end. For want of memory it comes back and nothing has changed.
-    pub fn push(&mut self, value: Stand) -> Result<(), Stand>
+    /// Adds a stand at the end. Out of memory, it comes back and nothing has changed.
+    pub fn push(&mut self, value: Stand) -> Result<(), AllocFailed<Stand>>
         ensures ok { OnOk result (self.new ≡ self.old ++ value ∷ []) }
         ensures err { OnErr result (self.new ≡ self.old) }
-        ensures back { IfErr result (λ refused. refused ≡ value) }
+        ensures back { IfErr result (λ refused. refused.value ≡ value) }
     {
-        match self.values.push(value) {
-            Ok(()) => Ok(()),
-            Err(refused) => Err(refused.value),
-        }
+        self.values.push(value)
     }
 
     /// The stands in order.
@@ -106,16 +103,13 @@ impl Replays {
         }
     }
 
-    /// Adds a replay at the end. For want of memory it comes back and nothing has changed.
-    pub fn push(&mut self, value: Replayed) -> Result<(), Replayed>
+    /// Adds a replay at the end. Out of memory, it comes back and nothing has changed.
+    pub fn push(&mut self, value: Replayed) -> Result<(), AllocFailed<Replayed>>
         ensures ok { OnOk result (self.new ≡ self.old ++ value ∷ []) }
         ensures err { OnErr result (self.new ≡ self.old) }
-        ensures back { IfErr result (λ refused. refused ≡ value) }
+        ensures back { IfErr result (λ refused. refused.value ≡ value) }
     {
-        match self.values.push(value) {
-            Ok(()) => Ok(()),
-            Err(refused) => Err(refused.value),
-        }
+        self.values.push(value)
     }
 
     /// The replays in order.

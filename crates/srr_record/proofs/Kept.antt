@@ -15,7 +15,8 @@ use Rattle.srr_entry.specs.Seen.{AreRanksViews}
 use Rattle.srr_entry.proofs.Making.{ranks_views}
 use Rattle.mpi_machine.specs.Turns.{MachineState, StandsAt, kept_of}
 use Rattle.srr_record.specs.declared.recording.Recording.{Recording}
-use Rattle.srr_record.specs.Recordings.{IsRecorded, IsRecording, printed_of}
+use Rattle.srr_record.specs.Recordings.{IsRecorded, IsRecording}
+use Rattle.srr_entry.specs.Outputs.{printed_of}
 use Rattle.srr_record.specs.Rounds.{AreRounds, GoesBy}
 use Rattle.srr_record.proofs.Going.{begins_serial, is_serial, world_next}
 

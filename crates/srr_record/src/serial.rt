@@ -7,7 +7,8 @@ ghost use Rattle.run_model.specs.Endings.{ending_by};
 ghost use Rattle.run_model.specs.Lists.{IsPrefixOf, world};
 ghost use Rattle.run_model.specs.Serial.{Stage};
 ghost use Rattle.srr_entry.specs.Entries.{log_of};
-ghost use Rattle.srr_record.specs.Recordings.{AreRuns, IsRecorded, IsRecording, printed_of};
+ghost use Rattle.srr_record.specs.Recordings.{AreRuns, IsRecorded, IsRecording};
+ghost use Rattle.srr_entry.specs.Outputs.{printed_of};
 ghost use Rattle.srr_record.specs.Rounds.{AreRounds};
 
 use crate::recording::Recording;

@@ -16,7 +16,8 @@ use Rattle.replay_model.specs.declared.replayed.Stand.{Stand}
 use Rattle.replay_model.specs.declared.replayed.Stand.TheVariants.{AtBreak as StandAtBreak, Starved}
 use Rattle.replay_model.specs.Laws.{BeginsRun, EachStand, HasAllOf, HasNotDiverged, HasTheCut, IsDone, IsReplayOfRun, StarvesBehindABreak}
 use Rattle.replay_model.specs.Replays.{IsWholeReplay, Breakpoint}
-use Rattle.replay_model.specs.Stands.{IsReplayed, printed_of, stand_of}
+use Rattle.replay_model.specs.Stands.{IsReplayed, stand_of}
+use Rattle.srr_entry.specs.Outputs.{Output, printed_of}
 
 -- what holds of each stand of the group holds of the list of them
 all_stands : (P : Stand → Type 0) (f : ℕ → Option Stand) (group : List ℕ) (ends : List Stand) → map Some ends ≡ map f group
@@ -69,11 +70,11 @@ same_outputs f g (rank ∷ group) each =
     let rest = same_outputs f g group (λ r member. each r (or_right (rank == r) (is_member group r) member)) in
     ap₂ (λ x xs. x ∷ xs) first rest
 
-pub IsWholeReplay-replayed : (next : Next) (output : ℕ → ℕ → List Reply → List ℕ) (variables : ℕ → ℕ → List Reply → List Variable) (log : Log) (stop : Breakpoint) (replayed : Replayed)
+pub IsWholeReplay-replayed : (next : Next) (output : Output) (variables : ℕ → ℕ → List Reply → List Variable) (log : Log) (stop : Breakpoint) (replayed : Replayed)
     → IsReplayed next output variables log stop replayed → IsWholeReplay next log stop replayed.events.events
 IsWholeReplay-replayed next output variables log stop replayed is = record { replays = is.replays; exhausted = is.exhausted }
 
-pub IsReplayOfRun-laws : (next : Next) (output : ℕ → ℕ → List Reply → List ℕ) (variables : ℕ → ℕ → List Reply → List Variable) (log : Log) (stop : Breakpoint) (run : List Event) (replayed : Replayed)
+pub IsReplayOfRun-laws : (next : Next) (output : Output) (variables : ℕ → ℕ → List Reply → List Variable) (log : Log) (stop : Breakpoint) (run : List Event) (replayed : Replayed)
     → IsReplayed next output variables log stop replayed
     → BeginsRun output log replayed.events.events run
     → EachStand HasNotDiverged next variables log stop replayed.events.events

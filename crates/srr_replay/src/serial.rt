@@ -8,7 +8,8 @@ ghost use Rattle.run_model.specs.Views.{view_of, replies_in};
 ghost use Rattle.replay_model.specs.Laws.{IsReplayOfEveryRun};
 ghost use Rattle.replay_model.specs.Replays.{IsExhausted, IsWholeReplay, Replays};
 ghost use Rattle.srr_replay.specs.Rounds.{AreRounds, GrowsBy, HasNoStep, IsReplayable, RunAll, attempt, attempts};
-ghost use Rattle.replay_model.specs.Stands.{IsReplayed, printed_of, stand_of};
+ghost use Rattle.replay_model.specs.Stands.{IsReplayed, stand_of};
+ghost use Rattle.srr_entry.specs.Outputs.{printed_of};
 
 use crate::replay::Replay;
 use mpi_call::call::Call;

@@ -9,7 +9,7 @@ use Rattle.mpi_call.specs.Collectives.{is_member}
 use Rattle.replay_model.specs.declared.replayed.Replayed.{Replayed}
 use Rattle.replay_model.specs.Laws.{IsRunWith, ShowsInEveryOrder}
 use Rattle.replay_model.specs.Replays.{IsWholeReplay, Breakpoint}
-use Rattle.replay_model.specs.Stands.{printed_of}
+use Rattle.srr_entry.specs.Outputs.{printed_of}
 use Rattle.run_model.specs.declared.event.Event.{Event}
 use Rattle.run_model.specs.Views.{view_of}
 use Rattle.srr_entry.specs.declared.log.Log.{Log}

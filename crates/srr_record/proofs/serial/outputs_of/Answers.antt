@@ -1,5 +1,5 @@
 use Rattle.std.proofs.Common.{arith, ◌∙◌, ◌<◌, refl}
-use Rattle.srr_record.specs.Recordings.{printed_of}
+use Rattle.srr_entry.specs.Outputs.{printed_of}
 use Rattle.srr_record.proofs.Kept.{asked_after, outputs_more, printed_at}
 use Rattle.srr_record.proofs.Running.{runs_set}
 use Rattle.srr_record.proofs.serial.outputs_of.Goals as goal

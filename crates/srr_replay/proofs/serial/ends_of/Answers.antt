@@ -1,6 +1,7 @@
 use Rattle.std.proofs.Common.{◌<◌, ◌∙◌, ℕ, List, Option, arith, length, sym}
 use Rattle.replay_model.specs.declared.replayed.Stand.{Stand}
-use Rattle.replay_model.specs.Stands.{printed_of, stand_of}
+use Rattle.replay_model.specs.Stands.{stand_of}
+use Rattle.srr_entry.specs.Outputs.{printed_of}
 use Rattle.srr_replay.proofs.RoundsLemmas.{RunAll-kept, map_take-more}
 use Rattle.srr_replay.proofs.serial.ends_of.Goals as goal
 

@@ -1,6 +1,7 @@
 use Rattle.std.proofs.Common.{◌≡◌, Some, map, take}
 use Rattle.srr_replay.specs.Rounds.{RunAll}
-use Rattle.replay_model.specs.Stands.{printed_of, stand_of}
+use Rattle.replay_model.specs.Stands.{stand_of}
+use Rattle.srr_entry.specs.Outputs.{printed_of}
 use Rattle.srr_replay.proofs.serial.ends_of.Given as goal
 
 abbrev pub invariant-loop-k : goal.invariant-loop-k
