@@ -175,7 +175,7 @@ pub opening_past : (text : List ℕ) (at : ℕ) → length text ≤ at → openi
 opening_past text at past = let h : nat_le (length text) at ≡ true = le-leb (length text) at past in rw h refl
 
 -- a place with a byte is not the text's end
-never_end : (a b c d e f g h i : Bool) → (if a then opens.Newline else (if b then opens.Space else (if c then opens.LineComment else (if d then opens.BlockComment else (if e then opens.Directive else (if f then opens.Word else (if g then opens.Digits else (if h then opens.Quote else (if i then opens.Sign else opens.Nothing))))))))) ≡ opens.TextEnd → ⊥
+never_end : (a b c d e f g h i : Bool) → (if a then opens.Newline else (if b then opens.Space else (if c then opens.LineComment else (if d then opens.BlockComment else (if e then opens.Directive else (if f then opens.Word else (if g then opens.Digits else (if h then opens.Quote else (if i then opens.Mark else opens.Nothing))))))))) ≡ opens.TextEnd → ⊥
 never_end true b c d e f g h i p = cc
 never_end false true c d e f g h i p = cc
 never_end false false true d e f g h i p = cc

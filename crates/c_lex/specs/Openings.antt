@@ -3,16 +3,16 @@ use Rattle.std.specs.Prelude.{◌==◌, ◌&&◌, ◌||◌, ◌+◌, ℕ, zero, 
 use Rattle.c_lex.specs.Marks.{mark_length}
 use Rattle.c_lex.specs.Bytes.{is_space, is_digit, is_letter}
 use Rattle.c_lex.specs.declared.opening.Opening.{Opening}
-use Rattle.c_lex.specs.declared.opening.Opening.TheVariants.{TextEnd, Newline, Space, LineComment, BlockComment, Directive, Word, Digits, Quote, Sign, Nothing}
+use Rattle.c_lex.specs.declared.opening.Opening.TheVariants.{TextEnd, Newline, Space, LineComment, BlockComment, Directive, Word, Digits, Quote, Mark, Nothing}
 
 -- whether only blanks stand before a place on its line
 abbrev pub begins_line : List ℕ → ℕ → Bool
 begins_line text zero = true
 begins_line text (suc k) = (slice_index text k == 10) || (is_space (slice_index text k) && begins_line text k)
 
--- `first`: only blanks stand before the byte on its line; `sign`: a mark begins there
+-- `first`: only blanks stand before the byte on its line; `mark`: a mark begins there
 abbrev pub opening_of : Bool → Bool → ℕ → ℕ → Opening
-opening_of first sign byte next =
+opening_of first mark byte next =
     if byte == 10 then Newline
     else (if is_space byte then Space
     else (if (byte == 47) && (next == 47) then LineComment
@@ -21,7 +21,7 @@ opening_of first sign byte next =
     else (if is_letter byte then Word
     else (if is_digit byte then Digits
     else (if byte == 34 then Quote
-    else (if sign then Sign
+    else (if mark then Mark
     else Nothing))))))))
 
 abbrev pub opening : List ℕ → ℕ → Opening

@@ -42,7 +42,7 @@ pub data Stands (text : List ℕ) (on_define : Bool) (at : ℕ) : Opening → St
   quoted : {close : ℕ} → IsText text at close → Stands text on_define at opens.Quote (Piece kinds.Text (close + 1))
   bad_inside : {place : ℕ} → IsBadInside text at place → Stands text on_define at opens.Quote (Bad place BadByte)
   open_text : IsOpenText text at → Stands text on_define at opens.Quote (Bad at OpenText)
-  mark : Stands text on_define at opens.Sign (Piece kinds.Mark (at + mark_length text at))
+  mark : Stands text on_define at opens.Mark (Piece kinds.Mark (at + mark_length text at))
   bad_byte : Stands text on_define at opens.Nothing (Bad at BadByte)
 
 abbrev pub IsStep : List ℕ → Bool → ℕ → Step → Type 0

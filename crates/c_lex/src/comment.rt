@@ -3,6 +3,7 @@ ghost use Rattle.std.specs.Prelude.{◌≤◌, ◌<◌, Bool, MatchOption, lengt
 ghost use Rattle.c_lex.specs.Comments.{IsFirstClose, NeverCloses};
 ghost use Rattle.c_lex.specs.Steps.{EndsWithin, Stands};
 ghost use Rattle.c_lex.specs.declared.opening.Opening.TheVariants as opens;
+ghost use Rattle.c_lex.specs.declared.limits.TheConstants.{MOST_BYTES};
 
 use crate::bytes::{ByteClass, run_end};
 use crate::fault::Why;
@@ -22,7 +23,7 @@ pub fn line_comment(text: &[u8], at: usize) -> Step
 /// A comment between marks. On a line that is a define it has to end there.
 pub fn block_comment(text: &[u8], on_define: bool, at: usize) -> Step
     requires inside { at < length text.now }
-    requires fits { length text.now ≤ 65536 }
+    requires fits { length text.now ≤ MOST_BYTES }
     ensures stands { Stands text.now on_define at opens.BlockComment result }
     ensures within { EndsWithin text.now on_define at result }
 {
@@ -41,7 +42,7 @@ pub fn block_comment(text: &[u8], on_define: bool, at: usize) -> Step
 
 /// The first closing mark from a place on.
 fn first_close(text: &[u8], from: usize) -> Option<usize>
-    requires { length text.now ≤ 65536 }
+    requires { length text.now ≤ MOST_BYTES }
     ensures { MatchOption result (NeverCloses text.now from) (λ close. IsFirstClose text.now from close) }
 {
     let mut close = from;

@@ -1,5 +1,5 @@
 //! Why a text is no program.
-use std::alloc::AllocError;
+use std::alloc::{AllocError, AllocFailed};
 use thiserror::Error;
 
 /// Why a text is refused. Of two reasons at one place, the one that stands first here is given.
@@ -11,7 +11,7 @@ pub enum Why {
     OpenComment,
     /// A text without its closing mark on its line.
     OpenText,
-    /// A number that is none of C's, or above 2147483647.
+    /// A number that is none of C's, or above `GREATEST_NUMBER`.
     BadLiteral,
     Unexpected,
     TooDeep,
@@ -41,12 +41,23 @@ impl From<AllocError> for SourceFault {
 
     ghost from_gives = { λ _ fault. fault ≡ no_memory };
 
-    /// Want of memory has no place: it is given at the first one.
+    /// Being out of memory has no place: it is told at the first one.
     fn from(_error: AllocError) -> Self {
         SourceFault {
             line: 1,
             column: 1,
             why: Why::NoMemory,
         }
+    }
+}
+
+impl<T: Drop> From<AllocFailed<T>> for SourceFault {
+    ghost use Rattle.std.specs.Prelude.{◌≡◌};
+    ghost use Rattle.c_lex.specs.NoMemory.{no_memory};
+
+    ghost from_gives = { λ _ fault. fault ≡ no_memory };
+
+    fn from(_error: AllocFailed<T>) -> Self {
+        SourceFault::from(AllocError)
     }
 }

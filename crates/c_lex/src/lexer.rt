@@ -1,20 +1,21 @@
 //! The tokens of a text.
-ghost use Rattle.std.specs.Prelude.{◌≡◌, ◌≢◌, ◌≤◌, ◌<◌, ◌++◌, ◌∷◌, [], ◌⊎◌, List, ℕ, OnOk, IfOk, IfErr, MatchResult, length};
+ghost use Rattle.std.specs.Prelude.{◌≡◌, ◌≢◌, ◌≤◌, ◌⊎◌, List, ℕ, IfOk, IfErr, MatchResult, length};
 ghost use Rattle.c_lex.specs.NoMemory.{no_memory};
 ghost use Rattle.c_lex.specs.Readings.{AreSlices, AreTokens, IsFirstFault, stays_on_define, token_at};
 ghost use Rattle.c_lex.specs.declared.token.Token.{Token};
 ghost use Rattle.c_lex.specs.declared.fault.SourceFault.{SourceFault};
 ghost use Rattle.c_lex.specs.declared.fault.Why.TheVariants.{NoMemory};
+ghost use Rattle.c_lex.specs.declared.limits.TheConstants.{MOST_BYTES};
 
 use crate::fault::SourceFault;
 use crate::place::fault_at;
 use crate::step::{Step, step_at};
 use crate::token::{Token, TokenKind, TokenList};
-use std::alloc::{AllocError, Global};
+use std::alloc::Global;
 
 /// The tokens of a text, or its first fault, in time linear in the text.
 pub fn tokens(alloc: Global, text: &[u8]) -> Result<TokenList, SourceFault>
-    requires { length text.now ≤ 65536 }
+    requires { length text.now ≤ MOST_BYTES }
     ensures list { IfOk result (λ list. AreTokens text.now list) }
     ensures slices { IfOk result (λ list. AreSlices text.now 0 list) }
     ensures fault { IfErr result (λ fault. (fault ≡ no_memory) ⊎ IsFirstFault text.now fault) }
@@ -32,7 +33,7 @@ pub fn tokens(alloc: Global, text: &[u8]) -> Result<TokenList, SourceFault>
                 at = end;
             }
             Step::Piece { kind, end } => {
-                push(&mut found, kind, at, end)?;
+                found.push(token_at(kind, at, end))?;
                 on_define = stays_on_define(kind, on_define);
                 at = end;
             }
@@ -42,17 +43,17 @@ pub fn tokens(alloc: Global, text: &[u8]) -> Result<TokenList, SourceFault>
     Ok(found)
 }
 
-/// One more token, from one place to another.
-fn push(found: &mut TokenList, kind: TokenKind, start: usize, end: usize) -> Result<(), AllocError>
+/// The token from one place to another.
+fn token_at(kind: TokenKind, start: usize, end: usize) -> Token
     requires order { start ≤ end }
-    requires fits { end ≤ 65536 }
-    ensures { OnOk result (found.new ≡ found.old ++ token_at kind start end ∷ []) }
+    requires fits { end ≤ MOST_BYTES }
+    ensures { result ≡ token_at kind start end }
 {
-    found.push(Token {
+    Token {
         kind,
         start: start as u32,
         len: (end - start) as u32,
-    })
+    }
 }
 
 /// Whether the line behind a token is a define's.

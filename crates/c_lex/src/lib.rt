@@ -5,6 +5,7 @@ mod bytes;
 mod comment;
 pub mod fault;
 pub mod lexer;
+pub mod limits;
 pub mod literal;
 mod mark;
 mod opening;

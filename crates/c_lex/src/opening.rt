@@ -17,7 +17,7 @@ pub enum Opening {
     Word,
     Digits,
     Quote,
-    Sign,
+    Mark,
     Nothing,
 }
 
@@ -48,7 +48,7 @@ pub fn opening_at(text: &[u8], at: usize) -> Opening
     } else if byte == b'"' {
         Opening::Quote
     } else if mark_length(text, at) > 0 {
-        Opening::Sign
+        Opening::Mark
     } else {
         Opening::Nothing
     }

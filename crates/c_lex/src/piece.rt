@@ -4,6 +4,7 @@ ghost use Rattle.c_lex.specs.Marks.{mark_length};
 ghost use Rattle.c_lex.specs.Texts.{Inside, character_length};
 ghost use Rattle.c_lex.specs.Steps.{EndsWithin, Stands};
 ghost use Rattle.c_lex.specs.declared.opening.Opening.TheVariants as opens;
+ghost use Rattle.c_lex.specs.declared.limits.TheConstants.{MOST_BYTES};
 
 use crate::bytes::{ByteClass, run_end};
 use crate::fault::Why;
@@ -36,7 +37,7 @@ pub fn number(text: &[u8], at: usize) -> Step
 pub fn mark(text: &[u8], at: usize) -> Step
     requires inside { at < length text.now }
     requires mark { 0 < mark_length text.now at }
-    ensures stands { (on_define : Bool) → Stands text.now on_define at opens.Sign result }
+    ensures stands { (on_define : Bool) → Stands text.now on_define at opens.Mark result }
     ensures within { (on_define : Bool) → EndsWithin text.now on_define at result }
 {
     Step::Piece {
@@ -48,7 +49,7 @@ pub fn mark(text: &[u8], at: usize) -> Step
 /// A text between marks.
 pub fn quote(text: &[u8], at: usize) -> Step
     requires inside { at < length text.now }
-    requires fits { length text.now ≤ 65536 }
+    requires fits { length text.now ≤ MOST_BYTES }
     ensures stands { (on_define : Bool) → Stands text.now on_define at opens.Quote result }
     ensures within { (on_define : Bool) → EndsWithin text.now on_define at result }
 {
@@ -76,7 +77,7 @@ pub fn quote(text: &[u8], at: usize) -> Step
 /// Where the inside of a text ends: at its closing mark, or where the line ends before it.
 fn inside_end(text: &[u8], from: usize) -> usize
     requires within { from ≤ length text.now }
-    requires fits { length text.now ≤ 65536 }
+    requires fits { length text.now ≤ MOST_BYTES }
     ensures inside { Inside text.now from result }
     ensures low { from ≤ result }
     ensures high { result ≤ length text.now }

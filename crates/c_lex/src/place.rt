@@ -1,13 +1,14 @@
 //! Lines and columns.
 ghost use Rattle.std.specs.Prelude.{◌≡◌, ◌≤◌, length};
 ghost use Rattle.c_lex.specs.Places.{IsLineBegin, IsPlaceOf};
+ghost use Rattle.c_lex.specs.declared.limits.TheConstants.{MOST_BYTES};
 
 use crate::fault::{SourceFault, Why};
 
 /// A refusal at a place of a text.
 pub fn fault_at(text: &[u8], place: usize, why: Why) -> SourceFault
     requires within { place ≤ length text.now }
-    requires fits { length text.now ≤ 65536 }
+    requires fits { length text.now ≤ MOST_BYTES }
     ensures place { IsPlaceOf text.now place result.line result.column }
     ensures why { result.why ≡ why }
 {

@@ -2,6 +2,7 @@
 ghost use Rattle.std.specs.Prelude.{◌≡◌, ◌≤◌, ◌<◌, ◌⊎◌, true, length};
 ghost use Rattle.c_lex.specs.Steps.{EndsWithin, IsStep, Stands};
 ghost use Rattle.c_lex.specs.declared.opening.Opening.TheVariants as opens;
+ghost use Rattle.c_lex.specs.declared.limits.TheConstants.{MOST_BYTES};
 
 use crate::comment::{block_comment, line_comment};
 use crate::fault::Why;
@@ -23,7 +24,7 @@ pub enum Step {
 pub fn step_at(text: &[u8], on_define: bool, at: usize) -> Step
     requires within { at ≤ length text.now }
     requires more { (at < length text.now) ⊎ (on_define ≡ true) }
-    requires fits { length text.now ≤ 65536 }
+    requires fits { length text.now ≤ MOST_BYTES }
     ensures stands { IsStep text.now on_define at result }
     ensures within { EndsWithin text.now on_define at result }
 {
@@ -40,7 +41,7 @@ pub fn step_at(text: &[u8], on_define: bool, at: usize) -> Step
         Opening::Word => word(text, at),
         Opening::Digits => number(text, at),
         Opening::Quote => quote(text, at),
-        Opening::Sign => mark(text, at),
+        Opening::Mark => mark(text, at),
         Opening::Nothing => Step::Bad {
             place: at,
             why: Why::BadByte,

@@ -1,7 +1,7 @@
 //! Tokens.
-ghost use Rattle.std.specs.Prelude.{◌≡◌, ◌++◌, ◌∷◌, [], OnOk, OnErr, length};
+ghost use Rattle.std.specs.Prelude.{◌≡◌, ◌++◌, ◌∷◌, [], OnOk, OnErr, IfErr, length};
 
-use std::alloc::{AllocError, Global};
+use std::alloc::{AllocFailed, Global};
 use std::marker::Model;
 
 /// What a token is. Keywords are names; the grammar tells them apart.
@@ -50,15 +50,13 @@ impl TokenList {
         }
     }
 
-    /// One more token at the end.
-    pub fn push(&mut self, token: Token) -> Result<(), AllocError>
+    /// One more token at the end. An error gives it back.
+    pub fn push(&mut self, token: Token) -> Result<(), AllocFailed<Token>>
         ensures ok { OnOk result (self.new ≡ self.old ++ token ∷ []) }
         ensures err { OnErr result (self.new ≡ self.old) }
+        ensures back { IfErr result (λ refused. refused.value ≡ token) }
     {
-        match self.tokens.push(token) {
-            Ok(()) => Ok(()),
-            Err(_) => Err(AllocError),
-        }
+        self.tokens.push(token)
     }
 
     /// Lends the tokens.

@@ -1,4 +1,4 @@
-use Rattle.std.proofs.Common.{false, inr, sym, ap, ◌∙◌, subst}
+use Rattle.std.proofs.Common.{false, inr, sym, ap, ◌∙◌, ◌++◌, ◌∷◌, [], subst}
 use Rattle.c_lex.specs.Readings.{Reads, FirstFault, skip, piece, bad, token_at, with_token}
 use Rattle.c_lex.proofs.Laws.{after, after_one, fault_one, one_reading, piece_inside, read_all}
 use Rattle.c_lex.proofs.SliceLaws.{tokens_are_slices}
@@ -14,12 +14,13 @@ pub loop-at-preserved : goal.loop-at-preserved
 loop-at-preserved c =
     let before = c.loop-at.invariant in
     let one = token_at c.in-Piece.kind c.loop-at.at c.in-Piece.end in
+    let pushed = c.in_ok-push-in-Piece.ensures.ok ∙ ap (λ token. c.loop-at.found ++ token ∷ []) c.token_at.ensures in
     record {
       inside = piece_inside c.args.text.now c.loop-at.on_define c.loop-at.at c.in-Piece.kind c.in-Piece.end before.inside c.in-Piece.ensures.within;
       onward = λ reading behind.
           let here = piece c.in-Piece.ensures.stands (subst (λ define. Reads c.args.text.now define c.in-Piece.end reading) c.stays_on_define-on_define.ensures behind) in
           subst (Reads c.args.text.now false 0)
-          (sym (after_one c.loop-at.found one reading) ∙ ap (λ found. after found reading) (sym c.in_ok-push-in-Piece.ensures))
+          (sym (after_one c.loop-at.found one reading) ∙ ap (λ found. after found reading) (sym pushed))
           (before.onward (with_token one reading) here);
     }
 

@@ -7,4 +7,4 @@ use Rattle.c_lex.proofs.piece.mark.Goals as goal
 
 pub returns-clause-stands : goal.returns-clause-stands
 returns-clause-stands c =
-    λ on_define. subst (λ len. Stands c.args.text.now on_define c.args.at opens.Sign (Piece kinds.Mark (c.args.at + len))) (sym c.mark_length.ensures.value) mark
+    λ on_define. subst (λ len. Stands c.args.text.now on_define c.args.at opens.Mark (Piece kinds.Mark (c.args.at + len))) (sym c.mark_length.ensures.value) mark

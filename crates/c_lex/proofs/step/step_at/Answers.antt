@@ -34,8 +34,8 @@ returns-in-Digits-clause-within c = c.number.ensures.within c.args.on_define
 pub returns-in-Quote-clause-within : goal.returns-in-Quote-clause-within
 returns-in-Quote-clause-within c = c.quote.ensures.within c.args.on_define
 
-pub returns-in-Sign-clause-within : goal.returns-in-Sign-clause-within
-returns-in-Sign-clause-within c = c.mark.ensures.within c.args.on_define
+pub returns-in-Mark-clause-within : goal.returns-in-Mark-clause-within
+returns-in-Mark-clause-within c = c.mark.ensures.within c.args.on_define
 
 pub returns-in-Nothing-clause-stands : goal.returns-in-Nothing-clause-stands
 returns-in-Nothing-clause-stands c =
