@@ -17,7 +17,7 @@ use Rattle.c_grammar.proofs.Sequence.{Seq, done, token, pick, part, peek, switch
 use Rattle.c_grammar.proofs.Lists.{many_laws, OverMany}
 use Rattle.c_grammar.proofs.TooDeep.{Begun, too_deep_laws}
 
--- how strongly a symbol parts what stands before it from what stands behind it: marks that end an expression most, 0 what goes on with one
+-- how strongly a symbol parts what is before it from what is after it: marks that end an expression most, 0 what goes on with one
 abbrev pub strength : Symbol → ℕ
 strength w.CloseParen = 12
 strength w.CloseBrace = 12

@@ -27,7 +27,7 @@ nothing_deep (Some p) rest = refl
 name_laws : Laws name_maybe spell_name (IsMaybe (λ p. Unit {0})) (deep_maybe (λ p rest. None)) (OverMaybe (is w.Name) (λ p rest. Unit {0}))
 name_laws = maybe_laws (expect_laws w.Name) (is w.Name) (λ p g rest. refl)
 
--- behind a name that may be missing
+-- after a name that may be missing
 name_over : (o : Option Span) (rest : List Terminal) → heads (is w.Name) rest ≡ false → OverMaybe (is w.Name) (λ p rest. Unit {0}) o rest
 name_over None rest h = h
 name_over (Some p) rest h = tt
@@ -36,7 +36,7 @@ name_fits : (o : Option Span) → IsMaybe (λ p. Unit {0}) o
 name_fits None = tt
 name_fits (Some p) = tt
 
--- what stands behind a parameter
+-- what is after a parameter
 abbrev pub ParameterOver : t.Parameter → List Terminal → Type 0
 ParameterOver p rest = (heads (is w.Name) rest ≡ false) × (heads (is w.Times) rest ≡ false) × (heads (is w.OpenBracket) rest ≡ false)
 

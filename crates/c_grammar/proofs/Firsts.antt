@@ -15,7 +15,7 @@ use Rattle.c_grammar.proofs.Exact.{longer, same_fault, test_le}
 use Rattle.c_grammar.proofs.ExternalLaws.{program_laws}
 use Rattle.c_grammar.proofs.Programs.{complete, goes, read_tree}
 
--- the terminal that is too deep, and what may stand behind it
+-- the terminal that is too deep, and what may stand after it
 seen_head : (rest z : List Terminal) (x : Terminal) (r : List Terminal) → rest ≡ x ∷ r → seen TooDeep rest ++ z ≡ x ∷ z
 seen_head [] z x r e = absurd (cc)
 seen_head (y ∷ rest) z x r e = let k : y ≡ x = cc in ap (λ v. v ∷ z) k
@@ -24,7 +24,7 @@ nothing_behind : (v : List Terminal) → v ++ [] ≡ v
 nothing_behind [] = refl
 nothing_behind (x ∷ v) = ap (λ z. x ∷ z) (nothing_behind v)
 
--- two fronts of one list, behind which as much is left
+-- two fronts of one list, after which as much is left
 same_length : (front c z d : List Terminal) → front ++ z ≡ c ++ d → length z ≡ length d → (front ≡ c) × (z ≡ d)
 same_length [] [] z d e l = (refl, e)
 same_length [] (y ∷ c) z d e l = absurd (let k = ap length e in omega (arith, length-append c d))
@@ -52,7 +52,7 @@ module _ {A : Type 0} (spelled : A → List Terminal) (Good : A → Type 0) (dee
   no_text_is front [] a g s none = none a g (s ∙ nothing_behind front)
   no_text_is front (x ∷ r) a g s none = none a r g s
 
-  -- reading goes on behind a terminal that none goes on with
+  -- reading goes on after a terminal that none goes on with
   not_later : (front rest : List Terminal) (x : Terminal) (u z : List Terminal) (a : A) → Good a → spelled a ≡ (front ++ x ∷ u) ++ z → (r : List Terminal) → rest ≡ x ∷ r
       → NoneGoesOn spelled Good deepest front rest → ⊥
   not_later front [] x u z a g s r is none = absurd (cc)

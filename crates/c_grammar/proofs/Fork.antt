@@ -1,4 +1,4 @@
--- Readers that look at two terminals: a name behind which `(` stands begins a call.
+-- Readers that look at two terminals: a name after which `(` stands begins a call.
 use Rattle.std.proofs.Common.{◌≡◌, ◌&&◌, inl, inr, Bool, true, false, ℕ, zero, suc, ◌<◌, List, [], ◌∷◌, ◌++◌, Option, Some, Ok, Err, refl, sym, ap, ◌∙◌, subst, arith, if◌then◌else◌}
 use Rattle.std.proofs.Math.Path.{fun_ext}
 use Rattle.c_grammar.specs.declared.terminal.Symbol.TheVariants as w

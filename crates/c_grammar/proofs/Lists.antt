@@ -28,12 +28,12 @@ pub expect_laws : (x : Symbol) → Laws (expect x) (spell_symbol x) (λ p. Unit 
 expect_laws x = laws_of (token x (λ p. done p)) (λ ts. plain (expect x ts)) (λ c rest. refl) (λ c g. tt)
     (λ p g. record { choice = (p, tt); of = refl; fits = tt; depth = λ rest. refl; follows = λ rest o. tt })
 
--- behind what may be missing
+-- after what may be missing
 abbrev pub OverMaybe : {A : Type 0} → (Symbol → Bool) → (A → List Terminal → Type 0) → Option A → List Terminal → Type 0
 OverMaybe goes Over None rest = heads goes rest ≡ false
 OverMaybe goes Over (Some a) rest = Over a rest
 
--- behind a list
+-- after a list
 abbrev pub OverMany : {A : Type 0} → (Symbol → Bool) → (A → Type 0) → (A → List Terminal → Type 0) → List Terminal → Type 0
 OverMany {A} goes Good Over rest = (heads goes rest ≡ false) × ((a : A) → Good a → Over a rest)
 

@@ -1,4 +1,4 @@
--- What is read rests on the terminals up to the one where reading stops, and on none behind it.
+-- What is read rests on the terminals up to the one where reading stops, and on none after it.
 use Rattle.std.proofs.Common.{◌≡◌, ◌⊎◌, inl, inr, Bool, true, false, ◌≤◌, List, [], ◌∷◌, ◌++◌, length, Option, Some, Ok, Err, refl, sym, ap, ◌∙◌, subst, append_assoc, arith, length-append, if◌then◌else◌}
 use Rattle.c_grammar.specs.declared.terminal.Terminal.{Terminal}
 use Rattle.c_grammar.specs.declared.terminal.Symbol.{Symbol}
@@ -74,7 +74,7 @@ bind_alike (Ok y) b f g x r r' p q s u e =
     let e3 = s y.0 v (ap (λ z. Ok (y.0, z)) e1) e2 u (subst (λ z. rest_of (f (y.0, z)) ≡ u ++ x ∷ r) e1 e) in
     ap (λ z. z >>= g) e2 ∙ e3 ∙ ap (λ z. with_rest (f (y.0, z)) (u ++ x ∷ r')) (sym e1)
 
--- at each first terminal reading stays before it, or goes on behind it
+-- at each first terminal reading stays before it, or goes on after it
 pub data Step {A : Type 0} (t : Terminal) (step : List Terminal → Answer A) : Type 0 where
   at_it : (a : Answer A) → ((ts : List Terminal) → step ts ≡ with_rest a (t ∷ ts)) → Step t step
   behind : IsLocal step → Step t step

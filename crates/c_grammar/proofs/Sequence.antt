@@ -19,7 +19,7 @@ pub data Seq (T : Type 0) : Type 1 where
   pick : (test : Symbol → Bool) (x : Symbol) → test x ≡ true → (Terminal → Seq T) → Seq T
   part : {A : Type 0} {read : List Terminal → Answer A} {spelled : A → List Terminal → List Terminal} {Good : A → Type 0}
       {deeps : A → List Terminal → Option (List Terminal)} {Over : A → List Terminal → Type 0} → Laws read spelled Good deeps Over → (A → Seq T) → Seq T
-  -- the symbol x behind it would be its own, where it is open; so one that goes on with x is not
+  -- the symbol x after it would be its own, where it is open; so one that goes on with x is not
   split : {A : Type 0} {read : List Terminal → Answer A} {spelled : A → List Terminal → List Terminal} {Good : A → Type 0}
       {deeps : A → List Terminal → Option (List Terminal)} {Over : A → List Terminal → Type 0} → Laws read spelled Good deeps Over
       → (open_end : A → Bool) (x : Symbol) → ((ts : List Terminal) (y : A × List Terminal) → read ts ≡ Ok y → open_end y.0 ≡ true → heads (is x) y.1 ≡ false)
@@ -174,7 +174,7 @@ pub record Sound {T : Type 0} (s : Seq T) (ts : List Terminal) (y : T × List Te
   pub reads : Reads s choice y.1
   pub apart : Apart (spells s) choice
 
--- a part, and what was read behind it
+-- a part, and what was read after it
 module _ {A T : Type 0} {read : List Terminal → Answer A} {spelled : A → List Terminal → List Terminal} {Good : A → Type 0} {deeps : A → List Terminal → Option (List Terminal)}
     {Over : A → List Terminal → Type 0}
     (l : Laws read spelled Good deeps Over) (s : Seq T) (ts : List Terminal) (x : A × List Terminal) (y : T × List Terminal) (h : read ts ≡ Ok x) (r : Sound s x.1 y) where

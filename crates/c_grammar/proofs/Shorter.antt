@@ -1,4 +1,4 @@
--- Reading stops at or behind where it began.
+-- Reading stops at or after where it began.
 use Rattle.std.proofs.Common.{◌≡◌, ◌-◌, ◌<◌, ◌≤◌, ℕ, zero, suc, true, List, Option, Ok, length, ap, subst, sym, arith}
 use Rattle.c_grammar.specs.declared.terminal.Span.{Span}
 use Rattle.c_grammar.specs.declared.terminal.Terminal.{Terminal}

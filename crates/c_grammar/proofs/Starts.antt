@@ -100,7 +100,7 @@ part_begun w.Do p h = stmt_part_begun w.Do p (stmt_begun w.Do p h)
 part_begun w.For p h = stmt_part_begun w.For p (stmt_begun w.For p h)
 part_begun _ p h = absurd (cc)
 
--- no else behind a statement that was read and ends open
+-- no else after a statement that was read and ends open
 abbrev pub OpenOk : t.Stmt × List Terminal → Type 0
 OpenOk y = ends_open y.0 ≡ true → heads (is w.Else) y.1 ≡ false
 

@@ -21,7 +21,7 @@ use Rattle.c_grammar.proofs.Fork.{Takes, expr_takes}
 use Rattle.c_grammar.proofs.Calls.{heads_isnt, heads_other, heads_implies, starts_simple, simple_starts, right_starts, place_first, right_laws, simple_laws, declaration_laws, start_laws}
 use Rattle.c_grammar.proofs.Starts.{stmt_starts, stmt_kind, part_starts, stmt_begun, part_begun, OpenOk, Opens}
 
--- an else behind a statement that ends open would be its own
+-- an else after a statement that ends open would be its own
 abbrev pub StmtOver : t.Stmt → List Terminal → Type 0
 StmtOver s rest = ends_open s ≡ true → heads (is w.Else) rest ≡ false
 
@@ -261,7 +261,7 @@ module _ (n : ℕ) (expr index : List Terminal → Answer t.Expr) (le : ExprLaws
     follows = λ rest h. (refl, (refl, (test_over test q _, (step_over step c _, (h, tt)))));
   }
 
-  -- no else behind a statement that was read and ends open
+  -- no else after a statement that was read and ends open
   shut : (o : Option Symbol) → ((c : Choice (stmt_seq o)) → ends_open (tree (stmt_seq o) c) ≡ false) → (ts : List Terminal) (y : t.Stmt × List Terminal)
       → run (stmt_seq o) ts ≡ Ok y → OpenOk y
   shut o h ts y k = let c = seq_sound (stmt_seq o) ts y k in λ q. not_both (ends_open y.0) q (sym (ap ends_open c.of) ∙ h c.choice)

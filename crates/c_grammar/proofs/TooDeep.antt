@@ -1,4 +1,4 @@
--- Reading what stands too deep.
+-- Reading what is too deep.
 use Rattle.std.proofs.Common.{◌≡◌, inl, inr, Bool, true, List, [], ◌∷◌, Some, Ok, Err, refl, subst}
 use Rattle.c_lex.specs.declared.fault.Why.TheVariants.{TooDeep}
 use Rattle.c_grammar.specs.declared.terminal.Symbol.{Symbol}

@@ -1,5 +1,6 @@
--- How deep statements and programs go: the terminals from the first thing on that stands too deep.
-use Rattle.std.specs.Prelude.{ℕ, zero, suc, List, [], ◌∷◌, Option, Some, None}
+-- How deep statements and programs go: the terminals from the first thing on that is too deep.
+use Rattle.std.specs.Prelude.{◌-◌, ℕ, zero, suc, List, [], ◌∷◌, Option, Some, None}
+use Rattle.c_grammar.specs.declared.limits.TheConstants.{MOST_DEPTHS}
 use Rattle.c_grammar.specs.declared.terminal.Symbol.TheVariants as w
 use Rattle.c_grammar.specs.declared.terminal.Terminal.{Terminal}
 use Rattle.c_grammar.specs.Tree as t
@@ -11,7 +12,7 @@ abbrev pub deep_maybe : {A : Type 0} → (A → List Terminal → Option (List T
 deep_maybe one None rest = None
 deep_maybe one (Some a) rest = one a rest
 
--- in things one behind the other: the first place of all
+-- in things one after the other: the first place of all
 abbrev pub deep_list : {A : Type 0} → (A → List Terminal → List Terminal) → (A → List Terminal → Option (List Terminal)) → List A → List Terminal → Option (List Terminal)
 deep_list spells one [] rest = None
 deep_list spells one (a ∷ more) rest = earlier (one a (spell_list spells more rest)) (deep_list spells one more rest)
@@ -21,7 +22,7 @@ abbrev pub deep_comma_list : {A : Type 0} → (A → List Terminal → List Term
 deep_comma_list spells one (t.comma_list a more) rest =
     earlier (one a (spell_list (spell_after_comma spells) more rest)) (deep_list (spell_after_comma spells) (λ b. one b.1) more rest)
 
--- down to deep_start there are n depths below the statement's or declaration's own, which is that of its expressions; what stands
+-- down to deep_start there are n depths below the statement's or declaration's own, which is that of its expressions; what is
 -- in brackets is one deeper, and the parentheses of calls do not count
 
 abbrev pub deep_argument : ℕ → t.Argument → List Terminal → Option (List Terminal)
@@ -106,13 +107,13 @@ deep_parameters n _ rest = None
 abbrev pub deep_head : ℕ → t.Head → List Terminal → Option (List Terminal)
 deep_head n head rest = deep_parameters n head.listed (at w.CloseParen head.closing ∷ rest)
 
--- 64 depths: a function's head and its outermost parts stand at the first
+-- a function's head and its outermost parts stand at the first of all depths
 abbrev pub deep_external : t.ExternalDeclaration → List Terminal → Option (List Terminal)
 deep_external (t.define keyword name value end) rest = None
 deep_external (t.function head opening parts closing) rest =
-    earlier (deep_head 63 head (at w.OpenBrace opening ∷ spell_parts parts (at w.CloseBrace closing ∷ rest)))
-    (deep_parts 64 parts (at w.CloseBrace closing ∷ rest))
-deep_external (t.prototype head end) rest = deep_head 63 head (at w.Semicolon end ∷ rest)
+    earlier (deep_head (MOST_DEPTHS - 1) head (at w.OpenBrace opening ∷ spell_parts parts (at w.CloseBrace closing ∷ rest)))
+    (deep_parts MOST_DEPTHS parts (at w.CloseBrace closing ∷ rest))
+deep_external (t.prototype head end) rest = deep_head (MOST_DEPTHS - 1) head (at w.Semicolon end ∷ rest)
 
 abbrev pub deep_tree : t.Tree → List Terminal → Option (List Terminal)
 deep_tree = deep_list spell_external deep_external

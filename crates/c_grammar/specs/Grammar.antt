@@ -1,5 +1,6 @@
 -- The grammar of expressions: what a tree spells, how operators bind, and how deep it goes. (ISO C, "Expressions".)
 use Rattle.std.specs.Prelude.{◌≡◌, true, ℕ, zero, suc, ◌<◌, List, ◌∷◌, Option, Some, None}
+use Rattle.c_grammar.specs.declared.limits.TheConstants.{CONDITIONAL_LEVEL}
 use Rattle.c_grammar.specs.declared.terminal.Symbol.{Symbol}
 use Rattle.c_grammar.specs.declared.terminal.Symbol.TheVariants as w
 use Rattle.c_grammar.specs.declared.terminal.Span.{Span}
@@ -32,10 +33,10 @@ abbrev mutual
   spell_links no_link rest = rest
   spell_links (link operator span operand links) rest = at operator span ∷ spell operand (spell_links links rest)
 
--- 0 for an operand, the operators' level for a chain, 11 with ?:
+-- the level of an expression: 0 of an operand, the operators' level of a chain, the greatest of `?:`
 abbrev pub precedence : Expr → ℕ
 precedence (chain level first links) = level
-precedence (choice test question branch colon other) = 11
+precedence (choice test question branch colon other) = CONDITIONAL_LEVEL
 precedence _ = 0
 
 abbrev pub IsSome : Links → Type 0
@@ -50,8 +51,8 @@ abbrev mutual
   Is (field place dot name) = IsPlace place
   Is (paren opening inner closing) = Is inner
   Is (unary sign span operand) = (is_sign sign ≡ true) × (precedence operand ≡ 0) × Is operand
-  Is (chain level first links) = (0 < level) × (level < 11) × (precedence first < level) × Is first × IsSome links × AreLinks level links
-  Is (choice test question branch colon other) = (precedence test < 11) × Is test × Is branch × Is other
+  Is (chain level first links) = (0 < level) × (level < CONDITIONAL_LEVEL) × (precedence first < level) × Is first × IsSome links × AreLinks level links
+  Is (choice test question branch colon other) = (precedence test < CONDITIONAL_LEVEL) × Is test × Is branch × Is other
 
   pub IsPlace : Place → Type 0
   IsPlace (whole name) = Unit {0}
@@ -67,8 +68,8 @@ earlier (Some d) o = Some d
 earlier None o = o
 
 abbrev mutual
-  -- the terminals from the first thing on that stands deeper than n depths, the expression itself at the first of them;
-  -- one deeper stands what is in parentheses, in brackets, after a sign, and in the two branches of ?:
+  -- the terminals from the first thing on that is deeper than n depths, the expression itself at the first of them;
+  -- one deeper is what is in parentheses, in brackets, after a sign, and in the two branches of ?:
   pub deep : ℕ → Expr → List Terminal → Option (List Terminal)
   deep zero expr rest = Some (spell expr rest)
   deep (suc n) (number span) rest = None

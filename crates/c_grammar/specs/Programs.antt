@@ -11,15 +11,15 @@ use Rattle.c_grammar.specs.Faults as texts
 abbrev pub spelling : Tree → List Terminal
 spelling tree = spell_tree tree []
 
--- the terminals from the first thing on that stands too deep
+-- the terminals from the first thing on that is too deep
 abbrev pub deepest : Tree → Option (List Terminal)
 deepest tree = deep_tree tree []
 
--- the terminals are this tree's, and nothing in it stands too deep
+-- the terminals are this tree's, and nothing in it is too deep
 abbrev pub IsTree : List Terminal → Tree → Type 0
 IsTree terminals tree = texts.IsText spelling AreExternals deepest terminals tree
 
--- the first terminal of rest is one that no program has behind the terminals before it; the end of the text counts as a terminal
+-- the first terminal of rest is one that no program has after the terminals before it; the end of the text counts as a terminal
 abbrev pub IsUnexpected : List Terminal → List Terminal → Type 0
 IsUnexpected terminals rest = texts.IsUnexpected spelling AreExternals deepest terminals rest
 

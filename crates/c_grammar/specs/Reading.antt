@@ -1,8 +1,9 @@
 -- Reading expressions by descent: a tree and the terminals after it, or the first fault. Each production is a function of the readers that it
 -- stands on. The number of depths left is the recursion's own.
-use Rattle.std.specs.Prelude.{◌==◌, Bool, true, false, ℕ, zero, suc, List, [], ◌∷◌, length, Option, Some, None, Result, Ok, Err, if◌then◌else◌}
+use Rattle.std.specs.Prelude.{◌==◌, ◌-◌, Bool, true, false, ℕ, zero, suc, List, [], ◌∷◌, length, Option, Some, None, Result, Ok, Err, if◌then◌else◌}
 use Rattle.c_lex.specs.declared.fault.Why.{Why}
 use Rattle.c_lex.specs.declared.fault.Why.TheVariants.{Unexpected, TooDeep}
+use Rattle.c_grammar.specs.declared.limits.TheConstants.{CONDITIONAL_LEVEL}
 use Rattle.c_grammar.specs.declared.terminal.Symbol.{Symbol}
 use Rattle.c_grammar.specs.declared.terminal.Symbol.TheVariants as w
 use Rattle.c_grammar.specs.declared.terminal.Span.{Span}
@@ -47,7 +48,7 @@ unfoldable pub one_of : (Symbol → Bool) → List Terminal → Answer Terminal
 one_of test [] = refuse Unexpected []
 one_of test (t ∷ ts) = if test t.symbol then Ok (t, ts) else refuse Unexpected (t ∷ ts)
 
--- what stands too deep
+-- what is too deep
 unfoldable pub too_deep : {A : Type 0} → (Symbol → Bool) → List Terminal → Answer A
 too_deep starts [] = refuse Unexpected []
 too_deep starts (t ∷ ts) = if starts t.symbol then refuse TooDeep (t ∷ ts) else refuse Unexpected (t ∷ ts)
@@ -153,7 +154,7 @@ bin_of operand (suc k) ts = do
   links ← many (λ x. level_of x == suc k) (link_of (bin_of operand k) (suc k)) first.1
   Ok (chained (suc k) first.0 links.0, links.1)
 
--- the two branches behind a test
+-- the two branches after a test
 abbrev pub branches_of : (Bool → List Terminal → Answer Expr) → Expr → List Terminal → Answer Expr
 branches_of under test ts = do
   question ← expect w.Question ts
@@ -167,7 +168,7 @@ choice_tail under test ts = if heads (is w.Question) ts then branches_of under t
 
 unfoldable pub choice_of : (Bool → List Terminal → Answer Expr) → List Terminal → Answer Expr
 choice_of under ts = do
-  test ← bin_of (unary_of under) 10 ts
+  test ← bin_of (unary_of under) (CONDITIONAL_LEVEL - 1) ts
   choice_tail under test.0 test.1
 
 -- an expression (true) or an operand with its signs (false), with n depths left

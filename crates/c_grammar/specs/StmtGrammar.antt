@@ -17,7 +17,7 @@ abbrev pub IsMaybe : {A : Type 0} → (A → Type 0) → Option A → Type 0
 IsMaybe Good None = Unit {0}
 IsMaybe Good (Some a) = Good a
 
--- things one behind the other
+-- things one after the other
 abbrev pub spell_list : {A : Type 0} → (A → List Terminal → List Terminal) → List A → List Terminal → List Terminal
 spell_list one [] rest = rest
 spell_list one (a ∷ more) rest = one a (spell_list one more rest)
@@ -30,7 +30,7 @@ AreAll Good (a ∷ more) = Good a × AreAll Good more
 abbrev pub spell_symbol : Symbol → Span → List Terminal → List Terminal
 spell_symbol x p rest = at x p ∷ rest
 
--- a comma and what stands behind it
+-- a comma and what is after it
 abbrev pub spell_after_comma : {A : Type 0} → (A → List Terminal → List Terminal) → Span × A → List Terminal → List Terminal
 spell_after_comma one b rest = at w.Comma b.0 ∷ one b.1 rest
 
@@ -149,7 +149,7 @@ abbrev mutual
   spell_parts t.no_part rest = rest
   spell_parts (t.part first more) rest = spell_part first (spell_parts more rest)
 
--- an else behind it would be its own
+-- an else after it would be its own
 abbrev pub ends_open : t.Stmt → Bool
 ends_open (t.if_only keyword opening test closing branch) = true
 ends_open (t.if_else keyword opening test closing branch else_keyword other) = ends_open other

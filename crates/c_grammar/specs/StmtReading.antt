@@ -1,7 +1,8 @@
 -- Reading statements, functions and programs by descent. `expr` reads an expression at the depth of what is read, `index` one that is a
 -- depth below it.
-use Rattle.std.specs.Prelude.{◌&&◌, Bool, true, false, ℕ, zero, suc, List, [], ◌∷◌, length, Option, Some, Ok, if◌then◌else◌}
+use Rattle.std.specs.Prelude.{◌&&◌, ◌-◌, Bool, true, false, ℕ, zero, suc, List, [], ◌∷◌, length, Option, Some, Ok, if◌then◌else◌}
 use Rattle.c_lex.specs.declared.fault.Why.TheVariants.{Unexpected}
+use Rattle.c_grammar.specs.declared.limits.TheConstants.{MOST_DEPTHS}
 use Rattle.c_grammar.specs.declared.terminal.Symbol.{Symbol}
 use Rattle.c_grammar.specs.declared.terminal.Symbol.TheVariants as w
 use Rattle.c_grammar.specs.declared.terminal.Span.{Span}
@@ -47,7 +48,7 @@ call_of expr index ts = do
   closing ← expect w.CloseParen given.1
   Ok (record { name = name.0; opening = opening.0; arguments = given.0; closing = closing.0 }, closing.1)
 
--- a name and an opening parenthesis behind it
+-- a name and an opening parenthesis after it
 abbrev pub calls : List Terminal → Bool
 calls [] = false
 calls (t ∷ ts) = is w.Name t.symbol && heads (is w.OpenParen) ts
@@ -64,7 +65,7 @@ assign_of expr index place ts = do
   right ← right_of expr index operator.1
   Ok (t.assign place operator.0.symbol operator.0.span right.0, right.1)
 
--- behind a place
+-- after a place
 abbrev pub simple_tail : (List Terminal → Answer t.Expr) → (List Terminal → Answer t.Expr) → t.Place → List Terminal → Answer t.Simple
 simple_tail expr index place ts =
     if heads is_step ts
@@ -129,7 +130,7 @@ given_start expr index ts =
 unfoldable pub start_of : (List Terminal → Answer t.Expr) → (List Terminal → Answer t.Expr) → List Terminal → Answer t.ForStart
 start_of expr index ts = if heads (is w.Semicolon) ts then Ok (t.no_start, ts) else given_start expr index ts
 
--- part reads what stands in the block
+-- part reads what is in the block
 abbrev pub block_of : (List Terminal → Answer t.Part) → List Terminal → Answer t.Stmt
 block_of part ts = do
   opening ← expect w.OpenBrace ts
@@ -168,7 +169,7 @@ other_of one keyword opening test closing branch ts = do
   other ← one mark.1
   Ok (t.if_else keyword opening test closing branch mark.0 other.0, other.1)
 
--- behind the statement of an if
+-- after the statement of an if
 abbrev pub else_of : (List Terminal → Answer t.Stmt) → Span → Span → t.Expr → Span → t.Stmt → List Terminal → Answer t.Stmt
 else_of one keyword opening test closing branch ts =
     if heads (is w.Else) ts then other_of one keyword opening test closing branch ts else Ok (t.if_only keyword opening test closing branch, ts)
@@ -360,9 +361,9 @@ external_with index part ts =
     then define_of ts
     else (head_of index ts >>= λ head. head_tail part head.0 head.1)
 
--- 64 depths: a function's head and its outermost parts stand at the first
+-- a function's head and its outermost parts stand at the first of all depths
 abbrev pub external_of : List Terminal → Answer t.ExternalDeclaration
-external_of = external_with (expr_at 63 true) (part_at 64)
+external_of = external_with (expr_at (MOST_DEPTHS - 1) true) (part_at MOST_DEPTHS)
 
 -- a whole text
 unfoldable pub program_of : List Terminal → Answer t.Tree

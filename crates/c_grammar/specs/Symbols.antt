@@ -1,9 +1,10 @@
 -- What the symbols of the grammar are. (ISO C, "Expressions".)
 use Rattle.std.specs.Prelude.{◌==◌, Bool, true, false, not, ℕ}
+use Rattle.c_grammar.specs.declared.limits.TheConstants.{CONDITIONAL_LEVEL}
 use Rattle.c_grammar.specs.declared.terminal.Symbol.{Symbol}
 use Rattle.c_grammar.specs.declared.terminal.Symbol.TheVariants as w
 
--- how tightly a binary operator binds, 1 the tightest; `?` comes last, and 0 is for other symbols
+-- the level of an operator: 1 binds the tightest, `?` the loosest; 0 is for other symbols
 abbrev pub level_of : Symbol → ℕ
 level_of w.Times = 1
 level_of w.Divide = 1
@@ -23,7 +24,7 @@ level_of w.Xor = 7
 level_of w.Or = 8
 level_of w.LogicalAnd = 9
 level_of w.LogicalOr = 10
-level_of w.Question = 11
+level_of w.Question = CONDITIONAL_LEVEL
 level_of _ = 0
 
 -- may stand before an operand alone

@@ -1,6 +1,7 @@
-//! The grammar of the C subset: symbols, trees and what they spell.
+//! The grammar of the C subset: terminals, trees and what they spell.
 #![tactic(auto)]
 
+pub mod limits;
 pub mod statement;
 pub mod terminal;
 pub mod tree;

@@ -10,7 +10,7 @@ pub struct CommaList<T> {
     pub more: Vec<AfterComma<T>>,
 }
 
-/// A comma and the thing behind it.
+/// A comma and the thing after it.
 #[derive(Drop)]
 pub struct AfterComma<T> {
     pub comma: Span,
@@ -174,7 +174,7 @@ pub enum Stmt {
     },
 }
 
-/// What stands in a block.
+/// What a block holds.
 #[cycle(statement)]
 #[derive(Drop)]
 pub enum Part {
@@ -251,7 +251,7 @@ pub struct Value {
     pub closes: Vec<Span>,
 }
 
-/// What stands in a program.
+/// What a program holds.
 #[derive(Drop)]
 pub enum ExternalDeclaration {
     Define {

@@ -73,7 +73,7 @@ pub enum Symbol {
     Complement,
 }
 
-/// Where a token stands in the text: `len` bytes from the place `start`, which counts from 0.
+/// Where a token is in the text: `len` bytes from the place `start`, which counts from 0.
 #[derive(Clone, Copy, Debug, PartialEq, Eq)]
 pub struct Span {
     pub start: u32,

@@ -54,7 +54,7 @@ pub enum Place {
     },
 }
 
-/// An operator and the operand behind it.
+/// An operator and the operand after it.
 #[cycle(expression)]
 #[derive(Drop)]
 pub struct Link {

@@ -1,4 +1,4 @@
--- A fault of a text is none of memory.
+-- A fault of a text is never that memory ran out.
 use Rattle.std.proofs.Common.{◌≢◌, ℕ, Bool, List}
 use Rattle.c_lex.specs.Steps as steps
 use Rattle.c_lex.specs.Steps.{Stands}

@@ -6,7 +6,7 @@ use Rattle.std.proofs.lemmas.List.{get_or_past, length-take}
 use Rattle.std.proofs.lemmas.Slice.Eq.{bytes_eq-Decides}
 use Rattle.c_lex.specs.Marks.{marks, first_length, mark_length}
 
--- behind a text's end there are zeros
+-- after a text's end there are zeros
 pub past_is_zero : (text : List ℕ) (k : ℕ) → length text ≤ k → slice_index text k ≡ 0
 past_is_zero text k past = get_or_past text k 0 past
 

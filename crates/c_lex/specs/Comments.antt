@@ -3,7 +3,7 @@ use Rattle.std.specs.Prelude.{◌≡◌, ◌≤◌, ◌<◌, ◌+◌, ◌==◌, 
 use Rattle.c_lex.specs.Bytes.{IsRun}
 use Rattle.c_lex.specs.declared.bytes.ByteClass.TheVariants.{InLine}
 
--- `*/` stands there
+-- `*/` is there
 abbrev pub closes : List ℕ → ℕ → Bool
 closes text k = (slice_index text k == 42) && (slice_index text (k + 1) == 47)
 
@@ -17,7 +17,7 @@ pub record IsFirstClose (text : List ℕ) (from close : ℕ) : Type 0 where
 abbrev pub NeverCloses : List ℕ → ℕ → Type 0
 NeverCloses text from = (k : ℕ) → from ≤ k → k + 2 ≤ length text → closes text k ≡ false
 
--- from `/*` to the first `*/` behind it; a comment that stands on a line that is a define has no newline
+-- from `/*` to the first `*/` after it; a comment on a line that is a define has no newline
 pub record IsComment (text : List ℕ) (on_define : Bool) (at close : ℕ) : Type 0 where
   pub closed : IsFirstClose text (at + 2) close
   pub on_line : on_define ≡ true → IsRun InLine text at close close

@@ -3,7 +3,7 @@ use Rattle.std.specs.Prelude.{◌≤◌, ◌==◌, ◌&&◌, ◌||◌, ℕ, if�
 use Rattle.std.specs.Str.Parse.{IsNumeral, digits_value}
 use Rattle.c_lex.specs.declared.limits.TheConstants.{GREATEST_NUMBER}
 
--- behind `0x` or `0X` the digits are hexadecimal
+-- after `0x` or `0X` the digits are hexadecimal
 abbrev pub prefix_length : List ℕ → ℕ
 prefix_length word = if (slice_index word 0 == 48) && ((slice_index word 1 == 120) || (slice_index word 1 == 88)) then 2 else 0
 

@@ -1,4 +1,4 @@
--- Want of memory, which has no place in the text.
+-- Being out of memory, which has no place in the text.
 use Rattle.c_lex.specs.declared.fault.SourceFault.{SourceFault}
 use Rattle.c_lex.specs.declared.fault.Why.TheVariants.{NoMemory}
 

@@ -5,12 +5,12 @@ use Rattle.c_lex.specs.Bytes.{is_space, is_digit, is_letter}
 use Rattle.c_lex.specs.declared.opening.Opening.{Opening}
 use Rattle.c_lex.specs.declared.opening.Opening.TheVariants.{TextEnd, Newline, Space, LineComment, BlockComment, Directive, Word, Digits, Quote, Mark, Nothing}
 
--- whether only blanks stand before a place on its line
+-- whether there are only blanks before a place on its line
 abbrev pub begins_line : List ℕ → ℕ → Bool
 begins_line text zero = true
 begins_line text (suc k) = (slice_index text k == 10) || (is_space (slice_index text k) && begins_line text k)
 
--- `first`: only blanks stand before the byte on its line; `mark`: a mark begins there
+-- `first`: there are only blanks before the byte on its line; `mark`: a mark begins there
 abbrev pub opening_of : Bool → Bool → ℕ → ℕ → Opening
 opening_of first mark byte next =
     if byte == 10 then Newline

@@ -24,7 +24,7 @@ with_token token (FirstFault place why) = FirstFault place why
 abbrev pub token_at : TokenKind → ℕ → ℕ → Token
 token_at kind start end = record { kind = kind; start = start; len = end - start }
 
--- whether the line behind a token is a define's
+-- whether the line after a token is a define's
 abbrev pub stays_on_define : TokenKind → Bool → Bool
 stays_on_define Define on_define = true
 stays_on_define EndLine on_define = false

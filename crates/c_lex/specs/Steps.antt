@@ -1,4 +1,4 @@
--- What stands at a place of a text: nothing of account up to some place, a token, or a fault.
+-- What is at a place of a text: nothing of account up to some place, a token, or a fault.
 use Rattle.std.specs.Prelude.{◌≡◌, ◌≢◌, ◌≤◌, ◌<◌, ◌+◌, ℕ, Bool, true, false, List, length, slice_range, codes}
 use Rattle.c_lex.specs.Bytes.{IsRun}
 use Rattle.c_lex.specs.Marks.{mark_length}

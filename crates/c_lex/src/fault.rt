@@ -2,7 +2,7 @@
 use std::alloc::{AllocError, AllocFailed};
 use thiserror::Error;
 
-/// Why a text is refused. Of two reasons at one place, the one that stands first here is given.
+/// Why a text is refused. Of two reasons at one place, the one that comes first here is told.
 #[derive(Clone, Copy, Debug, PartialEq, Eq)]
 pub enum Why {
     /// A byte that begins no token, or one outside 32 to 126 in a text.
@@ -11,7 +11,7 @@ pub enum Why {
     OpenComment,
     /// A text without its closing mark on its line.
     OpenText,
-    /// A number that is none of C's, or above `GREATEST_NUMBER`.
+    /// A number that is not one of C's, or above `GREATEST_NUMBER`.
     BadLiteral,
     Unexpected,
     TooDeep,

@@ -56,7 +56,7 @@ fn token_at(kind: TokenKind, start: usize, end: usize) -> Token
     }
 }
 
-/// Whether the line behind a token is a define's.
+/// Whether the line after a token is a define's.
 fn stays_on_define(kind: TokenKind, on_define: bool) -> bool
     ensures { result ≡ stays_on_define kind on_define }
 {
@@ -67,7 +67,8 @@ fn stays_on_define(kind: TokenKind, on_define: bool) -> bool
     }
 }
 
-/// A text has one list of tokens or one first fault, never both. A fault of a text is none of memory.
+/// Each text has one list of tokens or one first fault, always one of them and never both. A fault of a
+/// text is never that memory ran out.
 pub fn one_reading()
     ensures one_list { (text : List ℕ) (list other : List Token)
         → AreTokens text list → AreTokens text other → list ≡ other }
@@ -76,4 +77,6 @@ pub fn one_reading()
     ensures has_place { (text : List ℕ) (fault : SourceFault) → IsFirstFault text fault → fault.why ≢ NoMemory }
     ensures never_both { (text : List ℕ) (list : List Token) (fault : SourceFault)
         → AreTokens text list → IsFirstFault text fault → ⊥ }
+    ensures always_one { (text : List ℕ) → ((list : List Token) × AreTokens text list)
+        ⊎ ((fault : SourceFault) × IsFirstFault text fault) }
 {}

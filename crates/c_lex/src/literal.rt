@@ -21,7 +21,7 @@ pub fn literal_value(word: &[u8]) -> Option<u32>
     Some(value as u32)
 }
 
-/// How many bytes stand before the digits.
+/// How many bytes come before the digits.
 fn prefix_length(word: &[u8]) -> usize
     ensures value { result ≡ prefix_length word.now }
     ensures within { result ≤ length word.now }

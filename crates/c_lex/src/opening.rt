@@ -54,14 +54,14 @@ pub fn opening_at(text: &[u8], at: usize) -> Opening
     }
 }
 
-/// The byte at a place, and 0 behind the end.
+/// The byte at a place, and 0 after the end.
 pub fn byte_at(text: &[u8], at: usize) -> u8
     ensures { result ≡ slice_index text.now at }
 {
     if at < text.len() { text[at] } else { 0 }
 }
 
-/// Whether only blanks stand before this place on its line.
+/// Whether there are only blanks before this place on its line.
 fn begins_line(text: &[u8], at: usize) -> bool
     requires { at ≤ length text.now }
     ensures { result ≡ begins_line text.now at }

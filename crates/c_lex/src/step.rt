@@ -1,4 +1,4 @@
-//! What stands at a place.
+//! What is at a place.
 ghost use Rattle.std.specs.Prelude.{◌≡◌, ◌≤◌, ◌<◌, ◌⊎◌, true, length};
 ghost use Rattle.c_lex.specs.Steps.{EndsWithin, IsStep, Stands};
 ghost use Rattle.c_lex.specs.declared.opening.Opening.TheVariants as opens;
@@ -11,7 +11,7 @@ use crate::piece::{mark, number, quote};
 use crate::token::TokenKind;
 use crate::word::{directive, word};
 
-/// What stands at a place of a text, and where it ends.
+/// What is at a place of a text, and where it ends.
 #[derive(Clone, Copy)]
 pub enum Step {
     /// No token.
@@ -20,7 +20,7 @@ pub enum Step {
     Bad { place: usize, why: Why },
 }
 
-/// What stands at this place, on a line that is a define or elsewhere.
+/// What is at this place, on a line that is a define or elsewhere.
 pub fn step_at(text: &[u8], on_define: bool, at: usize) -> Step
     requires within { at ≤ length text.now }
     requires more { (at < length text.now) ⊎ (on_define ≡ true) }

@@ -15,9 +15,9 @@ use Rattle.c_grammar.specs.Reading.{Answer, Fault, refuse}
 use Rattle.c_grammar.specs.StmtReading.{program_of}
 use Rattle.c_grammar.proofs.Programs.{read_tree, one_tree, read_fault, tree_no_fault}
 use Rattle.c_grammar.proofs.Firsts.{fault_read}
-use Rattle.c_expr.specs.declared.read.ReadError.{ReadError}
-use Rattle.c_expr.specs.declared.read.ReadError.TheVariants.{Memory, At}
-use Rattle.c_expr.specs.Gives.{Fails}
+use Rattle.c_parse.specs.declared.read.ReadError.{ReadError}
+use Rattle.c_parse.specs.declared.read.ReadError.TheVariants.{Memory, At}
+use Rattle.c_parse.specs.Gives.{Fails}
 use Rattle.c_parse.specs.Terminals.{terminal_of}
 use Rattle.c_parse.specs.Parsing.{IsFirstFault, IsTree, place_of, terminals_of}
 use Rattle.c_parse.specs.Locating.{IsLocated, StandsWithin}
@@ -41,7 +41,7 @@ place_within text from (token ∷ tokens) (first ∷ front) rest slices is =
     place_within text (token.start + token.len) tokens front rest slices.2 (cc)
 
 -- two refusals for one reason at one place are one
-one_refusal : (text : List ℕ) (place : ℕ) (first other : SourceFault) → first.why ≡ other.why
+pub one_refusal : (text : List ℕ) (place : ℕ) (first other : SourceFault) → first.why ≡ other.why
     → IsPlaceOf text place first.line first.column → IsPlaceOf text place other.line other.column → first ≡ other
 one_refusal text place first other why u v =
     let line : first.line ≡ other.line = u.line_is ∙ sym v.line_is in

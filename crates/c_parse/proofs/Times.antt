@@ -2,10 +2,10 @@
 use Rattle.std.proofs.Common.{◌≡◌, ℕ, suc, List, [], ◌∷◌, ◌++◌, Ok, Err, refl, sym, ap, ◌∙◌, append_assoc}
 use Rattle.c_grammar.specs.declared.terminal.Terminal.{Terminal}
 use Rattle.c_grammar.specs.Reading.{◌>>=◌, Answer, Fault, times}
-use Rattle.c_expr.specs.declared.read.ReadError.{ReadError}
-use Rattle.c_expr.specs.declared.read.ReadError.TheVariants as errors
-use Rattle.c_expr.specs.Gives.{Fails}
-use Rattle.c_expr.proofs.Loops.{after}
+use Rattle.c_parse.specs.declared.read.ReadError.{ReadError}
+use Rattle.c_parse.specs.declared.read.ReadError.TheVariants as errors
+use Rattle.c_parse.specs.Gives.{Fails}
+use Rattle.c_parse.proofs.Loops.{after}
 
 none_before : {A : Type 0} (read : Answer (List A)) → read ≡ after [] read
 none_before (Ok x) = refl

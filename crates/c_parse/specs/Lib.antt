@@ -1,3 +1,7 @@
+pub mod Classes
+pub mod Gives
+pub mod Declarations
+pub mod StatementHeads
 pub mod Terminals
 pub mod Parsing
 pub mod Locating

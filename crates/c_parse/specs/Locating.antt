@@ -3,15 +3,15 @@ use Rattle.std.specs.Prelude.{◌≡◌, ◌≤◌, ℕ, List, length}
 use Rattle.c_lex.specs.NoMemory.{no_memory}
 use Rattle.c_lex.specs.Places.{IsPlaceOf}
 use Rattle.c_lex.specs.declared.fault.SourceFault.{SourceFault}
-use Rattle.c_expr.specs.declared.read.ReadError.{ReadError}
-use Rattle.c_expr.specs.declared.read.ReadError.TheVariants.{Memory, At}
+use Rattle.c_parse.specs.declared.read.ReadError.{ReadError}
+use Rattle.c_parse.specs.declared.read.ReadError.TheVariants.{Memory, At}
 use Rattle.c_parse.specs.Parsing.{place_of}
 
 abbrev pub StandsWithin : List ℕ → ReadError → Type 0
 StandsWithin text Memory = Unit {0}
 StandsWithin text (At why rest) = place_of text rest.now ≤ length text
 
--- want of memory has no place
+-- being out of memory has no place
 abbrev pub IsLocated : List ℕ → ReadError → SourceFault → Type 0
 IsLocated text Memory fault = fault ≡ no_memory
 IsLocated text (At why rest) fault = (fault.why ≡ why) × IsPlaceOf text (place_of text rest.now) fault.line fault.column

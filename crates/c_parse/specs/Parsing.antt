@@ -11,11 +11,11 @@ use Rattle.c_parse.specs.Terminals.{terminal_of}
 abbrev pub terminals_of : List ℕ → List Token → List Terminal
 terminals_of text tokens = map (terminal_of text) tokens
 
--- the tokens are this tree's, and nothing in it stands too deep
+-- the tokens are this tree's, and nothing in it is too deep
 abbrev pub IsTree : List ℕ → List Token → Tree → Type 0
 IsTree text tokens tree = programs.IsTree (terminals_of text tokens) tree
 
--- where the first of these terminals stands; behind the last one, the end of the text
+-- where the first of these terminals is; after the last one, the end of the text
 abbrev pub place_of : List ℕ → List Terminal → ℕ
 place_of text [] = length text
 place_of text (terminal ∷ terminals) = terminal.span.start

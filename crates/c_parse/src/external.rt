@@ -1,26 +1,25 @@
 //! The readers of defines, functions and whole programs.
-ghost use Rattle.std.specs.Prelude.{◌≡◌, ◌++◌, ◌∷◌, [], Option, Some, None, true, length, map, OnOk};
+ghost use Rattle.std.specs.Prelude.{◌≡◌, [], Option, Some, None, true, length, map};
 ghost use Rattle.c_grammar.specs.StmtView.{head_view, parameter_view, parameters_view, external_view, tree_view, value_view};
 ghost use Rattle.c_grammar.specs.StmtGrammar.{are_named, has, is_named, name_of};
 ghost use Rattle.c_grammar.specs.Symbols.{is};
+ghost use Rattle.c_grammar.specs.declared.limits.TheConstants.{MOST_DEPTHS};
 ghost use Rattle.c_grammar.specs.declared.terminal.Symbol.TheVariants as w;
 ghost use Rattle.c_grammar.specs.Reading.{expect, many, times};
 ghost use Rattle.c_grammar.specs.StmtReading.{body_of, define_of, head_tail, part_at, program_of, external_of, value_of};
-ghost use Rattle.c_expr.specs.Gives.{Gives};
+ghost use Rattle.c_parse.specs.Gives.{Gives};
 
-use c_expr::read::{ReadError, expected, followed, heads, optional};
-use c_expr::symbols::Class;
+use crate::function_head::head;
+use crate::read::{ReadError, expected, followed, heads, optional};
+use crate::statement::parts;
+use crate::symbols::Class;
+use c_grammar::limits::MOST_DEPTHS;
 use c_grammar::statement::{
     AfterComma, ExternalDeclaration, Head, Parameter, Parameters, Tree, Value,
 };
 use c_grammar::terminal::{Span, Symbol, Terminal};
 use c_lex::Why;
-use c_simple::head::head;
-use c_statement::statement::parts;
-use std::alloc::{AllocError, Global};
-
-/// How many depths a program may have.
-const DEPTHS: u8 = 64;
+use std::alloc::Global;
 
 /// A program and no more.
 #[tactic(auto, unfolding(c_grammar::specs::StmtReading::program_of))]
@@ -34,7 +33,7 @@ pub fn program(alloc: Global, terminals: &[Terminal]) -> Result<Tree, ReadError>
             Ok(read) => read,
             Err(error) => return Err(error),
         };
-        push_external(&mut externals, one)?;
+        externals.push(one)?;
         rest = behind;
     }
     Ok(Tree { externals })
@@ -51,7 +50,7 @@ fn external(
     if heads(terminals, Class::Is(Symbol::Define)) {
         define(alloc, terminals)
     } else {
-        let (head, rest) = head(alloc, DEPTHS, terminals)?;
+        let (head, rest) = head(alloc, MOST_DEPTHS, terminals)?;
         function(alloc, head, rest)
     }
 }
@@ -103,7 +102,7 @@ fn opens(alloc: Global, terminals: &[Terminal]) -> Result<(Vec<Span>, &[Terminal
             Ok(read) => read,
             Err(error) => return Err(error),
         };
-        push(&mut found, one)?;
+        found.push(one)?;
         rest = behind;
     }
     Ok((found, rest))
@@ -124,19 +123,19 @@ fn closes(
             Ok(read) => read,
             Err(error) => return Err(error),
         };
-        push(&mut found, one)?;
+        found.push(one)?;
         rest = behind;
     }
     Ok((found, rest))
 }
 
-/// What stands behind a head: a block or `;`.
+/// What is after a head: a block or `;`.
 fn function(
     alloc: Global,
     head: Head,
     terminals: &[Terminal],
 ) -> Result<(ExternalDeclaration, &[Terminal]), ReadError>
-    ensures { Gives (λ x. (external_view x.0, x.1.now)) result (head_tail (part_at 64) (head_view head) terminals.now) }
+    ensures { Gives (λ x. (external_view x.0, x.1.now)) result (head_tail (part_at MOST_DEPTHS) (head_view head) terminals.now) }
 {
     if heads(terminals, Class::Is(Symbol::OpenBrace)) {
         if is_named(&head.parameters) {
@@ -156,10 +155,10 @@ fn block(
     head: Head,
     terminals: &[Terminal],
 ) -> Result<(ExternalDeclaration, &[Terminal]), ReadError>
-    ensures { Gives (λ x. (external_view x.0, x.1.now)) result (body_of (part_at 64) (head_view head) true terminals.now) }
+    ensures { Gives (λ x. (external_view x.0, x.1.now)) result (body_of (part_at MOST_DEPTHS) (head_view head) true terminals.now) }
 {
     let ((head, opening), rest) = followed(head, terminals, Symbol::OpenBrace)?;
-    let (parts, rest) = parts(alloc, DEPTHS, rest)?;
+    let (parts, rest) = parts(alloc, MOST_DEPTHS, rest)?;
     let ((parts, closing), rest) = followed(parts, rest, Symbol::CloseBrace)?;
     let function = ExternalDeclaration::Function {
         head,
@@ -204,21 +203,4 @@ fn has_name(parameter: &Parameter) -> bool
         | Parameter::TextPointers { name, .. }
         | Parameter::TextArray { name, .. } => name.is_some(),
     }
-}
-
-fn push(found: &mut Vec<Span>, span: Span) -> Result<(), AllocError>
-    ensures { OnOk result (found.new.items ≡ found.old.items ++ span ∷ []) }
-{
-    found.push(span)?;
-    Ok(())
-}
-
-fn push_external(
-    found: &mut Vec<ExternalDeclaration>,
-    external: ExternalDeclaration,
-) -> Result<(), AllocError>
-    ensures { OnOk result (found.new.items ≡ found.old.items ++ external ∷ []) }
-{
-    found.push(external)?;
-    Ok(())
 }

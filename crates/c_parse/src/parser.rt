@@ -1,5 +1,6 @@
 //! The tree of a text.
 ghost use Rattle.std.specs.Prelude.{◌≡◌, ◌≤◌, ◌⊎◌, IfOk, IfErr, MatchResult, length};
+ghost use Rattle.c_lex.specs.declared.limits.TheConstants.{MOST_BYTES};
 ghost use Rattle.c_lex.specs.NoMemory.{no_memory};
 ghost use Rattle.c_lex.specs.Readings.{AreTokens};
 ghost use Rattle.c_lex.specs.declared.fault.SourceFault.{SourceFault};
@@ -9,8 +10,8 @@ ghost use Rattle.c_parse.specs.Parsing.{IsFirstFault, IsTree, place_of};
 ghost use Rattle.c_parse.specs.Locating.{IsLocated, StandsWithin};
 
 use crate::external::program;
+use crate::read::ReadError;
 use crate::terminals::terminals;
-use c_expr::read::ReadError;
 use c_grammar::statement::Tree;
 use c_grammar::terminal::Terminal;
 use c_lex::{SourceFault, TokenList, fault_at};
@@ -18,7 +19,7 @@ use std::alloc::{AllocError, Global};
 
 /// The tree of a text with these tokens, or its first fault, `Unexpected` or `TooDeep`.
 pub fn parse(alloc: Global, text: &[u8], tokens: &TokenList) -> Result<Tree, SourceFault>
-    requires fits { length text.now ≤ 65536 }
+    requires fits { length text.now ≤ MOST_BYTES }
     requires tokens { AreTokens text.now tokens.now }
     ensures tree { IfOk result (λ tree. IsTree text.now tokens.now (tree_view tree)) }
     ensures only { (tree : t.Tree) → IsTree text.now tokens.now tree
@@ -36,7 +37,7 @@ pub fn parse(alloc: Global, text: &[u8], tokens: &TokenList) -> Result<Tree, Sou
 
 /// A refusal with its line and column.
 fn located(text: &[u8], error: ReadError) -> SourceFault
-    requires fits { length text.now ≤ 65536 }
+    requires fits { length text.now ≤ MOST_BYTES }
     requires within { StandsWithin text.now error }
     ensures { IsLocated text.now error.entry result }
 {
@@ -46,7 +47,7 @@ fn located(text: &[u8], error: ReadError) -> SourceFault
     }
 }
 
-/// Where the first of these terminals stands; behind the last one, the end of the text.
+/// Where the first of these terminals is; after the last one, the end of the text.
 fn place_of(text: &[u8], terminals: &[Terminal]) -> usize
     ensures { result ≡ place_of text.now terminals.now }
 {

@@ -1,4 +1,5 @@
 use Rattle.c_lex.proofs.Laws.{one_reading, fault_one}
+use Rattle.c_lex.proofs.Existence.{tokens_or_fault}
 use Rattle.c_lex.proofs.FaultLaws.{fault_has_place}
 use Rattle.c_lex.proofs.lexer.one_reading.Goals as goal
 
@@ -13,3 +14,6 @@ returns-clause-never_both c = λ text list fault a b. let e = one_reading text a
 
 pub returns-clause-has_place : goal.returns-clause-has_place
 returns-clause-has_place c = fault_has_place
+
+pub returns-clause-always_one : goal.returns-clause-always_one
+returns-clause-always_one c = tokens_or_fault

@@ -2,7 +2,7 @@ use Rattle.std.proofs.Common.{length}
 use Rattle.c_grammar.specs.declared.terminal.Symbol.TheVariants.{OpenParen}
 use Rattle.c_grammar.specs.Symbols.{is}
 use Rattle.c_grammar.specs.Reading.{expect}
-use Rattle.c_expr.proofs.Loops.{SoFar}
+use Rattle.c_parse.proofs.Loops.{SoFar}
 use Rattle.c_parse.proofs.external.opens.Given as goal
 
 abbrev pub invariant-loop-rest : goal.invariant-loop-rest

@@ -1,7 +1,7 @@
 use Rattle.std.proofs.Common.{true, length, map}
 use Rattle.c_grammar.specs.StmtView.{external_view}
 use Rattle.c_grammar.specs.StmtReading.{external_of}
-use Rattle.c_expr.proofs.Loops.{SoFar}
+use Rattle.c_parse.proofs.Loops.{SoFar}
 use Rattle.c_parse.proofs.external.program.Given as goal
 
 abbrev pub invariant-loop-rest : goal.invariant-loop-rest

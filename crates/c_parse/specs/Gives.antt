@@ -1,0 +1,24 @@
+-- What a function gave is what reading gives, unless memory ran out.
+use Rattle.std.specs.Prelude.{◌≡◌, List, ◌∷◌, [], Option, Some, None, Result, Ok, Err}
+use Rattle.std.specs.Borrow.{Bor}
+use Rattle.c_grammar.specs.declared.terminal.Terminal.{Terminal}
+use Rattle.c_grammar.specs.Reading.{Answer, refuse}
+use Rattle.c_parse.specs.declared.read.ReadError.{ReadError}
+use Rattle.c_parse.specs.declared.read.ReadError.TheVariants as errors
+
+abbrev pub Fails : {Y : Type 0} → ReadError → Answer Y → Type 0
+Fails errors.Memory read = Unit {0}
+Fails (errors.At why rest) read = read ≡ refuse why rest.now
+
+abbrev pub Gives : {X Y : Type 0} → (X → Y × List Terminal) → Result X ReadError → Answer Y → Type 0
+Gives view (Ok x) read = read ≡ Ok (view x)
+Gives view (Err error) read = Fails error read
+
+-- reading stopped at a terminal, not because memory ran out
+abbrev pub HasPlace : ReadError → Type 0
+HasPlace errors.Memory = ⊥
+HasPlace (errors.At why rest) = Unit {0}
+
+abbrev pub IsHead : List Terminal → Option (Terminal × Bor (List Terminal)) → Type 0
+IsHead terminals None = terminals ≡ []
+IsHead terminals (Some x) = terminals ≡ x.0 ∷ x.1.now

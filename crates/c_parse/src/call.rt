@@ -1,0 +1,123 @@
+//! The readers of calls and right sides.
+ghost use Rattle.std.specs.Prelude.{◌≡◌, ◌<◌, ◌-◌, true, option_map};
+ghost use Rattle.c_grammar.specs.Tree as t;
+ghost use Rattle.c_grammar.specs.StmtView.{argument_view, call_view, comma_list_view, right_view};
+ghost use Rattle.c_grammar.specs.Symbols.{isnt};
+ghost use Rattle.c_grammar.specs.declared.terminal.Symbol.TheVariants as w;
+ghost use Rattle.c_grammar.specs.Reading.{expr_at, maybe};
+ghost use Rattle.c_grammar.specs.StmtReading.{argument_of, call_of, calls, comma_list_of, right_of};
+ghost use Rattle.c_parse.specs.Gives.{Gives};
+
+use crate::comma_list::{InCommaList, comma_list};
+use crate::expression::{expr, place};
+use crate::read::{ReadError, expected, first_of, followed, heads};
+use crate::symbols::{Class, is_in};
+use c_grammar::statement::{Argument, Call, CommaList, Right};
+use c_grammar::terminal::{Symbol, Terminal};
+use std::alloc::Global;
+
+impl InCommaList for Argument {
+    ghost use Rattle.c_grammar.proofs.Shorter.{argument_shorter};
+
+    ghost Tree = { t.Argument };
+
+    ghost view = { argument_view };
+
+    ghost reading = { λ left. argument_of (expr_at left true) (expr_at (left - 1) true) };
+
+    ghost shorter = { argument_shorter };
+
+    #[tactic(auto, unfolding(c_grammar::specs::StmtReading::argument_of))]
+    fn read<'a>(
+        alloc: Global,
+        left: u8,
+        terminals: &'a [Terminal],
+    ) -> Result<(Self, &'a [Terminal]), ReadError<'a>> {
+        match first_of(terminals) {
+            Some(Symbol::Text) => {
+                let (text, rest) = expected(terminals, Symbol::Text)?;
+                Ok((Argument::Text(text), rest))
+            }
+            Some(Symbol::And) => {
+                let (mark, rest) = expected(terminals, Symbol::And)?;
+                let (place, rest) = place(alloc, left, rest)?;
+                Ok((Argument::Address { mark, place }, rest))
+            }
+            _ => {
+                let (value, rest) = expr(alloc, left, true, terminals)?;
+                Ok((Argument::Value(value), rest))
+            }
+        }
+    }
+}
+
+/// Whether a name and `(` come first.
+pub fn calls(terminals: &[Terminal]) -> bool
+    ensures { result ≡ calls terminals.now }
+{
+    match terminals {
+        [first, rest @ ..] => {
+            is_in(Class::Is(Symbol::Name), first.symbol)
+                && heads(rest, Class::Is(Symbol::OpenParen))
+        }
+        [] => false,
+    }
+}
+
+#[tactic(auto, unfolding(c_grammar::specs::StmtReading::call_of))]
+pub fn call(
+    alloc: Global,
+    left: u8,
+    terminals: &[Terminal],
+) -> Result<(Call, &[Terminal]), ReadError>
+    requires { 0 < left }
+    ensures { Gives (λ x. (call_view x.0, x.1.now)) result (call_of (expr_at left true) (expr_at (left - 1) true) terminals.now) }
+{
+    let (name, rest) = expected(terminals, Symbol::Name)?;
+    let (opening, rest) = expected(rest, Symbol::OpenParen)?;
+    let (arguments, rest) = arguments(alloc, left, rest)?;
+    let ((arguments, closing), rest) = followed(arguments, rest, Symbol::CloseParen)?;
+    let call = Call {
+        name,
+        opening,
+        arguments,
+        closing,
+    };
+    Ok((call, rest))
+}
+
+fn arguments(
+    alloc: Global,
+    left: u8,
+    terminals: &[Terminal],
+) -> Result<(Option<CommaList<Argument>>, &[Terminal]), ReadError>
+    requires { 0 < left }
+    ensures { Gives (λ x. (option_map (comma_list_view argument_view) x.0, x.1.now)) result
+        (maybe (isnt w.CloseParen) (comma_list_of (argument_of (expr_at left true) (expr_at (left - 1) true))) terminals.now) }
+{
+    if heads(terminals, Class::Isnt(Symbol::CloseParen)) {
+        let (list, rest) = comma_list(alloc, left, terminals)?;
+        Ok((Some(list), rest))
+    } else {
+        Ok((None, terminals))
+    }
+}
+
+/// A right side.
+#[tactic(auto, unfolding(c_grammar::specs::StmtReading::right_of))]
+pub fn right(
+    alloc: Global,
+    left: u8,
+    terminals: &[Terminal],
+) -> Result<(Right, &[Terminal]), ReadError>
+    requires { 0 < left }
+    ensures { Gives (λ x. (right_view x.0, x.1.now)) result (right_of (expr_at left true) (expr_at (left - 1) true) terminals.now) }
+{
+    if calls(terminals) {
+        let (call, rest) = call(alloc, left, terminals)?;
+        Ok((Right::Call(call), rest))
+    } else {
+        let (value, rest) = expr(alloc, left, true, terminals)?;
+        Ok((Right::Value(value), rest))
+    }
+}

@@ -1,0 +1,90 @@
+//! Things with a comma between each two.
+ghost use Rattle.std.specs.Prelude.{◌≡◌, ◌<◌, ◌≤◌, ℕ, List, Ok, length, map};
+ghost use Rattle.c_grammar.specs.declared.terminal.Terminal.{Terminal};
+ghost use Rattle.c_grammar.specs.declared.terminal.Symbol.TheVariants.{Comma};
+ghost use Rattle.c_grammar.specs.StmtView.{comma_list_view};
+ghost use Rattle.c_grammar.specs.Symbols.{is};
+ghost use Rattle.c_grammar.specs.Reading.{Answer, many};
+ghost use Rattle.c_grammar.specs.StmtReading.{after_comma_of, comma_list_of};
+ghost use Rattle.c_parse.specs.Gives.{Gives};
+
+use crate::read::{ReadError, expected, heads};
+use crate::symbols::Class;
+use c_grammar::statement::{AfterComma, CommaList};
+use c_grammar::terminal::{Symbol, Terminal};
+use std::alloc::Global;
+
+/// What is listed with commas.
+pub trait InCommaList: Sized + Drop {
+    /// What contracts see of it.
+    ghost Tree: { Type 0 };
+
+    ghost view: { Self → Tree };
+
+    /// How it is read, with some depths left.
+    ghost reading: { ℕ → List Terminal → Answer Tree };
+
+    /// One of them, with `left` depths left.
+    fn read<'a>(
+        alloc: Global,
+        left: u8,
+        terminals: &'a [Terminal],
+    ) -> Result<(Self, &'a [Terminal]), ReadError<'a>>
+        requires { 0 < left }
+        ensures { Gives (λ x. (view x.0, x.1.now)) result (reading left terminals.now) };
+
+    // Reading stops at or after where it began.
+    ghost shorter: { (left : ℕ) (terminals : List Terminal) (read : Tree × List Terminal)
+        → 0 < left → reading left terminals ≡ Ok read → length read.1 ≤ length terminals };
+}
+
+/// One or more.
+pub fn comma_list<T: InCommaList>(
+    alloc: Global,
+    left: u8,
+    terminals: &[Terminal],
+) -> Result<(CommaList<T>, &[Terminal]), ReadError>
+    requires { 0 < left }
+    ensures { Gives (λ x. (comma_list_view T.view x.0, x.1.now)) result (comma_list_of (T.reading left) terminals.now) }
+{
+    let (first, rest) = T::read(alloc, left, terminals)?;
+    let (more, rest) = others(alloc, left, rest)?;
+    Ok((CommaList { first, more }, rest))
+}
+
+/// The others, each after a comma.
+fn others<T: InCommaList>(
+    alloc: Global,
+    left: u8,
+    terminals: &[Terminal],
+) -> Result<(Vec<AfterComma<T>>, &[Terminal]), ReadError>
+    requires { 0 < left }
+    ensures { Gives (λ x. (map (λ one. (one.comma, T.view one.item)) x.0.items, x.1.now)) result
+        (many (is Comma) (after_comma_of (T.reading left)) terminals.now) }
+{
+    let mut found = Vec::new(alloc);
+    let mut rest = terminals;
+    while heads(rest, Class::Is(Symbol::Comma)) {
+        let (one, behind) = match behind(alloc, left, rest) {
+            Ok(read) => read,
+            Err(error) => return Err(error),
+        };
+        found.push(one)?;
+        rest = behind;
+    }
+    Ok((found, rest))
+}
+
+/// A comma and what is after it.
+fn behind<T: InCommaList>(
+    alloc: Global,
+    left: u8,
+    terminals: &[Terminal],
+) -> Result<(AfterComma<T>, &[Terminal]), ReadError>
+    requires { 0 < left }
+    ensures { Gives (λ x. ((x.0.comma, T.view x.0.item), x.1.now)) result (after_comma_of (T.reading left) terminals.now) }
+{
+    let (comma, rest) = expected(terminals, Symbol::Comma)?;
+    let (item, rest) = T::read(alloc, left, rest)?;
+    Ok((AfterComma { comma, item }, rest))
+}

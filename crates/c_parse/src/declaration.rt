@@ -1,0 +1,122 @@
+//! The readers of declarations.
+ghost use Rattle.std.specs.Prelude.{◌≡◌, ◌<◌, ◌-◌, true, option_map};
+ghost use Rattle.c_grammar.specs.Tree as t;
+ghost use Rattle.c_grammar.specs.StmtView.{declaration_view, initial_view, item_view, part_view};
+ghost use Rattle.c_grammar.specs.Symbols.{is};
+ghost use Rattle.c_grammar.specs.declared.terminal.Symbol.TheVariants as w;
+ghost use Rattle.c_grammar.specs.Reading.{expr_at, maybe};
+ghost use Rattle.c_grammar.specs.StmtReading.{declaration_of, initial_of, initial_tail, item_of};
+ghost use Rattle.c_parse.specs.Gives.{Gives};
+ghost use Rattle.c_parse.specs.Declarations.{declared_of};
+
+use crate::call::right;
+use crate::comma_list::{InCommaList, comma_list};
+use crate::expression::place;
+use crate::read::{ReadError, expected, followed, heads, one_of};
+use crate::symbols::Class;
+use c_grammar::statement::{Declaration, InitDeclarator, Initializer, Part};
+use c_grammar::terminal::{Symbol, Terminal};
+use std::alloc::Global;
+
+/// A declaration without its `;`.
+#[tactic(auto, unfolding(c_grammar::specs::StmtReading::declaration_of))]
+pub fn declaration(
+    alloc: Global,
+    left: u8,
+    terminals: &[Terminal],
+) -> Result<(Declaration, &[Terminal]), ReadError>
+    requires { 0 < left }
+    ensures { Gives (λ x. (declaration_view x.0, x.1.now)) result (declaration_of (expr_at left true) (expr_at (left - 1) true) terminals.now) }
+{
+    let (kind, rest) = one_of(terminals, Class::Kind)?;
+    let (items, rest) = comma_list(alloc, left, rest)?;
+    let declaration = Declaration {
+        kind: kind.symbol,
+        at: kind.span,
+        items,
+    };
+    Ok((declaration, rest))
+}
+
+/// A declaration and its `;`.
+#[tactic(auto, using(c_grammar::proofs::StmtViewed::stmt_views))]
+pub fn declared(
+    alloc: Global,
+    left: u8,
+    terminals: &[Terminal],
+) -> Result<(Part, &[Terminal]), ReadError>
+    requires { 0 < left }
+    ensures { Gives (λ x. (part_view x.0, x.1.now)) result (declared_of (expr_at left true) (expr_at (left - 1) true) terminals.now) }
+{
+    let (declaration, rest) = declaration(alloc, left, terminals)?;
+    let ((declaration, end), rest) = followed(declaration, rest, Symbol::Semicolon)?;
+    Ok((Part::Declaration { declaration, end }, rest))
+}
+
+impl InCommaList for InitDeclarator {
+    ghost use Rattle.c_grammar.proofs.Shorter.{item_shorter};
+
+    ghost Tree = { t.InitDeclarator };
+
+    ghost view = { item_view };
+
+    ghost reading = { λ left. item_of (expr_at left true) (expr_at (left - 1) true) };
+
+    ghost shorter = { item_shorter };
+
+    #[tactic(auto, unfolding(c_grammar::specs::StmtReading::item_of))]
+    fn read<'a>(
+        alloc: Global,
+        left: u8,
+        terminals: &'a [Terminal],
+    ) -> Result<(Self, &'a [Terminal]), ReadError<'a>> {
+        let (place, rest) = place(alloc, left, terminals)?;
+        let (initial, rest) = maybe_initial(alloc, left, rest)?;
+        Ok((InitDeclarator { place, initial }, rest))
+    }
+}
+
+/// What a declared name begins with, if anything.
+fn maybe_initial(
+    alloc: Global,
+    left: u8,
+    terminals: &[Terminal],
+) -> Result<(Option<Initializer>, &[Terminal]), ReadError>
+    requires { 0 < left }
+    ensures { Gives (λ x. (option_map initial_view x.0, x.1.now)) result
+        (maybe (is w.Assign) (initial_of (expr_at left true) (expr_at (left - 1) true)) terminals.now) }
+{
+    if heads(terminals, Class::Is(Symbol::Assign)) {
+        let (initial, rest) = initial(alloc, left, terminals)?;
+        Ok((Some(initial), rest))
+    } else {
+        Ok((None, terminals))
+    }
+}
+
+#[tactic(auto, unfolding(c_grammar::specs::StmtReading::initial_of))]
+fn initial(
+    alloc: Global,
+    left: u8,
+    terminals: &[Terminal],
+) -> Result<(Initializer, &[Terminal]), ReadError>
+    requires { 0 < left }
+    ensures { Gives (λ x. (initial_view x.0, x.1.now)) result (initial_of (expr_at left true) (expr_at (left - 1) true) terminals.now) }
+{
+    let (mark, rest) = expected(terminals, Symbol::Assign)?;
+    if heads(rest, Class::Is(Symbol::OpenBrace)) {
+        let (opening, rest) = expected(rest, Symbol::OpenBrace)?;
+        let (values, rest) = comma_list(alloc, left, rest)?;
+        let ((values, closing), rest) = followed(values, rest, Symbol::CloseBrace)?;
+        let braced = Initializer::Braced {
+            mark,
+            opening,
+            values,
+            closing,
+        };
+        Ok((braced, rest))
+    } else {
+        let (right, rest) = right(alloc, left, rest)?;
+        Ok((Initializer::Right { mark, right }, rest))
+    }
+}

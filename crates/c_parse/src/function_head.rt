@@ -1,0 +1,207 @@
+//! The readers of the heads of functions.
+ghost use Rattle.std.specs.Prelude.{◌≡◌, ◌<◌, ◌-◌, true, option_map};
+ghost use Rattle.c_grammar.specs.Tree as t;
+ghost use Rattle.c_grammar.specs.View.{view};
+ghost use Rattle.c_grammar.specs.StmtView.{head_view, parameter_view, parameters_view};
+ghost use Rattle.c_grammar.specs.Symbols.{isnt};
+ghost use Rattle.c_grammar.specs.declared.terminal.Symbol.TheVariants as w;
+ghost use Rattle.c_grammar.specs.Reading.{expr_at, first_of, maybe};
+ghost use Rattle.c_grammar.specs.StmtReading.{array_tail, char_tail, head_of, int_tail, parameter_of, parameters_by};
+ghost use Rattle.c_parse.specs.Gives.{Gives};
+
+use crate::comma_list::{InCommaList, comma_list};
+use crate::expression::expr;
+use crate::read::{ReadError, expected, first_of, followed, heads, one_of, optional};
+use crate::symbols::Class;
+use c_grammar::statement::{Head, Parameter, Parameters};
+use c_grammar::terminal::{Span, Symbol, Terminal};
+use c_grammar::tree::Expr;
+use std::alloc::Global;
+
+/// A function's head with `left` depths left; the lengths of its arrays are one deeper.
+#[tactic(auto, unfolding(c_grammar::specs::StmtReading::head_of))]
+pub fn head(
+    alloc: Global,
+    left: u8,
+    terminals: &[Terminal],
+) -> Result<(Head, &[Terminal]), ReadError>
+    requires { 0 < left }
+    ensures { Gives (λ x. (head_view x.0, x.1.now)) result (head_of (expr_at (left - 1) true) terminals.now) }
+{
+    let (result, rest) = one_of(terminals, Class::Outcome)?;
+    let (name, rest) = expected(rest, Symbol::Name)?;
+    let (opening, rest) = expected(rest, Symbol::OpenParen)?;
+    let (parameters, rest) = parameters(alloc, left, rest)?;
+    let ((parameters, closing), rest) = followed(parameters, rest, Symbol::CloseParen)?;
+    let head = Head {
+        result: result.symbol,
+        at: result.span,
+        name,
+        opening,
+        parameters,
+        closing,
+    };
+    Ok((head, rest))
+}
+
+fn parameters(
+    alloc: Global,
+    left: u8,
+    terminals: &[Terminal],
+) -> Result<(Parameters, &[Terminal]), ReadError>
+    requires { 0 < left }
+    ensures { Gives (λ x. (parameters_view x.0, x.1.now)) result (parameters_by (expr_at (left - 1) true) terminals.now (first_of terminals.now)) }
+{
+    match first_of(terminals) {
+        Some(Symbol::CloseParen) => Ok((Parameters::Nothing, terminals)),
+        Some(Symbol::Void) => {
+            let (at, rest) = expected(terminals, Symbol::Void)?;
+            Ok((Parameters::Void(at), rest))
+        }
+        _ => {
+            let (list, rest) = comma_list(alloc, left, terminals)?;
+            Ok((Parameters::Listed(list), rest))
+        }
+    }
+}
+
+impl InCommaList for Parameter {
+    ghost use Rattle.c_grammar.proofs.Shorter.{parameter_shorter};
+
+    ghost Tree = { t.Parameter };
+
+    ghost view = { parameter_view };
+
+    ghost reading = { λ left. parameter_of (expr_at (left - 1) true) };
+
+    ghost shorter = { parameter_shorter };
+
+    #[tactic(auto, unfolding(c_grammar::specs::StmtReading::parameter_of))]
+    fn read<'a>(
+        alloc: Global,
+        left: u8,
+        terminals: &'a [Terminal],
+    ) -> Result<(Self, &'a [Terminal]), ReadError<'a>> {
+        match first_of(terminals) {
+            Some(Symbol::Int) => {
+                let (keyword, rest) = expected(terminals, Symbol::Int)?;
+                int_parameter(alloc, left, keyword, rest)
+            }
+            Some(Symbol::Communicator) => {
+                let (keyword, rest) = expected(terminals, Symbol::Communicator)?;
+                let (name, rest) = optional(rest, Symbol::Name);
+                Ok((Parameter::Communicator { keyword, name }, rest))
+            }
+            _ => {
+                let (keyword, rest) = expected(terminals, Symbol::Char)?;
+                let (star, rest) = expected(rest, Symbol::Times)?;
+                char_parameter(keyword, star, rest)
+            }
+        }
+    }
+}
+
+/// A parameter after its `int`.
+fn int_parameter(
+    alloc: Global,
+    left: u8,
+    keyword: Span,
+    terminals: &[Terminal],
+) -> Result<(Parameter, &[Terminal]), ReadError>
+    requires { 0 < left }
+    ensures { Gives (λ x. (parameter_view x.0, x.1.now)) result (int_tail (expr_at (left - 1) true) keyword terminals.now) }
+{
+    if heads(terminals, Class::Is(Symbol::Times)) {
+        let (star, rest) = expected(terminals, Symbol::Times)?;
+        let (name, rest) = optional(rest, Symbol::Name);
+        Ok((
+            Parameter::Pointer {
+                keyword,
+                star,
+                name,
+            },
+            rest,
+        ))
+    } else {
+        let (name, rest) = optional(terminals, Symbol::Name);
+        array_parameter(alloc, left, keyword, name, rest)
+    }
+}
+
+/// A parameter after `int` and its name: an array, or an int.
+fn array_parameter(
+    alloc: Global,
+    left: u8,
+    keyword: Span,
+    name: Option<Span>,
+    terminals: &[Terminal],
+) -> Result<(Parameter, &[Terminal]), ReadError>
+    requires { 0 < left }
+    ensures { Gives (λ x. (parameter_view x.0, x.1.now)) result (array_tail (expr_at (left - 1) true) keyword name terminals.now) }
+{
+    if heads(terminals, Class::Is(Symbol::OpenBracket)) {
+        let (opening, rest) = expected(terminals, Symbol::OpenBracket)?;
+        let (length, rest) = length(alloc, left, rest)?;
+        let ((length, closing), rest) = followed(length, rest, Symbol::CloseBracket)?;
+        let array = Parameter::Array {
+            keyword,
+            name,
+            opening,
+            length,
+            closing,
+        };
+        Ok((array, rest))
+    } else {
+        Ok((Parameter::Int { keyword, name }, terminals))
+    }
+}
+
+/// The length of an array in a head, if any.
+fn length(
+    alloc: Global,
+    left: u8,
+    terminals: &[Terminal],
+) -> Result<(Option<Expr>, &[Terminal]), ReadError>
+    requires { 0 < left }
+    ensures { Gives (λ x. (option_map view x.0, x.1.now)) result (maybe (isnt w.CloseBracket) (expr_at (left - 1) true) terminals.now) }
+{
+    if heads(terminals, Class::Isnt(Symbol::CloseBracket)) {
+        let (length, rest) = expr(alloc, left - 1, true, terminals)?;
+        Ok((Some(length), rest))
+    } else {
+        Ok((None, terminals))
+    }
+}
+
+/// A parameter after `char *`.
+fn char_parameter(
+    keyword: Span,
+    star: Span,
+    terminals: &[Terminal],
+) -> Result<(Parameter, &[Terminal]), ReadError>
+    ensures { Gives (λ x. (parameter_view x.0, x.1.now)) result (char_tail keyword star terminals.now) }
+{
+    if heads(terminals, Class::Is(Symbol::Times)) {
+        let (second, rest) = expected(terminals, Symbol::Times)?;
+        let (name, rest) = optional(rest, Symbol::Name);
+        let texts = Parameter::TextPointers {
+            keyword,
+            star,
+            second,
+            name,
+        };
+        Ok((texts, rest))
+    } else {
+        let (name, rest) = optional(terminals, Symbol::Name);
+        let (opening, rest) = expected(rest, Symbol::OpenBracket)?;
+        let (closing, rest) = expected(rest, Symbol::CloseBracket)?;
+        let array = Parameter::TextArray {
+            keyword,
+            star,
+            name,
+            opening,
+            closing,
+        };
+        Ok((array, rest))
+    }
+}

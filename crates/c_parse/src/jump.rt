@@ -1,0 +1,73 @@
+//! The readers of jump statements: `break`, `continue` and `return`.
+ghost use Rattle.std.specs.Prelude.{◌≡◌, ◌<◌, ◌-◌, true, option_map};
+ghost use Rattle.c_grammar.specs.StmtView.{right_view, stmt_view};
+ghost use Rattle.c_grammar.specs.Symbols.{isnt};
+ghost use Rattle.c_grammar.specs.declared.terminal.Symbol.TheVariants as w;
+ghost use Rattle.c_grammar.specs.Reading.{expr_at, maybe};
+ghost use Rattle.c_grammar.specs.StmtReading.{break_of, continue_of, return_of, right_of};
+ghost use Rattle.c_parse.specs.Gives.{Gives};
+
+use crate::call::right;
+use crate::read::{ReadError, expected, followed, heads};
+use crate::symbols::Class;
+use c_grammar::statement::{Right, Stmt};
+use c_grammar::terminal::{Symbol, Terminal};
+use std::alloc::Global;
+
+#[tactic(auto, using(c_grammar::proofs::StmtViewed::stmt_views))]
+pub fn break_statement(terminals: &[Terminal]) -> Result<(Stmt, &[Terminal]), ReadError>
+    ensures { Gives (λ x. (stmt_view x.0, x.1.now)) result (break_of terminals.now) }
+{
+    let (keyword, rest) = expected(terminals, Symbol::Break)?;
+    let (end, rest) = expected(rest, Symbol::Semicolon)?;
+    Ok((Stmt::Break { keyword, end }, rest))
+}
+
+#[tactic(auto, using(c_grammar::proofs::StmtViewed::stmt_views))]
+pub fn continue_statement(terminals: &[Terminal]) -> Result<(Stmt, &[Terminal]), ReadError>
+    ensures { Gives (λ x. (stmt_view x.0, x.1.now)) result (continue_of terminals.now) }
+{
+    let (keyword, rest) = expected(terminals, Symbol::Continue)?;
+    let (end, rest) = expected(rest, Symbol::Semicolon)?;
+    Ok((Stmt::Continue { keyword, end }, rest))
+}
+
+#[tactic(auto, using(c_grammar::proofs::StmtViewed::stmt_views))]
+pub fn return_statement(
+    alloc: Global,
+    left: u8,
+    terminals: &[Terminal],
+) -> Result<(Stmt, &[Terminal]), ReadError>
+    requires { 0 < left }
+    ensures { Gives (λ x. (stmt_view x.0, x.1.now)) result (return_of (expr_at left true) (expr_at (left - 1) true) terminals.now) }
+{
+    let (keyword, rest) = expected(terminals, Symbol::Return)?;
+    let (value, rest) = value(alloc, left, rest)?;
+    let ((value, end), rest) = followed(value, rest, Symbol::Semicolon)?;
+    Ok((
+        Stmt::Return {
+            keyword,
+            value,
+            end,
+        },
+        rest,
+    ))
+}
+
+/// What a function returns, if anything.
+fn value(
+    alloc: Global,
+    left: u8,
+    terminals: &[Terminal],
+) -> Result<(Option<Right>, &[Terminal]), ReadError>
+    requires { 0 < left }
+    ensures { Gives (λ x. (option_map right_view x.0, x.1.now)) result
+        (maybe (isnt w.Semicolon) (right_of (expr_at left true) (expr_at (left - 1) true)) terminals.now) }
+{
+    if heads(terminals, Class::Isnt(Symbol::Semicolon)) {
+        let (right, rest) = right(alloc, left, terminals)?;
+        Ok((Some(right), rest))
+    } else {
+        Ok((None, terminals))
+    }
+}

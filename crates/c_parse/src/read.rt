@@ -1,0 +1,134 @@
+//! What all readers share.
+ghost use Rattle.std.specs.Prelude.{◌≡◌, IfErr, IfOk, Ok};
+ghost use Rattle.c_grammar.specs.Reading.{expect, first_of, heads, maybe, one_of};
+ghost use Rattle.c_parse.specs.Classes.{is_in};
+ghost use Rattle.c_parse.specs.Gives.{Gives, HasPlace, IsHead};
+ghost use Rattle.c_grammar.specs.Symbols.{is};
+
+use crate::symbols::{Class, is_in};
+use c_grammar::terminal::{Span, Symbol, Terminal};
+use c_lex::Why;
+use std::alloc::{AllocError, AllocFailed};
+
+/// Why reading stopped, and the terminals from there on.
+#[derive(Drop)]
+pub enum ReadError<'a> {
+    Memory,
+    At(Why, &'a [Terminal]),
+}
+
+impl<'a> From<AllocError> for ReadError<'a> {
+    ghost use Rattle.c_parse.specs.declared.read.ReadError.TheVariants.{Memory};
+
+    ghost from_gives = { λ _ error. error ≡ Memory };
+
+    fn from(_error: AllocError) -> Self {
+        ReadError::Memory
+    }
+}
+
+impl<'a, T: Drop> From<AllocFailed<T>> for ReadError<'a> {
+    ghost use Rattle.c_parse.specs.declared.read.ReadError.TheVariants.{Memory};
+
+    ghost from_gives = { λ _ error. error ≡ Memory };
+
+    fn from(_error: AllocFailed<T>) -> Self {
+        ReadError::Memory
+    }
+}
+
+/// The first terminal and those after it.
+fn head(terminals: &[Terminal]) -> Option<(Terminal, &[Terminal])>
+    ensures { IsHead terminals.now result }
+{
+    match terminals {
+        [first, rest @ ..] => Some((*first, rest)),
+        [] => None,
+    }
+}
+
+/// The first symbol, where there is one.
+pub fn first_of(terminals: &[Terminal]) -> Option<Symbol>
+    ensures { result ≡ first_of terminals.now }
+{
+    match head(terminals) {
+        Some((first, _)) => Some(first.symbol),
+        None => None,
+    }
+}
+
+/// Whether the first symbol is of a class.
+pub fn heads(terminals: &[Terminal], class: Class) -> bool
+    ensures { result ≡ heads (is_in class) terminals.now }
+{
+    match head(terminals) {
+        Some((first, _)) => is_in(class, first.symbol),
+        None => false,
+    }
+}
+
+/// The first terminal, which has to be of a class. Takes no memory.
+#[tactic(auto, unfolding(c_grammar::specs::Reading::one_of))]
+pub fn one_of(terminals: &[Terminal], class: Class) -> Result<(Terminal, &[Terminal]), ReadError>
+    ensures read { Gives (λ x. (x.0, x.1.now)) result (one_of (is_in class) terminals.now) }
+    ensures place { IfErr result HasPlace }
+{
+    match head(terminals) {
+        Some((first, rest)) => {
+            if is_in(class, first.symbol) {
+                Ok((first, rest))
+            } else {
+                Err(ReadError::At(Why::Unexpected, terminals))
+            }
+        }
+        None => Err(ReadError::At(Why::Unexpected, terminals)),
+    }
+}
+
+/// The place of the first terminal, which has to be this symbol. Takes no memory.
+#[tactic(auto, unfolding(c_grammar::specs::Reading::expect))]
+pub fn expected(terminals: &[Terminal], symbol: Symbol) -> Result<(Span, &[Terminal]), ReadError>
+    ensures read { Gives (λ x. (x.0, x.1.now)) result (expect symbol terminals.now) }
+    ensures place { IfErr result HasPlace }
+{
+    match head(terminals) {
+        Some((first, rest)) => {
+            if is_in(Class::Is(symbol), first.symbol) {
+                Ok((first.span, rest))
+            } else {
+                Err(ReadError::At(Why::Unexpected, terminals))
+            }
+        }
+        None => Err(ReadError::At(Why::Unexpected, terminals)),
+    }
+}
+
+/// A thing, and the place of the first terminal after it, which has to be this symbol. Takes no memory.
+pub fn followed<T: Drop>(
+    thing: T,
+    terminals: &[Terminal],
+    symbol: Symbol,
+) -> Result<((T, Span), &[Terminal]), ReadError>
+    ensures thing { IfOk result (λ x. x.0.0 ≡ thing) }
+    ensures read { Gives (λ x. (x.0.1, x.1.now)) result (expect symbol terminals.now) }
+{
+    let (end, rest) = expected(terminals, symbol)?;
+    Ok(((thing, end), rest))
+}
+
+/// The place of the first terminal, where it is this symbol, and the terminals after it.
+#[tactic(auto, unfolding(c_grammar::specs::Reading::expect))]
+pub fn optional(terminals: &[Terminal], symbol: Symbol) -> (Option<Span>, &[Terminal])
+    ensures { maybe (is symbol) (expect symbol) terminals.now ≡ Ok (result.0, result.1.now) }
+{
+    match head(terminals) {
+        Some((first, rest)) => {
+            if is_in(Class::Is(symbol), first.symbol) {
+                (Some(first.span), rest)
+            } else {
+                (None, terminals)
+            }
+        }
+        None => (None, terminals),
+    }
+}

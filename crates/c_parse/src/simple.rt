@@ -1,0 +1,115 @@
+//! The readers of simple statements: assignments, `++`, `--` and calls.
+ghost use Rattle.std.specs.Prelude.{◌≡◌, ◌<◌, ◌-◌, true};
+ghost use Rattle.c_grammar.specs.View.{place_view};
+ghost use Rattle.c_grammar.specs.StmtView.{simple_view, stmt_view};
+ghost use Rattle.c_grammar.specs.Reading.{expr_at};
+ghost use Rattle.c_grammar.specs.StmtReading.{change_of, empty_of, plain_of, simple_of, simple_tail};
+ghost use Rattle.c_parse.specs.Gives.{Gives};
+
+use crate::call::{call, calls, right};
+use crate::expression::place;
+use crate::read::{ReadError, expected, followed, heads, one_of};
+use crate::symbols::Class;
+use c_grammar::statement::{Simple, Stmt};
+use c_grammar::terminal::{Symbol, Terminal};
+use c_grammar::tree::Place;
+use std::alloc::Global;
+
+/// A statement that needs a `;`, without it.
+#[tactic(auto, unfolding(c_grammar::specs::StmtReading::simple_of))]
+pub fn simple(
+    alloc: Global,
+    left: u8,
+    terminals: &[Terminal],
+) -> Result<(Simple, &[Terminal]), ReadError>
+    requires { 0 < left }
+    ensures { Gives (λ x. (simple_view x.0, x.1.now)) result (simple_of (expr_at left true) (expr_at (left - 1) true) terminals.now) }
+{
+    if calls(terminals) {
+        let (call, rest) = call(alloc, left, terminals)?;
+        Ok((Simple::Call(call), rest))
+    } else {
+        change(alloc, left, terminals)
+    }
+}
+
+/// An assignment, or `++` or `--` before or after a place.
+#[tactic(auto, unfolding(c_grammar::specs::StmtReading::change_of))]
+fn change(
+    alloc: Global,
+    left: u8,
+    terminals: &[Terminal],
+) -> Result<(Simple, &[Terminal]), ReadError>
+    requires { 0 < left }
+    ensures { Gives (λ x. (simple_view x.0, x.1.now)) result (change_of (expr_at left true) (expr_at (left - 1) true) terminals.now) }
+{
+    if heads(terminals, Class::Step) {
+        let (operator, rest) = one_of(terminals, Class::Step)?;
+        let (place, rest) = place(alloc, left, rest)?;
+        let before = Simple::Before {
+            operator: operator.symbol,
+            at: operator.span,
+            place,
+        };
+        Ok((before, rest))
+    } else {
+        let (place, rest) = place(alloc, left, terminals)?;
+        changed(alloc, left, place, rest)
+    }
+}
+
+/// What is done to a place.
+fn changed(
+    alloc: Global,
+    left: u8,
+    place: Place,
+    terminals: &[Terminal],
+) -> Result<(Simple, &[Terminal]), ReadError>
+    requires { 0 < left }
+    ensures { Gives (λ x. (simple_view x.0, x.1.now)) result
+        (simple_tail (expr_at left true) (expr_at (left - 1) true) (place_view place) terminals.now) }
+{
+    if heads(terminals, Class::Step) {
+        let (operator, rest) = one_of(terminals, Class::Step)?;
+        let after = Simple::After {
+            place,
+            operator: operator.symbol,
+            at: operator.span,
+        };
+        Ok((after, rest))
+    } else {
+        let (operator, rest) = one_of(terminals, Class::Assign)?;
+        let (right, rest) = right(alloc, left, rest)?;
+        let assign = Simple::Assign {
+            place,
+            operator: operator.symbol,
+            at: operator.span,
+            right,
+        };
+        Ok((assign, rest))
+    }
+}
+
+/// A simple statement and its `;`.
+#[tactic(auto, using(c_grammar::proofs::StmtViewed::stmt_views))]
+pub fn plain(
+    alloc: Global,
+    left: u8,
+    terminals: &[Terminal],
+) -> Result<(Stmt, &[Terminal]), ReadError>
+    requires { 0 < left }
+    ensures { Gives (λ x. (stmt_view x.0, x.1.now)) result (plain_of (expr_at left true) (expr_at (left - 1) true) terminals.now) }
+{
+    let (simple, rest) = simple(alloc, left, terminals)?;
+    let ((simple, end), rest) = followed(simple, rest, Symbol::Semicolon)?;
+    Ok((Stmt::Simple { simple, end }, rest))
+}
+
+/// A statement that is a `;` alone.
+#[tactic(auto, using(c_grammar::proofs::StmtViewed::stmt_views))]
+pub fn empty(terminals: &[Terminal]) -> Result<(Stmt, &[Terminal]), ReadError>
+    ensures { Gives (λ x. (stmt_view x.0, x.1.now)) result (empty_of terminals.now) }
+{
+    let (at, rest) = expected(terminals, Symbol::Semicolon)?;
+    Ok((Stmt::Empty(at), rest))
+}

@@ -1,0 +1,295 @@
+//! The readers of statements.
+ghost use Rattle.std.specs.Prelude.{◌≡◌, ◌<◌, ◌-◌, true, map};
+ghost use Rattle.c_grammar.specs.Tree as t;
+ghost use Rattle.c_grammar.specs.View.{view};
+ghost use Rattle.c_grammar.specs.StmtView.{part_view, stmt_view};
+ghost use Rattle.c_grammar.specs.Symbols.{isnt, starts_part, starts_stmt};
+ghost use Rattle.c_grammar.specs.declared.terminal.Symbol.TheVariants as w;
+ghost use Rattle.c_grammar.specs.Reading.{expr_at, many, too_deep};
+ghost use Rattle.c_grammar.specs.StmtReading.{block_of, do_of, else_of, for_of, if_of, part_at, part_of, stmt_at, stmt_of, while_of};
+ghost use Rattle.c_parse.specs.Gives.{Fails, Gives};
+
+use crate::declaration::declared;
+use crate::jump::{break_statement, continue_statement, return_statement};
+use crate::read::{ReadError, expected, first_of, followed, heads};
+use crate::simple::{empty, plain};
+use crate::statement_head::{TestHead, both, for_head, test_head, until};
+use crate::symbols::{Class, starts_part, starts_stmt};
+use c_grammar::statement::{Part, Stmt};
+use c_grammar::terminal::{Symbol, Terminal};
+use c_lex::Why;
+use std::alloc::Global;
+
+/// An `if` without its else.
+#[derive(Drop)]
+struct Branch {
+    head: TestHead,
+    then: Box<Stmt>,
+}
+
+/// A statement with `left` depths left.
+#[cycle(statement)]
+#[tactic(auto, unfolding(c_grammar::specs::StmtReading::stmt_at), using(crate::proofs::StmtLeft::stmt_more))]
+fn stmt(alloc: Global, left: u8, terminals: &[Terminal]) -> Result<(Stmt, &[Terminal]), ReadError>
+    ensures { Gives (λ x. (stmt_view x.0, x.1.now)) result (stmt_at left terminals.now) }
+{
+    if left == 0 {
+        return Err(deep_stmt(terminals));
+    }
+    body(alloc, left, terminals)
+}
+
+/// A statement one depth deeper.
+#[cycle(statement)]
+fn inner(
+    alloc: Global,
+    left: u8,
+    terminals: &[Terminal],
+) -> Result<(Box<Stmt>, &[Terminal]), ReadError>
+    requires { 0 < left }
+    ensures { Gives (λ x. (stmt_view x.0.value, x.1.now)) result (stmt_at (left - 1) terminals.now) }
+{
+    let (tree, rest) = stmt(alloc, left - 1, terminals)?;
+    let tree = Box::new(alloc, tree)?;
+    Ok((tree, rest))
+}
+
+#[cycle(statement)]
+#[tactic(auto, unfolding(c_grammar::specs::StmtReading::stmt_of))]
+fn body(alloc: Global, left: u8, terminals: &[Terminal]) -> Result<(Stmt, &[Terminal]), ReadError>
+    requires { 0 < left }
+    ensures { Gives (λ x. (stmt_view x.0, x.1.now)) result
+        (stmt_of (expr_at left true) (expr_at (left - 1) true) (stmt_at (left - 1)) (part_at (left - 1)) terminals.now) }
+{
+    match first_of(terminals) {
+        Some(Symbol::OpenBrace) => block(alloc, left, terminals),
+        Some(Symbol::Semicolon) => empty(terminals),
+        Some(Symbol::Break) => break_statement(terminals),
+        Some(Symbol::Continue) => continue_statement(terminals),
+        Some(Symbol::Return) => return_statement(alloc, left, terminals),
+        Some(Symbol::If) => if_statement(alloc, left, terminals),
+        Some(Symbol::While) => while_statement(alloc, left, terminals),
+        Some(Symbol::Do) => do_statement(alloc, left, terminals),
+        Some(Symbol::For) => for_statement(alloc, left, terminals),
+        _ => plain(alloc, left, terminals),
+    }
+}
+
+#[cycle(statement)]
+#[tactic(auto, using(c_grammar::proofs::StmtViewed::stmt_views))]
+fn block(alloc: Global, left: u8, terminals: &[Terminal]) -> Result<(Stmt, &[Terminal]), ReadError>
+    requires { 0 < left }
+    ensures { Gives (λ x. (stmt_view x.0, x.1.now)) result (block_of (part_at (left - 1)) terminals.now) }
+{
+    let (opening, rest) = expected(terminals, Symbol::OpenBrace)?;
+    let (parts, rest) = parts(alloc, left - 1, rest)?;
+    let ((parts, closing), rest) = followed(parts, rest, Symbol::CloseBrace)?;
+    let block = Stmt::Block {
+        opening,
+        parts,
+        closing,
+    };
+    Ok((block, rest))
+}
+
+/// What a block holds, up to its `}`, with `left` depths left.
+#[cycle(statement)]
+pub fn parts(
+    alloc: Global,
+    left: u8,
+    terminals: &[Terminal],
+) -> Result<(Vec<Part>, &[Terminal]), ReadError>
+    ensures { Gives (λ x. (map part_view x.0.items, x.1.now)) result (many (isnt w.CloseBrace) (part_at left) terminals.now) }
+{
+    let mut found = Vec::new(alloc);
+    let mut rest = terminals;
+    while heads(rest, Class::Isnt(Symbol::CloseBrace)) {
+        let (one, behind) = match part(alloc, left, rest) {
+            Ok(read) => read,
+            Err(error) => return Err(error),
+        };
+        found.push(one)?;
+        rest = behind;
+    }
+    Ok((found, rest))
+}
+
+#[cycle(statement)]
+#[tactic(auto, unfolding(c_grammar::specs::StmtReading::part_with, c_grammar::specs::StmtReading::part_of), using(crate::proofs::StmtLeft::part_more, c_grammar::proofs::StmtViewed::stmt_views))]
+fn part(alloc: Global, left: u8, terminals: &[Terminal]) -> Result<(Part, &[Terminal]), ReadError>
+    ensures { Gives (λ x. (part_view x.0, x.1.now)) result (part_at left terminals.now) }
+{
+    if left == 0 {
+        return Err(deep_part(terminals));
+    }
+    if heads(terminals, Class::Kind) {
+        declared(alloc, left, terminals)
+    } else {
+        let (inner, rest) = stmt(alloc, left, terminals)?;
+        Ok((Part::Stmt(inner), rest))
+    }
+}
+
+#[cycle(statement)]
+#[tactic(auto, using(crate::proofs::ByHead::if_by_head))]
+fn if_statement(
+    alloc: Global,
+    left: u8,
+    terminals: &[Terminal],
+) -> Result<(Stmt, &[Terminal]), ReadError>
+    requires { 0 < left }
+    ensures { Gives (λ x. (stmt_view x.0, x.1.now)) result (if_of (expr_at left true) (stmt_at (left - 1)) terminals.now) }
+{
+    let (head, rest) = test_head(alloc, left, Symbol::If, terminals)?;
+    let ((head, then), rest) = both(head, inner(alloc, left, rest))?;
+    otherwise(alloc, left, Branch { head, then }, rest)
+}
+
+/// What is after the statement of an `if`.
+#[cycle(statement)]
+#[tactic(auto, using(c_grammar::proofs::StmtViewed::stmt_views))]
+fn otherwise(
+    alloc: Global,
+    left: u8,
+    branch: Branch,
+    terminals: &[Terminal],
+) -> Result<(Stmt, &[Terminal]), ReadError>
+    requires { 0 < left }
+    ensures { Gives (λ x. (stmt_view x.0, x.1.now)) result
+        (else_of (stmt_at (left - 1)) branch.head.keyword branch.head.opening (view branch.head.test) branch.head.closing
+        (stmt_view branch.then.value) terminals.now) }
+{
+    if heads(terminals, Class::Is(Symbol::Else)) {
+        let ((branch, else_keyword), rest) = followed(branch, terminals, Symbol::Else)?;
+        let ((branch, other), rest) = both(branch, inner(alloc, left, rest))?;
+        let Branch { head, then } = branch;
+        let full = Stmt::IfElse {
+            keyword: head.keyword,
+            opening: head.opening,
+            test: head.test,
+            closing: head.closing,
+            then,
+            else_keyword,
+            other,
+        };
+        Ok((full, rest))
+    } else {
+        let Branch { head, then } = branch;
+        let alone = Stmt::If {
+            keyword: head.keyword,
+            opening: head.opening,
+            test: head.test,
+            closing: head.closing,
+            then,
+        };
+        Ok((alone, terminals))
+    }
+}
+
+#[cycle(statement)]
+#[tactic(auto, using(crate::proofs::ByHead::while_by_head, c_grammar::proofs::StmtViewed::stmt_views))]
+fn while_statement(
+    alloc: Global,
+    left: u8,
+    terminals: &[Terminal],
+) -> Result<(Stmt, &[Terminal]), ReadError>
+    requires { 0 < left }
+    ensures { Gives (λ x. (stmt_view x.0, x.1.now)) result (while_of (expr_at left true) (stmt_at (left - 1)) terminals.now) }
+{
+    let (head, rest) = test_head(alloc, left, Symbol::While, terminals)?;
+    let ((head, body), rest) = both(head, inner(alloc, left, rest))?;
+    let repeat = Stmt::While {
+        keyword: head.keyword,
+        opening: head.opening,
+        test: head.test,
+        closing: head.closing,
+        body,
+    };
+    Ok((repeat, rest))
+}
+
+#[cycle(statement)]
+#[tactic(auto, using(crate::proofs::ByHead::do_by_head, c_grammar::proofs::StmtViewed::stmt_views))]
+fn do_statement(
+    alloc: Global,
+    left: u8,
+    terminals: &[Terminal],
+) -> Result<(Stmt, &[Terminal]), ReadError>
+    requires { 0 < left }
+    ensures { Gives (λ x. (stmt_view x.0, x.1.now)) result (do_of (expr_at left true) (stmt_at (left - 1)) terminals.now) }
+{
+    let (keyword, rest) = expected(terminals, Symbol::Do)?;
+    let (body, rest) = inner(alloc, left, rest)?;
+    let ((body, (head, end)), rest) = both(body, until(alloc, left, rest))?;
+    let repeat = Stmt::Do {
+        keyword,
+        body,
+        while_keyword: head.keyword,
+        opening: head.opening,
+        test: head.test,
+        closing: head.closing,
+        end,
+    };
+    Ok((repeat, rest))
+}
+
+#[cycle(statement)]
+#[tactic(auto, using(crate::proofs::ByHead::for_by_head, c_grammar::proofs::StmtViewed::stmt_views))]
+fn for_statement(
+    alloc: Global,
+    left: u8,
+    terminals: &[Terminal],
+) -> Result<(Stmt, &[Terminal]), ReadError>
+    requires { 0 < left }
+    ensures { Gives (λ x. (stmt_view x.0, x.1.now)) result
+        (for_of (expr_at left true) (expr_at (left - 1) true) (stmt_at (left - 1)) terminals.now) }
+{
+    let (head, rest) = for_head(alloc, left, terminals)?;
+    let ((head, body), rest) = both(head, inner(alloc, left, rest))?;
+    let repeat = Stmt::For {
+        keyword: head.keyword,
+        opening: head.opening,
+        start: head.start.0,
+        start_end: head.start.1,
+        test: head.test.0,
+        test_end: head.test.1,
+        step: head.step.0,
+        closing: head.step.1,
+        body,
+    };
+    Ok((repeat, rest))
+}
+
+/// A statement that is too deep.
+#[tactic(auto, unfolding(c_grammar::specs::Reading::too_deep))]
+fn deep_stmt(terminals: &[Terminal]) -> ReadError
+    ensures { Fails result (too_deep {A = t.Stmt} starts_stmt terminals.now) }
+{
+    match first_of(terminals) {
+        Some(symbol) => {
+            if starts_stmt(symbol) {
+                ReadError::At(Why::TooDeep, terminals)
+            } else {
+                ReadError::At(Why::Unexpected, terminals)
+            }
+        }
+        None => ReadError::At(Why::Unexpected, terminals),
+    }
+}
+
+/// What is too deep in a block.
+#[tactic(auto, unfolding(c_grammar::specs::Reading::too_deep))]
+fn deep_part(terminals: &[Terminal]) -> ReadError
+    ensures { Fails result (too_deep {A = t.Part} starts_part terminals.now) }
+{
+    match first_of(terminals) {
+        Some(symbol) => {
+            if starts_part(symbol) {
+                ReadError::At(Why::TooDeep, terminals)
+            } else {
+                ReadError::At(Why::Unexpected, terminals)
+            }
+        }
+        None => ReadError::At(Why::Unexpected, terminals),
+    }
+}

@@ -1,0 +1,215 @@
+//! The readers of what is before or after the inner statement of a statement.
+ghost use Rattle.std.specs.Prelude.{◌≡◌, ◌<◌, ◌-◌, true, Err, IfErr, IfOk, Ok, option_map};
+ghost use Rattle.c_grammar.specs.View.{view};
+ghost use Rattle.c_grammar.specs.StmtView.{simple_view, start_view};
+ghost use Rattle.c_grammar.specs.Symbols.{isnt};
+ghost use Rattle.c_grammar.specs.declared.terminal.Symbol.TheVariants as w;
+ghost use Rattle.c_grammar.specs.Reading.{expr_at, maybe};
+ghost use Rattle.c_grammar.specs.StmtReading.{simple_of, start_of};
+ghost use Rattle.c_parse.specs.Gives.{Gives};
+ghost use Rattle.c_parse.specs.StatementHeads.{ended_of, for_head_of, for_head_view, test_head_of, test_head_view};
+
+use crate::declaration::declaration;
+use crate::expression::expr;
+use crate::read::{ReadError, expected, followed, heads};
+use crate::simple::simple;
+use crate::symbols::Class;
+use c_grammar::statement::{ForStart, Simple};
+use c_grammar::terminal::{Span, Symbol, Terminal};
+use c_grammar::tree::Expr;
+use std::alloc::Global;
+
+/// A keyword and the test in parentheses after it.
+#[derive(Drop)]
+pub struct TestHead {
+    pub keyword: Span,
+    pub opening: Span,
+    pub test: Expr,
+    pub closing: Span,
+}
+
+/// What is before the statement of a `for`: each piece with the place of the terminal after it.
+#[derive(Drop)]
+pub struct ForHead {
+    pub keyword: Span,
+    pub opening: Span,
+    pub start: (ForStart, Span),
+    pub test: (Option<Expr>, Span),
+    pub step: (Option<Simple>, Span),
+}
+
+/// A thing, and what was read after it.
+pub fn both<'a, A: Drop, B: Drop>(
+    first: A,
+    read: Result<(B, &'a [Terminal]), ReadError<'a>>,
+) -> Result<((A, B), &'a [Terminal]), ReadError<'a>>
+    ensures first { IfOk result (λ all. all.0.0 ≡ first) }
+    ensures second { IfOk result (λ all. read.entry ≡ Ok (all.0.1, all.1)) }
+    ensures error { IfErr result (λ error. read.entry ≡ Err error) }
+{
+    let (second, rest) = read?;
+    Ok(((first, second), rest))
+}
+
+/// A keyword and the test in parentheses after it.
+#[tactic(auto, unfolding(crate::specs::StatementHeads::test_head_of))]
+pub fn test_head(
+    alloc: Global,
+    left: u8,
+    symbol: Symbol,
+    terminals: &[Terminal],
+) -> Result<(TestHead, &[Terminal]), ReadError>
+    ensures { Gives (λ x. (test_head_view x.0, x.1.now)) result (test_head_of (expr_at left true) symbol terminals.now) }
+{
+    let (keyword, rest) = expected(terminals, symbol)?;
+    let (opening, rest) = expected(rest, Symbol::OpenParen)?;
+    let (test, rest) = expr(alloc, left, true, rest)?;
+    let ((test, closing), rest) = followed(test, rest, Symbol::CloseParen)?;
+    let head = TestHead {
+        keyword,
+        opening,
+        test,
+        closing,
+    };
+    Ok((head, rest))
+}
+
+/// What is after the statement of a `do`.
+#[tactic(auto, unfolding(crate::specs::StatementHeads::ended_of))]
+pub fn until(
+    alloc: Global,
+    left: u8,
+    terminals: &[Terminal],
+) -> Result<((TestHead, Span), &[Terminal]), ReadError>
+    ensures { Gives (λ x. ((test_head_view x.0.0, x.0.1), x.1.now)) result
+        (ended_of (test_head_of (expr_at left true) w.While) w.Semicolon terminals.now) }
+{
+    let (head, rest) = test_head(alloc, left, Symbol::While, terminals)?;
+    followed(head, rest, Symbol::Semicolon)
+}
+
+/// What is before the statement of a `for`.
+#[tactic(auto, unfolding(crate::specs::StatementHeads::for_head_of))]
+pub fn for_head(
+    alloc: Global,
+    left: u8,
+    terminals: &[Terminal],
+) -> Result<(ForHead, &[Terminal]), ReadError>
+    requires { 0 < left }
+    ensures { Gives (λ x. (for_head_view x.0, x.1.now)) result (for_head_of (expr_at left true) (expr_at (left - 1) true) terminals.now) }
+{
+    let (keyword, rest) = expected(terminals, Symbol::For)?;
+    let (opening, rest) = expected(rest, Symbol::OpenParen)?;
+    let (start, rest) = start(alloc, left, rest)?;
+    let ((start, test), rest) = both(start, test(alloc, left, rest))?;
+    let (((start, test), step), rest) = both((start, test), step(alloc, left, rest))?;
+    let head = ForHead {
+        keyword,
+        opening,
+        start,
+        test,
+        step,
+    };
+    Ok((head, rest))
+}
+
+/// How a `for` begins, and its `;`.
+#[tactic(auto, unfolding(crate::specs::StatementHeads::ended_of))]
+fn start(
+    alloc: Global,
+    left: u8,
+    terminals: &[Terminal],
+) -> Result<((ForStart, Span), &[Terminal]), ReadError>
+    requires { 0 < left }
+    ensures { Gives (λ x. ((start_view x.0.0, x.0.1), x.1.now)) result
+        (ended_of (start_of (expr_at left true) (expr_at (left - 1) true)) w.Semicolon terminals.now) }
+{
+    let (start, rest) = for_start(alloc, left, terminals)?;
+    followed(start, rest, Symbol::Semicolon)
+}
+
+/// The test of a `for`, if any, and its `;`.
+#[tactic(auto, unfolding(crate::specs::StatementHeads::ended_of))]
+fn test(
+    alloc: Global,
+    left: u8,
+    terminals: &[Terminal],
+) -> Result<((Option<Expr>, Span), &[Terminal]), ReadError>
+    requires { 0 < left }
+    ensures { Gives (λ x. ((option_map view x.0.0, x.0.1), x.1.now)) result
+        (ended_of (maybe (isnt w.Semicolon) (expr_at left true)) w.Semicolon terminals.now) }
+{
+    let (test, rest) = for_test(alloc, left, terminals)?;
+    followed(test, rest, Symbol::Semicolon)
+}
+
+/// The step of a `for`, if any, and the `)` after it.
+#[tactic(auto, unfolding(crate::specs::StatementHeads::ended_of))]
+fn step(
+    alloc: Global,
+    left: u8,
+    terminals: &[Terminal],
+) -> Result<((Option<Simple>, Span), &[Terminal]), ReadError>
+    requires { 0 < left }
+    ensures { Gives (λ x. ((option_map simple_view x.0.0, x.0.1), x.1.now)) result
+        (ended_of (maybe (isnt w.CloseParen) (simple_of (expr_at left true) (expr_at (left - 1) true))) w.CloseParen terminals.now) }
+{
+    let (step, rest) = for_step(alloc, left, terminals)?;
+    followed(step, rest, Symbol::CloseParen)
+}
+
+/// How a `for` begins.
+#[tactic(auto, unfolding(c_grammar::specs::StmtReading::start_of))]
+fn for_start(
+    alloc: Global,
+    left: u8,
+    terminals: &[Terminal],
+) -> Result<(ForStart, &[Terminal]), ReadError>
+    requires { 0 < left }
+    ensures { Gives (λ x. (start_view x.0, x.1.now)) result (start_of (expr_at left true) (expr_at (left - 1) true) terminals.now) }
+{
+    if heads(terminals, Class::Is(Symbol::Semicolon)) {
+        Ok((ForStart::Nothing, terminals))
+    } else if heads(terminals, Class::Kind) {
+        let (declaration, rest) = declaration(alloc, left, terminals)?;
+        Ok((ForStart::Declaration(declaration), rest))
+    } else {
+        let (simple, rest) = simple(alloc, left, terminals)?;
+        Ok((ForStart::Simple(simple), rest))
+    }
+}
+
+/// The test of a `for`, if any.
+fn for_test(
+    alloc: Global,
+    left: u8,
+    terminals: &[Terminal],
+) -> Result<(Option<Expr>, &[Terminal]), ReadError>
+    requires { 0 < left }
+    ensures { Gives (λ x. (option_map view x.0, x.1.now)) result (maybe (isnt w.Semicolon) (expr_at left true) terminals.now) }
+{
+    if heads(terminals, Class::Isnt(Symbol::Semicolon)) {
+        let (test, rest) = expr(alloc, left, true, terminals)?;
+        Ok((Some(test), rest))
+    } else {
+        Ok((None, terminals))
+    }
+}
+
+/// The step of a `for`, if any.
+fn for_step(
+    alloc: Global,
+    left: u8,
+    terminals: &[Terminal],
+) -> Result<(Option<Simple>, &[Terminal]), ReadError>
+    requires { 0 < left }
+    ensures { Gives (λ x. (option_map simple_view x.0, x.1.now)) result
+        (maybe (isnt w.CloseParen) (simple_of (expr_at left true) (expr_at (left - 1) true)) terminals.now) }
+{
+    if heads(terminals, Class::Isnt(Symbol::CloseParen)) {
+        let (step, rest) = simple(alloc, left, terminals)?;
+        Ok((Some(step), rest))
+    } else {
+        Ok((None, terminals))
+    }
+}

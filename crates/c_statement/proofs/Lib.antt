@@ -1,2 +1,0 @@
-pub mod ByHead
-pub mod Left

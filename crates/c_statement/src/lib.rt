@@ -1,4 +1,0 @@
-//! The readers of statements.
-#![tactic(auto)]
-
-pub mod statement;
