@@ -20,6 +20,7 @@ use Rattle.mpi_call.specs.declared.reply.Got.TheVariants.{Made}
 use Rattle.mpi_call.specs.declared.reply.Item.{Item}
 use Rattle.mpi_call.specs.declared.reply.Reply.{Reply}
 use Rattle.mpi_call.specs.declared.reply.Reply.TheVariants.{Done, NotYet, Peeked, Stopped, Took}
+use Rattle.mpi_call.specs.declared.limits.TheConstants.{MOST_INTS, MOST_RESULT_INTS, MOST_STARTS}
 use Rattle.run_model.specs.Communicators.{known_after, known_first, known_in, learned, made_in_got, made_in_items}
 use Rattle.run_model.specs.Lists.{Along, world}
 use Rattle.run_model.specs.Program.{AsksInBounds, EndsExactly, EntersInForm, IsInBounds, IsInForm, IsSeen, IsSourceBelow, IsTagInBounds, ends}
@@ -195,10 +196,10 @@ ends_exactly calls n me view rank came =
       | inr over ↦ ((λ none. over.over), (λ ended. over.none))
     ]
 
-all_below : (starts : List ℕ) → list_all (λ k. nat_lt k 1000000) starts ≡ true → All (λ k. k < 1000000) starts
+all_below : (starts : List ℕ) → list_all (λ k. nat_lt k MOST_STARTS) starts ≡ true → All (λ k. k < MOST_STARTS) starts
 all_below [] h k d less = absurd (omega arith)
-all_below (x ∷ starts) h zero d less = ltb-true x 1000000 (and_parts (nat_lt x 1000000) (list_all (λ k. nat_lt k 1000000) starts) h).0
-all_below (x ∷ starts) h (suc k) d less = all_below starts (and_parts (nat_lt x 1000000) (list_all (λ k. nat_lt k 1000000) starts) h).1 k d (omega arith)
+all_below (x ∷ starts) h zero d less = ltb-true x MOST_STARTS (and_parts (nat_lt x MOST_STARTS) (list_all (λ k. nat_lt k MOST_STARTS) starts) h).0
+all_below (x ∷ starts) h (suc k) d less = all_below starts (and_parts (nat_lt x MOST_STARTS) (list_all (λ k. nat_lt k MOST_STARTS) starts) h).1 k d (omega arith)
 
 source_below : (n : ℕ) (source : Source) → is_open_source source ≡ true → IsSourceBelow n source
 source_below n AnySource h = tt
@@ -274,7 +275,7 @@ no_some (Some x) h = absurd (cc)
 fine_plain : (n me : ℕ) (own : View) (comm : ℕ) (kind : Kind) (root : Option ℕ) (op : Option Op) (count many : ℕ) (ints : List ℤ)
     → is_known comm (replies_in own) ≡ true → (not (is_some root) && (not (is_some op) && ((count == 0) && (length ints == many)))) ≡ true
     → ((members : List ℕ) → length ints ≡ many → IsEnterOf (Enter comm kind None None 0 ints) members me)
-    → ((members : List ℕ) → result_length (Enter comm kind None None 0 ints) members me ≤ 262144)
+    → ((members : List ℕ) → result_length (Enter comm kind None None 0 ints) members me ≤ MOST_RESULT_INTS)
     → IsFineEnter n own me (Enter comm kind root op count ints)
 fine_plain n me own comm kind root op count many ints is h form short =
     let members = known n comm own is in
@@ -290,8 +291,8 @@ fine_reduce n me own comm (Some root) op count ints is h = absurd (cc)
 fine_reduce n me own comm None None count ints is h = absurd (cc)
 fine_reduce n me own comm None (Some op) count ints is h =
     let members = known n comm own is in
-    let both = and_parts (length ints == count) (nat_le count 262144) h in
-    (tt, (members.0, members.1, record { form = refl; ints = eqb-true (length ints) count both.0 }, leb-true count 262144 both.1))
+    let both = and_parts (length ints == count) (nat_le count MOST_RESULT_INTS) h in
+    (tt, (members.0, members.1, record { form = refl; ints = eqb-true (length ints) count both.0 }, leb-true count MOST_RESULT_INTS both.1))
 
 fine_cast : (n me : ℕ) (own : View) (comm : ℕ) (root : Option ℕ) (op : Option Op) (count : ℕ) (ints : List ℤ)
     → has_parts n me comm Bcast root op count (length ints) ≡ true → IsFineEnter n own me (Enter comm Bcast root op count ints)
@@ -299,12 +300,12 @@ fine_cast n me own comm root (Some op) count ints h = absurd (cc)
 fine_cast n me own comm None None count ints h = (let no = and_parts (comm == 0) false h in absurd (cc))
 fine_cast n me own comm (Some root) None count ints h =
     let many : ℕ = if root == me then count else 0 in
-    let one = and_parts (comm == 0) (nat_lt root n && ((length ints == many) && nat_le count 262144)) h in
-    let two = and_parts (nat_lt root n) ((length ints == many) && nat_le count 262144) one.1 in
-    let three = and_parts (length ints == many) (nat_le count 262144) two.1 in
+    let one = and_parts (comm == 0) (nat_lt root n && ((length ints == many) && nat_le count MOST_RESULT_INTS)) h in
+    let two = and_parts (nat_lt root n) ((length ints == many) && nat_le count MOST_RESULT_INTS) one.1 in
+    let three = and_parts (length ints == many) (nat_le count MOST_RESULT_INTS) two.1 in
     let below : root < n = ltb-true root n two.0 in
     let members : known_in n own comm ≡ Some (world n 0) = rw (eqb-true comm 0 one.0) (known_after-some 0 (world n 0) own) in
-    (below, (world n 0, members, record { form = rw (in_world n 0 root (omega arith) (omega (arith, below))) refl; ints = eqb-true (length ints) many three.0 }, leb-true count 262144 three.1))
+    (below, (world n 0, members, record { form = rw (in_world n 0 root (omega arith) (omega (arith, below))) refl; ints = eqb-true (length ints) many three.0 }, leb-true count MOST_RESULT_INTS three.1))
 
 fine_enter : (n me : ℕ) (own : View) (comm : ℕ) (kind : Kind) (root : Option ℕ) (op : Option Op) (count : ℕ) (ints : List ℤ)
     → is_known comm (replies_in own) ≡ true → has_parts n me comm kind root op count (length ints) ≡ true → IsFineEnter n own me (Enter comm kind root op count ints)
@@ -326,10 +327,10 @@ fine_enter_of n me own comm kind root op count ints h =
 
 in_bounds : (n me got : ℕ) (own : View) (call : Call) → is_fine n me (replies_in own) call ≡ true → IsInBounds n got call
 in_bounds n me got own (Send comm dest tag ints sync) h =
-    let one = and_parts (nat_lt dest n) (nat_lt tag 2147483648 && nat_le (length ints) 65536) h in
-    let two = and_parts (nat_lt tag 2147483648) (nat_le (length ints) 65536) one.1 in
+    let one = and_parts (nat_lt dest n) (nat_lt tag 2147483648 && nat_le (length ints) MOST_INTS) h in
+    let two = and_parts (nat_lt tag 2147483648) (nat_le (length ints) MOST_INTS) one.1 in
     let low = ltb-true tag 2147483648 two.0 in
-    (ltb-true dest n one.0, omega arith, leb-true (length ints) 65536 two.1)
+    (ltb-true dest n one.0, omega arith, leb-true (length ints) MOST_INTS two.1)
 in_bounds n me got own (Post comm source tag room) h =
     let parts = and_parts (is_open_source source) (is_fine_tag tag) h in
     (source_below n source parts.0, tag_below tag parts.1)
@@ -337,9 +338,9 @@ in_bounds n me got own (Peek comm source tag wait) h =
     let parts = and_parts (is_open_source source) (is_fine_tag tag) h in
     (source_below n source parts.0, tag_below tag parts.1)
 in_bounds n me got own (Take starts mode) h =
-    let one = and_parts (nat_lt 0 (length starts)) (nat_le (length starts) 1000000 && list_all (λ k. nat_lt k 1000000) starts) h in
-    let two = and_parts (nat_le (length starts) 1000000) (list_all (λ k. nat_lt k 1000000) starts) one.1 in
-    (ltb-true 0 (length starts) one.0, leb-true (length starts) 1000000 two.0, λ few. all_below starts two.1)
+    let one = and_parts (nat_lt 0 (length starts)) (nat_le (length starts) MOST_STARTS && list_all (λ k. nat_lt k MOST_STARTS) starts) h in
+    let two = and_parts (nat_le (length starts) MOST_STARTS) (list_all (λ k. nat_lt k MOST_STARTS) starts) one.1 in
+    (ltb-true 0 (length starts) one.0, leb-true (length starts) MOST_STARTS two.0, λ few. all_below starts two.1)
 in_bounds n me got own (Abort code) h = tt
 in_bounds n me got own (Trap fault) h = tt
 in_bounds n me got own (Enter comm kind root op count ints) h = (fine_enter_of n me own comm kind root op count ints h).0

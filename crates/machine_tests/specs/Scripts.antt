@@ -15,6 +15,7 @@ use Rattle.mpi_call.specs.declared.reply.Got.{Got}
 use Rattle.mpi_call.specs.declared.reply.Got.TheVariants.{Made}
 use Rattle.mpi_call.specs.declared.reply.Reply.{Reply}
 use Rattle.mpi_call.specs.declared.reply.Reply.TheVariants.{Stopped, Took}
+use Rattle.mpi_call.specs.declared.limits.TheConstants.{MOST_INTS, MOST_RESULT_INTS, MOST_STARTS}
 use Rattle.run_model.specs.Views.{Next}
 
 -- no rank is named as a source, and a tag is in bounds
@@ -41,7 +42,7 @@ is_known comm replies = (comm == 0) || list_any (gives comm) replies
 -- a Bcast of rank `me` of n: the root enters `count` ints, the others none
 abbrev pub is_cast : ℕ → ℕ → Option ℕ → ℕ → ℕ → Bool
 is_cast n me None count ints = false
-is_cast n me (Some root) count ints = nat_lt root n && ((ints == (if root == me then count else 0)) && nat_le count 262144)
+is_cast n me (Some root) count ints = nat_lt root n && ((ints == (if root == me then count else 0)) && nat_le count MOST_RESULT_INTS)
 
 -- a collective's root, operation, count and number of ints, for rank `me` of n: a Barrier, Dup, Split or Allreduce, and on
 -- the world a Bcast
@@ -49,16 +50,16 @@ abbrev pub has_parts : ℕ → ℕ → ℕ → Kind → Option ℕ → Option Op
 has_parts n me comm Barrier root op count ints = not (is_some root) && (not (is_some op) && ((count == 0) && (ints == 0)))
 has_parts n me comm Dup root op count ints = not (is_some root) && (not (is_some op) && ((count == 0) && (ints == 0)))
 has_parts n me comm Split root op count ints = not (is_some root) && (not (is_some op) && ((count == 0) && (ints == 2)))
-has_parts n me comm Allreduce root op count ints = not (is_some root) && (is_some op && ((ints == count) && nat_le count 262144))
+has_parts n me comm Allreduce root op count ints = not (is_some root) && (is_some op && ((ints == count) && nat_le count MOST_RESULT_INTS))
 has_parts n me comm Bcast root op count ints = not (is_some op) && ((comm == 0) && is_cast n me root count ints)
 has_parts n me comm kind root op count ints = false
 
 -- the call may stand in a script of rank `me` of n, where it was answered this
 abbrev pub is_fine : ℕ → ℕ → List Reply → Call → Bool
-is_fine n me replies (Send comm dest tag ints sync) = nat_lt dest n && (nat_lt tag 2147483648 && nat_le (length ints) 65536)
+is_fine n me replies (Send comm dest tag ints sync) = nat_lt dest n && (nat_lt tag 2147483648 && nat_le (length ints) MOST_INTS)
 is_fine n me replies (Post comm source tag room) = is_open_source source && is_fine_tag tag
 is_fine n me replies (Enter comm kind root op count ints) = is_known comm replies && has_parts n me comm kind root op count (length ints)
-is_fine n me replies (Take starts mode) = nat_lt 0 (length starts) && (nat_le (length starts) 1000000 && list_all (λ k. nat_lt k 1000000) starts)
+is_fine n me replies (Take starts mode) = nat_lt 0 (length starts) && (nat_le (length starts) MOST_STARTS && list_all (λ k. nat_lt k MOST_STARTS) starts)
 is_fine n me replies (Peek comm source tag wait) = is_open_source source && is_fine_tag tag
 is_fine n me replies (Abort code) = true
 is_fine n me replies (Trap fault) = true

@@ -8,18 +8,13 @@ ghost use Rattle.mpi_call.specs.declared.call.Call.TheVariants.{Enter};
 
 use mpi_call::call::{Call, Kind, Op};
 use mpi_call::lists::{Inputs, Ints, Ranks};
+use mpi_call::members::is_member;
 use mpi_call::needs::{agree, is_root, needs};
 use mpi_call::results::result;
 use mpi_call::splits::made;
 use std::alloc::{AllocError, Global};
 use std::rt::HostRuntime;
 use std::test::Fail;
-
-fn is_member(members: &Ranks, rank: u8) -> bool
-    ensures { result ≡ is_member members.now rank }
-{
-    members.as_slice().contains(&rank)
-}
 
 fn is_root_for(kind: Kind, root: Option<u8>, members: &Ranks) -> bool
     ensures { result ≡ is_root_for kind root members.now }
@@ -30,7 +25,7 @@ fn is_root_for(kind: Kind, root: Option<u8>, members: &Ranks) -> bool
     );
     match root {
         None => !takes,
-        Some(root) => takes && is_member(members, root),
+        Some(root) => takes && is_member(members.as_slice(), root),
     }
 }
 
@@ -153,9 +148,7 @@ fn members_of(alloc: Global, row: &Row) -> Result<Ranks, AllocError> {
 fn inputs_of(alloc: Global, row: &Row) -> Result<Inputs, AllocError> {
     let mut inputs = Inputs::new(alloc);
     for ints in row.inputs {
-        if inputs.push(Ints::from_slice(alloc, ints)?).is_err() {
-            return Err(AllocError);
-        }
+        inputs.push(Ints::from_slice(alloc, ints)?)?;
     }
     Ok(inputs)
 }
@@ -215,7 +208,7 @@ fn is_collective(call: &Call, members: &Ranks, inputs: &Inputs, me: u8) -> bool
     ensures form { IsTrue result → IsEnterOf call.now members.now me }
     ensures inputs { IsTrue result → AreInputsOf call.now members.now inputs.now me }
 {
-    if !is_member(members, me) || !is_enter_of(call, members, me) {
+    if !is_member(members.as_slice(), me) || !is_enter_of(call, members, me) {
         return false;
     }
     are_inputs_of(call, members, inputs, me)

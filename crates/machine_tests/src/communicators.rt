@@ -11,10 +11,8 @@ use std::test::Fail;
 fn add(alloc: Global, inputs: &mut Inputs, ints: &[i32]) -> Result<(), AllocError>
     ensures { OnOk result (inputs.new ≡ inputs.old ++ ints.now ∷ []) }
 {
-    match inputs.push(Ints::from_slice(alloc, ints)?) {
-        Ok(()) => Ok(()),
-        Err(_) => Err(AllocError),
-    }
+    inputs.push(Ints::from_slice(alloc, ints)?)?;
+    Ok(())
 }
 
 /// Three members: the second gives no colour, the others one colour and one key.

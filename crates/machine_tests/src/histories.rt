@@ -119,10 +119,8 @@ fn took(alloc: Global, message: Message) -> Result<Reply, AllocError> {
         ints: Ints::from_slice(alloc, message.ints)?,
     };
     let mut items = Items::new(alloc);
-    match items.push(Item { index: 0, got }) {
-        Ok(()) => Ok(Reply::Took(items)),
-        Err(_) => Err(AllocError),
-    }
+    items.push(Item { index: 0, got })?;
+    Ok(Reply::Took(items))
 }
 
 #[test]

@@ -36,6 +36,7 @@ fn answer(
                 dest,
                 tag,
                 ints,
+                sync: false,
             };
             matcher.send(at, rank, &call)
         }

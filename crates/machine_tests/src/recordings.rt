@@ -5,6 +5,7 @@ use crate::scripts::{Script, start_all};
 use crate::steps::{Step, script_of};
 use group_plan::{Plan, read_plan};
 use mpi_call::call::{Comm, Fault, Halt, Kind, Tag, TakeMode};
+use mpi_call::needs::UNDEFINED;
 use mpi_machine::machine::Machine;
 use run_model::ending::Ending;
 use srr_entry::entry::{Entry, Mark, Marked};
@@ -21,6 +22,8 @@ use wiz_base::bytes::Bytes;
 #[derive(Clone, Copy, Debug, PartialEq, Eq)]
 enum Short {
     Sent,
+    /// A send is complete.
+    Complete,
     Posted,
     Entered,
     Ended,
@@ -58,6 +61,7 @@ fn in_short(entry: &Entry) -> Short {
 
 fn mark_in_short(marked: &Marked) -> Short {
     match &marked.mark {
+        Mark::Sent => Short::Complete,
         Mark::Inside { source, start } => match marked.index {
             0 => Short::Inside(*source, *start),
             _ => Short::Second(*source, *start),
@@ -226,6 +230,127 @@ const TRAPPED: Halt = Halt::Trapped {
 };
 
 const MISMATCHED: Halt = Halt::Mismatched { rank: 1 };
+
+static SYNCHRONOUS: [Row; 4] = [
+    // Both send synchronously before they receive: no send is matched, and both are stuck.
+    Row {
+        steps: [
+            &[
+                Step::SyncSend(1, 5),
+                Step::Take(ALL, 0),
+                Step::Post(Tag::Is(5), 1),
+                Step::Take(ALL, 1),
+            ],
+            &[
+                Step::SyncSend(0, 5),
+                Step::Take(ALL, 0),
+                Step::Post(Tag::Is(5), 1),
+                Step::Take(ALL, 1),
+            ],
+            &[],
+        ],
+        plan: b"0 1\n",
+        turns: &[],
+        order: &[0, 1, 1, 0],
+        entries: &[
+            Short::Sent,
+            Short::Stopped(Halt::Stuck),
+            Short::Sent,
+            Short::Stopped(Halt::Stuck),
+        ],
+        ending: Ending::Halted(Halt::Stuck),
+    },
+
+    // With standard sends, which are buffered, both finish.
+    Row {
+        steps: [
+            &[
+                Step::Send(1, 5),
+                Step::Take(ALL, 0),
+                Step::Post(Tag::Is(5), 1),
+                Step::Take(ALL, 1),
+            ],
+            &[
+                Step::Send(0, 5),
+                Step::Take(ALL, 0),
+                Step::Post(Tag::Is(5), 1),
+                Step::Take(ALL, 1),
+            ],
+            &[],
+        ],
+        plan: b"0 1\n",
+        turns: &[],
+        order: &[0, 1, 0, 1, 0, 1, 0, 1, 0, 1],
+        entries: &[
+            Short::Sent,
+            Short::Complete,
+            Short::Posted,
+            Short::Inside(1, 0),
+            Short::Ended,
+            Short::Sent,
+            Short::Complete,
+            Short::Posted,
+            Short::Inside(0, 0),
+            Short::Ended,
+        ],
+        ending: Ending::Finished,
+    },
+
+    // One message, by a synchronous send: it is complete once the receive has matched it.
+    Row {
+        steps: [
+            &[Step::SyncSend(1, 5), Step::Take(ALL, 0)],
+            &[Step::Post(Tag::Is(5), 1), Step::Take(ALL, 0)],
+            &[],
+        ],
+        plan: b"0 1\n",
+        turns: &[],
+        order: &[0, 1, 0, 1, 0, 1],
+        entries: &[
+            Short::Sent,
+            Short::Complete,
+            Short::Ended,
+            Short::Posted,
+            Short::Inside(0, 0),
+            Short::Ended,
+        ],
+        ending: Ending::Finished,
+    },
+
+    // A test before the receive is told that the send is not complete yet; a wait gets it later.
+    Row {
+        steps: [
+            &[
+                Step::SyncSend(1, 5),
+                Step::Take(TEST, 0),
+                Step::Take(ALL, 0),
+            ],
+            &[Step::Post(Tag::Is(5), 1), Step::Take(ALL, 0)],
+            &[],
+        ],
+        plan: b"0 1\n",
+        turns: &[0, 0],
+        order: &[0, 0, 1, 0, 1, 0, 1],
+        entries: &[
+            Short::Sent,
+            Short::NotYet,
+            Short::Complete,
+            Short::Ended,
+            Short::Posted,
+            Short::Inside(0, 0),
+            Short::Ended,
+        ],
+        ending: Ending::Finished,
+    },
+];
+
+#[test]
+fn synchronous_sends_are_recorded(rt: HostRuntime) -> Result<(), Fail> {
+    for row in &SYNCHRONOUS {
+        check_row(&rt, row)?;
+    }
+    Ok(())
+}
 
 static RUNS: [Row; 14] = [
     // One message inside a group. Rank 1's second turn makes no event.
@@ -569,9 +694,6 @@ fn runs_are_recorded(rt: HostRuntime) -> Result<(), Fail> {
     }
     Ok(())
 }
-
-/// `MPI_UNDEFINED`
-const UNDEFINED: i32 = -32_766;
 
 const APART: Short = Short::MadeOutside(1, 0, Some(2));
 

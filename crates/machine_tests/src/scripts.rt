@@ -5,8 +5,10 @@ ghost use Rattle.run_model.specs.Serial.{call_after};
 ghost use Rattle.run_model.specs.Views.{replies_in, view_of};
 ghost use Rattle.machine_tests.specs.Scripts.{call_at, fine_call, gives, has_parts, is_cast, is_fine, is_fine_tag, is_made, is_open_source, is_stopped, next_of, three_lists};
 ghost use Rattle.srr_record.specs.Recordings.{AreRuns};
+ghost use Rattle.mpi_call.specs.declared.limits.TheConstants.{MOST_STARTS};
 
 use mpi_call::call::{Call, Comm, Fault, Kind, Op, Source, Tag};
+use mpi_call::limits::{MOST_INTS, MOST_RESULT_INTS, MOST_STARTS};
 use mpi_call::reply::{Got, Item, Reply};
 use mpi_call::{call, reply};
 use run_model::event::Event;
@@ -323,7 +325,7 @@ fn is_cast(ranks: u8, rank: u8, root: Option<u8>, count: u32, ints: usize) -> bo
         return false;
     };
     let sent = if root == rank { count } else { 0 };
-    root < ranks && (ints == sent as usize && count <= 262_144)
+    root < ranks && (ints == sent as usize && count <= MOST_RESULT_INTS)
 }
 
 /// What a collective has beside its kind and communicator.
@@ -349,7 +351,8 @@ fn has_parts(ranks: u8, rank: u8, comm: Comm, kind: Kind, parts: Parts) -> bool
         Kind::Barrier | Kind::Dup => root.is_none() && (op.is_none() && (count == 0 && ints == 0)),
         Kind::Split => root.is_none() && (op.is_none() && (count == 0 && ints == 2)),
         Kind::Allreduce => {
-            root.is_none() && (op.is_some() && (ints == count as usize && count <= 262_144))
+            root.is_none()
+                && (op.is_some() && (ints == count as usize && count <= MOST_RESULT_INTS))
         }
         Kind::Bcast => op.is_none() && (comm == 0 && is_cast(ranks, rank, root, count, ints)),
         _ => false,
@@ -366,7 +369,7 @@ fn is_fine(ranks: u8, rank: u8, replies: &[Reply], call: &Call) -> bool
             tag,
             ints,
             ..
-        } => *dest < ranks && (*tag < 2_147_483_648 && ints.as_slice().len() <= 65_536),
+        } => *dest < ranks && (*tag < 2_147_483_648 && ints.as_slice().len() <= MOST_INTS as usize),
         Call::Post { source, tag, .. } => is_open_source(source) && is_fine_tag(tag),
         Call::Peek { source, tag, .. } => is_open_source(source) && is_fine_tag(tag),
         Call::Take { starts, .. } => are_fine(starts.as_slice()),
@@ -410,17 +413,17 @@ fn is_fine_tag(tag: &Tag) -> bool
 }
 
 fn are_fine(starts: &[u32]) -> bool
-    ensures { result ≡ (nat_lt 0 (length starts.now) && (nat_le (length starts.now) 1000000 && list_all (λ k. nat_lt k 1000000) starts.now)) }
+    ensures { result ≡ (nat_lt 0 (length starts.now) && (nat_le (length starts.now) MOST_STARTS && list_all (λ k. nat_lt k MOST_STARTS) starts.now)) }
 {
-    !starts.is_empty() && (starts.len() <= 1_000_000 && are_low(starts))
+    !starts.is_empty() && (starts.len() <= MOST_STARTS as usize && are_low(starts))
 }
 
 fn are_low(starts: &[u32]) -> bool
-    ensures { result ≡ list_all (λ k. nat_lt k 1000000) starts.now }
+    ensures { result ≡ list_all (λ k. nat_lt k MOST_STARTS) starts.now }
 {
     let mut rest = starts;
     while let [start, after @ ..] = rest {
-        if *start >= 1_000_000 {
+        if *start >= MOST_STARTS {
             return false;
         }
         rest = after;

@@ -1,5 +1,5 @@
 //! Starts and their completions, on worked examples.
-ghost use Rattle.std.specs.Prelude.{◌≡◌, ◌+◌, ◌<◌, ◌^◌, [], None, true, IsTrue, OnOk, length};
+ghost use Rattle.std.specs.Prelude.{◌≡◌, ◌+◌, ◌<◌, ◌^◌, [], IfOk, None, true, IsTrue, OnOk, length};
 ghost use Rattle.std.specs.List.{range_with_len};
 ghost use Rattle.mpi_call.specs.declared.call.Call.TheVariants.{Enter};
 ghost use Rattle.mpi_call.specs.Calls.{comm_of, is_enter};
@@ -188,6 +188,19 @@ fn listed(alloc: Global, one: u32, two: Option<u32>) -> Result<Starts, AllocErro
     }
 }
 
+/// A send on the world.
+fn send(alloc: Global, dest: u8, tag: u32, ints: &[i32]) -> Result<Call, AllocError>
+    ensures { IfOk result (λ call. is_message call ≡ true) }
+{
+    Ok(Call::Send {
+        comm: 0,
+        dest,
+        tag,
+        ints: Ints::from_slice(alloc, ints)?,
+        sync: false,
+    })
+}
+
 /// What is answered to a step of a rank at a position.
 fn step_at(
     alloc: Global,
@@ -202,14 +215,8 @@ fn step_at(
 {
     match step {
         Step::Send(dest, tag, two) => {
-            let values: &[i32] = if two { &[7, 8] } else { &[7] };
-            let ints = Ints::from_slice(alloc, values)?;
-            let call = Call::Send {
-                comm: 0,
-                dest,
-                tag,
-                ints,
-            };
+            let ints: &[i32] = if two { &[7, 8] } else { &[7] };
+            let call = send(alloc, dest, tag, ints)?;
             begin(requests, at, rank, &call)
         }
         Step::Post(source, tag, room) => {

@@ -9,7 +9,9 @@ use std::alloc::{AllocError, Global};
 pub enum Step {
     /// It sends the int 7 to a rank with a tag.
     Send(u8, u32),
-    /// The same with the ints 7 and 8.
+    /// The same by a synchronous send.
+    SyncSend(u8, u32),
+    /// It sends the ints 7 and 8 to a rank with a tag.
     SendTwo(u8, u32),
     /// It receives from any rank with a room.
     Post(Tag, u32),
@@ -55,8 +57,9 @@ fn call_of(alloc: Global, step: Step) -> Result<Call, AllocError> {
     let comm = 0;
     let source = Source::Any;
     match step {
-        Step::Send(dest, tag) => send(alloc, dest, tag, &[7]),
-        Step::SendTwo(dest, tag) => send(alloc, dest, tag, &[7, 8]),
+        Step::Send(dest, tag) => send(alloc, dest, tag, &[7], false),
+        Step::SyncSend(dest, tag) => send(alloc, dest, tag, &[7], true),
+        Step::SendTwo(dest, tag) => send(alloc, dest, tag, &[7, 8], false),
         Step::Post(tag, room) => Ok(Call::Post {
             comm,
             source,
@@ -80,12 +83,13 @@ fn call_of(alloc: Global, step: Step) -> Result<Call, AllocError> {
     }
 }
 
-fn send(alloc: Global, dest: u8, tag: u32, ints: &[i32]) -> Result<Call, AllocError> {
+fn send(alloc: Global, dest: u8, tag: u32, ints: &[i32], sync: bool) -> Result<Call, AllocError> {
     Ok(Call::Send {
         comm: 0,
         dest,
         tag,
         ints: Ints::from_slice(alloc, ints)?,
+        sync,
     })
 }
 
