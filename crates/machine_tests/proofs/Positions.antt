@@ -11,7 +11,7 @@ use Rattle.run_model.specs.Views.{items_taken}
 use Rattle.match_core.specs.declared.start.Start.{Start as Unpaired}
 use Rattle.run_model.proofs.StartLemmas.{slice_get-below}
 use Rattle.match_core.specs.Starts.{AreBelow, is_message}
-use Rattle.match_core.proofs.Queues.{below_left, below_more}
+use Rattle.match_core.proofs.StartLists.{below_left, below_more}
 use Rattle.collectives.specs.Boards.{enters_of, enters_on}
 use Rattle.comms.specs.Communicators.{Communicators, old_members}
 use Rattle.requests.specs.declared.requests.Started.{Started}

@@ -158,3 +158,26 @@ fn sends_meet_receives(rt: HostRuntime) -> Result<(), Fail> {
     }
     Ok(())
 }
+
+/// How many messages wait before the first is received.
+const MESSAGES: u32 = 50;
+
+/// Messages with different tags are received in the reverse order, each by the receive of its tag.
+#[test]
+fn tags_in_the_reverse_order(rt: HostRuntime) -> Result<(), Fail> {
+    let alloc = rt.alloc();
+    let mut matcher = Matcher::new(alloc);
+    for sent in 0..MESSAGES {
+        let got = answer(alloc, &mut matcher, sent, 0, Step::Send(1, sent))?;
+        assert_eq!(rt; got, None, "{sent}");
+    }
+    for received in 0..MESSAGES {
+        let sent = MESSAGES - 1 - received;
+        let step = Step::Post(Source::From(0), Tag::Is(sent));
+        let got = answer(alloc, &mut matcher, MESSAGES + received, 1, step)?;
+        assert_eq!(rt; got, Some(sent), "{sent}");
+    }
+    let rest = answer(alloc, &mut matcher, 2 * MESSAGES, 1, Step::Peek(Source::Any, Tag::Any))?;
+    assert_eq!(rt; rest, None);
+    Ok(())
+}

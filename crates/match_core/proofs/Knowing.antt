@@ -20,7 +20,7 @@ use Rattle.match_core.proofs.Grown.{Grows-event, named-new, named-other, pairs_o
 use Rattle.run_model.proofs.Positions.{name_at-below, name_at-lower, new_name}
 use Rattle.match_core.proofs.Positions.{name_at-kept, name_at-new, name_at-one}
 use Rattle.match_core.proofs.Fitting.{fit_takes, suits-kept, suits-message, takes_fit, takes_itself}
-use Rattle.match_core.proofs.Queues.{among_cases, among_front, among_last, among_without, without_among}
+use Rattle.match_core.proofs.StartLists.{among_cases, among_front, among_last, among_without, without_among}
 
 pub knows_below : (events : List Event) (starts : List Start) → Knows events starts → AreBelow (length events) starts
 knows_below events starts knows start among =

@@ -1,6 +1,6 @@
 -- The starts that have no partner, as the matcher keeps them, and the one that a call finds among them.
 -- (MPI 3.1, Point-to-Point Communication, "Semantics of Point-to-Point Communication": order and progress.)
-use Rattle.std.specs.Prelude.{◌≡◌, ◌<◌, ◌≤◌, ℕ, List, [], ◌∷◌, ◌++◌, Option, Some, None, Bool, true, false, not, ◌==◌, filter, option_map, slice_get}
+use Rattle.std.specs.Prelude.{◌≡◌, ◌<◌, ◌≤◌, ℕ, List, [], ◌∷◌, ◌++◌, Option, Some, None, Bool, true, false, not, ◌==◌, filter}
 use Rattle.mpi_call.specs.declared.call.Call.{Call}
 use Rattle.mpi_call.specs.declared.call.Call.TheVariants.{Send, Post, Peek, End}
 use Rattle.mpi_call.specs.Lists.{IsIn}
@@ -68,7 +68,3 @@ AreBelow at starts = (start : Start) → IsIn start starts → start.at < at
 abbrev pub Rises : List Start → Type 0
 Rises [] = Unit {0}
 Rises (start ∷ starts) = ((later : Start) → IsIn later starts → start.at < later.at) × Rises starts
-
--- the position of the first that suits
-abbrev pub first_of : ℕ → Call → List Start → Option ℕ
-first_of rank call starts = option_map (λ (start : Start). start.at) (slice_get (filter (λ start. suits_start rank call start) starts) 0)

@@ -4,7 +4,10 @@ ghost use Rattle.run_model.specs.declared.event.Event.{Event};
 ghost use Rattle.match_core.specs.Starts.{is_message, is_peek, is_post, is_send, left_by, start_of, AreBelow, IsEarliest};
 ghost use Rattle.match_core.specs.Histories.{event_of, IsChoice, IsOther, Knows, KnowsMore};
 
-use crate::start::{Start, first_of, take_out, without_ints};
+use crate::buckets::Buckets;
+use crate::index::{add, place_for, position_at, take};
+use crate::slot::Slot;
+use crate::start::{Start, without_ints};
 use mpi_call::call::Call;
 use std::alloc::{AllocError, Global};
 use std::marker::Model;
@@ -12,7 +15,8 @@ use std::marker::Model;
 /// The Sends and Posts that have no partner, in the order of the history; contracts see their list.
 #[derive(Drop)]
 pub struct Matcher {
-    unpaired: Vec<Start>,
+    slots: Vec<Slot>,
+    buckets: Buckets,
     alloc: Global,
 }
 
@@ -22,11 +26,12 @@ impl Model for Matcher {
 
     ghost Value = { List Start };
 
-    ghost use Rattle.match_core.specs.Starts.{Rises};
+    ghost use Rattle.match_core.specs.Indexed.{IsKeptIn};
+    ghost use Rattle.match_core.specs.Slots.{unpaired};
 
-    ghost view = { λ s. s.unpaired.items };
+    ghost view = { λ s. unpaired s.slots.items };
 
-    ghost invariant = { λ s. Rises s.unpaired.items };
+    ghost invariant = { λ s. IsKeptIn s.slots.items s.buckets };
 }
 
 impl Matcher {
@@ -36,7 +41,8 @@ impl Matcher {
         ensures knows { Knows [] result }
     {
         Matcher {
-            unpaired: Vec::new(alloc),
+            slots: Vec::new(alloc),
+            buckets: Buckets::new(alloc),
             alloc,
         }
     }
@@ -73,7 +79,10 @@ impl Matcher {
         ensures earliest { IsEarliest rank call.now self.now result }
         ensures choice { (events : List Event) → Knows events self.now → IsChoice events rank call.now result }
     {
-        first_of(rank, call, &self.unpaired)
+        match place_for(&self.buckets, rank, call) {
+            Some(place) => Some(position_at(&self.slots, place)),
+            None => None,
+        }
     }
 
     /// What the matcher knows stays so after every event that is no new Send or Post, and all that it keeps stands before the
@@ -92,13 +101,13 @@ impl Matcher {
         ensures err { OnErr result (self.new ≡ self.old) }
         ensures knows { IfOk result (λ mate. (events : List Event) → Knows events self.old → at ≡ length events → KnowsMore events (event_of rank call.now mate) self.new) }
     {
-        let mate = first_of(rank, call, &self.unpaired);
-        if let Some(partner) = mate {
-            take_out(&mut self.unpaired, partner);
-            return Ok(mate);
+        if let Some(place) = place_for(&self.buckets, rank, call) {
+            let partner = position_at(&self.slots, place);
+            take(&mut self.slots, &mut self.buckets, place);
+            return Ok(Some(partner));
         }
         let call = without_ints(self.alloc, call);
-        self.unpaired.push(Start { at, rank, call })?;
-        Ok(mate)
+        add(&mut self.slots, &mut self.buckets, Start { at, rank, call })?;
+        Ok(None)
     }
 }

@@ -3,7 +3,7 @@ use Rattle.mpi_call.specs.declared.call.Call.{Call}
 use Rattle.mpi_call.specs.declared.call.Call.TheVariants.{Post, Send}
 use Rattle.match_core.specs.declared.start.Start.{Start}
 use Rattle.match_core.specs.Starts.{AreBelow, left_by, start_of}
-use Rattle.match_core.proofs.Queues.{below_left}
+use Rattle.match_core.proofs.StartLists.{below_left}
 use Rattle.machine_tests.proofs.matching.answer.Goals as goal
 
 on_ok : {E : Type 0} (at rank : ℕ) (call : Call) (old new : List Start) (result : Result (Option ℕ) E) → AreBelow at old → IfOk result (λ mate. new ≡ left_by old (start_of at rank call) mate) → OnOk result (AreBelow (at + 1) new)
