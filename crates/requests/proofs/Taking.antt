@@ -295,7 +295,7 @@ knows_took n events state me starts mode items k within out =
     }
 
 -- marks that are taken back
-same_places : (xs ys : List Start) → ((j : ℕ) → slice_get xs j ≡ slice_get ys j) → xs ≡ ys
+pub same_places : (xs ys : List Start) → ((j : ℕ) → slice_get xs j ≡ slice_get ys j) → xs ≡ ys
 same_places [] [] h = refl
 same_places [] (y ∷ ys) h = absurd (let no : None ≡ Some y = h zero in cc)
 same_places (x ∷ xs) [] h = absurd (let no : Some x ≡ None = h zero in cc)
@@ -304,7 +304,7 @@ same_places (x ∷ xs) (y ∷ ys) h =
     let one : x ≡ y = cc in
     ap (λ (s : Start). s ∷ xs) one ∙ ap (λ (l : List Start). y ∷ l) (same_places xs ys (λ j. h (suc j)))
 
-unmarked : (o : Option Start) → can_take_in o ≡ true → option_map (marked false) (option_map (marked true) o) ≡ o
+pub unmarked : (o : Option Start) → can_take_in o ≡ true → option_map (marked false) (option_map (marked true) o) ≡ o
 unmarked None h = refl
 unmarked (Some start) h =
     elim (test_cases start.taken) [

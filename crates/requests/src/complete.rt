@@ -12,7 +12,7 @@ ghost use Rattle.collectives.specs.Boards.{enters_of};
 ghost use Rattle.requests.specs.Enters.{has_needed, IsSoundEnter};
 ghost use Rattle.requests.specs.States.{IsSound, table_of};
 ghost use Rattle.requests.specs.Starts.{call_in, found_in};
-ghost use Rattle.requests.specs.Taking.{can_take_in, first_bad, first_long_in, flags_in, got_in, is_complete, item_in, message_from, places_from, readiness_of};
+ghost use Rattle.requests.specs.Taking.{can_take_in, first_long_in, flags_in, got_in, is_complete, item_in, message_from, places_from, readiness_of};
 
 use crate::requests::Readiness;
 use crate::rows::found;
@@ -88,39 +88,6 @@ pub fn readiness(rows: &[Row], board: &Board, comms: &Comms, me: u8, number: u32
             }
         }
     }
-}
-
-/// Whether a number stands in a list.
-fn is_listed(numbers: &[u32], number: u32) -> bool
-    ensures { result ≡ is_member numbers.now number }
-{
-    numbers.iter().any(|other| *other == number)
-}
-
-/// Whether a start was made and not taken. Takes no memory.
-fn can_take(rows: &[Row], me: u8, number: u32) -> bool
-    ensures { result ≡ can_take_in (found_in rows.now (me, number)) }
-{
-    match found(rows, (me, number)) {
-        Some(start) => !start.taken,
-        None => false,
-    }
-}
-
-/// The first listed start that was never made, was taken, or stands earlier in the list. Takes no memory.
-pub fn first_bad(rows: &[Row], me: u8, starts: &[u32]) -> Option<u32>
-    ensures { result ≡ first_bad rows.now me [] starts.now }
-{
-    let mut at = 0;
-    let mut rest = starts;
-    while let [number, after @ ..] = rest {
-        if !can_take(rows, me, *number) || is_listed(&starts[..at], *number) {
-            return Some(*number);
-        }
-        at += 1;
-        rest = after;
-    }
-    None
 }
 
 fn all_complete(rows: &[Row], board: &Board, comms: &Comms, me: u8, starts: &[u32]) -> bool

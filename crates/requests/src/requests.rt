@@ -211,7 +211,7 @@ impl Requests {
         let listed = starts.as_slice();
         let answer = answer(
             self.alloc,
-            &self.rows,
+            &mut self.rows,
             &self.board,
             &self.comms,
             rank,
