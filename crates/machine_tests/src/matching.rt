@@ -177,7 +177,13 @@ fn tags_in_the_reverse_order(rt: HostRuntime) -> Result<(), Fail> {
         let got = answer(alloc, &mut matcher, MESSAGES + received, 1, step)?;
         assert_eq!(rt; got, Some(sent), "{sent}");
     }
-    let rest = answer(alloc, &mut matcher, 2 * MESSAGES, 1, Step::Peek(Source::Any, Tag::Any))?;
+    let rest = answer(
+        alloc,
+        &mut matcher,
+        2 * MESSAGES,
+        1,
+        Step::Peek(Source::Any, Tag::Any),
+    )?;
     assert_eq!(rt; rest, None);
     Ok(())
 }
