@@ -32,7 +32,7 @@ fn push_piece<'a>(
 {
     match piece {
         FormatPiece::Byte(byte) => {
-            push_byte(out, byte)?;
+            out.push(byte)?;
             Ok(ints)
         }
         FormatPiece::Int {
@@ -46,15 +46,6 @@ fn push_piece<'a>(
                 Ok(rest)
             }
         },
-    }
-}
-
-fn push_byte(out: &mut Bytes, byte: u8) -> Result<(), AllocError>
-    ensures { OnOk result (out.new ≡ out.old ++ byte ∷ []) }
-{
-    match out.push(byte) {
-        Ok(()) => Ok(()),
-        Err(_) => Err(AllocError),
     }
 }
 
@@ -83,7 +74,7 @@ fn sign_of(alloc: Global, base: Base, value: i32) -> Result<Bytes, AllocError>
     let mut text = Bytes::new(alloc);
     if value < 0 {
         if let Base::Decimal = base {
-            push_byte(&mut text, b'-')?;
+            text.push(b'-')?;
         }
     }
     Ok(text)
@@ -107,10 +98,11 @@ fn push_hexadecimal(out: &mut Bytes, n: u32) -> Result<(), AllocError>
     ensures { OnOk result (out.new ≡ out.old ++ hexadecimal_text n) }
 {
     if n < 16 {
-        return push_byte(out, digit_text(n as u8));
+        out.push(digit_text(n as u8))?;
+        return Ok(());
     }
     push_hexadecimal(out, n / 16)?;
-    push_byte(out, digit_text((n % 16) as u8))?;
+    out.push(digit_text((n % 16) as u8))?;
     Ok(())
 }
 
@@ -157,7 +149,7 @@ fn push_bytes(out: &mut Bytes, count: usize, byte: u8) -> Result<(), AllocError>
     ensures { OnOk result (out.new ≡ out.old ++ replicate count byte) }
 {
     for _i in 0..count {
-        push_byte(out, byte)?;
+        out.push(byte)?;
     }
     Ok(())
 }
