@@ -13,6 +13,7 @@ use Rattle.collectives.specs.declared.instances.Entered.TheVariants.{Joined, Dis
 abbrev pub Stages : Type 0
 Stages = List (List (List Entrant))
 
+-- the instances of a communicator
 abbrev pub instances_on : Stages → ℕ → List (List Entrant)
 instances_on stages comm = slice_index_or stages comm []
 
@@ -26,6 +27,7 @@ trim_before [] [] = []
 trim_before [] (list ∷ lists) = [] ∷ list ∷ lists
 trim_before (a ∷ front) lists = (a ∷ front) ∷ lists
 
+-- a list of lists without the empty ones at its end
 abbrev pub trim : {A : Type 0} → List (List A) → List (List A)
 trim [] = []
 trim (list ∷ lists) = trim_before list (trim lists)
@@ -34,6 +36,7 @@ trim (list ∷ lists) = trim_before list (trim lists)
 abbrev pub stages_of : Stages → Stages
 stages_of stages = trim (map trim stages)
 
+-- no communicator has empty instances at its end
 abbrev pub IsTrimmed : Stages → Type 0
 IsTrimmed stages = stages_of stages ≡ stages
 
@@ -50,7 +53,7 @@ pub record IsOrderly (stages : Stages) (comm rank : ℕ) : Type 0 where
 abbrev pub entered_by : Stages → ℕ → Call → Entered
 entered_by stages rank call = answer_of (instances_on stages (comm_of call)) rank call
 
--- one Enter is added to an instance of a communicator, behind those before it
+-- one Enter is added to an instance of a communicator, after those before it
 pub record GainsEnter (old new : Stages) (comm instance : ℕ) (entrant : Entrant) : Type 0 where
   pub at : (other number : ℕ) → enters_of new other number
       ≡ (if other == comm && number == instance then enters_of old other number ++ entrant ∷ [] else enters_of old other number)

@@ -21,6 +21,7 @@ ints_by (entrant ∷ others) rank = if entrant.rank == rank then ints_of entrant
 abbrev pub place_by : List Entrant → ℕ → ℕ
 place_by entrants rank = position_or_len (λ entrant. entrant.rank == rank) entrants
 
+-- the ints of the Enter at a place, none past the end
 abbrev pub ints_at : List Entrant → ℕ → List ℤ
 ints_at entrants place = unwrap_or (option_map (λ entrant. ints_of entrant.call) (slice_get entrants place)) []
 

@@ -8,6 +8,7 @@ use Rattle.collectives.specs.declared.entrants.Entrant.{Entrant}
 use Rattle.collectives.specs.declared.instances.Entered.{Entered}
 use Rattle.collectives.specs.declared.instances.Entered.TheVariants.{Joined, Disagrees}
 
+-- the Enters of an instance
 abbrev pub instance_at : List (List Entrant) → ℕ → List Entrant
 instance_at instances instance = slice_index_or instances instance []
 
@@ -15,6 +16,7 @@ instance_at instances instance = slice_index_or instances instance []
 abbrev pub enters_by : List (List Entrant) → ℕ → ℕ
 enters_by instances rank = length (filter (λ entrants. has_entered entrants rank) instances)
 
+-- the Enter joins this instance, or disagrees with that rank
 abbrev pub joins_unless : ℕ → Option ℕ → Entered
 joins_unless instance None = Joined instance
 joins_unless instance (Some other) = Disagrees other
@@ -23,7 +25,7 @@ joins_unless instance (Some other) = Disagrees other
 abbrev pub answer_of : List (List Entrant) → ℕ → Call → Entered
 answer_of instances rank call = joins_unless (enters_by instances rank) (first_against (instance_at instances (enters_by instances rank)) call)
 
--- one Enter is added to an instance, behind those before it
+-- one Enter is added to an instance, after those before it
 pub record Gains (old new : List (List Entrant)) (instance : ℕ) (entrant : Entrant) : Type 0 where
   pub at : (number : ℕ) → instance_at new number
       ≡ (if number == instance then instance_at old number ++ entrant ∷ [] else instance_at old number)

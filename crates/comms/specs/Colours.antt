@@ -14,6 +14,7 @@ colours_of inputs = dedup int_eq (by_key (λ colour. colour) (filter (λ colour.
 abbrev pub place_among : List ℤ → ℤ → ℕ
 place_among colours colour = position_or_len (λ other. int_eq other colour) colours
 
+-- the number of the communicator of a colour
 abbrev pub number_for : List ℤ → ℕ → ℤ → ℕ
 number_for colours first colour = if nat_lt (place_among colours colour) (length colours) then first + place_among colours colour else 0
 
@@ -21,5 +22,6 @@ number_for colours first colour = if nat_lt (place_among colours colour) (length
 abbrev pub split_numbers : ℕ → List (List ℤ) → List ℕ
 split_numbers first inputs = map (λ ints. number_for (colours_of inputs) first (colour_in ints)) inputs
 
+-- the members of each new communicator, by number
 abbrev pub split_members : List ℕ → List (List ℤ) → List (List ℕ)
 split_members members inputs = map (λ colour. split_into colour members inputs) (colours_of inputs)

@@ -19,6 +19,7 @@ world n = record { members = range_with_len 0 n ∷ []; given = [] }
 abbrev pub members_of : Communicators → ℕ → Option (List ℕ)
 members_of communicators comm = slice_get communicators.members comm
 
+-- what an instance gave to each member
 abbrev pub given_in : List ((ℕ × ℕ) × List ℕ) → ℕ → ℕ → Option (List ℕ)
 given_in [] comm instance = None
 given_in (entry ∷ entries) comm instance = if entry.0.0 == comm && entry.0.1 == instance then Some entry.1 else given_in entries comm instance
@@ -34,6 +35,7 @@ pub record Makes (old new : Communicators) (comm instance : ℕ) (made : List (L
   pub given : (other number : ℕ) → given_in new.given other number
       ≡ (if other == comm && number == instance then Some numbers else given_in old.given other number)
 
+-- the members of a communicator that was made
 abbrev pub old_members : Communicators → ℕ → List ℕ
 old_members old comm = slice_index_or old.members comm []
 

@@ -23,6 +23,7 @@ abbrev pub is_open_source : Source → Bool
 is_open_source (From rank) = false
 is_open_source source = true
 
+-- a tag is in bounds
 abbrev pub is_fine_tag : Tag → Bool
 is_fine_tag (Is tag) = nat_lt tag 2147483648
 is_fine_tag tag = true
@@ -32,10 +33,12 @@ abbrev pub is_made : ℕ → Got → Bool
 is_made comm (Made number members) = number == comm
 is_made comm got = false
 
+-- one of the items of a reply makes a communicator with this number
 abbrev pub gives : ℕ → Reply → Bool
 gives comm (Took items) = list_any (λ item. is_made comm item.got) items
 gives comm reply = false
 
+-- the world, or one of these replies gave the communicator
 abbrev pub is_known : ℕ → List Reply → Bool
 is_known comm replies = (comm == 0) || list_any (gives comm) replies
 
@@ -65,6 +68,7 @@ is_fine n me replies (Abort code) = true
 is_fine n me replies (Trap fault) = true
 is_fine n me replies call = false
 
+-- the reply is a halt
 abbrev pub is_stopped : Reply → Bool
 is_stopped (Stopped halt) = true
 is_stopped reply = false
@@ -73,13 +77,14 @@ is_stopped reply = false
 abbrev pub fine_call : ℕ → ℕ → List Reply → Call → Call
 fine_call n me replies call = if is_fine n me replies call then call else Trap BadRank
 
--- the End comes behind the last call
+-- the End comes after the last call
 abbrev pub call_at : ℕ → ℕ → List Reply → List Call → ℕ → Option Call
 call_at n me replies [] zero = Some End
 call_at n me replies [] (suc at) = None
 call_at n me replies (call ∷ calls) zero = Some (fine_call n me replies call)
 call_at n me replies (call ∷ calls) (suc at) = call_at n me replies calls at
 
+-- a rank's next call: none after a halt
 abbrev pub next_in : ℕ → ℕ → List Call → List Reply → Option Call
 next_in n me calls replies = if list_any is_stopped replies then None else call_at n me replies calls (length replies)
 

@@ -20,6 +20,7 @@ abbrev pub listed_by : Call → List ℕ
 listed_by (Take starts mode) = starts
 listed_by call = []
 
+-- a collective
 abbrev pub is_enter : Call → Bool
 is_enter (Enter comm kind root op count ints) = true
 is_enter call = false

@@ -16,5 +16,6 @@ fault_number OutputFull = 8
 fault_number Depth = 9
 fault_number Cells = 10
 
+-- two faults are the same
 abbrev pub same_fault : Fault → Fault → Bool
 same_fault a b = fault_number a == fault_number b

@@ -3,6 +3,7 @@
 use Rattle.std.specs.Prelude.{ℕ, List, [], ◌∷◌, Bool, false, true, ◌==◌, if◌then◌else◌}
 use Rattle.std.specs.List.{list_any, position_or_len}
 
+-- a rank is among the members
 abbrev pub is_member : List ℕ → ℕ → Bool
 is_member members rank = list_any (λ member. member == rank) members
 

@@ -83,7 +83,7 @@ result_length (Enter comm Alltoall root op count ints) members me = length membe
 result_length (Enter comm Scan root op count ints) members me = count
 result_length call members me = 0
 
--- the place of a kind and of an operation in their lists
+-- the place of a kind in the list of kinds
 abbrev pub kind_number : Kind → ℕ
 kind_number Barrier = 0
 kind_number Bcast = 1
@@ -97,6 +97,7 @@ kind_number Scan = 8
 kind_number Split = 9
 kind_number Dup = 10
 
+-- the place of an operation in the list of operations
 abbrev pub op_number : Op → ℕ
 op_number Max = 0
 op_number Min = 1
@@ -109,11 +110,13 @@ op_number Bor = 7
 op_number Lxor = 8
 op_number Bxor = 9
 
+-- two Enters name the same root, or none
 abbrev pub same_root : Option ℕ → Option ℕ → Bool
 same_root None None = true
 same_root (Some a) (Some b) = a == b
 same_root a b = false
 
+-- two Enters name the same operation, or none
 abbrev pub same_op : Option Op → Option Op → Bool
 same_op None None = true
 same_op (Some a) (Some b) = op_number a == op_number b
@@ -125,7 +128,7 @@ agree (Enter comm kind root op count ints) (Enter comm' kind' root' op' count' i
     (kind_number kind == kind_number kind') && (same_root root root' && (same_op op op' && (count == count')))
 agree a b = false
 
--- the kinds that have a root, that have an operation, and whose count is 0
+-- the kinds that have a root
 abbrev pub takes_root : Kind → Bool
 takes_root Bcast = true
 takes_root Reduce = true
@@ -133,12 +136,14 @@ takes_root Gather = true
 takes_root Scatter = true
 takes_root kind = false
 
+-- the kinds that have an operation
 abbrev pub takes_op : Kind → Bool
 takes_op Reduce = true
 takes_op Allreduce = true
 takes_op Scan = true
 takes_op kind = false
 
+-- the kinds whose count need not be 0
 abbrev pub takes_count : Kind → Bool
 takes_count Barrier = false
 takes_count Split = false
@@ -155,6 +160,7 @@ abbrev pub is_op_for : Kind → Option Op → Bool
 is_op_for kind None = not (takes_op kind)
 is_op_for kind (Some op) = takes_op kind
 
+-- the count is 0 where the kind has none
 abbrev pub is_count_for : Kind → ℕ → Bool
 is_count_for kind count = takes_count kind || count == 0
 

@@ -7,10 +7,11 @@ use Rattle.std.specs.Ordering.{int_eq}
 use Rattle.mpi_call.specs.declared.call.Op.{Op}
 use Rattle.mpi_call.specs.declared.call.Op.TheVariants.{Max, Min, Sum, Prod, Land, Band, Lor, Bor, Lxor, Bxor}
 
--- an int as a truth value, as in C: all but 0 are true; and a truth value as an int
+-- an int as a truth value, as in C: all but 0 are true
 abbrev pub is_set : ℤ → Bool
 is_set a = not (int_eq a (pos 0))
 
+-- a truth value as an int, as in C
 abbrev pub int_of : Bool → ℤ
 int_of false = pos 0
 int_of true = pos 1

@@ -16,10 +16,11 @@ pub record AreInputsOf (call : Call) (members : List ℕ) (inputs : List (List �
   pub lengths : (place : ℕ) → place < length members → needs call members me (slice_index members place) ≡ true
       → length (slice_index_or inputs place []) ≡ input_length call members (slice_index members place)
 
--- what a member entered, and what the root entered
+-- what a member entered
 abbrev pub input_of : List ℕ → List (List ℤ) → ℕ → List ℤ
 input_of members inputs rank = slice_index_or inputs (place_of members rank) []
 
+-- what the root entered
 abbrev pub root_input : Option ℕ → List ℕ → List (List ℤ) → List ℤ
 root_input None members inputs = []
 root_input (Some root) members inputs = input_of members inputs root

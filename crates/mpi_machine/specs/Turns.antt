@@ -48,6 +48,7 @@ abbrev pub is_answered : Next → ℕ → List Event → List (Option Call) → 
 is_answered next n events kept rank call =
     can_go n events (view_of events rank) rank call || (is_stuck next n events && others_wait next n events kept rank)
 
+-- by whether the call is answered
 abbrev pub turn_by : Bool → Reply → Turn
 turn_by true reply = Replied reply
 turn_by false reply = Wait
@@ -67,6 +68,7 @@ pub record StandsAt {P : Type 0} (machine : MachineState P) (stage : Stage) : Ty
   pub events : stage.events ≡ machine.events
   pub waiting : (rank : ℕ) → is_member stage.waiting rank ≡ is_some (kept_of machine.kept rank)
 
+-- the reply is a collective that does not agree
 abbrev pub is_mismatch : Reply → Bool
 is_mismatch (Stopped (Mismatched rank)) = true
 is_mismatch reply = false

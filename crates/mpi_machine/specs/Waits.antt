@@ -31,6 +31,7 @@ is_there n events me (Take starts mode) = holds mode (flags_of n events (view_of
 is_there n events me (Peek comm source tag wait) = is_some (choice events me (Peek comm source tag wait))
 is_there n events me call = true
 
+-- the answer is that the start is ready
 abbrev pub is_ready_answer : Readiness → Bool
 is_ready_answer Ready = true
 is_ready_answer answer = false

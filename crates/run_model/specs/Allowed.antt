@@ -28,6 +28,7 @@ use Rattle.run_model.specs.Due.{due}
 abbrev pub flags_of : ℕ → List Event → View → ℕ → List ℕ → List Bool
 flags_of n before own me starts = map (λ k. is_ready n before own me k (start_at own k)) starts
 
+-- the modes that complete all listed starts
 abbrev pub takes_all : TakeMode → Bool
 takes_all All = true
 takes_all TestAll = true
@@ -37,10 +38,12 @@ takes_all mode = false
 abbrev pub holds : TakeMode → List Bool → Bool
 holds mode flags = if takes_all mode then list_all (λ x. x) flags else list_any (λ x. x) flags
 
+-- the places of the flags that are true, rising; the first flag has place `at`
 abbrev pub true_places : ℕ → List Bool → List ℕ
 true_places at [] = []
 true_places at (flag ∷ flags) = if flag then at ∷ true_places (at + 1) flags else true_places (at + 1) flags
 
+-- one place alone, whose flag is true
 abbrev pub IsOne : List Bool → List ℕ → Type 0
 IsOne flags indices = (index : ℕ) × (indices ≡ index ∷ []) × (slice_get flags index ≡ Some true)
 
@@ -50,6 +53,7 @@ AreChosen AnyOne flags indices = IsOne flags indices
 AreChosen TestAny flags indices = IsOne flags indices
 AreChosen mode flags indices = indices ≡ true_places 0 flags
 
+-- what a receive gives is a message longer than its room
 abbrev pub is_long : Option Call → Got → Bool
 is_long (Some (Post comm source tag room)) (Message sender start t ints) = nat_lt room (length ints)
 is_long call got = false
@@ -61,10 +65,12 @@ first_long own starts (item ∷ items) =
     if is_long (start_at own (slice_index starts item.index)) item.got
     then Some (slice_index starts item.index) else first_long own starts items
 
+-- the chosen items, or Truncated where a message is too long
 abbrev pub taken_reply : ℕ → Option ℕ → List Item → Reply
 taken_reply me None items = Took items
 taken_reply me (Some k) items = Stopped (Truncated me k)
 
+-- the reply to a completion whose condition holds
 pub record IsTaken (n : ℕ) (before : List Event) (own : View) (me : ℕ) (starts : List ℕ) (mode : TakeMode) (reply : Reply) : Type 0 where
   pub items : List Item
   pub chosen : AreChosen mode (flags_of n before own me starts) (map (λ (item : Item). item.index) items)
@@ -85,6 +91,7 @@ pub record IsPeeked (before : List Event) (me comm : ℕ) (source : Source) (tag
   pub first : (start : ℕ) (call : Call) → start < send.1 → named before (send.0, start) ≡ Some call → accepts me comm source tag send.0 call ≡ true → IsTrue (is_some (partner_of (pairs_of before) (send.0, start)))
   pub reply_is : reply ≡ Peeked send.0 send.1 t (length ints)
 
+-- among these starts of a sender, numbered from `start` on, is an unpaired Send that the probe accepts
 abbrev pub open_in : List (Name × Name) → ℕ → ℕ → Source → Tag → ℕ → ℕ → List Call → Bool
 open_in pairs me comm source tag sender start [] = false
 open_in pairs me comm source tag sender start (call ∷ calls) =
@@ -102,6 +109,7 @@ is_prompt n before own me (Take starts mode) = is_test mode || holds mode (flags
 is_prompt n before own me (Peek comm source tag wait) = not wait || has_open n before me comm source tag
 is_prompt n before own me call = true
 
+-- a halt is due to the call, or it is answered at once
 abbrev pub can_go : ℕ → List Event → View → ℕ → Call → Bool
 can_go n before own me call = is_some (due n before own me call) || is_prompt n before own me call
 
@@ -116,10 +124,12 @@ abbrev pub IsHeld : Bool → Type 0 → Reply → Type 0
 IsHeld true stuck reply = reply ≡ NotYet
 IsHeld false stuck reply = stuck × (reply ≡ Stopped Stuck)
 
+-- the reply to a completion, by whether its condition holds
 abbrev pub IsTakeAnswer : Bool → Type 0 → ℕ → List Event → View → ℕ → List ℕ → TakeMode → Reply → Type 0
 IsTakeAnswer true stuck n before own me starts mode reply = IsTaken n before own me starts mode reply
 IsTakeAnswer false stuck n before own me starts mode reply = IsHeld (is_test mode) stuck reply
 
+-- the reply to a probe, by whether there is a message for it
 abbrev pub IsPeekAnswer : Bool → Type 0 → List Event → ℕ → ℕ → Source → Tag → Bool → Reply → Type 0
 IsPeekAnswer true stuck before me comm source tag wait reply = IsPeeked before me comm source tag reply
 IsPeekAnswer false stuck before me comm source tag wait reply = IsHeld (not wait) stuck reply
@@ -132,6 +142,7 @@ IsAnswer stuck n before own me (Peek comm source tag wait) reply =
     IsPeekAnswer (has_open n before me comm source tag) stuck before me comm source tag wait reply
 IsAnswer stuck n before own me call reply = reply ≡ Done
 
+-- a halt that is due is the reply; else the call is answered
 abbrev pub IsAllowedBy : Option Halt → Type 0 → ℕ → List Event → View → ℕ → Call → Reply → Type 0
 IsAllowedBy (Some halt) stuck n before own me call reply = reply ≡ Stopped halt
 IsAllowedBy None stuck n before own me call reply = IsAnswer stuck n before own me call reply

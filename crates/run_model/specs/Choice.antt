@@ -18,6 +18,7 @@ suits rank (Send comm dest tag ints sync) owner start = post_accepts owner start
 suits rank (Peek comm source tag wait) owner start = accepts rank comm source tag owner start
 suits rank call owner start = post_accepts rank call owner start
 
+-- the same, of a start that is there
 abbrev pub suits_some : ℕ → Call → ℕ → Option Call → Bool
 suits_some rank call owner None = false
 suits_some rank call owner (Some start) = suits rank call owner start
@@ -28,7 +29,7 @@ is_open events rank call None = false
 is_open events rank call (Some name) =
     not (is_some (partner_of (pairs_of events) name)) && suits_some rank call name.0 (named events name)
 
--- the least number from `at` on, among so many, that passes a test
+-- the least number that passes a test, of as many as are given from `at` on
 abbrev pub least : (ℕ → Bool) → ℕ → ℕ → Option ℕ
 least test at zero = None
 least test at (suc more) = if test at then Some at else least test (at + 1) more

@@ -31,6 +31,7 @@ abbrev pub message_in : Name → Option Call → Got
 message_in send (Some (Send comm dest tag ints sync)) = Message send.0 send.1 tag ints
 message_in send other = Nothing
 
+-- the same, of the Send with this name
 abbrev pub message_of : List Event → Option Name → Got
 message_of before None = Nothing
 message_of before (Some send) = message_in send (named before send)
@@ -43,6 +44,7 @@ collected_by true false n before own me k enter inputs =
 collected_by false uncoloured n before own me k enter inputs =
     Joined (result_of enter (members_in n own (comm_of enter)) inputs me)
 
+-- what a collective gives, once those that it needs have entered
 abbrev pub collected : ℕ → List Event → View → ℕ → ℕ → Call → Result (List (List ℤ)) ℕ → Got
 collected n before own me k enter (Err missing) = Nothing
 collected n before own me k enter (Ok inputs) = collected_by (makes enter) (is_uncoloured enter) n before own me k enter inputs
@@ -63,18 +65,21 @@ items_at n before own me starts (index ∷ indices) =
     (record { index = index; got = got_of n before own me (slice_index starts index) (start_at own (slice_index starts index)) })
     ∷ items_at n before own me starts indices
 
+-- the items of the starts that a mode chooses
 abbrev pub items_of : ℕ → List Event → View → ℕ → List ℕ → TakeMode → List Item
 items_of n before own me starts mode = items_at n before own me starts (chosen_places mode (flags_of n before own me starts))
 
--- a test or probe that finds nothing is told so, and a call that waits is stuck
+-- a test or probe that finds nothing is answered NotYet, a call that waits is answered Stuck
 abbrev pub held_reply : Bool → Reply
 held_reply true = NotYet
 held_reply false = Stopped Stuck
 
+-- the reply to a probe that finds this Send
 abbrev pub peeked_in : Name → Option Call → Reply
 peeked_in send (Some (Send comm dest tag ints sync)) = Peeked send.0 send.1 tag (length ints)
 peeked_in send other = NotYet
 
+-- the same, of the Send with this name
 abbrev pub peeked_at : List Event → Option Name → Reply
 peeked_at before None = NotYet
 peeked_at before (Some send) = peeked_in send (named before send)
@@ -93,6 +98,7 @@ chosen_answer n before own me (Take starts mode) =
 chosen_answer n before own me (Peek comm source tag wait) = peek_reply before wait (choice before me (Peek comm source tag wait))
 chosen_answer n before own me call = Done
 
+-- a halt that is due, or else this reply
 abbrev pub halt_or : Option Halt → Reply → Reply
 halt_or (Some halt) reply = Stopped halt
 halt_or None reply = reply
@@ -106,6 +112,7 @@ abbrev pub chosen_event : ℕ → List Event → ℕ → Call → Event
 chosen_event n before rank call =
     record { rank = rank; call = call; reply = chosen_reply n before rank call; mate = mate_of before rank call (chosen_reply n before rank call) }
 
+-- an event is the machine's, after those before it
 abbrev pub IsChosenEvent : ℕ → List Event → Event → Type 0
 IsChosenEvent n before event = event ≡ chosen_event n before event.rank event.call
 

@@ -11,14 +11,17 @@ use Rattle.mpi_call.specs.declared.reply.Reply.TheVariants.{Took}
 use Rattle.run_model.specs.Lists.{world}
 use Rattle.run_model.specs.Views.{View, is_start, starts_of}
 
+-- the members that what a start gives has for a number
 abbrev pub made_in_got : ℕ → Got → Option (List ℕ)
 made_in_got comm (Made c members) = if c == comm then Some members else None
 made_in_got comm got = None
 
+-- the first of two, if it is there
 abbrev pub or_members : Option (List ℕ) → Option (List ℕ) → Option (List ℕ)
 or_members (Some members) rest = Some members
 or_members None rest = rest
 
+-- the members in the first Made with this number
 abbrev pub made_in_items : ℕ → List Item → Option (List ℕ)
 made_in_items comm [] = None
 made_in_items comm (item ∷ items) = or_members (made_in_got comm item.got) (made_in_items comm items)
@@ -33,6 +36,7 @@ learned comm None reply = None
 abbrev pub known_first : ℕ → ℕ → Option (List ℕ)
 known_first n comm = if comm == 0 then Some (world n 0) else None
 
+-- what is known of a communicator after a view
 abbrev pub known_after : ℕ → Option (List ℕ) → View → Option (List ℕ)
 known_after comm known [] = known
 known_after comm known ((call, reply) ∷ view) = known_after comm (learned comm known reply) view
@@ -41,10 +45,12 @@ known_after comm known ((call, reply) ∷ view) = known_after comm (learned comm
 abbrev pub known_in : ℕ → View → ℕ → Option (List ℕ)
 known_in n view comm = known_after comm (known_first n comm) view
 
+-- an unknown communicator has no members
 abbrev pub or_none : Option (List ℕ) → List ℕ
 or_none None = []
 or_none (Some members) = members
 
+-- the members of a communicator for a rank, none where it does not know it
 abbrev pub members_in : ℕ → View → ℕ → List ℕ
 members_in n view comm = or_none (known_in n view comm)
 
@@ -54,6 +60,7 @@ pub record Entered : Type 0 where
   pub call : Call
   pub members : Option (List ℕ)
 
+-- an Enter on this communicator
 abbrev pub is_on : ℕ → Call → Bool
 is_on comm (Enter c kind root op count ints) = c == comm
 is_on comm call = false
@@ -72,6 +79,7 @@ entered_from comm number known ((call, reply) ∷ view) =
 abbrev pub enter_at : ℕ → View → ℕ → ℕ → Option Entered
 enter_at n view comm instance = slice_get (entered_from comm 0 (known_first n comm) view) instance
 
+-- how many of these calls are Enters on the communicator
 abbrev pub count_on : ℕ → List Call → ℕ
 count_on comm [] = 0
 count_on comm (call ∷ calls) = if is_on comm call then suc (count_on comm calls) else count_on comm calls

@@ -27,17 +27,21 @@ size_of_got (Message source start tag ints) = length ints
 size_of_got (Joined ints) = length ints
 size_of_got (Made comm members) = length members
 
+-- one for each item, and the size of what it gives
 abbrev pub size_of_items : List Item → ℕ
 size_of_items [] = 0
 size_of_items (item ∷ items) = 1 + (size_of_got item.got + size_of_items items)
 
+-- the size of a reply
 abbrev pub size_of_reply : Reply → ℕ
 size_of_reply (Took items) = size_of_items items
 size_of_reply reply = 0
 
+-- the size of an event
 abbrev pub size_of : Event → ℕ
 size_of event = length (ints_of event.call) + (length (listed_by event.call) + size_of_reply event.reply)
 
+-- the sizes of all events together
 abbrev pub total_size : List Event → ℕ
 total_size [] = 0
 total_size (event ∷ events) = size_of event + total_size events
@@ -46,10 +50,12 @@ total_size (event ∷ events) = size_of event + total_size events
 abbrev pub is_full : List Event → Bool
 is_full before = nat_le MOST_EVENTS (length before) || nat_le MOST_SIZE (total_size before)
 
+-- the first of two halts that is there
 abbrev pub or_else : Option Halt → Option Halt → Option Halt
 or_else (Some halt) other = Some halt
 or_else None other = other
 
+-- the halt in a reply
 abbrev pub halt_in : Reply → Option Halt
 halt_in (Stopped halt) = Some halt
 halt_in reply = None
@@ -59,6 +65,7 @@ abbrev pub halted : List Event → Option Halt
 halted [] = None
 halted (event ∷ events) = or_else (halt_in event.reply) (halted events)
 
+-- an Enter that is there does not agree with this one
 abbrev pub disagrees : Call → Option Entered → Bool
 disagrees enter None = false
 disagrees enter (Some entered) = not (agree enter entered.call)
@@ -77,6 +84,7 @@ bad_request own earlier (k ∷ starts) =
     if is_some (start_at own k) && (not (is_member (taken_of own) k) && not (is_member earlier k))
     then bad_request own (k ∷ earlier) starts else Some k
 
+-- BadRequest for this start
 abbrev pub bad_halt : ℕ → Option ℕ → Option Halt
 bad_halt me None = None
 bad_halt me (Some k) = Some (BadRequest me k)

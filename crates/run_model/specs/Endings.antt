@@ -6,6 +6,7 @@ use Rattle.run_model.specs.declared.ending.Ending.TheVariants.{Finished, Halted}
 use Rattle.run_model.specs.declared.event.Event.{Event}
 use Rattle.run_model.specs.Due.{halted}
 
+-- by the halt, if there is one
 abbrev pub ending_by : Option Halt → Ending
 ending_by None = Finished
 ending_by (Some halt) = Halted halt

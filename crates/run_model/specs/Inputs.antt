@@ -7,10 +7,12 @@ use Rattle.mpi_call.specs.Collectives.{needs}
 use Rattle.run_model.specs.Views.{View}
 use Rattle.run_model.specs.Communicators.{Entered, enter_at, instance_of, members_in}
 
+-- one list more, in front, where none is missing
 abbrev pub push_ints : List ℤ → Result (List (List ℤ)) ℕ → Result (List (List ℤ)) ℕ
 push_ints ints (Ok rest) = Ok (ints ∷ rest)
 push_ints ints (Err missing) = Err missing
 
+-- what an Enter entered, in front; without the Enter, its member is missing
 abbrev pub with_ints : ℕ → Option Entered → Result (List (List ℤ)) ℕ → Result (List (List ℤ)) ℕ
 with_ints m (Some entered) rest = push_ints (ints_of entered.call) rest
 with_ints m None rest = Err m
@@ -28,6 +30,7 @@ inputs_of n V own me k enter =
     (λ m. enter_at n (V m) (comm_of enter) (instance_of own k (comm_of enter)))
     (members_in n own (comm_of enter))
 
+-- no needed member is missing
 abbrev pub is_gathered : Result (List (List ℤ)) ℕ → Bool
 is_gathered (Ok inputs) = true
 is_gathered (Err m) = false

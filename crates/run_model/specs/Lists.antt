@@ -10,12 +10,14 @@ Along IsStep before (event ∷ events) = IsStep before event × Along IsStep (be
 abbrev pub IsPrefixOf : {A : Type 0} → List A → List A → Type 0
 IsPrefixOf xs ys = (rest : List _) × (xs ++ rest ≡ ys)
 
+-- two lists of ranks are the same
 abbrev pub same_ranks : List ℕ → List ℕ → Bool
 same_ranks [] [] = true
 same_ranks [] (y ∷ ys) = false
 same_ranks (x ∷ xs) [] = false
 same_ranks (x ∷ xs) (y ∷ ys) = (x == y) && same_ranks xs ys
 
+-- each rank is below n
 abbrev pub are_below : ℕ → List ℕ → Bool
 are_below n [] = true
 are_below n (m ∷ members) = nat_lt m n && are_below n members

@@ -15,10 +15,12 @@ use Rattle.run_model.specs.Views.{Next, replies_in, view_of}
 use Rattle.run_model.specs.Chosen.{IsChosen, chosen_event, order_of}
 use Rattle.run_model.specs.Serial.{IsSerial}
 
+-- a reply that tells that no rank can go on
 abbrev pub is_stuck_reply : Reply → Bool
 is_stuck_reply (Stopped Stuck) = true
 is_stuck_reply reply = false
 
+-- some reply is Stuck
 abbrev pub has_stuck : List Event → Bool
 has_stuck events = list_any (λ (event : Event). is_stuck_reply event.reply) events
 

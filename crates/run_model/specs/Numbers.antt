@@ -22,12 +22,14 @@ pub record Origin : Type 0 where
   pub instance : ℕ
   pub colour : List ℤ
 
+-- two colours are the same, or both are none
 abbrev pub same_colour : List ℤ → List ℤ → Bool
 same_colour [] [] = true
 same_colour [] (y ∷ ys) = false
 same_colour (x ∷ xs) [] = false
 same_colour (x ∷ xs) (y ∷ ys) = int_eq x y && same_colour xs ys
 
+-- two communicators come from the same instance and colour
 abbrev pub same_origin : Origin → Origin → Bool
 same_origin a b = (a.comm == b.comm) && ((a.instance == b.instance) && same_colour a.colour b.colour)
 
@@ -65,6 +67,7 @@ made_at n before event =
     (count_on (comm_of event.call) (starts_of (view_of before event.rank))) event.call
     else []
 
+-- the communicators that these events make, one after the other, after those before
 abbrev pub made_along : ℕ → List Event → List Event → List Origin
 made_along n before [] = []
 made_along n before (event ∷ events) = made_at n before event ++ made_along n (before ++ event ∷ []) events

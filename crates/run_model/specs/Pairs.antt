@@ -11,6 +11,7 @@ use Rattle.run_model.specs.Views.{view_of, starts_of, start_at, is_start}
 abbrev pub Name : Type 0
 Name = ℕ × ℕ
 
+-- two names are the same
 abbrev pub same_name : Name → Name → Bool
 same_name a b = (a.0 == b.0) && (a.1 == b.1)
 
@@ -18,6 +19,7 @@ same_name a b = (a.0 == b.0) && (a.1 == b.1)
 abbrev pub named : List Event → Name → Option Call
 named events name = start_at (view_of events name.0) name.1
 
+-- the name of an event that is a start, by the events before it
 abbrev pub name_of_start : List Event → Option Event → Option Name
 name_of_start before None = None
 name_of_start before (Some event) =
@@ -27,6 +29,7 @@ name_of_start before (Some event) =
 abbrev pub name_at : List Event → ℕ → Option Name
 name_at events at = name_of_start (take at events) (slice_get events at)
 
+-- one pair, where there is an earlier start
 abbrev pub pair_with : Option Name → Name → List (Name × Name)
 pair_with None later = []
 pair_with (Some earlier) later = (earlier, later) ∷ []
@@ -38,18 +41,22 @@ pair_of before event = elim event.mate [
   | Some at ↦ pair_with (name_at before at) (event.rank, length (starts_of (view_of before event.rank)))
 ]
 
+-- the pairs that these events make, one after the other, after those before
 abbrev pub pairs_from : List Event → List Event → List (Name × Name)
 pairs_from before [] = []
 pairs_from before (event ∷ events) = pair_of before event ++ pairs_from (before ++ event ∷ []) events
 
+-- the pairs of a history
 abbrev pub pairs_of : List Event → List (Name × Name)
 pairs_of events = pairs_from [] events
 
+-- the other start of the pair that a start is in
 abbrev pub partner_of : List (Name × Name) → Name → Option Name
 partner_of [] name = None
 partner_of (pair ∷ pairs) name =
     if same_name pair.0 name then Some pair.1 else if same_name pair.1 name then Some pair.0 else partner_of pairs name
 
+-- a Post of `rank` accepts this call of `sender`
 abbrev pub post_accepts : ℕ → Call → ℕ → Call → Bool
 post_accepts rank (Post comm source tag room) sender call = accepts rank comm source tag sender call
 post_accepts rank other sender call = false
@@ -75,5 +82,6 @@ pub record AreMatched (N : Name → Option Call) (pairs : List (Name × Name)) :
   pub posts : (post send : Name) → partner_of pairs post ≡ Some send → (start : ℕ) → start < post.1 → Takes N (post.0, start) send → is_some (partner_of pairs (post.0, start)) ≡ true
   pub closed : (post send : Name) → Takes N post send → partner_of pairs post ≡ None → partner_of pairs send ≡ None → ⊥
 
+-- the pairs of a history meet the five conditions
 abbrev pub IsMatched : List Event → Type 0
 IsMatched events = AreMatched (named events) (pairs_of events)

@@ -50,10 +50,12 @@ PrintsOn next output =
     (n rank : ℕ) (view more : View) → IsRankOf n rank → IsViewOf next n rank (view ++ more)
     → IsPrefixOf (output n rank (replies_in view)) (output n rank (replies_in (view ++ more)))
 
+-- a rank that is named as a source is below n
 abbrev pub IsSourceBelow : ℕ → Source → Type 0
 IsSourceBelow n (From rank) = rank < n
 IsSourceBelow n source = Unit {0}
 
+-- a tag that is asked for is in bounds
 abbrev pub IsTagInBounds : Tag → Type 0
 IsTagInBounds (Is tag) = tag < 2 ^ 31
 IsTagInBounds tag = Unit {0}

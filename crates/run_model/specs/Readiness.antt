@@ -53,6 +53,7 @@ IsFrom true false n own me enter inputs got = IsMade n own me enter inputs got
 IsFrom false uncoloured n own me enter inputs got =
     got ≡ Joined (result_of enter (members_in n own (comm_of enter)) inputs me)
 
+-- the result of a collective, from what the members entered
 pub record IsCollected (n : ℕ) (before : List Event) (own : View) (me k : ℕ) (enter : Call) (got : Got) : Type 0 where
   pub inputs : List (List ℤ)
   pub gathered : inputs_of n (view_of before) own me k enter ≡ Ok inputs

@@ -22,14 +22,17 @@ abbrev pub number_in : ℕ → Got → List (ℕ × ℕ)
 number_in k (Made comm members) = (comm, k) ∷ []
 number_in k got = []
 
+-- the same, of the items of a completion
 abbrev pub numbers_in : List ℕ → List Item → List (ℕ × ℕ)
 numbers_in starts [] = []
 numbers_in starts (item ∷ items) = number_in (slice_index starts item.index) item.got ++ numbers_in starts items
 
+-- the same, of a reply
 abbrev pub numbers_in_reply : Call → Reply → List (ℕ × ℕ)
 numbers_in_reply call (Took items) = numbers_in (listed_by call) items
 numbers_in_reply call reply = []
 
+-- the same, of a view
 abbrev pub numbers_of : View → List (ℕ × ℕ)
 numbers_of [] = []
 numbers_of ((call, reply) ∷ view) = numbers_in_reply call reply ++ numbers_of view

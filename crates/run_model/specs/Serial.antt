@@ -18,6 +18,7 @@ pub record Stage : Type 0 where
 abbrev pub call_after : Next → ℕ → List Event → ℕ → Option Call
 call_after next n events rank = next n rank (replies_in (view_of events rank))
 
+-- a live rank's next call can go
 abbrev pub goes : ℕ → List Event → ℕ → Option Call → Bool
 goes n events rank None = false
 goes n events rank (Some call) = can_go n events (view_of events rank) rank call
@@ -31,6 +32,7 @@ abbrev pub others_wait : Next → ℕ → Stage → ℕ → Bool
 others_wait next n stage rank =
     list_all (λ other. (other == rank) || (not (is_some (call_after next n stage.events other)) || is_member stage.waiting other)) (world n 0)
 
+-- a rank attempts, and its call is answered
 abbrev pub appended : ℕ → Stage → ℕ → Call → Stage
 appended n stage rank call =
     record { events = stage.events ++ chosen_event n stage.events rank call ∷ []; waiting = filter (λ other. not (other == rank)) stage.waiting }
@@ -44,6 +46,7 @@ attempt_with next n stage rank (Some call) =
     else if is_stuck next n stage.events && others_wait next n stage rank then appended n stage rank call
     else record stage { waiting = rank ∷ stage.waiting }
 
+-- a rank attempts with its next call
 abbrev pub attempt : Next → ℕ → Stage → ℕ → Stage
 attempt next n stage rank = attempt_with next n stage rank (call_after next n stage.events rank)
 
@@ -52,11 +55,12 @@ abbrev pub attempts : Next → ℕ → Stage → List ℕ → Stage
 attempts next n stage [] = stage
 attempts next n stage (rank ∷ ranks) = attempts next n (attempt next n stage rank) ranks
 
--- so many rounds over all ranks, rising
+-- a number of rounds over all ranks, rising
 abbrev pub rounds : Next → ℕ → ℕ → Stage → Stage
 rounds next n zero stage = stage
 rounds next n (suc more) stage = rounds next n more (attempts next n stage (world n 0))
 
+-- no events, and no rank waits
 abbrev pub at_first : Stage
 at_first = record { events = []; waiting = [] }
 

@@ -25,6 +25,7 @@ use Rattle.run_model.specs.Lists.{are_below, same_ranks}
 use Rattle.run_model.specs.Views.{View, start_at, taken_of}
 use Rattle.run_model.specs.Communicators.{members_in}
 
+-- the Test family
 abbrev pub is_test : TakeMode → Bool
 is_test TestAll = true
 is_test TestAny = true
@@ -48,6 +49,7 @@ has_count mode starts items = nat_lt 0 items
 abbrev pub can_take : View → ℕ → Bool
 can_take own k = is_some (start_at own k) && not (is_member (taken_of own) k)
 
+-- a Dup
 abbrev pub is_dup : Call → Bool
 is_dup (Enter comm Dup root op count ints) = true
 is_dup call = false
@@ -66,14 +68,17 @@ is_sized n own me enter ints = length ints == result_length enter (members_in n 
 abbrev pub lists_start : ℕ → Call → Bool
 lists_start k call = is_member (listed_by call) k
 
+-- an Abort with this code
 abbrev pub is_abort_of : ℤ → Call → Bool
 is_abort_of code (Abort other) = int_eq code other
 is_abort_of code call = false
 
+-- a Trap with this fault
 abbrev pub is_trap_of : Fault → Call → Bool
 is_trap_of fault (Trap other) = same_fault fault other
 is_trap_of fault call = false
 
+-- a halt may be the reply to a call
 abbrev pub halt_fits : ℕ → Call → Halt → Bool
 halt_fits me call (Aborted rank code) = not (rank == me) || is_abort_of code call
 halt_fits me call (Trapped rank fault) = not (rank == me) || is_trap_of fault call
@@ -98,6 +103,7 @@ got_fits n own me (Some enter) (Made comm (m ∷ members)) =
     && (not (comm == 0) && are_members n me enter (members_in n own (comm_of enter)) (m ∷ members)))
 got_fits n own me start got = false
 
+-- what each item gives has the shape of its start
 abbrev pub gots_fit : ℕ → View → ℕ → List ℕ → List Item → Bool
 gots_fit n own me starts [] = true
 gots_fit n own me starts (item ∷ items) =

@@ -20,14 +20,17 @@ View = List (Call × Reply)
 abbrev pub Next : Type 0
 Next = ℕ → ℕ → List Reply → Option Call
 
+-- what a rank has seen in a history
 abbrev pub view_of : List Event → ℕ → View
 view_of [] rank = []
 view_of (event ∷ events) rank =
     if event.rank == rank then (event.call, event.reply) ∷ view_of events rank else view_of events rank
 
+-- the replies of a view
 abbrev pub replies_in : View → List Reply
 replies_in view = map (λ (call, reply). reply) view
 
+-- the reply is Done
 abbrev pub is_done : Reply → Bool
 is_done Done = true
 is_done reply = false
@@ -41,6 +44,7 @@ abbrev pub starts_of : View → List Call
 starts_of [] = []
 starts_of (seen ∷ view) = if is_start seen then seen.0 ∷ starts_of view else starts_of view
 
+-- the start with this number
 abbrev pub start_at : View → ℕ → Option Call
 start_at view number = slice_get (starts_of view) number
 
@@ -49,6 +53,7 @@ abbrev pub items_taken : List ℕ → List Item → List ℕ
 items_taken starts [] = []
 items_taken starts (item ∷ items) = slice_index starts item.index ∷ items_taken starts items
 
+-- the starts that were taken in a view, by number
 abbrev pub taken_of : View → List ℕ
 taken_of [] = []
 taken_of ((call, Took items) ∷ view) = items_taken (listed_by call) items ++ taken_of view
