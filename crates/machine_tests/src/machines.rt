@@ -209,7 +209,7 @@ static RUNS: [Row; 11] = [
         ],
     },
 
-    // A test is told that there is nothing yet.
+    // A test is answered NotYet.
     Row {
         zeroth: &[Step::Send(1, 5)],
         first: &[

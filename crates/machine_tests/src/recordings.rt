@@ -317,7 +317,7 @@ static SYNCHRONOUS: [Row; 4] = [
         ending: Ending::Finished,
     },
 
-    // A test before the receive is told that the send is not complete yet; a wait gets it later.
+    // A test before the receive is answered NotYet; a wait is answered once the receive has matched the send.
     Row {
         steps: [
             &[

@@ -118,7 +118,7 @@ impl<'a> ScriptRank<'a> {
     }
 }
 
-/// Each of so many ranks, before its first call.
+/// Each rank, before its first call.
 pub fn start_all<'a>(
     alloc: Global,
     script: &'a Script,
@@ -240,7 +240,7 @@ fn calls_of(script: &Script, rank: u8) -> &[Call]
     }
 }
 
-/// A rank's call with this number, after these replies: its End comes behind its last one.
+/// A rank's call with this number, after these replies: its End comes after its last one.
 fn call_at(
     ranks: u8,
     rank: u8,
@@ -359,7 +359,7 @@ fn has_parts(ranks: u8, rank: u8, comm: Comm, kind: Kind, parts: Parts) -> bool
     }
 }
 
-/// Whether a call may stand in a script of a rank for so many ranks after these replies.
+/// Whether a call may stand in a script of a rank, for this number of ranks, after these replies.
 fn is_fine(ranks: u8, rank: u8, replies: &[Reply], call: &Call) -> bool
     ensures { result ≡ is_fine ranks rank replies.now call.now }
 {

@@ -282,7 +282,7 @@ static MESSAGES: [Row; 22] = [
         want: Answer::BadStart(0),
     },
 
-    // A receive is not ready before its message is there; a Test is told so.
+    // A receive is not ready before its message is there; a Test is answered NotReady.
     Row {
         rank: 1,
         step: Step::Post(Source::Any, Tag::Is(5), 1),

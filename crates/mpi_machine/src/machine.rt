@@ -93,7 +93,8 @@ impl<'a, P: Program> Machine<'a, P> {
         Ok(turn)
     }
 
-    /// The events so far are a run, each event of which is the machine's, and each rank has a place for its waiting call.
+    /// The events so far are a run, each event of which is the machine's, and each rank has a place for its waiting call. The body
+    /// does nothing: the machine's invariant says so, and callers take it from these clauses.
     fn is_run(&self)
         ensures chosen { IsChosen (P.next self.now.program) self.now.ranks self.now.events }
         ensures kept { length self.now.kept ≡ self.now.ranks }
@@ -283,7 +284,8 @@ impl<'a, P: Program> Machine<'a, P> {
         }
     }
 
-    /// A call whose condition fails: a test is told so; where no rank can go on the run is stuck; else the rank waits.
+    /// A call whose condition fails: a test is answered NotYet; where no rank can go on, the answer is Stuck; else the rank
+    /// waits.
     fn held(&mut self, rank: u8, call: Call, test: bool) -> Result<Turn, AllocError>
         requires asked { IsAsked (P.next self.old.program) self.old.ranks self.old.events rank call }
         requires bound { bound_of self.old.events ≡ None }
