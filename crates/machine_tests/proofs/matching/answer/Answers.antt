@@ -1,4 +1,4 @@
-use Rattle.std.proofs.Common.{◌≡◌, ◌+◌, IfOk, List, OnOk, Option, Result, Ok, Err, subst, sym, ℕ}
+use Rattle.std.proofs.Common.{◌≡◌, ◌+◌, Err, IfOk, List, Ok, OnOk, Option, Result, false, subst, sym, ℕ}
 use Rattle.mpi_call.specs.declared.call.Call.{Call}
 use Rattle.mpi_call.specs.declared.call.Call.TheVariants.{Post, Send}
 use Rattle.match_core.specs.declared.start.Start.{Start}

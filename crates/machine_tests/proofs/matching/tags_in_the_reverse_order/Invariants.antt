@@ -6,4 +6,4 @@ abbrev pub invariant-loop-sent : goal.invariant-loop-sent
 invariant-loop-sent g l = AreBelow l.sent-counter l.matcher
 
 abbrev pub invariant-loop-received : goal.invariant-loop-received
-invariant-loop-received g l = AreBelow (50 + l.received-counter) l.matcher
+invariant-loop-received g l = AreBelow (50 + l.received) l.matcher
