@@ -7,7 +7,8 @@ use Rattle.c_grammar.specs.declared.terminal.Span.{Span}
 use Rattle.c_grammar.specs.declared.terminal.Symbol.{Symbol}
 use Rattle.c_grammar.specs.declared.terminal.Symbol.TheVariants as w
 use Rattle.c_grammar.specs.Tree as t
-use Rattle.c_names.specs.Formats.{ints_in, pieces_of}
+use Rattle.c_names.specs.FormatReading.{pieces_of}
+use Rattle.c_names.specs.Formats.{ints_in}
 use Rattle.c_names.specs.Functions.{accepts, arguments}
 use Rattle.c_names.specs.declared.function.ArgumentKind.{ArgumentKind}
 use Rattle.c_names.specs.declared.function.ArgumentKind.TheVariants as a

@@ -1,2 +1,3 @@
 pub mod FormatLaws
 pub mod Names
+pub mod Spelling

@@ -1,16 +1,14 @@
--- The formats of `printf`, byte by byte. (ISO C, "Escape sequences" and "The fprintf function", of which `%%`, `%d`, `%i`
--- and `%x` are here, with `-` or `0`, and a width from 1 to 99.)
-use Rattle.std.specs.Prelude.{◌+◌, ◌-◌, ◌*◌, ◌==◌, ◌&&◌, ◌||◌, ℕ, nat_le, nat_lt, if◌then◌else◌, List, [], ◌∷◌, Option, Some, None, option_map}
+-- The formats of `printf`: a format is pieces, each spelled in one of four ways. (ISO C, "Escape sequences" and "The fprintf
+-- function": of the conversions `%%`, `%d`, `%i` and `%x` are here, with `-` or `0`, and a width from 1 to 99.)
+use Rattle.std.specs.Prelude.{◌≡◌, ◌≢◌, ◌≤◌, ◌+◌, ◌*◌, ◌==◌, ◌||◌, ◌++◌, ℕ, if◌then◌else◌, List, [], ◌∷◌, Option, Some, None}
+use Rattle.c_names.specs.declared.format.Base.{Base}
 use Rattle.c_names.specs.declared.format.Base.TheVariants.{Decimal, Hexadecimal}
-use Rattle.c_names.specs.declared.format.Before.{Before}
-use Rattle.c_names.specs.declared.format.Before.TheVariants.{Pieces, Escape, Percent, Filled, Wide}
 use Rattle.c_names.specs.declared.format.Filling.{Filling}
 use Rattle.c_names.specs.declared.format.Filling.TheVariants.{Blanks, Left, Zeros}
 use Rattle.c_names.specs.declared.format.FormatPiece.{FormatPiece}
 use Rattle.c_names.specs.declared.format.FormatPiece.TheVariants.{Byte, Int}
-use Rattle.c_names.specs.declared.format.Step.{Step}
 
--- the byte that stands for itself behind a `\`, or for a tab, a newline or a return
+-- the byte that an escape means: `\n`, `\t`, `\r`, `\\`, `\"` and `\'`
 abbrev pub escaped : ℕ → Option ℕ
 escaped byte =
     if byte == 110 then Some 10
@@ -19,55 +17,37 @@ escaped byte =
     else (if (byte == 92) || ((byte == 34) || (byte == 39)) then Some byte
     else None)))
 
--- no piece ends at this byte, or one does
-abbrev pub on : Before → Option Step
-on before = Some (record { before = before; piece = None })
+-- `-` fills with blanks on the right, `0` with zeros
+abbrev pub flag : Filling → List ℕ
+flag Blanks = []
+flag Left = 45 ∷ []
+flag Zeros = 48 ∷ []
 
-abbrev pub end : FormatPiece → Option Step
-end piece = Some (record { before = Pieces; piece = Some piece })
+-- a width is one or two digits, of which the first is not 0; without one it is 0
+pub data IsWidth : List ℕ → ℕ → Type 0 where
+  none : IsWidth [] 0
+  one : {tens : ℕ} → 1 ≤ tens → tens ≤ 9 → IsWidth ((48 + tens) ∷ []) tens
+  two : {tens ones : ℕ} → 1 ≤ tens → tens ≤ 9 → ones ≤ 9 → IsWidth ((48 + tens) ∷ (48 + ones) ∷ []) (tens * 10 + ones)
 
-abbrev pub converts : Filling → ℕ → ℕ → Option Step
-converts filling width byte =
-    if (byte == 100) || (byte == 105) then end (Int filling width Decimal)
-    else (if byte == 120 then end (Int filling width Hexadecimal)
-    else None)
+-- `d`, `i` and `x`
+pub data IsConversion : ℕ → Base → Type 0 where
+  decimal : IsConversion 100 Decimal
+  integer : IsConversion 105 Decimal
+  hexadecimal : IsConversion 120 Hexadecimal
 
--- the first digit of a width is not 0
-abbrev pub begins_width : Filling → ℕ → Option Step
-begins_width filling byte =
-    if nat_le 49 byte && nat_le byte 57 then on (Wide filling (byte - 48)) else converts filling 0 byte
+-- a byte that is neither `\` nor `%`, an escape, `%%`, or `%` [`-` | `0`] [width] conversion
+pub data IsSpelled : List ℕ → FormatPiece → Type 0 where
+  plain : {byte : ℕ} → byte ≢ 92 → byte ≢ 37 → IsSpelled (byte ∷ []) (Byte byte)
+  escape : {byte meant : ℕ} → escaped byte ≡ Some meant → IsSpelled (92 ∷ byte ∷ []) (Byte meant)
+  percent : IsSpelled (37 ∷ 37 ∷ []) (Byte 37)
+  int : {filling : Filling} {digits : List ℕ} {width byte : ℕ} {base : Base} → IsWidth digits width → IsConversion byte base
+      → IsSpelled (37 ∷ flag filling ++ digits ++ byte ∷ []) (Int filling width base)
 
-abbrev pub step_of : Before → ℕ → Option Step
-step_of Pieces byte = if byte == 92 then on Escape else (if byte == 37 then on Percent else end (Byte byte))
-step_of Escape byte = option_map (λ byte. record { before = Pieces; piece = Some (Byte byte) }) (escaped byte)
-step_of Percent byte =
-    if byte == 37 then end (Byte 37)
-    else (if byte == 45 then on (Filled Left)
-    else (if byte == 48 then on (Filled Zeros)
-    else begins_width Blanks byte))
-step_of (Filled filling) byte = begins_width filling byte
-step_of (Wide filling width) byte =
-    if nat_lt width 10 && (nat_le 48 byte && nat_le byte 57) then on (Wide filling (width * 10 + (byte - 48)))
-    else converts filling width byte
-
--- one piece more before the others
-abbrev pub with_piece : Option FormatPiece → List FormatPiece → List FormatPiece
-with_piece None pieces = pieces
-with_piece (Some piece) pieces = piece ∷ pieces
-
--- what a byte adds to the pieces behind it
-abbrev pub goes_on : Option Step → (Before → Option (List FormatPiece)) → Option (List FormatPiece)
-goes_on None behind = None
-goes_on (Some step) behind = option_map (with_piece step.piece) (behind step.before)
-
--- the pieces of a format, or nothing where it is none
-abbrev pub pieces_from : Before → List ℕ → Option (List FormatPiece)
-pieces_from Pieces [] = Some []
-pieces_from before [] = None
-pieces_from before (byte ∷ bytes) = goes_on (step_of before byte) (λ before. pieces_from before bytes)
-
-abbrev pub pieces_of : List ℕ → Option (List FormatPiece)
-pieces_of bytes = pieces_from Pieces bytes
+-- the bytes are the spellings of the pieces, one after the other
+pub data IsFormat : List ℕ → List FormatPiece → Type 0 where
+  end : IsFormat [] []
+  more : {spelling bytes : List ℕ} {piece : FormatPiece} {pieces : List FormatPiece} → IsSpelled spelling piece → IsFormat bytes pieces
+      → IsFormat (spelling ++ bytes) (piece ∷ pieces)
 
 -- how many ints it takes
 abbrev pub ints_of : Option FormatPiece → ℕ

@@ -12,7 +12,7 @@ use Rattle.c_names.specs.declared.operator.UnaryOperator.TheVariants as s
 abbrev pub shift_count : ℤ → ℕ
 shift_count count = cast_unsigned w32 count % 32
 
--- what stands behind a divisor, unless it is zero
+-- a value, unless the divisor is zero
 abbrev pub unless_zero : ℤ → ℤ → Option ℤ
 unless_zero divisor value = if int_eq divisor (pos 0) then None else Some value
 

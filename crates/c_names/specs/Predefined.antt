@@ -1,5 +1,5 @@
 -- Names that stand without a declaration. (MPI 3.1, "Defined Values and Handles" and the C bindings; ISO C, `limits.h`, `stdio.h`.)
--- The numbers behind the MPI names are this language's own.
+-- The numbers of the MPI names are this language's own.
 use Rattle.std.specs.Prelude.{ℕ, List, [], ◌∷◌, if◌then◌else◌, Option, Some, None, codes, pos, neg_ℤ}
 use Rattle.std.specs.Str.{bytes_eq}
 use Rattle.mpi_call.specs.declared.call.Op.TheVariants as o

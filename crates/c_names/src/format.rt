@@ -1,6 +1,8 @@
 //! Formats of `printf`.
-ghost use Rattle.std.specs.Prelude.{◌≡◌, ◌++◌, IfOk, OnOk, option_map, option_to_list};
-ghost use Rattle.c_names.specs.Formats.{begins_width, converts, end, escaped, ints_in, ints_of, on, pieces_of, step_of};
+ghost use Rattle.std.specs.Prelude.{◌≡◌, ◌++◌, IfOk, List, MatchOption, OnOk, Some, ℕ, option_map, option_to_list};
+ghost use Rattle.c_names.specs.FormatReading.{begins_width, converts, end, on, pieces_of, step_of};
+ghost use Rattle.c_names.specs.Formats.{IsFormat, escaped, ints_in, ints_of};
+ghost use Rattle.c_names.specs.declared.format.FormatPiece.{FormatPiece};
 
 use std::alloc::{AllocError, Global};
 
@@ -11,7 +13,7 @@ pub enum Filling {
     Blanks,
     /// Blanks on its right.
     Left,
-    /// Zeros on its left, behind the `-`.
+    /// Zeros on its left, after the `-`.
     Zeros,
 }
 
@@ -150,7 +152,7 @@ fn ints(piece: Option<FormatPiece>) -> usize
     }
 }
 
-/// How many ints a format takes, or `None` where it is none. Takes no memory.
+/// How many ints a format takes, or `None` if the bytes are no format. Takes no memory.
 #[tactic(auto, using(crate::proofs::FormatLaws::counted))]
 pub fn count_ints(format: &[u8]) -> Option<usize>
     ensures { result ≡ option_map ints_in (pieces_of format.now) }
@@ -179,10 +181,12 @@ fn push(found: &mut Vec<FormatPiece>, piece: Option<FormatPiece>) -> Result<(), 
     Ok(())
 }
 
-/// The pieces of a format, or `None` where it is none.
-#[tactic(auto, using(crate::proofs::FormatLaws::appended))]
+/// The pieces of a format, or `None` if the bytes are no format.
+#[tactic(auto, using(crate::proofs::FormatLaws::appended, crate::proofs::Spelling::format_reads, crate::proofs::Spelling::read_spells))]
 pub fn pieces(alloc: Global, format: &[u8]) -> Result<Option<Vec<FormatPiece>>, AllocError>
-    ensures { IfOk result (λ found. option_map (λ pieces. pieces.items) found ≡ pieces_of format.now) }
+    ensures read { IfOk result (λ found. option_map (λ pieces. pieces.items) found ≡ pieces_of format.now) }
+    ensures spelled { IfOk result (λ found. MatchOption found ((pieces : List FormatPiece) → IsFormat format.now pieces → ⊥)
+        (λ pieces. IsFormat format.now pieces.items)) }
 {
     let mut found = Vec::new(alloc);
     let mut before = Before::Pieces;
@@ -200,3 +204,9 @@ pub fn pieces(alloc: Global, format: &[u8]) -> Result<Option<Vec<FormatPiece>>, 
         _ => Ok(None),
     }
 }
+
+/// The pieces that are read off a format are those that its bytes spell, so that there is one list of them.
+pub fn one_spelling()
+    ensures read { (bytes : List ℕ) (pieces : List FormatPiece) → IsFormat bytes pieces → pieces_of bytes ≡ Some pieces }
+    ensures spelled { (bytes : List ℕ) (pieces : List FormatPiece) → pieces_of bytes ≡ Some pieces → IsFormat bytes pieces }
+{}

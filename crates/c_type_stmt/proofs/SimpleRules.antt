@@ -7,7 +7,8 @@ use Rattle.std.specs.declared.vec.Vec.{Vec}
 use Rattle.c_grammar.specs.declared.terminal.Span.{Span}
 use Rattle.c_grammar.specs.declared.terminal.Symbol.{Symbol}
 use Rattle.c_grammar.specs.Tree as t
-use Rattle.c_names.specs.Formats.{ints_in, pieces_of}
+use Rattle.c_names.specs.FormatReading.{pieces_of}
+use Rattle.c_names.specs.Formats.{ints_in}
 use Rattle.c_names.specs.declared.format.FormatPiece.{FormatPiece}
 use Rattle.c_names.specs.declared.operator.Operator.{Operator}
 use Rattle.c_names.specs.declared.predefined.Predefined.TheVariants as p

@@ -7,7 +7,7 @@ use Rattle.c_grammar.specs.declared.terminal.Span.{Span}
 use Rattle.c_grammar.specs.declared.terminal.Symbol.{Symbol}
 use Rattle.c_grammar.specs.declared.terminal.Symbol.TheVariants as w
 use Rattle.c_grammar.specs.Tree as t
-use Rattle.c_names.specs.Formats.{pieces_of}
+use Rattle.c_names.specs.FormatReading.{pieces_of}
 use Rattle.c_names.specs.declared.format.FormatPiece.{FormatPiece}
 use Rattle.c_names.specs.declared.function.MpiFunction.{MpiFunction}
 use Rattle.c_names.specs.declared.operator.Operator.{Operator}

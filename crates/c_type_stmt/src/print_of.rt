@@ -4,7 +4,7 @@ ghost use Rattle.std.specs.Option.{is_some};
 ghost use Rattle.c_grammar.specs.declared.terminal.Span.{Span};
 ghost use Rattle.c_grammar.specs.StmtView.{argument_view, call_view};
 ghost use Rattle.c_grammar.specs.Tree as t;
-ghost use Rattle.c_names.specs.Formats.{pieces_of};
+ghost use Rattle.c_names.specs.FormatReading.{pieces_of};
 ghost use Rattle.c_names.specs.declared.predefined.Predefined.TheVariants as p;
 ghost use Rattle.c_check.specs.Calls.{arguments_of, call_faults, numbers_faults};
 ghost use Rattle.c_check.specs.Calls as checked;

@@ -1,5 +1,6 @@
 use Rattle.std.proofs.Common.{◌≡◌, ◌+◌, ◌≤◌, length, option_map}
-use Rattle.c_names.specs.Formats.{ints_in, pieces_from, pieces_of}
+use Rattle.c_names.specs.Formats.{ints_in}
+use Rattle.c_names.specs.FormatReading.{pieces_from, pieces_of}
 use Rattle.c_names.proofs.format.count_ints.Given as goal
 
 abbrev pub invariant-loop-left : goal.invariant-loop-left

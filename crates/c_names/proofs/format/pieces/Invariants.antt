@@ -1,5 +1,5 @@
 use Rattle.std.proofs.Common.{◌≡◌, ◌++◌, length, option_map}
-use Rattle.c_names.specs.Formats.{pieces_from, pieces_of}
+use Rattle.c_names.specs.FormatReading.{pieces_from, pieces_of}
 use Rattle.c_names.proofs.format.pieces.Given as goal
 
 abbrev pub invariant-loop-left : goal.invariant-loop-left

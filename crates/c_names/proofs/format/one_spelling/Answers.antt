@@ -1,0 +1,8 @@
+use Rattle.c_names.proofs.Spelling.{format_reads, read_spells}
+use Rattle.c_names.proofs.format.one_spelling.Goals as goal
+
+pub returns-clause-read : goal.returns-clause-read
+returns-clause-read c = λ bytes pieces f. format_reads f
+
+pub returns-clause-spelled : goal.returns-clause-spelled
+returns-clause-spelled c = λ bytes pieces e. read_spells bytes pieces e
