@@ -1,13 +1,12 @@
 -- Tokens have a tree or a first fault, and one of them alone.
-use Rattle.std.proofs.Common.{◌≡◌, ◌⊎◌, inl, inr, ℕ, List, [], Ok, Err, refl, sym, ap, ◌∙◌, subst}
+use Rattle.std.proofs.Common.{◌≡◌, ◌⊎◌, inl, inr, ℕ, List, Ok, Err, refl, sym, ap, ◌∙◌, subst}
 use Rattle.c_lex.specs.declared.fault.SourceFault.{SourceFault}
 use Rattle.c_lex.specs.declared.token.Token.{Token}
 use Rattle.c_lex.specs.Places.{IsPlaceOf}
 use Rattle.c_lex.proofs.Existence.{fault_of}
-use Rattle.c_grammar.specs.declared.terminal.Terminal.{Terminal}
 use Rattle.c_grammar.specs.Tree.{Tree}
 use Rattle.c_grammar.specs.Programs as programs
-use Rattle.c_grammar.specs.Reading.{Answer, Fault, refuse}
+use Rattle.c_grammar.specs.Reading.{Answer, Fault}
 use Rattle.c_grammar.specs.StmtReading.{program_of}
 use Rattle.c_grammar.proofs.Programs.{read_tree, read_fault, tree_no_fault}
 use Rattle.c_grammar.proofs.Firsts.{fault_read}

@@ -5,6 +5,7 @@ use Rattle.c_grammar.specs.Symbols as symbols
 use Rattle.c_parse.specs.declared.symbols.Class.{Class}
 use Rattle.c_parse.specs.declared.symbols.Class.TheVariants.{Is, Isnt, Sign, Assign, Step, Kind, Outcome, Level}
 
+-- the symbol is of this class
 abbrev pub is_in : Class → Symbol → Bool
 is_in (Is x) = symbols.is x
 is_in (Isnt x) = symbols.isnt x

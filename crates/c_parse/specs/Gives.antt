@@ -6,10 +6,12 @@ use Rattle.c_grammar.specs.Reading.{Answer, refuse}
 use Rattle.c_parse.specs.declared.read.ReadError.{ReadError}
 use Rattle.c_parse.specs.declared.read.ReadError.TheVariants as errors
 
+-- what failed is what reading refuses, unless memory ran out
 abbrev pub Fails : {Y : Type 0} → ReadError → Answer Y → Type 0
 Fails errors.Memory read = Unit {0}
 Fails (errors.At why rest) read = read ≡ refuse why rest.now
 
+-- what was read is what reading gives, seen by `view`; or it fails as reading does
 abbrev pub Gives : {X Y : Type 0} → (X → Y × List Terminal) → Result X ReadError → Answer Y → Type 0
 Gives view (Ok x) read = read ≡ Ok (view x)
 Gives view (Err error) read = Fails error read
@@ -19,6 +21,7 @@ abbrev pub HasPlace : ReadError → Type 0
 HasPlace errors.Memory = ⊥
 HasPlace (errors.At why rest) = Unit {0}
 
+-- the first terminal and those after it, or there is none
 abbrev pub IsHead : List Terminal → Option (Terminal × Bor (List Terminal)) → Type 0
 IsHead terminals None = terminals ≡ []
 IsHead terminals (Some x) = terminals ≡ x.0 ∷ x.1.now

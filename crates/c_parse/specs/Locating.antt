@@ -7,6 +7,7 @@ use Rattle.c_parse.specs.declared.read.ReadError.{ReadError}
 use Rattle.c_parse.specs.declared.read.ReadError.TheVariants.{Memory, At}
 use Rattle.c_parse.specs.Parsing.{place_of}
 
+-- the place of a refusal is within the text
 abbrev pub StandsWithin : List ℕ → ReadError → Type 0
 StandsWithin text Memory = Unit {0}
 StandsWithin text (At why rest) = place_of text rest.now ≤ length text

@@ -8,6 +8,7 @@ use Rattle.c_grammar.specs.Tree.{Tree}
 use Rattle.c_grammar.specs.Programs as programs
 use Rattle.c_parse.specs.Terminals.{terminal_of}
 
+-- the tokens as terminals
 abbrev pub terminals_of : List ℕ → List Token → List Terminal
 terminals_of text tokens = map (terminal_of text) tokens
 

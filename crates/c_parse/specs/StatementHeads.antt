@@ -21,9 +21,11 @@ pub record TestTree : Type 0 where
   pub test : t.Expr
   pub closing : Span
 
+-- of a head with a test
 abbrev pub test_head_view : TestHead → TestTree
 test_head_view one = record { keyword = one.keyword; opening = one.opening; test = view one.test; closing = one.closing }
 
+-- reading a keyword and its test in parentheses
 unfoldable pub test_head_of : (List Terminal → Answer t.Expr) → Symbol → List Terminal → Answer TestTree
 test_head_of expr first ts = do
   keyword ← expect first ts
@@ -47,6 +49,7 @@ pub record ForTree : Type 0 where
   pub test : Option t.Expr × Span
   pub step : Option t.Simple × Span
 
+-- of the head of a for
 abbrev pub for_head_view : ForHead → ForTree
 for_head_view head = record {
   keyword = head.keyword;
@@ -56,6 +59,7 @@ for_head_view head = record {
   step = (option_map simple_view head.step.0, head.step.1);
 }
 
+-- reading the head of a for
 unfoldable pub for_head_of : (List Terminal → Answer t.Expr) → (List Terminal → Answer t.Expr) → List Terminal → Answer ForTree
 for_head_of expr index ts = do
   keyword ← expect w.For ts

@@ -35,6 +35,7 @@ abbrev pub symbol_among : List (List ℕ × Symbol) → List ℕ → Symbol
 symbol_among [] bytes = w.Name
 symbol_among (row ∷ others) bytes = if bytes_eq bytes row.0 then row.1 else symbol_among others bytes
 
+-- what a token of this kind with these bytes is
 abbrev pub symbol_of : TokenKind → List ℕ → Symbol
 symbol_of kinds.Name bytes = symbol_among spellings bytes
 symbol_of kinds.Mark bytes = symbol_among spellings bytes

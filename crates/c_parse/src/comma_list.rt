@@ -65,18 +65,18 @@ fn others<T: InCommaList>(
     let mut found = Vec::new(alloc);
     let mut rest = terminals;
     while heads(rest, Class::Is(Symbol::Comma)) {
-        let (one, behind) = match behind(alloc, left, rest) {
+        let (one, after) = match after_comma(alloc, left, rest) {
             Ok(read) => read,
             Err(error) => return Err(error),
         };
         found.push(one)?;
-        rest = behind;
+        rest = after;
     }
     Ok((found, rest))
 }
 
 /// A comma and what is after it.
-fn behind<T: InCommaList>(
+fn after_comma<T: InCommaList>(
     alloc: Global,
     left: u8,
     terminals: &[Terminal],

@@ -133,12 +133,12 @@ fn links(
     let mut found = Vec::new(alloc);
     let mut rest = terminals;
     while heads(rest, Class::Level(most)) {
-        let (link, behind) = match link(alloc, left, most, rest) {
+        let (link, after) = match link(alloc, left, most, rest) {
             Ok(read) => read,
             Err(error) => return Err(error),
         };
         found.push(link)?;
-        rest = behind;
+        rest = after;
     }
     Ok((found, rest))
 }

@@ -29,12 +29,12 @@ pub fn program(alloc: Global, terminals: &[Terminal]) -> Result<Tree, ReadError>
     let mut externals = Vec::new(alloc);
     let mut rest = terminals;
     while !rest.is_empty() {
-        let (one, behind) = match external(alloc, rest) {
+        let (one, after) = match external(alloc, rest) {
             Ok(read) => read,
             Err(error) => return Err(error),
         };
         externals.push(one)?;
-        rest = behind;
+        rest = after;
     }
     Ok(Tree { externals })
 }
@@ -98,12 +98,12 @@ fn opens(alloc: Global, terminals: &[Terminal]) -> Result<(Vec<Span>, &[Terminal
     let mut found = Vec::new(alloc);
     let mut rest = terminals;
     while heads(rest, Class::Is(Symbol::OpenParen)) {
-        let (one, behind) = match expected(rest, Symbol::OpenParen) {
+        let (one, after) = match expected(rest, Symbol::OpenParen) {
             Ok(read) => read,
             Err(error) => return Err(error),
         };
         found.push(one)?;
-        rest = behind;
+        rest = after;
     }
     Ok((found, rest))
 }
@@ -119,12 +119,12 @@ fn closes(
     let mut found = Vec::new(alloc);
     let mut rest = terminals;
     for _ in 0..count {
-        let (one, behind) = match expected(rest, Symbol::CloseParen) {
+        let (one, after) = match expected(rest, Symbol::CloseParen) {
             Ok(read) => read,
             Err(error) => return Err(error),
         };
         found.push(one)?;
-        rest = behind;
+        rest = after;
     }
     Ok((found, rest))
 }

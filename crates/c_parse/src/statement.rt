@@ -104,12 +104,12 @@ pub fn parts(
     let mut found = Vec::new(alloc);
     let mut rest = terminals;
     while heads(rest, Class::Isnt(Symbol::CloseBrace)) {
-        let (one, behind) = match part(alloc, left, rest) {
+        let (one, after) = match part(alloc, left, rest) {
             Ok(read) => read,
             Err(error) => return Err(error),
         };
         found.push(one)?;
-        rest = behind;
+        rest = after;
     }
     Ok((found, rest))
 }
