@@ -6,8 +6,8 @@ ghost use Rattle.wiz_cli.specs.Replayings.{IsReplayOf};
 ghost use Rattle.wiz_cli.specs.Steps.{IsReplayBy, MakesReplays, TakesLogs};
 
 use crate::ranks::start_group;
-use c_types::text_fixes_meaning;
 use c_program::CProgram;
+use c_types::text_fixes_meaning;
 use rank_threads::{Gate, replay_threads};
 use replay_model::laws::every_order_shows_every_run;
 use replay_model::replayed::Replayed;
