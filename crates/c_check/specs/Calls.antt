@@ -87,7 +87,7 @@ misfit_faults env (t.text at) = fault at WrongType
 misfit_faults env (t.address mark place) = fault mark WrongType
 misfit_faults env (t.value e) = expr_faults env e ++ fault (first_token e) WrongType
 
--- the name without a meaning that an argument is, alone and behind `&`
+-- the name without a meaning that an argument is, alone and after `&`
 abbrev pub nameless_of : Env → Option Span → Option Span
 nameless_of env None = None
 nameless_of env (Some name) = if is_nameless (meaning env name) then Some name else None
@@ -110,7 +110,7 @@ abbrev pub value_faults : Env → ExprKind → t.Argument → List TypingFault
 value_faults env wanted (t.value e) = wanted_faults env wanted e
 value_faults env wanted argument = misfit_faults env argument
 
--- what a name may be before `+` or alone, and behind `&`
+-- what a name may be before `+` or alone, and after `&`
 abbrev pub is_array_of : VariableKind → Meaning → Bool
 is_array_of wanted (m.Declared (d.Array kind length)) = is_same_kind wanted kind
 is_array_of wanted (m.Declared d.ArrayParameter) = is_same_kind wanted Int
@@ -180,7 +180,7 @@ unaccepted_faults env a.Datatype argument = nameless_or env (nameless_value env 
 unaccepted_faults env a.Operation argument = nameless_or env (nameless_value env argument) (misfit_faults env argument)
 unaccepted_faults env a.NoReference argument = nameless_or env (nameless_value env argument) (misfit_faults env argument)
 unaccepted_faults env a.Output argument = nameless_or env (nameless_value env argument) (misfit_faults env argument)
--- main's own parameters behind `&`
+-- main's own parameters after `&`
 unaccepted_faults env a.ArgumentCount argument = nameless_or env (nameless_address env argument) (misfit_faults env argument)
 unaccepted_faults env a.ArgumentTexts argument = nameless_or env (nameless_address env argument) (misfit_faults env argument)
 unaccepted_faults env a.Nothing argument = misfit_faults env argument

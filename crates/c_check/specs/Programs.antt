@@ -62,7 +62,7 @@ abbrev pub optional_length_faults : Env → Option t.Expr → List TypingFault
 optional_length_faults env None = []
 optional_length_faults env (Some length) = length_faults env length
 
--- a length that is none, and a `char` away from main
+-- a bad length, and a `char` outside main
 abbrev pub parameter_faults : Env → Bool → t.Parameter → List TypingFault
 parameter_faults env main (t.array keyword name opening length closing) = optional_length_faults env length
 parameter_faults env main (t.text_pointers keyword star second name) = unless main keyword LeftOut

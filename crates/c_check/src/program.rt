@@ -98,7 +98,7 @@ pub fn parameter_name(parameter: &Parameter) -> Option<Span>
     }
 }
 
-/// A length that is none, and a `char` away from main.
+/// A bad length, and a `char` outside main.
 fn check_parameter(best: &mut Option<TypingFault>, scope: &Scope, main: bool, parameter: &Parameter)
     ensures { best.new ≡ least_from best.old (parameter_faults scope.now main (parameter_view parameter.now)) }
 {
@@ -118,8 +118,8 @@ fn check_parameter(best: &mut Option<TypingFault>, scope: &Scope, main: bool, pa
 fn check_prototype(best: &mut Option<TypingFault>, scope: &Scope, main: bool, head: &Head)
     ensures { best.new ≡ least_from best.old (prototype_faults scope.now main (parameters_listed (parameters_view head.now.parameters))) }
 {
-    for place in 0..parameter_count(head) {
-        let Some(parameter) = parameter_at(head, place) else {
+    for index in 0..parameter_count(head) {
+        let Some(parameter) = parameter_at(head, index) else {
             return;
         };
         check_parameter(best, scope, main, parameter);
@@ -169,8 +169,8 @@ fn check_parameters(
     ensures faults { OnOk result (best.new ≡ least_from best.old (parameters_faults scope.old main (parameters_listed (parameters_view head.now.parameters)))) }
     ensures scope { OnOk result (scope.new ≡ after_parameters scope.old main (parameters_listed (parameters_view head.now.parameters))) }
 {
-    for place in 0..parameter_count(head) {
-        let Some(parameter) = parameter_at(head, place) else {
+    for index in 0..parameter_count(head) {
+        let Some(parameter) = parameter_at(head, index) else {
             return Ok(());
         };
         check_declared(best, scope, main, parameter)?;
@@ -178,7 +178,7 @@ fn check_parameters(
     Ok(())
 }
 
-/// The faults of a function behind its name.
+/// The faults of a function after its name.
 #[tactic(auto, using(c_check_expr::proofs::Least::least_from_append, crate::proofs::Closed::closed_function))]
 fn check_function(
     best: &mut Option<TypingFault>,

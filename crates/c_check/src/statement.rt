@@ -401,7 +401,7 @@ fn check_block(
     Ok(())
 }
 
-/// A test, and a statement behind it.
+/// A test, and the statement after it.
 #[cycle(statement)]
 fn check_tested(
     best: &mut Option<TypingFault>,
@@ -419,7 +419,7 @@ fn check_tested(
     Ok(())
 }
 
-/// A test, and the two statements behind it.
+/// A test, and the two statements after it.
 #[cycle(statement)]
 fn check_both(
     best: &mut Option<TypingFault>,
@@ -438,7 +438,7 @@ fn check_both(
     Ok(())
 }
 
-/// A body, and the test behind it.
+/// A body, and the test after it.
 #[cycle(statement)]
 fn check_do(
     best: &mut Option<TypingFault>,

@@ -17,6 +17,7 @@ use Rattle.c_check_expr.specs.Kinds.{first_token}
 use Rattle.c_check_expr.specs.Literals.{number_at}
 use Rattle.c_check_expr.specs.Scopes.{Env, meaning, name_faults}
 use Rattle.c_check_expr.specs.declared.fault.TypingFault.{TypingFault}
+use Rattle.c_check_expr.specs.declared.constant.TheConstants.{MOST_ELEMENTS}
 use Rattle.c_check_expr.specs.declared.constant.Constant.{Constant}
 use Rattle.c_check_expr.specs.declared.constant.Constant.TheVariants.{Value, NoValue, Variable, Nameless}
 use Rattle.c_check_expr.specs.declared.meaning.Meaning.{Meaning}
@@ -133,9 +134,9 @@ abbrev mutual
   names_in_links env t.no_link = []
   names_in_links env (t.link operator at operand rest) = names_in env operand ++ names_in_links env rest
 
--- how many cells an array may have; 0 where a length is none
+-- how many cells an array has; 0 if its length is none
 abbrev pub length_from : Constant → ℕ
-length_from (Value (pos n)) = if nat_le n 262144 then n else 0
+length_from (Value (pos n)) = if nat_le n MOST_ELEMENTS then n else 0
 length_from other = 0
 
 abbrev pub length_of : Env → t.Expr → ℕ
@@ -146,6 +147,6 @@ value_faults Nameless length at = []
 value_faults other zero at = fault at WrongType
 value_faults other (suc n) at = []
 
--- a name without a meaning, or, at the first token, what is no constant, or has no value from 1 to 262,144
+-- a name without a meaning, or, at the first token, what is no constant, or has no value from 1 to the greatest length
 abbrev pub length_faults : Env → t.Expr → List TypingFault
 length_faults env e = names_in env e ++ value_faults (constant_of env e) (length_of env e) (first_token e)

@@ -17,7 +17,7 @@ use Rattle.c_check_expr.specs.declared.meaning.Meaning.{Meaning}
 use Rattle.c_check_expr.specs.declared.meaning.Meaning.TheVariants as m
 use Rattle.c_check_expr.specs.declared.meaning.Entity.TheVariants as d
 
--- whether an index may stand behind a name; nothing is said of a name without a meaning
+-- whether an index may stand after a name; nothing is said of a name without a meaning
 abbrev pub takes_index : Meaning → Bool
 takes_index (m.Declared (d.Array kind length)) = true
 takes_index (m.Declared d.ArrayParameter) = true
@@ -30,7 +30,7 @@ is_equality w.Equal = true
 is_equality w.NotEqual = true
 is_equality _ = false
 
--- handles may be compared; else both sides are ints, and what is none stands at its first token
+-- handles may be compared; else both sides are ints, and what is no int stands at its first token
 abbrev pub operand_faults : Symbol → ExprKind → Span → ExprKind → Span → List TypingFault
 operand_faults operator left left_at right right_at =
     if is_equality operator && compares left right then []
@@ -64,7 +64,7 @@ abbrev mutual
       (name_faults (meaning env name) name ++ unless (takes_index (meaning env name)) name WrongType)
       ++ (expr_faults env index ++ kind_faults (Of Int) (kind_of env index) (first_token index))
 
-  -- the left operand's kind and first token, and the operators and operands behind it
+  -- the left operand's kind and first token, and the operators and operands after it
   pub links_faults : Env → ExprKind → Span → t.Links → List TypingFault
   links_faults env left left_at t.no_link = []
   links_faults env left left_at (t.link operator at operand rest) =

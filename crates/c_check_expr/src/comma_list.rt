@@ -1,14 +1,14 @@
-//! Things in a row.
+//! Lists with a comma between each two items.
 ghost use Rattle.std.specs.Prelude.{◌≡◌, length, option_map, slice_get, IfSome, IfNone, Some, None};
 ghost use Rattle.c_check_expr.specs.Rows.{items_of};
 
 use c_grammar::statement::{AfterComma, CommaList};
 
-fn after_comma_at<T>(more: &[AfterComma<T>], place: usize) -> Option<&AfterComma<T>>
-    ensures some { IfSome result (λ found. slice_get more.now place ≡ Some found.now) }
-    ensures none { IfNone result (slice_get more.now place ≡ None) }
+fn after_comma_at<T>(more: &[AfterComma<T>], index: usize) -> Option<&AfterComma<T>>
+    ensures some { IfSome result (λ found. slice_get more.now index ≡ Some found.now) }
+    ensures none { IfNone result (slice_get more.now index ≡ None) }
 {
-    more.get(place)
+    more.get(index)
 }
 
 /// How many they are.
@@ -18,15 +18,15 @@ pub fn item_count<T>(list: &CommaList<T>) -> usize
     list.more.len() + 1
 }
 
-/// One by its place.
-pub fn item_at<T>(list: &CommaList<T>, place: usize) -> Option<&T>
-    ensures { option_map (λ found. found.now) result ≡ slice_get (items_of list.now) place }
+/// One by its index.
+pub fn item_at<T>(list: &CommaList<T>, index: usize) -> Option<&T>
+    ensures { option_map (λ found. found.now) result ≡ slice_get (items_of list.now) index }
 {
-    if place == 0 {
+    if index == 0 {
         return Some(&list.first);
     }
-    match after_comma_at(&list.more, place - 1) {
-        Some(behind) => Some(&behind.item),
+    match after_comma_at(&list.more, index - 1) {
+        Some(after) => Some(&after.item),
         None => None,
     }
 }

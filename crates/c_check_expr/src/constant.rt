@@ -14,8 +14,8 @@ use c_lex::Why;
 use c_names::operator::{Operator, UnaryOperator, apply, apply_unary};
 use c_names::predefined::Predefined;
 
-/// The most cells that an array has.
-const LONGEST: i32 = 262144;
+/// The greatest length of an array.
+pub const MOST_ELEMENTS: u32 = 262_144;
 
 /// The value of an expression, or why it has none.
 #[derive(Clone, Copy)]
@@ -271,13 +271,13 @@ fn want_names_in_links(best: &mut Option<TypingFault>, scope: &Scope, links: &[L
     }
 }
 
-/// How many cells a length gives; 0 where it is none.
+/// How many cells a length gives; 0 if it is no length.
 fn length_from(constant: Constant) -> u32
     ensures { result ≡ length_from constant }
 {
     match constant {
         Constant::Value(value) => {
-            if value >= 0 && value <= LONGEST {
+            if value >= 0 && value as u32 <= MOST_ELEMENTS {
                 value as u32
             } else {
                 0

@@ -135,7 +135,7 @@ pub fn check_place(best: &mut Option<TypingFault>, scope: &Scope, place: &Place)
     }
 }
 
-/// The operators and operands behind a first one.
+/// The operators and operands after a first one.
 #[cycle(expression)]
 fn check_links(
     best: &mut Option<TypingFault>,

@@ -1,5 +1,8 @@
 //! The kinds of expressions.
-ghost use Rattle.std.specs.Prelude.{◌≡◌};
+ghost use Rattle.std.specs.Prelude.{◌≡◌, ◌||◌};
+ghost use Rattle.c_names.specs.declared.kind.VariableKind.TheVariants.{Int, Status, Request, Communicator};
+ghost use Rattle.c_check_expr.specs.declared.meaning.ExprKind.{ExprKind};
+ghost use Rattle.c_check_expr.specs.declared.meaning.ExprKind.TheVariants.{Of, Element};
 ghost use Rattle.c_grammar.specs.View.{place_view, view};
 ghost use Rattle.c_check_expr.specs.Kinds.{cell_kind, compares, fits, is_same_kind, kind_faults, kind_of, place_kind, place_first_token, first_token, target_kind, whole_kind};
 ghost use Rattle.c_check_expr.specs.Least.{least_from};
@@ -165,3 +168,9 @@ pub fn compares(left: ExprKind, right: ExprKind) -> bool
         _ => false,
     }
 }
+
+/// An element of an array whose name has no meaning fits if and only if an element of one of the kinds does.
+pub fn element_fits()
+    ensures { (wanted : ExprKind) → fits wanted Element
+        ≡ (fits wanted (Of Int) || (fits wanted (Of Status) || (fits wanted (Of Request) || fits wanted (Of Communicator)))) }
+{}

@@ -14,7 +14,7 @@ pub enum Entity {
     Define(i32),
     /// A variable that is no array, or such a parameter.
     Variable(VariableKind),
-    /// An array; 0 stands for a length that is none.
+    /// An array; the length is 0 if it is bad.
     Array(VariableKind, u32),
     /// A parameter that is an array.
     ArrayParameter,

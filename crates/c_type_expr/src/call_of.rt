@@ -16,8 +16,9 @@ ghost use Rattle.c_type_expr.specs.Calls.{AreArguments, IsArgument, IsCall, IsRe
 ghost use Rattle.c_type_expr.specs.Shapes.{is_array, is_reference, is_value};
 
 use crate::expr_of::expr_of;
+use c_check::argument::{array_sum, name_alone, predefined_of};
 use c_check::call::{
-    argument_at, argument_count, array_sum, name_alone, parameter_at, predefined_of,
+    argument_at, argument_count, parameter_at,
 };
 use c_check_expr::meaning::{Entity, Meaning};
 use c_check_expr::scope::Scope;

@@ -8,7 +8,8 @@ ghost use Rattle.c_type_expr.specs.MpiArguments.{argument, given_of, is_operatio
 ghost use Rattle.c_type_expr.specs.Shapes.{is_reference, is_value};
 ghost use Rattle.c_type_mpi.specs.MpiCalls.{IsBuffer, IsIncoming, IsOperation, IsOutgoing, IsReduction, IsSeveral, IsStatus};
 
-use c_check::call::{argument_at, predefined_of};
+use c_check::argument::predefined_of;
+use c_check::call::argument_at;
 use c_check_expr::scope::Scope;
 use c_grammar::statement::{Argument, Call};
 use c_names::predefined::Predefined;

@@ -6,4 +6,4 @@ use Rattle.c_check.proofs.call.argument_at.Goals as goal
 
 pub returns-in-Some : goal.returns-in-Some
 returns-in-Some c =
-    rw c.in-Some.is (viewed_at argument_view (λ (one : Bor Argument). one.now) c.in-Some.list c.args.place c.item_at.result c.item_at.ensures)
+    rw c.in-Some.is (viewed_at argument_view (λ (one : Bor Argument). one.now) c.in-Some.list c.args.index c.item_at.result c.item_at.ensures)

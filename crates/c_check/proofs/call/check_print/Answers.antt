@@ -4,8 +4,8 @@ use Rattle.c_check.specs.Calls.{arguments_of}
 use Rattle.c_check.proofs.Arguments.{numbers_next}
 use Rattle.c_check.proofs.call.check_print.Goals as goal
 
-pub loop-place-preserved : goal.loop-place-preserved
-loop-place-preserved c =
-    let e = numbers_next c.args.scope.now c.loop-place.best (arguments_of (call_view c.args.call.now)) c.loop-place.place (argument_view c.in-Some-argument_at.argument.now) (sym c.in-Some-argument_at.ensures) in
-    let i = c.loop-place.invariant in
+pub loop-index-preserved : goal.loop-index-preserved
+loop-index-preserved c =
+    let e = numbers_next c.args.scope.now c.loop-index.best (arguments_of (call_view c.args.call.now)) c.loop-index.index (argument_view c.in-Some-argument_at.argument.now) (sym c.in-Some-argument_at.ensures) in
+    let i = c.loop-index.invariant in
     cc c.want_value.ensures

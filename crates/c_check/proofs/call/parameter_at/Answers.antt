@@ -6,4 +6,4 @@ use Rattle.c_check.proofs.call.parameter_at.Goals as goal
 
 pub returns-in-Listed : goal.returns-in-Listed
 returns-in-Listed c =
-    rw c.in-Listed.is (viewed_at parameter_view (λ (one : Bor Parameter). one.now) c.in-Listed.list c.args.place c.item_at.result c.item_at.ensures)
+    rw c.in-Listed.is (viewed_at parameter_view (λ (one : Bor Parameter). one.now) c.in-Listed.list c.args.index c.item_at.result c.item_at.ensures)

@@ -10,7 +10,7 @@ use Rattle.c_check.proofs.program.check_external.Goals as goal
 pub returns-in_ok-see-in-Define-clause-faults : goal.returns-in_ok-see-in-Define-clause-faults
 returns-in_ok-see-in-Define-clause-faults c =
     on_ok c.declare.result
-    (define_external c.args.scope.now c.text-text.result.now (map (λ other. other.now) c.args.seen.now.items) c.in-Define.keyword c.in-Define.name (value_view c.in-Define.value) c.in-Define.end
+    (define_external c.args.scope.now c.text-text.result.now (map (λ other. other.now) c.args.seen.now.items) c.in-Define.directive c.in-Define.name (value_view c.in-Define.value) c.in-Define.end
     (external_view c.args.external.now) c.args.best.now c.want_new.new.best (ap external_view c.in-Define.is) c.text-text.ensures
     (c.want_new.ensures ∙ ap (λ names. least_from c.args.best.now (external_twice_faults c.text-text.result.now (map (λ other. other.now) names) c.in-Define.name)) c.deref.ensures.value))
 

@@ -1,5 +1,5 @@
 use Rattle.std.proofs.Common.{◌∙◌, ap, map}
-use Rattle.c_grammar.proofs.Viewed.{view-chain, view-choice, view-field, view-number, view-paren, view-read, view-unary}
+use Rattle.c_grammar.proofs.Viewed.{view-chain, view-choice, view-field, view-paren, view-read, view-unary}
 use Rattle.c_grammar.specs.View.{links_from, piece, view}
 use Rattle.c_check_expr.specs.Constants.{chosen, constant_of, links_constant, unary_of, unary_constant}
 use Rattle.c_check_expr.proofs.constant.+constant.Goals as goal

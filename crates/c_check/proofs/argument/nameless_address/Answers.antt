@@ -1,5 +1,5 @@
 use Rattle.c_grammar.proofs.Viewed.{view-cell, view-whole}
-use Rattle.c_check.proofs.call.nameless_address.Goals as goal
+use Rattle.c_check.proofs.argument.nameless_address.Goals as goal
 
 pub returns-in-Whole : goal.returns-in-Whole
 returns-in-Whole c = rw (c.in-Address.is, c.in-Whole.is, view-whole) c.nameless_of.ensures

@@ -7,7 +7,7 @@ use Rattle.c_check_expr.specs.Least.{least_from, unless}
 use Rattle.c_check_expr.specs.Scopes.{meaning, name_faults}
 use Rattle.c_check_expr.proofs.Wanted.{both}
 use Rattle.c_check.specs.Calls.{is_array_of, is_nameless, is_place_of}
-use Rattle.c_check.proofs.call.want_address.Goals as goal
+use Rattle.c_check.proofs.argument.want_address.Goals as goal
 
 pub returns-in-Whole : goal.returns-in-Whole
 returns-in-Whole c =
