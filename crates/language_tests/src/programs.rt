@@ -138,6 +138,110 @@ wrong-type if (@c) x = 1;
 wrong-type while (@a) ;
 wrong-type for (; @s; ) ;
 wrong-type for (;; @p++) ;
+left-out MPI_Send(@MPI_BUF + 1, 1, MPI_INT, 0, 0, MPI_COMM_WORLD);
+left-out MPI_Send(@MPI_BUF, 1, MPI_INT, 0, 0, MPI_COMM_WORLD);
+left-out MPI_Comm_rank(c, @MPI_OUT + x);
+left-out MPI_Comm_dup(c, @MPI_NEW + 1);
+left-out MPI_Waitall(1, @MPI_ALL + 1, t);
+left-out MPI_Waitall(2, q, @MPI_STATES + 1);
+unknown MPI_Recv(@u + 1, 1, MPI_INT, 0, 5, c, &s);
+wrong-type MPI_Send(@MPI_BUF + 1 + 1, 1, MPI_INT, 0, 0, c);
+wrong-type MPI_Send(@MPI_BUF - 1, 1, MPI_INT, 0, 0, c);
+wrong-type MPI_Send(@MPI_FOO[1], 1, MPI_INT, 0, 0, c);
+wrong-type p = @MPI_FOO[1];
+left-out p = @MPI_FOO;
+left-out c = @MPI_FOO[1];
+left-out x = @MPI_FOO[1];
+left-out x = @MPI_FOO[1].MPI_SOURCE;
+left-out @MPI_FOO[1] = 1;
+unknown p = @u[1];
+wrong-type printf(@MPI_FOO);
+wrong-type printf(@MPI_FOO[1]);
+left-out printf(\"%d\", @MPI_FOO[1]);
+wrong-type fflush(@MPI_OUT[0]);
+left-out fflush(@MPI_OUT);
+wrong-type MPI_Send(&x, 1, @MPI_FLOAT[1], 1, 5, c);
+wrong-type MPI_Allreduce(a, &x, 1, MPI_INT, @MPI_MAXLOC[1], c);
+wrong-type MPI_Init(@MPI_Z[1], 1);
+left-out MPI_Init(@MPI_Z, NULL);
+left-out MPI_Init(NULL, @MPI_Z);
+wrong-type x = @p == MPI_FOO[1];
+left-out x = p == @MPI_FOO;
+left-out x = c == @MPI_FOO[1];
+left-out x = MPI_REQUEST_NULL == @MPI_FOO[1];
+wrong-type x = p == @y[1];
+wrong-type x = @c == p;
+unknown int b[1 / 0 + @u];
+unknown int b[0 && @u];
+wrong-type int b[@x + u];
+wrong-type int b[@MPI_LENGTH + x];
+";
+
+/// A body a line, in the same form: each name that stands without a declaration once more, and what it is. A number is that of its
+/// row where it makes a length of 1.
+const PREDEFINED: &str = "\
+fine int b[1 / (MPI_ANY_TAG + 2)];
+fine int b[1 / (MPI_PROC_NULL + 2)];
+fine int b[1 / (MPI_ANY_SOURCE + 3)];
+fine int b[1 / (MPI_UNDEFINED + 32767)];
+fine int b[1 / (INT_MAX - 2147483646)];
+fine int b[1 / (INT_MIN + 2147483647 + 2)];
+fine c = MPI_COMM_WORLD;
+fine c = MPI_COMM_NULL;
+fine p = MPI_REQUEST_NULL;
+fine MPI_Bcast(a, 4, MPI_INT, 0, c);
+fine MPI_Scan(a, &x, 1, MPI_INT, MPI_MAX, c);
+fine MPI_Scan(a, &x, 1, MPI_INT, MPI_MIN, c);
+fine MPI_Scan(a, &x, 1, MPI_INT, MPI_SUM, c);
+fine MPI_Scan(a, &x, 1, MPI_INT, MPI_PROD, c);
+fine MPI_Scan(a, &x, 1, MPI_INT, MPI_LAND, c);
+fine MPI_Scan(a, &x, 1, MPI_INT, MPI_BAND, c);
+fine MPI_Scan(a, &x, 1, MPI_INT, MPI_LOR, c);
+fine MPI_Scan(a, &x, 1, MPI_INT, MPI_BOR, c);
+fine MPI_Scan(a, &x, 1, MPI_INT, MPI_LXOR, c);
+fine MPI_Scan(a, &x, 1, MPI_INT, MPI_BXOR, c);
+fine MPI_Wait(&p, MPI_STATUS_IGNORE);
+fine MPI_Waitall(2, q, MPI_STATUSES_IGNORE);
+fine MPI_Bcast(NULL, 0, MPI_INT, 0, c);
+fine fflush(stdout);
+wrong-type @stdout = 1;
+fine printf(\"%d\", x);
+wrong-count @fflush();
+fine MPI_Init(NULL, NULL);
+fine MPI_Finalize();
+fine MPI_Comm_rank(c, &x);
+fine MPI_Comm_size(c, &x);
+fine MPI_Get_count(&s, MPI_INT, &x);
+fine MPI_Comm_free(&c);
+fine MPI_Send(a, 4, MPI_INT, 1, 0, c);
+fine MPI_Ssend(a, 4, MPI_INT, 1, 0, c);
+fine MPI_Recv(a, 4, MPI_INT, 1, 0, c, &s);
+fine MPI_Sendrecv(a, 2, MPI_INT, 1, 0, a + 2, 2, MPI_INT, 1, 0, c, &s);
+fine MPI_Isend(a, 4, MPI_INT, 1, 0, c, &p);
+fine MPI_Issend(a, 4, MPI_INT, 1, 0, c, &p);
+fine MPI_Irecv(a, 4, MPI_INT, 1, 0, c, &p);
+fine MPI_Wait(&p, &s);
+fine MPI_Waitall(2, q, t);
+fine MPI_Waitany(2, q, &x, &s);
+fine MPI_Waitsome(2, q, &x, a, t);
+fine MPI_Test(&p, &x, &s);
+fine MPI_Testall(2, q, &x, t);
+fine MPI_Testany(2, q, &x, &y, &s);
+fine MPI_Testsome(2, q, &x, a, t);
+fine MPI_Probe(1, 0, c, &s);
+fine MPI_Iprobe(1, 0, c, &x, &s);
+fine MPI_Barrier(c);
+fine MPI_Bcast(a, 4, MPI_INT, 1, c);
+fine MPI_Reduce(a, &x, 1, MPI_INT, MPI_SUM, 0, c);
+fine MPI_Allreduce(a, &x, 1, MPI_INT, MPI_SUM, c);
+fine MPI_Scan(a, &x, 1, MPI_INT, MPI_SUM, c);
+fine MPI_Gather(&x, 1, MPI_INT, a, 1, MPI_INT, 0, c);
+fine MPI_Scatter(a, 1, MPI_INT, &x, 1, MPI_INT, 0, c);
+fine MPI_Allgather(&x, 1, MPI_INT, a, 1, MPI_INT, c);
+fine MPI_Alltoall(a, 1, MPI_INT, a, 1, MPI_INT, c);
+fine MPI_Comm_split(c, 0, 0, &d);
+fine MPI_Comm_dup(c, &d);
+fine MPI_Abort(c, 1);
 ";
 
 /// A whole program a line, in the same form; `$` stands for the end of a line.
@@ -172,6 +276,18 @@ unknown int g(int);int g(int);int main(void){return @g(1);}
 twice int main(void){return 0;}int @main(void){return 0;}
 wrong-count int f(void){return @f(1);}int main(void){return 0;}
 fine int main(void){int r,x=7;MPI_Comm_rank(MPI_COMM_WORLD,&r);if(r==0)MPI_Send(&x,1,MPI_INT,1,5,MPI_COMM_WORLD);if(r==1){x=0;MPI_Recv(&x,1,MPI_INT,0,5,MPI_COMM_WORLD,MPI_STATUS_IGNORE);printf(\"%d\\n\",x);}return 0;}
+left-out int main(void){MPI_Send(@MPI_BUF + 1, 1, MPI_INT, 0, 0, MPI_COMM_WORLD);return 0;}
+unknown int main(int argc, char **argv){MPI_Init(&@y, &argv);return 0;}
+left-out int main(int argc, char **argv){MPI_Init(&@MPI_Y, &argv);return 0;}
+unknown int main(int argc, char **argv){MPI_Init(&argc, &@y);return 0;}
+wrong-type int main(int argc, char **argv){MPI_Init(@&y[0], &argv);return 0;}
+wrong-type int main(int argc, char **argv){MPI_Init(&argc, @MPI_Z);return 0;}
+wrong-type int main(int n, char **v){return main(1, @MPI_FOO);}
+wrong-type int f(int a){return a;}int main(void){return f(@&y);}
+wrong-type void f(void){return @MPI_FOO;}int main(void){return 0;}
+twice #define f 1$int @f(void){return 0;}int main(void){return 0;}
+twice int main(void){return f();}$#define f 1$int @f(void){return 0;}
+wrong-type #define f 1$int main(void){return @f();}int f(void){return 0;}
 ";
 
 /// The reason that a row names; nothing for a program without faults.
@@ -261,6 +377,13 @@ fn first_wrong<'a>(
 #[test]
 fn bodies_have_their_first_fault(rt: HostRuntime) -> Result<(), Fail> {
     let wrong = first_wrong(rt.alloc(), BODIES, BEFORE, BEHIND)?;
+    assert_eq!(rt; wrong, None);
+    Ok(())
+}
+
+#[test]
+fn predefined_names_stand_as_what_they_are(rt: HostRuntime) -> Result<(), Fail> {
+    let wrong = first_wrong(rt.alloc(), PREDEFINED, BEFORE, BEHIND)?;
     assert_eq!(rt; wrong, None);
     Ok(())
 }
