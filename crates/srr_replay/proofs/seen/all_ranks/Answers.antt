@@ -1,9 +1,0 @@
-use Rattle.std.proofs.Common.{◌∙◌, sym, ◌++◌, ◌∷◌, [], ap}
-use Rattle.run_model.proofs.CommunicatorLaws.{world-last}
-use Rattle.srr_replay.proofs.seen.all_ranks.Goals as goal
-
-pub loop-rank-preserved : goal.loop-rank-preserved
-loop-rank-preserved c =
-    c.in_ok-append.ensures
-    ∙ ap (λ ranks. ranks ++ c.loop-rank.rank ∷ []) c.loop-rank.invariant
-    ∙ sym (world-last c.loop-rank.rank)
