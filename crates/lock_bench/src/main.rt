@@ -1,4 +1,4 @@
-//! Times a turn lock: so many seats, each on a thread of its own, take so many turns, and each turn adds an entry.
+//! Times a turn lock: some seats, each on a thread of its own, take some turns, and each turn adds an entry.
 //!
 //! Usage: `lock_bench SEATS TURNS`. The one line that it prints doesn't depend on the order of the turns.
 #![tactic(auto)]
@@ -12,8 +12,8 @@ use size::Size;
 use std::env;
 
 fn main(rt: HostRuntime) -> Result<()> {
-    let mut words = env::args(&rt)?.skip(1);
-    let Size { seats, turns } = Size::read(words.next(), words.next(), words.next())?;
+    let mut arguments = env::args(&rt)?.skip(1);
+    let Size { seats, turns } = Size::read(arguments.next(), arguments.next(), arguments.next())?;
     let tally = players::run(&rt, rt.alloc(), seats, turns)?;
     println!(rt;
         "{seats} seats {turns} turns {} entries",

@@ -1,4 +1,4 @@
-//! The size of a run, from the words of the command line.
+//! The size of a run, from the command line arguments.
 ghost use Rattle.std.specs.Prelude.{◌≡◌, ◌<◌, ◌≤◌, Some, IfOk, string_bytes, option_map};
 ghost use Rattle.std.specs.Result.{OkIff};
 ghost use Rattle.lock_bench.specs.Words.{IsBetween, number_of};
@@ -17,7 +17,7 @@ pub struct Size {
 }
 
 impl Size {
-    /// Two words give a size, and a third is one too many.
+    /// Two arguments give a size, and a third is one too many.
     pub fn read(seats: Option<String>, turns: Option<String>, more: Option<String>) -> Result<Size>
         ensures seats { IfOk result (λ s. option_map (λ w. number_of (string_bytes w)) seats ≡ Some s.seats) }
         ensures turns { IfOk result (λ s. option_map (λ w. number_of (string_bytes w)) turns ≡ Some s.turns) }

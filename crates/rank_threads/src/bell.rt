@@ -1,14 +1,15 @@
 //! Where ranks sleep until another rank does what they may wait for. No clause speaks of it: a rank that wakes attempts again, and a
 //! rank that is told that all sleep leaves its round. So a rank that is woken in vain, or not at all, costs time alone.
-use mpi_call::call::Call;
+use mpi_call::call::{Call, Source};
+use mpi_call::limits::MOST_RANKS;
 use mpi_call::reply::Reply;
 use std::sync::Wait;
 use std::sync::atomic::{AtomicU64, Ordering};
 use std::thread::Parker;
 use std::{array, hint, thread};
 
-/// The most ranks that a program has.
-const RANKS: usize = 64;
+/// The places to sleep: one for each rank.
+const PLACES: usize = MOST_RANKS as usize;
 
 /// How often a thread lets others run before it goes on without those that have not started.
 const PATIENCE: u32 = 1000;
@@ -87,20 +88,23 @@ pub struct Bell {
     started: AtomicU64,
     /// How many ranks work.
     awake: AtomicU64,
-    places: [Place; RANKS],
+    /// 1 from the first synchronous send on, else 0: before it no rank waits for a receive to be posted.
+    synchronous: AtomicU64,
+    places: [Place; PLACES],
 }
 
 impl Bell {
-    /// A bell for a round in which no rank has started.
-    pub fn new() -> Bell {
+    /// A bell for a round in which no rank has started, and whether earlier rounds had a synchronous send.
+    pub fn new(has_synchronous: bool) -> Bell {
         Bell {
             started: AtomicU64::new(0),
             awake: AtomicU64::new(0),
+            synchronous: AtomicU64::new(has_synchronous as u64),
             places: array::from_fn(|_| Place::new()),
         }
     }
 
-    /// A rank begins to work. It waits a while for so many ranks to have started, so that none is taken for asleep.
+    /// A rank begins to work. It waits a while for this many ranks to have started, so that none is taken for asleep.
     pub fn start(&self, ranks: usize) {
         let _ = self.awake.fetch_add(1, Ordering::SeqCst);
         self.skip();
@@ -130,16 +134,40 @@ impl Bell {
         self.place(rank).rung.load(Ordering::SeqCst)
     }
 
-    /// Rings for an event: whoever may wait for it wakes. Of a send that is its receiver; of an entry into a collective and of a
-    /// halt it may be anyone.
+    /// Whether this round or an earlier one had a synchronous send.
+    pub fn has_synchronous(&self) -> bool {
+        self.synchronous.load(Ordering::SeqCst) != 0
+    }
+
+    /// Rings for an event: whoever may wait for it wakes. Of a send that is its receiver; of a posted receive the sender, once there
+    /// are synchronous sends; of an entry into a collective and of a halt it may be anyone.
     pub fn ring(&self, call: &Call, reply: &Reply) {
         match reply {
             Reply::Stopped(_) => self.wake_all(),
             _ => match call {
-                Call::Send { dest, .. } => self.wake(self.place(*dest)),
+                Call::Send { dest, sync, .. } => {
+                    if *sync {
+                        self.synchronous.store(1, Ordering::SeqCst);
+                    }
+                    self.wake(self.place(*dest));
+                }
+                Call::Post { source, .. } => self.ring_posted(source),
                 Call::Enter { .. } => self.wake_all(),
                 _ => {}
             },
+        }
+    }
+
+    /// Rings for a posted receive, which may complete a synchronous send. A sender attempts to complete its send only after it has
+    /// rung for it: so a receive that is posted before that ring needs none of its own.
+    fn ring_posted(&self, source: &Source) {
+        if !self.has_synchronous() {
+            return;
+        }
+        match source {
+            Source::From(rank) => self.wake(self.place(*rank)),
+            Source::Any => self.wake_all(),
+            Source::Null => {}
         }
     }
 
@@ -160,7 +188,7 @@ impl Bell {
     }
 
     fn place(&self, rank: u8) -> &Place {
-        &self.places[rank as usize % RANKS]
+        &self.places[rank as usize % PLACES]
     }
 
     /// Tells the rank of this place of an event, and wakes it if it sleeps. It is counted among those that work before it wakes, so

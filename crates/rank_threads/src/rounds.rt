@@ -8,6 +8,7 @@ use crate::attempts::Attempts;
 use crate::bell::Bell;
 use crate::gate::Gate;
 use crate::worker::{Worker, work};
+use mpi_call::limits::MOST_RANKS;
 use run_model::program::{Program, RankRun};
 use std::alloc::{AllocError, Global};
 use std::sync::Wait;
@@ -31,7 +32,7 @@ pub fn run<
     runs: Vec<R>,
     gate: &G,
 ) -> Result<(M, Vec<R>), AllocError>
-    requires few { (0 < length ranks.now) × (length ranks.now ≤ 64) }
+    requires few { (0 < length ranks.now) × (length ranks.now ≤ MOST_RANKS) }
     requires entries { M.entries value ≡ [] }
     requires seated { AreSeated M.reading (M.frame value) ranks.now }
     requires runs { AreRunsAfter M.reading R.standing (M.frame value) ranks.now [] runs.items }
@@ -53,7 +54,7 @@ fn workers_of<P: Program, M: Attempts<P>, R: RankRun<Of = P>>(
     mut seats: Vec<Seat<M>>,
     mut runs: Vec<R>,
 ) -> Result<Vec<Worker<M, R>>, AllocError>
-    requires few { length ranks.now ≤ 64 }
+    requires few { length ranks.now ≤ MOST_RANKS }
     requires seats { (lock.now.seats ≡ length ranks.now) × AreFresh lock.now seats.items }
     requires seated { (f : M.Frame) → HasFrame lock.now f → AreSeated M.reading f ranks.now }
     requires runs { (f : M.Frame) → HasFrame lock.now f → AreRunsAfter M.reading R.standing f ranks.now [] runs.items }
@@ -94,12 +95,14 @@ fn make_rounds<
     ensures count { length workers.new.items ≡ length ranks.now }
     ensures workers { AreWorkers M.reading R.standing lock.now ranks.now workers.new.items }
 {
+    let mut has_synchronous = false;
     for _ in rt.forever() {
-        let bell = Bell::new();
+        let bell = Bell::new(has_synchronous);
         make_round(rt, lock, &bell, gate, workers.as_mut_slice());
         if !goes_on(workers.as_slice()) {
             return;
         }
+        has_synchronous = bell.has_synchronous();
     }
     unreachable!()
 }

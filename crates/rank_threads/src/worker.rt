@@ -34,11 +34,11 @@ pub struct Worker<M: Told, R> {
     pub has_moved: bool,
     /// Whether it makes no further event.
     pub is_done: bool,
-    /// Whether there was no memory, in its work or in that of another rank. Then its run may be one reply behind its seat.
+    /// Whether there was no memory, in its work or in that of another rank. Then its run may lack the last reply of its seat.
     pub is_short: bool,
 }
 
-/// A rank's work in a round of so many ranks: it makes one call after another until it is done, all ranks sleep, or there is no
+/// A rank's work in a round of `ranks` ranks: it makes one call after another until it is done, all ranks sleep, or there is no
 /// memory.
 pub fn work<P: Program, M: Attempts<P>, R: RankRun<Of = P>, W: Wait, G: Gate>(
     rt: &W,

@@ -8,7 +8,7 @@ use Rattle.srr_entry.specs.declared.log.Log.{Log}
 abbrev pub took : ℕ → Entry
 took start = Took ((record { index = 0; mark = Inside 0 start }) ∷ [])
 
--- rank 1's entries for so many messages
+-- rank 1's entries for a number of messages
 abbrev pub receives : ℕ → List Entry
 receives zero = []
 receives (suc start) = receives start ++ Posted ∷ took start ∷ []

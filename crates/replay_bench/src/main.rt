@@ -1,4 +1,4 @@
-//! Times a replay: rank 0 sends so many messages to rank 1, and both ranks are replayed on one thread from their log,
+//! Times a replay: rank 0 sends a number of messages to rank 1, and both ranks are replayed on one thread from their log,
 //! which the program makes first.
 //!
 //! Usage: `replay_bench MESSAGES`.
@@ -15,8 +15,8 @@ use size::Size;
 use std::env;
 
 fn main(rt: HostRuntime) -> Result<()> {
-    let mut words = env::args(&rt)?.skip(1);
-    let Size { messages } = Size::read(words.next(), words.next())?;
+    let mut arguments = env::args(&rt)?.skip(1);
+    let Size { messages } = Size::read(arguments.next(), arguments.next())?;
     let replayed = whole::replay(rt.alloc(), messages)?;
     let events = replayed.events.len();
     let ended = whole::count_ended(replayed.ends.as_slice());

@@ -1,7 +1,7 @@
 //! The script that is replayed.
 use run_model::program::Program;
 
-/// Rank 0 sends so many messages to rank 1, which completes each receive before it posts the next. Other ranks end at once.
+/// Rank 0 sends a number of messages to rank 1, which completes each receive before it posts the next. Other ranks end at once.
 #[derive(Clone, Copy)]
 pub struct Script {
     pub messages: u32,

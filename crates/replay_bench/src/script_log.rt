@@ -1,5 +1,5 @@
 //! The log of the script.
-ghost use Rattle.std.specs.Prelude.{◌≡◌, ◌≤◌, ◌++◌, ◌∷◌, [], IfOk, OnOk, replicate};
+ghost use Rattle.std.specs.Prelude.{◌≡◌, ◌≤◌, ◌++◌, ◌∷◌, [], IfOk, replicate};
 ghost use Rattle.srr_entry.specs.declared.entry.Entry.TheVariants.{Ended, Sent};
 ghost use Rattle.replay_bench.specs.Logs.{log_of, receives, took};
 
@@ -15,8 +15,8 @@ pub fn log_of(alloc: Global, messages: u32) -> Result<Log, AllocError>
 {
     let group = Ranks::from_slice(alloc, &[0, 1])?;
     let mut lists = Lists::new(alloc);
-    add_list(&mut lists, sender(alloc, messages)?)?;
-    add_list(&mut lists, receiver(alloc, messages)?)?;
+    lists.push(sender(alloc, messages)?)?;
+    lists.push(receiver(alloc, messages)?)?;
     Ok(Log {
         ranks: 2,
         group,
@@ -30,9 +30,9 @@ fn sender(alloc: Global, messages: u32) -> Result<Entries, AllocError>
 {
     let mut entries = Entries::new(alloc);
     for _ in 0..messages {
-        add(&mut entries, Entry::Sent)?;
+        entries.push(Entry::Sent)?;
     }
-    add(&mut entries, Entry::Ended)?;
+    entries.push(Entry::Ended)?;
     Ok(entries)
 }
 
@@ -41,10 +41,10 @@ fn receiver(alloc: Global, messages: u32) -> Result<Entries, AllocError>
 {
     let mut entries = Entries::new(alloc);
     for start in 0..messages {
-        add(&mut entries, Entry::Posted)?;
-        add(&mut entries, took(alloc, start)?)?;
+        entries.push(Entry::Posted)?;
+        entries.push(took(alloc, start)?)?;
     }
-    add(&mut entries, Entry::Ended)?;
+    entries.push(Entry::Ended)?;
     Ok(entries)
 }
 
@@ -57,26 +57,6 @@ fn took(alloc: Global, start: u32) -> Result<Entry, AllocError>
         index: 0,
         mark: Mark::Inside { source: 0, start },
     };
-    match items.push(marked) {
-        Ok(()) => Ok(Entry::Took(items)),
-        Err(_) => Err(AllocError),
-    }
-}
-
-fn add(entries: &mut Entries, entry: Entry) -> Result<(), AllocError>
-    ensures { OnOk result (entries.new ≡ entries.old ++ entry ∷ []) }
-{
-    match entries.push(entry) {
-        Ok(()) => Ok(()),
-        Err(_) => Err(AllocError),
-    }
-}
-
-fn add_list(lists: &mut Lists, entries: Entries) -> Result<(), AllocError>
-    ensures { OnOk result (lists.new ≡ lists.old ++ entries ∷ []) }
-{
-    match lists.push(entries) {
-        Ok(()) => Ok(()),
-        Err(_) => Err(AllocError),
-    }
+    items.push(marked)?;
+    Ok(Entry::Took(items))
 }

@@ -137,6 +137,7 @@ fn call_at(
             dest: 1,
             tag: 0,
             ints: Ints::from_slice(alloc, &[7])?,
+            sync: false,
         });
     }
     if number % 2 == 0 {

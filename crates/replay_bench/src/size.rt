@@ -1,4 +1,4 @@
-//! The size of a replay, from the words of the command line.
+//! The size of a replay, from the command line arguments.
 ghost use Rattle.std.specs.Prelude.{◌≡◌, ◌≤◌, Some, IfOk, string_bytes, option_map};
 ghost use Rattle.std.specs.Result.{OkIff};
 ghost use Rattle.replay_bench.specs.Words.{IsBetween, number_of};

@@ -13,7 +13,7 @@ use srr_entry::log::Log;
 use srr_replay::serial::replay_serial;
 use std::alloc::{AllocError, Global};
 
-/// Replays the script's run with so many messages from its log, on one thread.
+/// Replays the script's run with this many messages from its log, on one thread.
 pub fn replay(alloc: Global, messages: u32) -> Result<Replayed, AllocError>
     requires { messages ≤ 400000 }
     ensures { IfOk result (λ replayed. IsReplayed (next_of messages) (λ n rank replies. []) (λ n rank replies. []) (log_of messages) None replayed) }

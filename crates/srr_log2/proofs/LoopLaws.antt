@@ -2,8 +2,8 @@
 use Rattle.std.proofs.Common.{◌≡◌, ℕ, zero, suc, ◌+◌, ◌-◌, ◌<◌, List, [], ◌∷◌, ◌++◌, refl, sym, ap, ◌∙◌, append_assoc, arith}
 use Rattle.std.specs.Prelude.{Err}
 use Rattle.std.proofs.lemmas.List.{append-nil}
-use Rattle.srr_log2.specs.declared.stop.Stop.{Stop}
-use Rattle.srr_log2.specs.declared.stop.Stop.TheVariants.{NoMemory, Fault}
+use Rattle.srr_log.specs.declared.read_error.ReadError.{ReadError}
+use Rattle.srr_log.specs.declared.read_error.ReadError.TheVariants.{NoMemory, Fault}
 use Rattle.std.proofs.Common.{Bool, true}
 use Rattle.srr_entry.specs.declared.entry.Marked.{Marked}
 use Rattle.srr_entry.specs.declared.entry.Entry.{Entry}
@@ -38,7 +38,7 @@ many_more r before now value (suc left) text middle whole some' is this now_is =
     rw one (onward_more before now value (many_in r left) text middle (r text) whole is this now_is)
 
 -- reading stopped there
-pub many_stop : {A : Type 0} (r : Reader A) (before : List A) (left : ℕ) (text middle rest : List ℕ) (stop : Stop) (whole : Outcome (List A)) → 0 < left
+pub many_stop : {A : Type 0} (r : Reader A) (before : List A) (left : ℕ) (text middle rest : List ℕ) (stop : ReadError) (whole : Outcome (List A)) → 0 < left
     → onto before (many_in r left text) ≡ whole → Gives (r text) (Err stop) middle → Gives whole (Err stop) rest
 many_stop r before zero text middle rest stop whole some' is this = absurd (omega arith)
 many_stop r before (suc left) text middle rest NoMemory whole some' is this = tt
@@ -80,7 +80,7 @@ record_more n group counted before now zero (suc left) first text middle whole s
     let all : onto before (onward (record_in n group counted left text) (λ v. entries_in n group (is_not_yet v.0) v.1 left >>= λ values. give (v.0 ∷ values))) ≡ whole = is in
     rw (one, now_is) (sym (onto_more before first.0 (entries_in n group (is_not_yet first.0) first.1 left middle)) ∙ ap (λ o. onto before (onward o (λ v. entries_in n group (is_not_yet v.0) v.1 left >>= λ values. give (v.0 ∷ values)))) (sym this') ∙ all)
 
-pub record_stop : (n : ℕ) (group : List ℕ) (counted : Bool) (before : List Entry) (more left : ℕ) (text middle rest : List ℕ) (stop : Stop) (whole : Outcome (List Entry)) → 0 < left → more ≡ 0
+pub record_stop : (n : ℕ) (group : List ℕ) (counted : Bool) (before : List Entry) (more left : ℕ) (text middle rest : List ℕ) (stop : ReadError) (whole : Outcome (List Entry)) → 0 < left → more ≡ 0
     → onto before (entries_in n group counted more left text) ≡ whole → Gives (record_in n group counted (left - 1) text) (Err stop) middle → Gives whole (Err stop) rest
 record_stop n group counted before more left text middle rest NoMemory whole some' none is this = tt
 record_stop n group counted before (suc more) left text middle rest (Fault why at) whole some' none is this = absurd (omega arith)

@@ -11,8 +11,8 @@ use Rattle.srr_log2.specs.declared.kind.HaltKind.{HaltKind}
 use Rattle.srr_log2.specs.declared.kind.HaltKind.TheVariants.{Aborted as AbortedKind, Trapped as TrappedKind, Truncated as TruncatedKind, Mismatched as MismatchedKind, BadRequest as BadRequestKind, Limit as LimitKind, Stuck as StuckKind}
 use Rattle.srr_log2.specs.declared.kind.RecordKind.{RecordKind}
 use Rattle.srr_log2.specs.declared.kind.RecordKind.TheVariants.{Sent as SentKind, Posted as PostedKind, Entered as EnteredKind, Ended as EndedKind, Took as TookKind, NotYet as NotYetKind, PeekedInside as PeekedInsideKind, PeekedOutside as PeekedOutsideKind, Stopped as StoppedKind}
-use Rattle.srr_log2.specs.declared.stop.Stop.{Stop}
-use Rattle.srr_log2.specs.declared.stop.Stop.TheVariants.{NoMemory, Fault}
+use Rattle.srr_log.specs.declared.read_error.ReadError.{ReadError}
+use Rattle.srr_log.specs.declared.read_error.ReadError.TheVariants.{NoMemory, Fault}
 use Rattle.srr_log2.specs.Fields.{Outcome, reads, stops, Reader, onward, ◌>>=◌, give, allowed, byte_in, field_in, number_of, word_in, many_in, Gives}
 use Rattle.srr_log2.specs.EntryReading.{small_in, tag_in, count_in, int_in, ints_in, rank_in, sender_in, fault_in, members_in, mark_of, mark_kind_in, mark_in, item_in, items_in, some_items_in, halt_of, halt_in, record_kind_in, record_of, record_in, entries_in, list_in}
 use Rattle.srr_log2.specs.Reading.{head_in, ranks_in, group_in, program_in, body_in, digest_in, end_in, close_in, log_in, IsWithin}
@@ -219,7 +219,7 @@ log_stays = record {
       (λ log. record { inside = λ rest. step (close_in (before rest) rest) (λ _. give log) (length rest) ((close (before rest)).inside rest) (λ u. none log) });
 }
 
-pub stop_within : (text rest : List ℕ) (stop : Stop) → Gives (log_in text) (Err stop) rest → IsWithin stop (length text)
+pub stop_within : (text rest : List ℕ) (stop : ReadError) → Gives (log_in text) (Err stop) rest → IsWithin stop (length text)
 stop_within text rest NoMemory is = tt
 stop_within text rest (Fault why left) is = placed (log_in text) (log_stays.inside text) is
   where

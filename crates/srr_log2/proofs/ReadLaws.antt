@@ -5,8 +5,8 @@ use Rattle.srr_entry.specs.declared.log.Log.{Log}
 use Rattle.srr_log.specs.declared.fault.LogFault.{LogFault}
 use Rattle.srr_log.specs.declared.fault.LogWhy.{LogWhy}
 use Rattle.srr_log.specs.Faults.{no_memory}
-use Rattle.srr_log2.specs.declared.stop.Stop.{Stop}
-use Rattle.srr_log2.specs.declared.stop.Stop.TheVariants.{NoMemory, Fault}
+use Rattle.srr_log.specs.declared.read_error.ReadError.{ReadError}
+use Rattle.srr_log.specs.declared.read_error.ReadError.TheVariants.{NoMemory, Fault}
 use Rattle.srr_log2.specs.Fields.{Outcome, reads, stops, Gives}
 use Rattle.srr_log2.specs.Reading.{body_in, close_in, digest_in, end_in, log_in, IsFirstFault, IsPlaced}
 use Rattle.srr_log2.proofs.FieldLaws.{onward_reads}
@@ -22,12 +22,12 @@ abbrev placed_at : ℕ → LogWhy → LogFault
 placed_at at why = record { at = at; why = why }
 
 -- all but the digest, then the digest and the end
-pub body_stop : (text rest rest' : List ℕ) (stop : Stop) → Gives (body_in text) (Err stop) rest → Gives (log_in text) (Err stop) rest'
+pub body_stop : (text rest rest' : List ℕ) (stop : ReadError) → Gives (body_in text) (Err stop) rest → Gives (log_in text) (Err stop) rest'
 unfolding log_in
 body_stop text rest rest' NoMemory is = tt
 body_stop text rest rest' (Fault why left) is = rw is refl
 
-pub close_stop : (text middle before rest rest' : List ℕ) (log : Log) (stop : Stop) → body_in text ≡ reads log middle → before ≡ take (length text - length middle) text → Gives (close_in before middle) (Err stop) rest → Gives (log_in text) (Err stop) rest'
+pub close_stop : (text middle before rest rest' : List ℕ) (log : Log) (stop : ReadError) → body_in text ≡ reads log middle → before ≡ take (length text - length middle) text → Gives (close_in before middle) (Err stop) rest → Gives (log_in text) (Err stop) rest'
 unfolding log_in
 close_stop text middle before rest rest' log NoMemory body is closed = tt
 close_stop text middle before rest rest' log (Fault why left) body is closed = rw (body, ← is, closed) refl
@@ -47,7 +47,7 @@ log_closed text middle before rest log u body is closed =
     rw (body, ← is, closed, none) refl
 
 -- a stop, once it has its place, is the text's first fault
-pub stop_fault : (text : List ℕ) (stop : Stop) (fault : LogFault) → Gives (log_in text) (Err stop) [] → IsPlaced stop (length text) fault → (fault ≡ no_memory) ⊎ IsFirstFault text fault
+pub stop_fault : (text : List ℕ) (stop : ReadError) (fault : LogFault) → Gives (log_in text) (Err stop) [] → IsPlaced stop (length text) fault → (fault ≡ no_memory) ⊎ IsFirstFault text fault
 stop_fault text NoMemory fault is placed = inl placed
 stop_fault text (Fault why left) fault is (why_is, at_is) = inr (left, is ∙ ap (λ w. stopping w left) (sym why_is), at_is)
 

@@ -9,8 +9,8 @@ use Rattle.sha2.specs.Sha256.{sha256}
 use Rattle.srr_log.specs.declared.fault.LogWhy.{LogWhy}
 use Rattle.srr_log.specs.declared.fault.LogWhy.TheVariants.{Short, BadGroup, BadNumber, Digest}
 use Rattle.std.specs.Prelude.{Err}
-use Rattle.srr_log2.specs.declared.stop.Stop.{Stop}
-use Rattle.srr_log2.specs.declared.stop.Stop.TheVariants.{NoMemory, Fault}
+use Rattle.srr_log.specs.declared.read_error.ReadError.{ReadError}
+use Rattle.srr_log.specs.declared.read_error.ReadError.TheVariants.{NoMemory, Fault}
 use Rattle.srr_log2.specs.Fields.{Outcome, reads, stops, onward, give, allowed, number_of, word_in, only_if, IsField, Gives}
 use Rattle.srr_log2.specs.EntryReading.{between}
 use Rattle.srr_log2.specs.Reading.{head_in, head_why, group_in, bits_set, program_in, digest_in}
@@ -87,11 +87,11 @@ unfolding program_in
 program_none text why left none = rw none refl
 
 -- a field that is cut off
-pub field_stop : {A : Type 0} (width : ℕ) (said : Outcome A) (text rest rest' : List ℕ) (stop : Stop) → IsField width text (Err stop) rest → (length text < width → said ≡ stops Short 0) → Gives said (Err stop) rest'
+pub field_stop : {A : Type 0} (width : ℕ) (said : Outcome A) (text rest rest' : List ℕ) (stop : ReadError) → IsField width text (Err stop) rest → (length text < width → said ≡ stops Short 0) → Gives said (Err stop) rest'
 field_stop width said text rest rest' NoMemory is short = tt
 field_stop width said text rest rest' (Fault why left) (less, short_why, none) short = rw (short_why, none) (short less)
 
-pub program_stop : (text middle rest : List ℕ) (stop : Stop) → Gives (word_in BadNumber (between 0 65536) text) (Err stop) middle → Gives (program_in text) (Err stop) rest
+pub program_stop : (text middle rest : List ℕ) (stop : ReadError) → Gives (word_in BadNumber (between 0 65536) text) (Err stop) middle → Gives (program_in text) (Err stop) rest
 program_stop text middle rest NoMemory is = tt
 program_stop text middle rest (Fault why left) is = program_none text why left is
 

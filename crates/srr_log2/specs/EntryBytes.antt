@@ -62,7 +62,7 @@ halt_bytes (BadRequest rank start) = 5 ∷ rank ∷ word_bytes start
 halt_bytes Limit = 6 ∷ []
 halt_bytes Stuck = 7 ∷ []
 
--- the record of an entry; that of one that found nothing stands for it and so many more right after it
+-- the record of an entry; that of one that found nothing stands for it and the next `more` entries
 abbrev pub record_bytes : Entry → ℕ → List ℕ
 record_bytes Sent more = 1 ∷ []
 record_bytes Posted more = 2 ∷ []

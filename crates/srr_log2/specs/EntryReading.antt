@@ -11,6 +11,8 @@ use Rattle.srr_entry.specs.declared.entry.Mark.TheVariants.{Sent as MarkSent, No
 use Rattle.srr_entry.specs.declared.entry.Marked.{Marked}
 use Rattle.srr_entry.specs.declared.entry.Entry.{Entry}
 use Rattle.srr_entry.specs.declared.entry.Entry.TheVariants.{Sent, Posted, Entered, Ended, Took, NotYet, PeekedInside, PeekedOutside, Stopped}
+use Rattle.mpi_call.specs.declared.limits.TheConstants.{GREATEST_TAG, MOST_INTS, MOST_RANKS, MOST_RESULT_INTS}
+use Rattle.srr_text.specs.declared.limits.TheConstants.{GREATEST_NUMBER, MOST_ENTRIES}
 use Rattle.srr_log.specs.declared.fault.LogWhy.TheVariants.{BadNumber, BadEntry}
 use Rattle.srr_log2.specs.declared.kind.RecordKind.{RecordKind}
 use Rattle.srr_log2.specs.declared.kind.RecordKind.TheVariants.{Sent as SentKind, Posted as PostedKind, Entered as EnteredKind, Ended as EndedKind, Took as TookKind, NotYet as NotYetKind, PeekedInside as PeekedInsideKind, PeekedOutside as PeekedOutsideKind, Stopped as StoppedKind}
@@ -35,13 +37,13 @@ stands false is_in = not is_in
 
 -- the number of a start, or of a communicator
 unfoldable pub small_in : Reader ℕ
-small_in = word_in BadEntry (between 0 999999)
+small_in = word_in BadEntry (between 0 GREATEST_NUMBER)
 
 -- a message's tag
 unfoldable pub tag_in : Reader ℕ
-tag_in = word_in BadEntry (between 0 2147483647)
+tag_in = word_in BadEntry (between 0 GREATEST_TAG)
 
--- a count of ints, so many at most
+-- a count of ints, at most `most`
 unfoldable pub count_in : ℕ → Reader ℕ
 count_in most = word_in BadEntry (between 0 most)
 
@@ -51,7 +53,7 @@ int_in = do
   number ← word_in BadEntry (λ number. nat_lt number 4294967296)
   give (cast_signed w32 number)
 
--- so many ints at most: how many, and then these
+-- ints, at most `most`: how many, and then these
 unfoldable pub ints_in : ℕ → Reader (List ℤ)
 ints_in most = do
   count ← count_in most
@@ -72,7 +74,7 @@ fault_in = byte_in BadEntry fault_of
 -- the members of a communicator: how many, and then these
 unfoldable pub members_in : ℕ → Reader (List ℕ)
 members_in n = do
-  count ← byte_in BadEntry (λ count. only_if (between 1 64 count) count)
+  count ← byte_in BadEntry (λ count. only_if (between 1 MOST_RANKS count) count)
   many_in (rank_in n) count
 
 -- ---- marks
@@ -89,17 +91,17 @@ mark_of n group OutsideMark = do
   source ← sender_in n group false
   start ← small_in
   tag ← tag_in
-  ints ← ints_in 65536
+  ints ← ints_in MOST_INTS
   give (Outside source start tag ints)
 mark_of n group InnerMark = give Inner
 mark_of n group OuterMark = do
-  ints ← ints_in 262144
+  ints ← ints_in MOST_RESULT_INTS
   give (Outer ints)
 mark_of n group MadeMark = do
   comm ← small_in
   give (Made comm)
 mark_of n group MadeOutsideMark = do
-  comm ← word_in BadEntry (between 1 999999)
+  comm ← word_in BadEntry (between 1 GREATEST_NUMBER)
   members ← members_in n
   give (MadeOutside comm members)
 
@@ -115,11 +117,11 @@ mark_in n group = do
 -- a completed start: its index, at least so much, and its mark
 unfoldable pub item_in : ℕ → List ℕ → ℕ → Reader Marked
 item_in n group least = do
-  index ← word_in BadEntry (between least 999999)
+  index ← word_in BadEntry (between least GREATEST_NUMBER)
   mark ← mark_in n group
   give (record { index = index; mark = mark })
 
--- so many of them, each index above the one before
+-- some of them, each index above the one before
 abbrev pub items_in : ℕ → List ℕ → ℕ → ℕ → Reader (List Marked)
 items_in n group least zero = give []
 items_in n group least (suc count) = do
@@ -167,7 +169,7 @@ halt_in n = do
 
 -- ---- records
 
--- which record may stand where so many more entries follow its first: the end and a halt are a rank's last, and one that
+-- which record may stand where `others` more entries follow its first: the end and a halt are a rank's last, and one that
 -- found nothing does not follow another (`counted`)
 abbrev pub may_stand : Bool → ℕ → RecordKind → Bool
 may_stand counted others EndedKind = others == 0
@@ -203,19 +205,19 @@ record_of n group others PeekedOutsideKind = do
   source ← sender_in n group false
   start ← small_in
   tag ← tag_in
-  count ← count_in 65536
+  count ← count_in MOST_INTS
   give (PeekedOutside source start tag count, 0)
 record_of n group others StoppedKind = do
   halt ← halt_in n
   give (Stopped halt, 0)
 
--- a record, where so many more entries follow its first
+-- a record, where `others` more entries follow its first
 unfoldable pub record_in : ℕ → List ℕ → Bool → ℕ → Reader (Entry × ℕ)
 record_in n group counted others = do
   kind ← record_kind_in counted others
   record_of n group others kind
 
--- so many entries, the last of the four numbers; the record before stands for the first `more` of them, and found nothing
+-- some entries, the last of the four numbers; the record before stands for the first `more` of them, and found nothing
 -- if `counted`
 abbrev pub entries_in : ℕ → List ℕ → Bool → ℕ → ℕ → Reader (List Entry)
 entries_in n group counted more zero = give []
@@ -230,5 +232,5 @@ entries_in n group counted zero (suc others) = do
 -- the list of a rank: how many entries it has, and then their records
 unfoldable pub list_in : ℕ → List ℕ → Reader (List Entry)
 list_in n group = do
-  count ← word_in BadNumber (between 0 999064)
+  count ← word_in BadNumber (between 0 MOST_ENTRIES)
   entries_in n group false 0 count

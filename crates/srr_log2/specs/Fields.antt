@@ -5,8 +5,8 @@ use Rattle.std.specs.Str.{bytes_eq}
 use Rattle.byteorder.specs.Endian.{big_bytes, big_number}
 use Rattle.srr_log.specs.declared.fault.LogWhy.{LogWhy}
 use Rattle.srr_log.specs.declared.fault.LogWhy.TheVariants.{Short}
-use Rattle.srr_log2.specs.declared.stop.Stop.{Stop}
-use Rattle.srr_log2.specs.declared.stop.Stop.TheVariants.{NoMemory, Fault}
+use Rattle.srr_log.specs.declared.read_error.ReadError.{ReadError}
+use Rattle.srr_log.specs.declared.read_error.ReadError.TheVariants.{NoMemory, Fault}
 
 -- what fields say and the rest of the text after them; or a fault, and how many bytes there are from its place to the
 -- text's end
@@ -31,7 +31,7 @@ abbrev pub ◌>>=◌ : {A B : Type 0} → Reader A → (A → Reader B) → Read
 abbrev pub give : {A : Type 0} → A → Reader A
 give value rest = reads value rest
 
--- a field that says nothing is not allowed: the fault is at its first byte, from which on there are so many
+-- a field that says nothing is not allowed: the fault is at its first byte, and `left` bytes are left from there on
 abbrev pub allowed : {A : Type 0} → Option A → LogWhy → ℕ → List ℕ → Outcome A
 allowed (Some value) why left rest = reads value rest
 allowed None why left rest = stops why left
@@ -41,12 +41,12 @@ abbrev pub byte_in : {A : Type 0} → LogWhy → (ℕ → Option A) → Reader A
 byte_in why said [] = stops Short 0
 byte_in why said (byte ∷ rest) = allowed (said byte) why (length rest + 1) rest
 
--- a field of so many bytes; why it is not allowed may depend on them
+-- a field of `width` bytes; why it is not allowed may depend on them
 unfoldable pub field_in : {A : Type 0} → ℕ → (List ℕ → LogWhy) → (List ℕ → Option A) → Reader A
 field_in width why said text =
     if nat_lt (length text) width then stops Short 0 else allowed (said (take width text)) (why (take width text)) (length text) (drop width text)
 
--- the number that so many bytes are, where it is allowed. (Every list of bytes has one; a list of other numbers has none)
+-- the number that `width` bytes are, where it is allowed. (Every list of bytes has one; a list of other numbers has none)
 unfoldable pub number_of : ℕ → (ℕ → Bool) → List ℕ → Option ℕ
 number_of width is_allowed bytes =
     if bytes_eq bytes (big_bytes width (big_number width bytes)) && is_allowed (big_number width bytes) then Some (big_number width bytes) else None
@@ -55,7 +55,7 @@ number_of width is_allowed bytes =
 abbrev pub word_in : LogWhy → (ℕ → Bool) → Reader ℕ
 word_in why is_allowed = field_in 4 (λ _. why) (number_of 4 is_allowed)
 
--- so many of a kind
+-- a number of values of a kind
 abbrev pub many_in : {A : Type 0} → Reader A → ℕ → Reader (List A)
 many_in r zero = give []
 many_in r (suc count) = do
@@ -69,25 +69,25 @@ only_if true value = Some value
 only_if false value = None
 
 -- what the code found in a text: the next byte, and how many bytes there are from it on; or that none is left
-abbrev pub IsByte : List ℕ → Result (ℕ × ℕ) Stop → List ℕ → Type 0
+abbrev pub IsByte : List ℕ → Result (ℕ × ℕ) ReadError → List ℕ → Type 0
 IsByte text (Ok found) rest = (text ≡ found.0 ∷ rest) × (found.1 ≡ length rest + 1)
 IsByte text (Err NoMemory) rest = ⊥
 IsByte text (Err (Fault why left)) rest = (text ≡ []) × (why ≡ Short) × (left ≡ 0)
 
 -- the next number of four bytes, whatever is allowed there, and how many bytes there are from it on
-abbrev pub IsWord : List ℕ → Result (ℕ × ℕ) Stop → List ℕ → Type 0
+abbrev pub IsWord : List ℕ → Result (ℕ × ℕ) ReadError → List ℕ → Type 0
 IsWord text (Ok found) rest = (why : LogWhy) (is_allowed : ℕ → Bool) → word_in why is_allowed text ≡ allowed (only_if (is_allowed found.0) found.0) why found.1 rest
 IsWord text (Err NoMemory) rest = ⊥
 IsWord text (Err (Fault why left)) rest = (why' : LogWhy) (is_allowed : ℕ → Bool) → word_in why' is_allowed text ≡ stops why left
 
--- the next so many bytes, and how many there are from them on
-abbrev pub IsField : ℕ → List ℕ → Result (Bor (List ℕ) × ℕ) Stop → List ℕ → Type 0
+-- the next `width` bytes, and how many there are from them on
+abbrev pub IsField : ℕ → List ℕ → Result (Bor (List ℕ) × ℕ) ReadError → List ℕ → Type 0
 IsField width text (Ok found) rest = (text ≡ found.0.now ++ rest) × (length found.0.now ≡ width) × (found.1 ≡ length text)
 IsField width text (Err NoMemory) rest = ⊥
 IsField width text (Err (Fault why left)) rest = (length text < width) × (why ≡ Short) × (left ≡ 0)
 
 -- what the code read and left is what the fields say, or it is out of memory
-abbrev pub Gives : {A : Type 0} → Outcome A → Result A Stop → List ℕ → Type 0
+abbrev pub Gives : {A : Type 0} → Outcome A → Result A ReadError → List ℕ → Type 0
 Gives said (Ok value) rest = said ≡ reads value rest
 Gives said (Err NoMemory) rest = Unit {0}
 Gives said (Err (Fault why left)) rest = said ≡ stops why left

@@ -8,7 +8,7 @@ use Rattle.srr_entry.specs.declared.log.Log.{Log}
 use Rattle.srr_text.specs.Bounds.{IsInBounds}
 use Rattle.srr_log2.specs.EntryBytes.{word_bytes, list_bytes}
 
--- a number with a bit for each of so many ranks from the first on, the first rank's lowest: 1 where it is in the group
+-- a number with a bit for each of some ranks from the first on, the first rank's lowest: 1 where it is in the group
 abbrev pub bits_from : ℕ → ℕ → List ℕ → ℕ
 bits_from zero first group = 0
 bits_from (suc count) first group = (if is_member group first then 1 else 0) + 2 * bits_from count (first + 1) group

@@ -3,12 +3,14 @@ use Rattle.std.specs.Prelude.{◌≡◌, ◌≤◌, ◌+◌, ◌-◌, ◌/◌, �
 use Rattle.std.specs.Str.{bytes_eq}
 use Rattle.sha2.specs.Sha256.{sha256}
 use Rattle.srr_entry.specs.declared.log.Log.{Log}
+use Rattle.mpi_call.specs.declared.limits.TheConstants.{MOST_RANKS}
+use Rattle.srr_text.specs.declared.limits.TheConstants.{MOST_PROGRAM_BYTES}
 use Rattle.srr_log.specs.declared.fault.LogFault.{LogFault}
 use Rattle.srr_log.specs.declared.fault.LogWhy.{LogWhy}
 use Rattle.srr_log.specs.declared.fault.LogWhy.TheVariants.{BadHead, BadNumber, BadGroup, Short, Extra, BadVersion, Digest}
 use Rattle.srr_log.specs.Faults.{no_memory}
-use Rattle.srr_log2.specs.declared.stop.Stop.{Stop}
-use Rattle.srr_log2.specs.declared.stop.Stop.TheVariants.{NoMemory, Fault}
+use Rattle.srr_log.specs.declared.read_error.ReadError.{ReadError}
+use Rattle.srr_log.specs.declared.read_error.ReadError.TheVariants.{NoMemory, Fault}
 use Rattle.srr_log2.specs.EntryReading.{between, list_in}
 use Rattle.srr_log2.specs.Fields.{reads, stops, Reader, onward, ◌>>=◌, give, byte_in, only_if, field_in, number_of, word_in, many_in}
 
@@ -22,9 +24,9 @@ head_in = field_in 6 head_why (λ bytes. only_if (bytes_eq bytes (codes "srr 2\n
 
 -- how many ranks the run had
 unfoldable pub ranks_in : Reader ℕ
-ranks_in = byte_in BadNumber (λ ranks. only_if (between 1 64 ranks) ranks)
+ranks_in = byte_in BadNumber (λ ranks. only_if (between 1 MOST_RANKS ranks) ranks)
 
--- those of so many ranks from the first on whose bits are set, the first rank's lowest
+-- those of some ranks from the first on whose bits are set, the first rank's lowest
 abbrev pub bits_set : ℕ → ℕ → ℕ → List ℕ
 bits_set zero first bits = []
 bits_set (suc count) first bits = if bits % 2 == 1 then first ∷ bits_set count (first + 1) (bits / 2) else bits_set count (first + 1) (bits / 2)
@@ -38,7 +40,7 @@ group_in n = do
 -- how many bytes the program has, and then any that many
 unfoldable pub program_in : Reader (List ℕ)
 program_in = do
-  size ← word_in BadNumber (between 0 65536)
+  size ← word_in BadNumber (between 0 MOST_PROGRAM_BYTES)
   field_in size (λ _. Short) (λ bytes. Some bytes)
 
 -- all but the digest: after the program a list for each rank of the group
@@ -70,15 +72,15 @@ close_in before = do
 unfoldable pub log_in : Reader Log
 log_in text = onward (body_in text) (λ log rest. onward (close_in (take (length text - length rest) text) rest) (λ _. give log))
 
--- the text's first fault: its place, counted from 0, has so many bytes from it to the text's end
+-- the text's first fault: its place, counted from 0, has `left` bytes from it to the text's end
 abbrev pub IsFirstFault : List ℕ → LogFault → Type 0
 IsFirstFault text fault = (left : ℕ) × (log_in text ≡ stops fault.why left) × (fault.at + left ≡ length text)
 
 -- the fault's place is in a text of that length, and the fault with its place; being out of memory has none
-abbrev pub IsWithin : Stop → ℕ → Type 0
+abbrev pub IsWithin : ReadError → ℕ → Type 0
 IsWithin NoMemory size = Unit {0}
 IsWithin (Fault why left) size = left ≤ size
 
-abbrev pub IsPlaced : Stop → ℕ → LogFault → Type 0
+abbrev pub IsPlaced : ReadError → ℕ → LogFault → Type 0
 IsPlaced NoMemory size fault = fault ≡ no_memory
 IsPlaced (Fault why left) size fault = (fault.why ≡ why) × (fault.at + left ≡ size)

@@ -180,7 +180,7 @@ fn push_halt(out: &mut Bytes, halt: &Halt) -> Result<(), AllocError>
     }
 }
 
-/// The record of an entry; that of one that found nothing stands for so many more right after it.
+/// The record of an entry; that of one that found nothing stands for `more` entries right after it as well.
 fn push_record(out: &mut Bytes, entry: &Entry, more: usize) -> Result<(), AllocError>
     requires short { IsShortEntry entry.now }
     requires few { more + 1 < 2 ^ 32 }

@@ -9,23 +9,17 @@ ghost use Rattle.srr_log2.specs.Kinds.{fault_of};
 ghost use Rattle.srr_log2.specs.EntryReading.{between, count_in, fault_in, int_in, rank_in, sender_in, small_in, tag_in};
 
 use crate::kind;
-use crate::stop::{Stop, bad_entry, cut_off};
+use crate::read_error::{bad_entry, cut_off};
 use byteorder::{BigEndian, ByteOrder};
 use mpi_call::call::Fault;
+use mpi_call::limits::GREATEST_TAG;
 use srr_log::fault::LogWhy;
+use srr_log::read_error::ReadError;
+use srr_text::limits::GREATEST_NUMBER;
 use wiz_base::Cursor;
 
-/// The greatest number of a start, of a communicator, and of an index in a list of starts.
-pub const LAST_NUMBER: u32 = 999_999;
-
-/// The greatest tag.
-const LAST_TAG: u32 = 2_147_483_647;
-
-/// The most ints of a message.
-pub const MESSAGE_INTS: u32 = 65_536;
-
 /// The next byte, and how many bytes there are from it on.
-pub fn byte(cursor: &mut Cursor<'_>) -> Result<(u8, usize), Stop>
+pub fn byte(cursor: &mut Cursor<'_>) -> Result<(u8, usize), ReadError>
     ensures { IsByte cursor.old result cursor.new }
 {
     let left = cursor.rest().len();
@@ -35,8 +29,8 @@ pub fn byte(cursor: &mut Cursor<'_>) -> Result<(u8, usize), Stop>
     }
 }
 
-/// The next so many bytes, and how many there are from them on.
-pub fn field<'a>(cursor: &mut Cursor<'a>, width: usize) -> Result<(&'a [u8], usize), Stop>
+/// The next `width` bytes, and how many there are from them on.
+pub fn field<'a>(cursor: &mut Cursor<'a>, width: usize) -> Result<(&'a [u8], usize), ReadError>
     ensures { IsField width cursor.old result cursor.new }
 {
     let left = cursor.rest().len();
@@ -47,7 +41,7 @@ pub fn field<'a>(cursor: &mut Cursor<'a>, width: usize) -> Result<(&'a [u8], usi
 }
 
 /// The next number of four bytes, and how many bytes there are from it on.
-pub fn word(cursor: &mut Cursor<'_>) -> Result<(u32, usize), Stop>
+pub fn word(cursor: &mut Cursor<'_>) -> Result<(u32, usize), ReadError>
     ensures { IsWord cursor.old result cursor.new }
 {
     let left = cursor.rest().len();
@@ -66,7 +60,7 @@ fn word_of(bytes: &[u8]) -> u32
 }
 
 /// A number of four bytes, from `least` to `most`.
-pub fn number(cursor: &mut Cursor<'_>, why: LogWhy, least: u32, most: u32) -> Result<u32, Stop>
+pub fn number(cursor: &mut Cursor<'_>, why: LogWhy, least: u32, most: u32) -> Result<u32, ReadError>
     ensures read { Gives (word_in why (between least most) cursor.old) result cursor.new }
     ensures within { IfOk result (λ number. (least ≤ number) × (number ≤ most)) }
 {
@@ -74,29 +68,29 @@ pub fn number(cursor: &mut Cursor<'_>, why: LogWhy, least: u32, most: u32) -> Re
     if least <= number && number <= most {
         Ok(number)
     } else {
-        Err(Stop::Fault { why, left })
+        Err(ReadError::Fault { why, left })
     }
 }
 
 /// A start's number, or a communicator's.
 #[tactic(auto, unfolding(crate::specs::EntryReading::small_in))]
-pub fn small(cursor: &mut Cursor<'_>) -> Result<u32, Stop>
+pub fn small(cursor: &mut Cursor<'_>) -> Result<u32, ReadError>
     ensures { Gives (small_in cursor.old) result cursor.new }
 {
-    number(cursor, LogWhy::BadEntry, 0, LAST_NUMBER)
+    number(cursor, LogWhy::BadEntry, 0, GREATEST_NUMBER)
 }
 
 /// A message's tag.
 #[tactic(auto, unfolding(crate::specs::EntryReading::tag_in))]
-pub fn tag(cursor: &mut Cursor<'_>) -> Result<u32, Stop>
+pub fn tag(cursor: &mut Cursor<'_>) -> Result<u32, ReadError>
     ensures { Gives (tag_in cursor.old) result cursor.new }
 {
-    number(cursor, LogWhy::BadEntry, 0, LAST_TAG)
+    number(cursor, LogWhy::BadEntry, 0, GREATEST_TAG)
 }
 
-/// A count of ints, so many at most.
+/// A count of ints, at most `most`.
 #[tactic(auto, unfolding(crate::specs::EntryReading::count_in))]
-pub fn count(cursor: &mut Cursor<'_>, most: u32) -> Result<u32, Stop>
+pub fn count(cursor: &mut Cursor<'_>, most: u32) -> Result<u32, ReadError>
     ensures { Gives (count_in most cursor.old) result cursor.new }
 {
     number(cursor, LogWhy::BadEntry, 0, most)
@@ -104,7 +98,7 @@ pub fn count(cursor: &mut Cursor<'_>, most: u32) -> Result<u32, Stop>
 
 /// An int in two's complement.
 #[tactic(auto, unfolding(crate::specs::EntryReading::int_in))]
-pub fn int(cursor: &mut Cursor<'_>) -> Result<i32, Stop>
+pub fn int(cursor: &mut Cursor<'_>) -> Result<i32, ReadError>
     ensures read { Gives (int_in cursor.old) result cursor.new }
     ensures fits { IfOk result (λ int. FitsSigned w32 int) }
 {
@@ -114,7 +108,7 @@ pub fn int(cursor: &mut Cursor<'_>) -> Result<i32, Stop>
 
 /// A rank of the run.
 #[tactic(auto, unfolding(crate::specs::EntryReading::rank_in))]
-pub fn rank(cursor: &mut Cursor<'_>, ranks: u8) -> Result<u8, Stop>
+pub fn rank(cursor: &mut Cursor<'_>, ranks: u8) -> Result<u8, ReadError>
     ensures { Gives (rank_in ranks cursor.old) result cursor.new }
 {
     let (rank, left) = byte(cursor)?;
@@ -127,7 +121,12 @@ pub fn rank(cursor: &mut Cursor<'_>, ranks: u8) -> Result<u8, Stop>
 
 /// The sender of a message, in the group or outside it.
 #[tactic(auto, unfolding(crate::specs::EntryReading::sender_in))]
-pub fn sender(cursor: &mut Cursor<'_>, ranks: u8, group: &[u8], inside: bool) -> Result<u8, Stop>
+pub fn sender(
+    cursor: &mut Cursor<'_>,
+    ranks: u8,
+    group: &[u8],
+    inside: bool,
+) -> Result<u8, ReadError>
     ensures { Gives (sender_in ranks group.now inside cursor.old) result cursor.new }
 {
     let (rank, left) = byte(cursor)?;
@@ -140,7 +139,7 @@ pub fn sender(cursor: &mut Cursor<'_>, ranks: u8, group: &[u8], inside: bool) ->
 
 /// Why a program trapped.
 #[tactic(auto, unfolding(crate::specs::EntryReading::fault_in))]
-pub fn fault(cursor: &mut Cursor<'_>) -> Result<Fault, Stop>
+pub fn fault(cursor: &mut Cursor<'_>) -> Result<Fault, ReadError>
     ensures { Gives (fault_in cursor.old) result cursor.new }
 {
     let (number, left) = byte(cursor)?;

@@ -6,7 +6,7 @@ mod field;
 mod kind;
 mod list;
 mod mark;
+mod read_error;
 pub mod read_log2;
 mod record;
-mod stop;
 pub mod write_log2;

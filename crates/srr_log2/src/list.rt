@@ -4,24 +4,23 @@ ghost use Rattle.srr_log2.specs.Fields.{Gives, many_in};
 ghost use Rattle.srr_log2.specs.EntryReading.{between, int_in, ints_in, members_in, rank_in};
 
 use crate::field::{byte, count, int, rank};
-use crate::stop::{Stop, bad_entry};
+use crate::read_error::bad_entry;
+use mpi_call::limits::MOST_RANKS;
 use mpi_call::lists::{Ints, Ranks};
+use srr_log::read_error::ReadError;
 use std::alloc::{AllocError, Global};
 use wiz_base::Cursor;
 
-/// The most members of a communicator.
-const MEMBERS: u8 = 64;
-
 /// So many ints at most: how many, and then these.
 #[tactic(auto, unfolding(crate::specs::EntryReading::ints_in))]
-pub fn ints(alloc: Global, cursor: &mut Cursor<'_>, most: u32) -> Result<Ints, Stop>
+pub fn ints(alloc: Global, cursor: &mut Cursor<'_>, most: u32) -> Result<Ints, ReadError>
     ensures { Gives (ints_in most cursor.old) result cursor.new }
 {
     let count = count(cursor, most)?;
     many_ints(alloc, cursor, count)
 }
 
-fn many_ints(alloc: Global, cursor: &mut Cursor<'_>, count: u32) -> Result<Ints, Stop>
+fn many_ints(alloc: Global, cursor: &mut Cursor<'_>, count: u32) -> Result<Ints, ReadError>
     ensures { Gives (many_in int_in count cursor.old) result cursor.new }
 {
     let mut found = Ints::new(alloc);
@@ -37,25 +36,28 @@ fn many_ints(alloc: Global, cursor: &mut Cursor<'_>, count: u32) -> Result<Ints,
 fn add_int(found: &mut Ints, int: i32) -> Result<(), AllocError>
     ensures { OnOk result (found.new ≡ found.old ++ int ∷ []) }
 {
-    match found.push(int) {
-        Ok(()) => Ok(()),
-        Err(_) => Err(AllocError),
-    }
+    found.push(int)?;
+    Ok(())
 }
 
 /// The members of a communicator: how many, and then these.
 #[tactic(auto, unfolding(crate::specs::EntryReading::members_in))]
-pub fn members(alloc: Global, cursor: &mut Cursor<'_>, ranks: u8) -> Result<Ranks, Stop>
+pub fn members(alloc: Global, cursor: &mut Cursor<'_>, ranks: u8) -> Result<Ranks, ReadError>
     ensures { Gives (members_in ranks cursor.old) result cursor.new }
 {
     let (count, left) = byte(cursor)?;
-    if count < 1 || count > MEMBERS {
+    if count < 1 || count > MOST_RANKS {
         return Err(bad_entry(left));
     }
     many_ranks(alloc, cursor, ranks, count)
 }
 
-fn many_ranks(alloc: Global, cursor: &mut Cursor<'_>, ranks: u8, count: u8) -> Result<Ranks, Stop>
+fn many_ranks(
+    alloc: Global,
+    cursor: &mut Cursor<'_>,
+    ranks: u8,
+    count: u8,
+) -> Result<Ranks, ReadError>
     ensures { Gives (many_in (rank_in ranks) count cursor.old) result cursor.new }
 {
     let mut found = Ranks::new(alloc);
@@ -71,8 +73,6 @@ fn many_ranks(alloc: Global, cursor: &mut Cursor<'_>, ranks: u8, count: u8) -> R
 fn add_rank(found: &mut Ranks, rank: u8) -> Result<(), AllocError>
     ensures { OnOk result (found.new ≡ found.old ++ rank ∷ []) }
 {
-    match found.push(rank) {
-        Ok(()) => Ok(()),
-        Err(_) => Err(AllocError),
-    }
+    found.push(rank)?;
+    Ok(())
 }

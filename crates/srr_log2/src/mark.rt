@@ -4,21 +4,21 @@ ghost use Rattle.srr_log2.specs.declared.kind.MarkKind.TheVariants.{Outside};
 ghost use Rattle.srr_log2.specs.Fields.{Gives};
 ghost use Rattle.srr_log2.specs.EntryReading.{mark_in, mark_kind_in, mark_of};
 
-use crate::field::{LAST_NUMBER, MESSAGE_INTS, byte, number, sender, small, tag};
+use crate::field::{byte, number, sender, small, tag};
 use crate::kind::{MarkKind, mark_kind};
 use crate::list::{ints, members};
-use crate::stop::{Stop, bad_entry};
+use crate::read_error::bad_entry;
+use mpi_call::limits::{MOST_INTS, MOST_RESULT_INTS};
 use srr_entry::entry::Mark;
 use srr_log::fault::LogWhy;
+use srr_log::read_error::ReadError;
+use srr_text::limits::GREATEST_NUMBER;
 use std::alloc::Global;
 use wiz_base::Cursor;
 
-/// The most ints of a collective's result.
-const RESULT_INTS: u32 = 262_144;
-
 /// The kind of a mark.
 #[tactic(auto, unfolding(crate::specs::EntryReading::mark_kind_in))]
-fn kind(cursor: &mut Cursor<'_>) -> Result<MarkKind, Stop>
+fn kind(cursor: &mut Cursor<'_>) -> Result<MarkKind, ReadError>
     ensures { Gives (mark_kind_in cursor.old) result cursor.new }
 {
     let (number, left) = byte(cursor)?;
@@ -30,7 +30,12 @@ fn kind(cursor: &mut Cursor<'_>) -> Result<MarkKind, Stop>
 
 /// A mark: its kind, and what follows.
 #[tactic(auto, unfolding(crate::specs::EntryReading::mark_in))]
-pub fn mark(alloc: Global, cursor: &mut Cursor<'_>, ranks: u8, group: &[u8]) -> Result<Mark, Stop>
+pub fn mark(
+    alloc: Global,
+    cursor: &mut Cursor<'_>,
+    ranks: u8,
+    group: &[u8],
+) -> Result<Mark, ReadError>
     ensures { Gives (mark_in ranks group.now cursor.old) result cursor.new }
 {
     let kind = kind(cursor)?;
@@ -38,13 +43,18 @@ pub fn mark(alloc: Global, cursor: &mut Cursor<'_>, ranks: u8, group: &[u8]) -> 
 }
 
 /// A message from outside the group, after its kind.
-fn outside(alloc: Global, cursor: &mut Cursor<'_>, ranks: u8, group: &[u8]) -> Result<Mark, Stop>
+fn outside(
+    alloc: Global,
+    cursor: &mut Cursor<'_>,
+    ranks: u8,
+    group: &[u8],
+) -> Result<Mark, ReadError>
     ensures { Gives (mark_of ranks group.now Outside cursor.old) result cursor.new }
 {
     let source = sender(cursor, ranks, group, false)?;
     let start = small(cursor)?;
     let tag = tag(cursor)?;
-    let ints = ints(alloc, cursor, MESSAGE_INTS)?;
+    let ints = ints(alloc, cursor, MOST_INTS)?;
     Ok(Mark::Outside {
         source,
         start,
@@ -60,7 +70,7 @@ fn mark_of(
     ranks: u8,
     group: &[u8],
     kind: MarkKind,
-) -> Result<Mark, Stop>
+) -> Result<Mark, ReadError>
     ensures { Gives (mark_of ranks group.now kind cursor.old) result cursor.new }
 {
     match kind {
@@ -74,7 +84,7 @@ fn mark_of(
         MarkKind::Outside => outside(alloc, cursor, ranks, group),
         MarkKind::Inner => Ok(Mark::Inner),
         MarkKind::Outer => {
-            let ints = ints(alloc, cursor, RESULT_INTS)?;
+            let ints = ints(alloc, cursor, MOST_RESULT_INTS)?;
             Ok(Mark::Outer { ints })
         }
         MarkKind::Made => {
@@ -82,7 +92,7 @@ fn mark_of(
             Ok(Mark::Made { comm })
         }
         MarkKind::MadeOutside => {
-            let comm = number(cursor, LogWhy::BadEntry, 1, LAST_NUMBER)?;
+            let comm = number(cursor, LogWhy::BadEntry, 1, GREATEST_NUMBER)?;
             let members = members(alloc, cursor, ranks)?;
             Ok(Mark::MadeOutside { comm, members })
         }

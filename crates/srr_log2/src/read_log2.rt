@@ -14,23 +14,19 @@ ghost use Rattle.srr_log2.specs.Reading.{IsFirstFault, IsPlaced, IsWithin, bits_
 
 use crate::field::{byte, field, number};
 use crate::record::list;
-use crate::stop::Stop;
 use byteorder::{BigEndian, ByteOrder};
+use mpi_call::limits::MOST_RANKS;
 use mpi_call::lists::Ranks;
 use sha2::{Digest, Sha256};
 use srr_entry::log::{Entries, Lists, Log};
 use srr_log::fault::{LogFault, LogWhy};
+use srr_log::read_error::ReadError;
+use srr_text::limits::MOST_PROGRAM_BYTES;
 use std::alloc::{AllocError, Global};
 use wiz_base::{Bytes, Cursor};
 
-/// The most ranks of a run.
-const RANKS: u8 = 64;
-
-/// The most bytes of a program.
-const PROGRAM_BYTES: u32 = 65_536;
-
 /// The format's name.
-fn head(cursor: &mut Cursor<'_>) -> Result<(), Stop>
+fn head(cursor: &mut Cursor<'_>) -> Result<(), ReadError>
     ensures { Gives (head_in cursor.old) result cursor.new }
 {
     let (bytes, left) = field(cursor, 6)?;
@@ -38,7 +34,7 @@ fn head(cursor: &mut Cursor<'_>) -> Result<(), Stop>
         return Ok(());
     }
     let why = head_why(bytes);
-    Err(Stop::Fault { why, left })
+    Err(ReadError::Fault { why, left })
 }
 
 /// Why six bytes are no name of the format.
@@ -56,15 +52,15 @@ fn head_why(bytes: &[u8]) -> LogWhy
 
 /// The number of ranks of the run.
 #[tactic(auto, unfolding(crate::specs::Reading::ranks_in))]
-fn ranks(cursor: &mut Cursor<'_>) -> Result<u8, Stop>
+fn ranks(cursor: &mut Cursor<'_>) -> Result<u8, ReadError>
     ensures read { Gives (ranks_in cursor.old) result cursor.new }
-    ensures few { IfOk result (λ ranks. (1 ≤ ranks) × (ranks ≤ 64)) }
+    ensures few { IfOk result (λ ranks. (1 ≤ ranks) × (ranks ≤ MOST_RANKS)) }
 {
     let (ranks, left) = byte(cursor)?;
-    if 1 <= ranks && ranks <= RANKS {
+    if 1 <= ranks && ranks <= MOST_RANKS {
         Ok(ranks)
     } else {
-        Err(Stop::Fault {
+        Err(ReadError::Fault {
             why: LogWhy::BadNumber,
             left,
         })
@@ -81,10 +77,10 @@ fn bits_of(bytes: &[u8]) -> u64
 
 /// Some bits are set, and none at `ranks` or above.
 fn are_bits(bits: u64, ranks: u8) -> bool
-    requires { ranks ≤ 64 }
+    requires { ranks ≤ MOST_RANKS }
     ensures { IsTrue result ↔ (0 < bits) × (bits < 2 ^ ranks) }
 {
-    bits > 0 && (ranks == 64 || bits < 1u64 << ranks)
+    bits > 0 && (ranks == MOST_RANKS || bits < 1u64 << ranks)
 }
 
 /// The ranks whose bits are set.
@@ -107,21 +103,19 @@ fn add_if_set(found: &mut Ranks, rank: u8, bits: u64) -> Result<(), AllocError>
     if bits % 2 == 0 {
         return Ok(());
     }
-    match found.push(rank) {
-        Ok(()) => Ok(()),
-        Err(_) => Err(AllocError),
-    }
+    found.push(rank)?;
+    Ok(())
 }
 
 /// The ranks of the group.
-fn group(alloc: Global, cursor: &mut Cursor<'_>, ranks: u8) -> Result<Ranks, Stop>
-    requires { ranks ≤ 64 }
+fn group(alloc: Global, cursor: &mut Cursor<'_>, ranks: u8) -> Result<Ranks, ReadError>
+    requires { ranks ≤ MOST_RANKS }
     ensures { Gives (group_in ranks cursor.old) result cursor.new }
 {
     let (bytes, left) = field(cursor, 8)?;
     let bits = bits_of(bytes);
     if !are_bits(bits, ranks) {
-        return Err(Stop::Fault {
+        return Err(ReadError::Fault {
             why: LogWhy::BadGroup,
             left,
         });
@@ -131,17 +125,22 @@ fn group(alloc: Global, cursor: &mut Cursor<'_>, ranks: u8) -> Result<Ranks, Sto
 }
 
 /// The program: how many bytes, and then these.
-fn program(alloc: Global, cursor: &mut Cursor<'_>) -> Result<Bytes, Stop>
+fn program(alloc: Global, cursor: &mut Cursor<'_>) -> Result<Bytes, ReadError>
     ensures { Gives (program_in cursor.old) result cursor.new }
 {
-    let size = number(cursor, LogWhy::BadNumber, 0, PROGRAM_BYTES)?;
+    let size = number(cursor, LogWhy::BadNumber, 0, MOST_PROGRAM_BYTES)?;
     let (bytes, _) = field(cursor, size as usize)?;
     let program = Bytes::from_slice(alloc, bytes)?;
     Ok(program)
 }
 
 /// A list for each rank of the group.
-fn lists(alloc: Global, cursor: &mut Cursor<'_>, ranks: u8, group: &[u8]) -> Result<Lists, Stop>
+fn lists(
+    alloc: Global,
+    cursor: &mut Cursor<'_>,
+    ranks: u8,
+    group: &[u8],
+) -> Result<Lists, ReadError>
     ensures { Gives (many_in (list_in ranks group.now) (length group.now) cursor.old) result cursor.new }
 {
     let mut found = Lists::new(alloc);
@@ -157,15 +156,13 @@ fn lists(alloc: Global, cursor: &mut Cursor<'_>, ranks: u8, group: &[u8]) -> Res
 fn add_list(lists: &mut Lists, entries: Entries) -> Result<(), AllocError>
     ensures { OnOk result (lists.new ≡ lists.old ++ entries ∷ []) }
 {
-    match lists.push(entries) {
-        Ok(()) => Ok(()),
-        Err(_) => Err(AllocError),
-    }
+    lists.push(entries)?;
+    Ok(())
 }
 
 /// All but the digest.
 #[tactic(auto, unfolding(crate::specs::Reading::body_in))]
-fn body(alloc: Global, cursor: &mut Cursor<'_>) -> Result<Log, Stop>
+fn body(alloc: Global, cursor: &mut Cursor<'_>) -> Result<Log, ReadError>
     ensures { Gives (body_in cursor.old) result cursor.new }
 {
     head(cursor)?;
@@ -182,14 +179,14 @@ fn body(alloc: Global, cursor: &mut Cursor<'_>) -> Result<Log, Stop>
 }
 
 /// The digest of the bytes before.
-fn digest(cursor: &mut Cursor<'_>, before: &[u8]) -> Result<(), Stop>
+fn digest(cursor: &mut Cursor<'_>, before: &[u8]) -> Result<(), ReadError>
     ensures { Gives (digest_in before.now cursor.old) result cursor.new }
 {
     let (bytes, left) = field(cursor, 32)?;
     if is_digest(bytes, before) {
         Ok(())
     } else {
-        Err(Stop::Fault {
+        Err(ReadError::Fault {
             why: LogWhy::Digest,
             left,
         })
@@ -205,14 +202,14 @@ fn is_digest(bytes: &[u8], before: &[u8]) -> bool
 }
 
 /// Nothing more.
-fn end(cursor: &mut Cursor<'_>) -> Result<(), Stop>
+fn end(cursor: &mut Cursor<'_>) -> Result<(), ReadError>
     ensures { Gives (end_in cursor.old) result cursor.new }
 {
     let left = cursor.rest().len();
     if left == 0 {
         Ok(())
     } else {
-        Err(Stop::Fault {
+        Err(ReadError::Fault {
             why: LogWhy::Extra,
             left,
         })
@@ -221,7 +218,7 @@ fn end(cursor: &mut Cursor<'_>) -> Result<(), Stop>
 
 /// The digest of the bytes before, and nothing more.
 #[tactic(auto, unfolding(crate::specs::Reading::close_in))]
-fn close(cursor: &mut Cursor<'_>, before: &[u8]) -> Result<(), Stop>
+fn close(cursor: &mut Cursor<'_>, before: &[u8]) -> Result<(), ReadError>
     ensures { Gives (close_in before.now cursor.old) result cursor.new }
 {
     digest(cursor, before)?;
@@ -229,7 +226,7 @@ fn close(cursor: &mut Cursor<'_>, before: &[u8]) -> Result<(), Stop>
 }
 
 /// All fields, and nothing after them.
-fn read(alloc: Global, text: &[u8]) -> Result<Log, Stop>
+fn read(alloc: Global, text: &[u8]) -> Result<Log, ReadError>
     ensures { Gives (log_in text.now) result [] }
 {
     let mut cursor = Cursor::new(text);
@@ -252,22 +249,22 @@ pub fn read_log2(alloc: Global, text: &[u8]) -> Result<Log, LogFault>
 {
     match read(alloc, text) {
         Ok(log) => Ok(log),
-        Err(stop) => Err(fault_of(text, stop)),
+        Err(error) => Err(fault_of(text, error)),
     }
 }
 
 /// The fault with its place.
-fn fault_of(text: &[u8], stop: Stop) -> LogFault
+fn fault_of(text: &[u8], error: ReadError) -> LogFault
     requires few { length text.now < 2 ^ 32 }
-    requires fits { IsWithin stop (length text.now) }
-    ensures { IsPlaced stop (length text.now) result }
+    requires fits { IsWithin error (length text.now) }
+    ensures { IsPlaced error (length text.now) result }
 {
-    match stop {
-        Stop::NoMemory => LogFault {
+    match error {
+        ReadError::NoMemory => LogFault {
             at: 0,
             why: LogWhy::NoMemory,
         },
-        Stop::Fault { why, left } => LogFault {
+        ReadError::Fault { why, left } => LogFault {
             at: (text.len() - left) as u32,
             why,
         },

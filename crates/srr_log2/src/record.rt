@@ -6,21 +6,19 @@ ghost use Rattle.srr_log2.specs.EntryBytes.{is_not_yet};
 ghost use Rattle.srr_log2.specs.Fields.{Gives, many_in};
 ghost use Rattle.srr_log2.specs.EntryReading.{entries_in, halt_in, halt_of, item_in, items_in, list_in, may_stand, record_in, record_kind_in, record_of, some_items_in};
 
-use crate::field::{
-    LAST_NUMBER, MESSAGE_INTS, byte, count, fault, int, number, rank, sender, small, tag, word,
-};
+use crate::field::{byte, count, fault, int, number, rank, sender, small, tag, word};
 use crate::kind::{HaltKind, RecordKind, halt_kind, is_not_yet, record_kind};
 use crate::mark::mark;
-use crate::stop::{Stop, bad_entry};
+use crate::read_error::bad_entry;
 use mpi_call::call::Halt;
+use mpi_call::limits::MOST_INTS;
 use srr_entry::entry::{Entry, Marked, MarkedItems};
 use srr_entry::log::Entries;
 use srr_log::fault::LogWhy;
+use srr_log::read_error::ReadError;
+use srr_text::limits::{GREATEST_NUMBER, MOST_ENTRIES};
 use std::alloc::{AllocError, Global};
 use wiz_base::Cursor;
-
-/// The most entries of a rank.
-const LIST_ENTRIES: u32 = 999_064;
 
 /// A completed start: its index, at least so much, and its mark.
 #[tactic(auto, unfolding(crate::specs::EntryReading::item_in))]
@@ -30,11 +28,11 @@ fn item(
     ranks: u8,
     group: &[u8],
     least: u32,
-) -> Result<Marked, Stop>
+) -> Result<Marked, ReadError>
     ensures read { Gives (item_in ranks group.now least cursor.old) result cursor.new }
-    ensures small { IfOk result (λ item. item.index ≤ 999999) }
+    ensures small { IfOk result (λ item. item.index ≤ GREATEST_NUMBER) }
 {
-    let index = number(cursor, LogWhy::BadEntry, least, LAST_NUMBER)?;
+    let index = number(cursor, LogWhy::BadEntry, least, GREATEST_NUMBER)?;
     let mark = mark(alloc, cursor, ranks, group)?;
     Ok(Marked { index, mark })
 }
@@ -46,7 +44,7 @@ fn items(
     ranks: u8,
     group: &[u8],
     count: u32,
-) -> Result<MarkedItems, Stop>
+) -> Result<MarkedItems, ReadError>
     ensures { Gives (items_in ranks group.now 0 count cursor.old) result cursor.new }
 {
     let mut found = MarkedItems::new(alloc);
@@ -64,15 +62,13 @@ fn items(
 fn add_item(found: &mut MarkedItems, item: Marked) -> Result<(), AllocError>
     ensures { OnOk result (found.new ≡ found.old ++ item ∷ []) }
 {
-    match found.push(item) {
-        Ok(()) => Ok(()),
-        Err(_) => Err(AllocError),
-    }
+    found.push(item)?;
+    Ok(())
 }
 
 /// A halt: its kind, and what follows.
 #[tactic(auto, unfolding(crate::specs::EntryReading::halt_in))]
-fn halt(cursor: &mut Cursor<'_>, ranks: u8) -> Result<Halt, Stop>
+fn halt(cursor: &mut Cursor<'_>, ranks: u8) -> Result<Halt, ReadError>
     ensures { Gives (halt_in ranks cursor.old) result cursor.new }
 {
     let (number, left) = byte(cursor)?;
@@ -83,7 +79,7 @@ fn halt(cursor: &mut Cursor<'_>, ranks: u8) -> Result<Halt, Stop>
 }
 
 /// What follows the kind of a halt.
-fn halt_of(cursor: &mut Cursor<'_>, ranks: u8, kind: HaltKind) -> Result<Halt, Stop>
+fn halt_of(cursor: &mut Cursor<'_>, ranks: u8, kind: HaltKind) -> Result<Halt, ReadError>
     ensures { Gives (halt_of ranks kind cursor.old) result cursor.new }
 {
     match kind {
@@ -116,7 +112,7 @@ fn halt_of(cursor: &mut Cursor<'_>, ranks: u8, kind: HaltKind) -> Result<Halt, S
     }
 }
 
-/// Which record may stand where so many more entries follow its first, after one that found nothing (`counted`) or not.
+/// Which record may stand where `others` more entries follow its first, after one that found nothing (`counted`) or not.
 fn may_stand(counted: bool, others: u32, kind: RecordKind) -> bool
     ensures { result ≡ may_stand counted others kind }
 {
@@ -129,7 +125,7 @@ fn may_stand(counted: bool, others: u32, kind: RecordKind) -> bool
 
 /// The first byte of a record.
 #[tactic(auto, unfolding(crate::specs::EntryReading::record_kind_in))]
-fn kind(cursor: &mut Cursor<'_>, counted: bool, others: u32) -> Result<RecordKind, Stop>
+fn kind(cursor: &mut Cursor<'_>, counted: bool, others: u32) -> Result<RecordKind, ReadError>
     ensures { Gives (record_kind_in counted others cursor.old) result cursor.new }
 {
     let (number, left) = byte(cursor)?;
@@ -150,7 +146,7 @@ fn record(
     group: &[u8],
     counted: bool,
     others: u32,
-) -> Result<(Entry, u32), Stop>
+) -> Result<(Entry, u32), ReadError>
     requires { others + 1 < 2 ^ 32 }
     ensures { Gives (record_in ranks group.now counted others cursor.old) result cursor.new }
 {
@@ -159,13 +155,17 @@ fn record(
 }
 
 /// A probe that found a message from outside the group, after the first byte of its record.
-fn peeked_outside(cursor: &mut Cursor<'_>, ranks: u8, group: &[u8]) -> Result<(Entry, u32), Stop>
+fn peeked_outside(
+    cursor: &mut Cursor<'_>,
+    ranks: u8,
+    group: &[u8],
+) -> Result<(Entry, u32), ReadError>
     ensures { Gives (record_of ranks group.now 0 PeekedOutside cursor.old) result cursor.new }
 {
     let source = sender(cursor, ranks, group, false)?;
     let start = small(cursor)?;
     let tag = tag(cursor)?;
-    let count = count(cursor, MESSAGE_INTS)?;
+    let count = count(cursor, MOST_INTS)?;
     let entry = Entry::PeekedOutside {
         source,
         start,
@@ -183,7 +183,7 @@ fn record_of(
     group: &[u8],
     others: u32,
     kind: RecordKind,
-) -> Result<(Entry, u32), Stop>
+) -> Result<(Entry, u32), ReadError>
     requires { others + 1 < 2 ^ 32 }
     ensures { Gives (record_of ranks group.now others kind cursor.old) result cursor.new }
 {
@@ -220,7 +220,7 @@ fn some_items(
     cursor: &mut Cursor<'_>,
     ranks: u8,
     group: &[u8],
-) -> Result<MarkedItems, Stop>
+) -> Result<MarkedItems, ReadError>
     ensures { Gives (some_items_in ranks group.now cursor.old) result cursor.new }
 {
     let (count, left) = word(cursor)?;
@@ -237,7 +237,7 @@ fn entries(
     ranks: u8,
     group: &[u8],
     count: u32,
-) -> Result<Entries, Stop>
+) -> Result<Entries, ReadError>
     ensures { Gives (entries_in ranks group.now false 0 count cursor.old) result cursor.new }
 {
     let mut found = Entries::new(alloc);
@@ -263,10 +263,8 @@ fn entries(
 fn add_entry(found: &mut Entries, entry: Entry) -> Result<(), AllocError>
     ensures { OnOk result (found.new ≡ found.old ++ entry ∷ []) }
 {
-    match found.push(entry) {
-        Ok(()) => Ok(()),
-        Err(_) => Err(AllocError),
-    }
+    found.push(entry)?;
+    Ok(())
 }
 
 /// The list of a rank: how many entries it has, and then their records.
@@ -276,9 +274,9 @@ pub fn list(
     cursor: &mut Cursor<'_>,
     ranks: u8,
     group: &[u8],
-) -> Result<Entries, Stop>
+) -> Result<Entries, ReadError>
     ensures { Gives (list_in ranks group.now cursor.old) result cursor.new }
 {
-    let count = number(cursor, LogWhy::BadNumber, 0, LIST_ENTRIES)?;
+    let count = number(cursor, LogWhy::BadNumber, 0, MOST_ENTRIES)?;
     entries(alloc, cursor, ranks, group, count)
 }

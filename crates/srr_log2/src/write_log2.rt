@@ -24,7 +24,7 @@ fn push_lists(out: &mut Bytes, lists: &[Entries]) -> Result<(), AllocError>
     Ok(())
 }
 
-/// A number with a bit for each of so many ranks from the `first` on, set where the rank is in the group.
+/// A number with a bit for each of `count` ranks from the `first` on, set where the rank is in the group.
 fn bits_from(group: &[u8], first: u8, count: u8) -> u64
     requires { (count ≤ 64) × (first + count < 2 ^ 8) }
     ensures number { result ≡ bits_from count first group.now }

@@ -6,6 +6,7 @@ ghost use Rattle.run_model.specs.Serial.{call_after};
 ghost use Rattle.srr_record.specs.Recordings.{AreRuns};
 ghost use Rattle.srr_record.specs.Rounds.{GoesBy, GoesByRounds, HaveEnded, IsOnlyOf};
 
+use mpi_call::limits::MOST_RANKS;
 use mpi_machine::machine::Machine;
 use mpi_machine::turn::Turn;
 use run_model::program::{Program, RankRun, Want};
@@ -55,7 +56,7 @@ fn round<P: Program, R: RankRun<Of = P>>(
     machine: &mut Machine<'_, P>,
     runs: &mut [R],
 ) -> Result<(), AllocError>
-    requires few { machine.old.ranks ≤ 64 }
+    requires few { machine.old.ranks ≤ MOST_RANKS }
     requires runs { AreRuns R.standing machine.old.program machine.old.ranks machine.old.events runs.old }
     ensures runs { OnOk result (AreRuns R.standing machine.old.program machine.old.ranks machine.new.events runs.new) }
     ensures goes { OnOk result (GoesBy (P.next machine.old.program) (world machine.old.ranks 0) machine.old machine.new) }
@@ -84,7 +85,7 @@ pub fn make_rounds<P: Program, R: RankRun<Of = P>>(
     machine: &mut Machine<'_, P>,
     runs: &mut [R],
 ) -> Result<(), AllocError>
-    requires few { machine.old.ranks ≤ 64 }
+    requires few { machine.old.ranks ≤ MOST_RANKS }
     requires runs { AreRuns R.standing machine.old.program machine.old.ranks machine.old.events runs.old }
     ensures runs { OnOk result (AreRuns R.standing machine.old.program machine.old.ranks machine.new.events runs.new) }
     ensures goes { OnOk result (GoesByRounds (P.next machine.old.program) machine.old machine.new) }

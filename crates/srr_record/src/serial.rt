@@ -20,7 +20,7 @@ use run_model::ending::Ending;
 use run_model::laws::order_begins_serial;
 use run_model::lists::Outputs;
 use run_model::program::{Program, RankRun};
-use srr_entry::log::{Log, Logs};
+use srr_entry::log::Logs;
 use srr_entry::run_log::log_of;
 use std::alloc::{AllocError, Global};
 use wiz_base::bytes::Bytes;
@@ -105,18 +105,9 @@ fn logs_of<P: Program>(
     let mut logs = Logs::new(alloc);
     for group in 0..plan.groups() {
         let log = log_of(alloc, plan.n(), plan.ranks(group), text, history)?;
-        push_log(&mut logs, log)?;
+        logs.push(log)?;
     }
     Ok(logs)
-}
-
-fn push_log(logs: &mut Logs, log: Log) -> Result<(), AllocError>
-    ensures { OnOk result (logs.new ≡ logs.old ++ log ∷ []) }
-{
-    match logs.push(log) {
-        Ok(()) => Ok(()),
-        Err(_) => Err(AllocError),
-    }
 }
 
 /// What each rank has printed, in order.
@@ -131,7 +122,7 @@ fn outputs_of<P: Program, R: RankRun<Of = P>>(
     let mut outputs = Outputs::new(alloc);
     for run in runs.iter_mut() {
         let printed = printed(alloc, run)?;
-        push_output(&mut outputs, printed)?;
+        outputs.push(printed)?;
     }
     Ok(outputs)
 }
@@ -143,15 +134,6 @@ fn printed<R: RankRun>(alloc: Global, run: &mut R) -> Result<Bytes, AllocError>
 {
     run.want()?;
     Bytes::from_slice(alloc, run.printed())
-}
-
-fn push_output(outputs: &mut Outputs, printed: Bytes) -> Result<(), AllocError>
-    ensures { OnOk result (outputs.new ≡ outputs.old ++ printed ∷ []) }
-{
-    match outputs.push(printed) {
-        Ok(()) => Ok(()),
-        Err(_) => Err(AllocError),
-    }
 }
 
 /// How a run ended in which every rank has ended.

@@ -2,7 +2,6 @@ pub mod CollectiveLemmas
 pub mod FillLemmas
 pub mod FormLemmas
 pub mod LogLemmas
-pub mod MemberLemmas
 pub mod MissingMarks
 pub mod ShapeLemmas
 pub mod StartTableLemmas

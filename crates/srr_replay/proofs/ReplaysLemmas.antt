@@ -40,10 +40,10 @@ pub Came-order : (next : Next) (log : Log) (events : List Event) → KeepsForm n
 Came-order next log events laws fine came =
     record {
       ranks = λ rank below. in_order next log.ranks rank (view_of events rank) laws.enters (omega (arith, below), fine.few, below) (came.views rank);
-      sends = λ rank k comm dest tag ints at. elim (test_cases (is_member log.group rank)) [
+      sends = λ rank k comm dest tag ints sync at. elim (test_cases (is_member log.group rank)) [
         | inl mine ↦ (
             let below = below_at log.ranks log.group rank fine.below mine in
-            short_sends next log.ranks rank (view_of events rank) laws.bounds (omega (arith, below), fine.few, below) (came.views rank) k comm dest tag ints at)
+            short_sends next log.ranks rank (view_of events rank) laws.bounds (omega (arith, below), fine.few, below) (came.views rank) k comm dest tag ints sync at)
         | inr other ↦ (let none = rw (came.alone rank other) at at in absurd (cc))
       ];
     }

@@ -14,7 +14,7 @@ use Rattle.run_model.proofs.Views.{test_cases, view_of-own, view_of-other}
 use Rattle.srr_entry.specs.declared.log.Log.{Log}
 use Rattle.replay_model.specs.declared.step.Step.TheVariants.{Replied}
 use Rattle.replay_model.specs.Replays.{ReplayState, Breakpoint, IsExhausted, answer_of, event_of}
-use Rattle.srr_replay.specs.Rounds.{GrowsBy, HasNoStep, RunAll, attempt, attempts, rounds}
+use Rattle.srr_replay.specs.Rounds.{GrowsBy, HasNoStep, RunAll, SameReplay, attempt, attempts, rounds}
 
 snoc-map : {A B : Type 0} (f : A → B) (xs : List A) (x : A) → map f (xs ++ x ∷ []) ≡ map f xs ++ f x ∷ []
 snoc-map f [] x = refl
@@ -24,6 +24,10 @@ snoc-map f (y ∷ xs) x = ap (λ l. f y ∷ l) (snoc-map f xs x)
 pub replies_in-after : (events : List Event) (rank : ℕ) (call : Call) (reply : Reply) → replies_in (view_of (events ++ event_of rank call reply ∷ []) rank) ≡ replies_in (view_of events rank) ++ reply ∷ []
 replies_in-after events rank call reply =
     rw (view_of-own events (event_of rank call reply)) (snoc-map _ (view_of events rank) (call, reply))
+
+-- the same replay over two steps
+pub same_on : {P : Type 0} (start before after : ReplayState P) → SameReplay start before → SameReplay before after → SameReplay start after
+same_on start before after one two = record { program = two.program ∙ one.program; log = two.log ∙ one.log; stop = two.stop ∙ one.stop }
 
 -- a run that was given the reply
 pub IsAfter-given : {P : Type 0} (program : P) (n rank : ℕ) (events : List Event) (call : Call) (reply : Reply) (before after : Standing P) → IsAfter program n rank events before → after ≡ record before { replies = before.replies ++ reply ∷ []; asked = false } → IsAfter program n rank (events ++ event_of rank call reply ∷ []) after

@@ -55,20 +55,20 @@ use Rattle.replay_model.proofs.ShapedFits.{not_true, uncoloured_inner}
 
 -- a Send that a receive accepts within its room gives what has the receive's shape
 message_shaped : (n : ℕ) (group : List ℕ) (own : View) (me source start : ℕ) (taker : Option Call) (c dest tag : ℕ) (ints : List ℤ) (sync : Bool) → mark_fits n group me own taker (Inside source start) ≡ true → send_fits me source taker (Send c dest tag ints sync) ≡ true → got_fits n own me taker (Message source start tag ints) ≡ true
-message_shaped n group own me source start None c dest tag ints marked sent = absurd (cc)
-message_shaped n group own me source start (Some (Post comm Any wanted room)) c dest tag ints marked sent =
+message_shaped n group own me source start None c dest tag ints sync marked sent = absurd (cc)
+message_shaped n group own me source start (Some (Post comm Any wanted room)) c dest tag ints sync marked sent =
     let parts = both (accepts me comm Any wanted source (Send c dest tag ints sync)) (nat_le (length ints) room) sent in
     let on_comm = both (c == comm) ((dest == me) && (true && tag_agrees wanted tag)) parts.0 in
     let to_me = both (dest == me) (true && tag_agrees wanted tag) on_comm.1 in
     rw (to_me.1, parts.1) refl
-message_shaped n group own me source start (Some (Post comm (From rank) wanted room)) c dest tag ints marked sent =
+message_shaped n group own me source start (Some (Post comm (From rank) wanted room)) c dest tag ints sync marked sent =
     let parts = both (accepts me comm (From rank) wanted source (Send c dest tag ints sync)) (nat_le (length ints) room) sent in
     let on_comm = both (c == comm) ((dest == me) && ((rank == source) && tag_agrees wanted tag)) parts.0 in
     let to_me = both (dest == me) ((rank == source) && tag_agrees wanted tag) on_comm.1 in
     let agrees = both (rank == source) (tag_agrees wanted tag) to_me.1 in
     rw (agrees.0, agrees.1, parts.1) refl
-message_shaped n group own me source start (Some (Post comm Null wanted room)) c dest tag ints marked sent = absurd (cc)
-message_shaped n group own me source start (Some call) c dest tag ints marked sent = absurd (cc)
+message_shaped n group own me source start (Some (Post comm Null wanted room)) c dest tag ints sync marked sent = absurd (cc)
+message_shaped n group own me source start (Some call) c dest tag ints sync marked sent = absurd (cc)
 
 is_send : Call → Bool
 is_send (Send comm dest tag ints sync) = true
@@ -107,7 +107,7 @@ sent_shaped n group own me source start taker (Some (Send c dest tag ints sync))
     elim (test_cases (send_fits me source taker (Send c dest tag ints sync))) [
       | inl t ↦ (
           let same : Message source start tag ints ≡ got = cc in
-          rw (← same) (message_shaped n group own me source start taker c dest tag ints fit t))
+          rw (← same) (message_shaped n group own me source start taker c dest tag ints sync fit t))
       | inr t ↦ (let told = rw t at h in absurd (cc))
     ]
 sent_shaped n group own me source start taker (Some call) got fit made h =

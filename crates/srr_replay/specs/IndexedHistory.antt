@@ -3,11 +3,11 @@ use Rattle.std.specs.Prelude.{ℕ, List, option_map}
 use Rattle.run_model.specs.declared.event.Event.{Event}
 use Rattle.run_model.specs.Communicators.{Entered}
 use Rattle.srr_replay.specs.declared.clash.Clash.{Clash}
-use Rattle.srr_replay.specs.declared.seen.Enter.{Enter}
+use Rattle.srr_replay.specs.declared.indexed_history.Enter.{Enter}
 use Rattle.replay_model.specs.declared.step.Found.{Found}
 
 -- the number of ranks, and the events
-pub record SeenSoFar : Type 0 where
+pub record EventsSoFar : Type 0 where
   pub ranks : ℕ
   pub events : List Event
 

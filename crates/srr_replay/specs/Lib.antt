@@ -1,5 +1,5 @@
 pub mod Collectives
-pub mod Seen
+pub mod IndexedHistory
 pub mod StartTable
 pub mod EnterTable
 pub mod MemberTable

@@ -2,22 +2,29 @@
 use Rattle.std.specs.Prelude.{◌≡◌, ◌<◌, ◌≤◌, ℕ, zero, suc, List, [], ◌∷◌, ◌++◌, Option, Some, None, Bool, true, false, All, length, slice_index}
 use Rattle.std.specs.List.{slice_index_or}
 use Rattle.mpi_call.specs.declared.call.Call.{Call}
+use Rattle.mpi_call.specs.declared.limits.TheConstants.{MOST_RANKS}
 use Rattle.mpi_call.specs.Collectives.{is_distinct}
 use Rattle.run_model.specs.declared.event.Event.{Event}
 use Rattle.run_model.specs.Lists.{are_below}
 use Rattle.run_model.specs.Program.{Standing, IsAfter}
 use Rattle.run_model.specs.Views.{Next, replies_in, view_of}
 use Rattle.srr_entry.specs.declared.log.Log.{Log}
-use Rattle.replay_model.specs.Replays.{Breakpoint, IsStep, answer_of, events_after}
+use Rattle.replay_model.specs.Replays.{Breakpoint, IsStep, ReplayState, answer_of, events_after}
 
 -- 1 to 64 ranks, a group of distinct ranks below their number, a list of entries for each, no longer than a log holds
 pub record IsReplayable (log : Log) : Type 0 where
-  pub few : log.ranks ≤ 64
+  pub few : log.ranks ≤ MOST_RANKS
   pub some : 0 < length log.group
   pub below : are_below log.ranks log.group ≡ true
   pub distinct : is_distinct log.group ≡ true
   pub as_many : length log.lists ≡ length log.group
   pub short : All (λ entries. length entries ≤ 999064) log.lists
+
+-- the same program, log and breakpoint
+pub record SameReplay {P : Type 0} (old new : ReplayState P) : Type 0 where
+  pub program : new.program ≡ old.program
+  pub log : new.log ≡ old.log
+  pub stop : new.stop ≡ old.stop
 
 -- each number counts the calls of its rank
 abbrev pub AreCounts : ℕ → List Event → List ℕ → Type 0
@@ -28,6 +35,7 @@ abbrev pub GrowsBy : ℕ → List Event → List Event → Bool → Type 0
 GrowsBy rank before after false = after ≡ before
 GrowsBy rank before after true = (event : Event) × (event.rank ≡ rank) × (after ≡ before ++ event ∷ [])
 
+-- the rank has no step
 abbrev pub HasNoStep : Next → Log → Breakpoint → List Event → ℕ → Type 0
 HasNoStep next log stop events rank = (event : Event) → event.rank ≡ rank → IsStep next log stop events event → ⊥
 
@@ -41,6 +49,7 @@ abbrev pub attempt_with : Log → Breakpoint → List Event → ℕ → Option C
 attempt_with log stop events rank None = events
 attempt_with log stop events rank (Some call) = events_after events rank call (answer_of log stop (view_of events) (view_of events rank) rank call)
 
+-- an attempt of a rank with its program's next call
 abbrev pub attempt : Next → Log → Breakpoint → List Event → ℕ → List Event
 attempt next log stop events rank = attempt_with log stop events rank (next log.ranks rank (replies_in (view_of events rank)))
 
@@ -49,7 +58,7 @@ abbrev pub attempts : Next → Log → Breakpoint → List Event → List ℕ �
 attempts next log stop events [] = events
 attempts next log stop events (rank ∷ ranks) = attempts next log stop (attempt next log stop events rank) ranks
 
--- so many rounds over the group, in the order of its ranks
+-- a number of rounds over the group, in the order of its ranks
 abbrev pub rounds : Next → Log → Breakpoint → ℕ → List Event → List Event
 rounds next log stop zero events = events
 rounds next log stop (suc more) events = rounds next log stop more (attempts next log stop events log.group)

@@ -4,13 +4,13 @@ ghost use Rattle.run_model.specs.Forms.{AreInOrder};
 ghost use Rattle.run_model.specs.Views.{View, view_of};
 ghost use Rattle.replay_model.specs.Replays.{answer_of, diverged, entry_answer, is_break, takes_none};
 
-use crate::asked::Asked;
 use crate::clash::find_clash;
 use crate::fill::reply;
 use crate::find::find_entries;
 use crate::fit::fits;
+use crate::indexed_history::IndexedHistory;
 use crate::missing::find_missing;
-use crate::seen::Seen;
+use crate::next_call::NextCall;
 use mpi_call::call;
 use replay_model::step::{Divergence, Found, Step};
 use srr_entry::entry;
@@ -23,8 +23,8 @@ pub fn answer(
     alloc: Global,
     log: &Log,
     stop: &Option<(u8, u32)>,
-    seen: &Seen,
-    asked: &Asked<'_>,
+    seen: &IndexedHistory,
+    asked: &NextCall<'_>,
 ) -> Result<Step, AllocError>
     requires ranks { seen.now.ranks ≡ log.now.ranks }
     requires rank { asked.now.rank < seen.now.ranks }
@@ -57,8 +57,8 @@ fn is_at(stop: &Option<(u8, u32)>, rank: u8, number: u32) -> bool
 fn answer_by(
     alloc: Global,
     group: &[u8],
-    seen: &Seen,
-    asked: &Asked<'_>,
+    seen: &IndexedHistory,
+    asked: &NextCall<'_>,
     entry: &Entry,
 ) -> Result<Step, AllocError>
     requires rank { asked.now.rank < seen.now.ranks }
@@ -87,7 +87,7 @@ fn answer_by(
 }
 
 /// The answer that the call does not fit its entry.
-fn diverge(asked: &Asked<'_>, entry: &Entry, found: Option<Found>) -> Result<Step, AllocError>
+fn diverge(asked: &NextCall<'_>, entry: &Entry, found: Option<Found>) -> Result<Step, AllocError>
     ensures { IfOk result (λ step. (own : View) → asked.now.number ≡ length own → step ≡ diverged asked.now.rank own asked.now.call.now entry.now found) }
 {
     let entry = entry::copy_of(entry)?;

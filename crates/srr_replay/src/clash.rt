@@ -7,11 +7,11 @@ ghost use Rattle.run_model.specs.Forms.{IsInOrder};
 ghost use Rattle.run_model.specs.Views.{start_at, view_of};
 ghost use Rattle.replay_model.specs.Breaks.{break_enter, break_inner, break_mark, break_marks, break_members, break_send, broken, has_members, send_fits};
 ghost use Rattle.replay_model.specs.Fits.{IsEnterAt, fits, mark_fits, marks_fit};
-ghost use Rattle.srr_replay.specs.Seen.{entered_of, found_of};
+ghost use Rattle.srr_replay.specs.IndexedHistory.{entered_of, found_of};
 
-use crate::asked::Asked;
 use crate::fit::comm_of;
-use crate::seen::{Enter, Seen};
+use crate::indexed_history::{Enter, IndexedHistory};
+use crate::next_call::NextCall;
 use mpi_call::acceptance::accepts;
 use mpi_call::call::Call;
 use mpi_call::lists::Ranks;
@@ -29,7 +29,11 @@ pub struct Clash<'a> {
 
 /// The first replayed start that disagrees, in item order and then in member order. Takes no memory.
 #[tactic(auto, unfolding(replay_model::specs::Fits::fits))]
-pub fn find_clash<'a>(seen: &'a Seen, asked: &Asked<'_>, entry: &Entry) -> Option<Clash<'a>>
+pub fn find_clash<'a>(
+    seen: &'a IndexedHistory,
+    asked: &NextCall<'_>,
+    entry: &Entry,
+) -> Option<Clash<'a>>
     requires order { IsInOrder seen.now.ranks asked.now.rank (view_of seen.now.events asked.now.rank) }
     requires fits { (group : List ℕ) × (fits seen.now.ranks group asked.now.rank (view_of seen.now.events asked.now.rank) asked.now.call.now entry.now ≡ true) }
     ensures { option_map found_of result ≡ broken seen.now.ranks (view_of seen.now.events) (view_of seen.now.events asked.now.rank) asked.now.rank asked.now.call.now entry.now }
@@ -50,7 +54,7 @@ pub fn find_clash<'a>(seen: &'a Seen, asked: &Asked<'_>, entry: &Entry) -> Optio
 }
 
 fn clash_in_marks<'a>(
-    seen: &'a Seen,
+    seen: &'a IndexedHistory,
     rank: u8,
     starts: &[u32],
     marks: &[Marked],
@@ -71,7 +75,12 @@ fn clash_in_marks<'a>(
 }
 
 /// The first start that disagrees with the mark of the rank's start.
-fn clash_in_mark<'a>(seen: &'a Seen, rank: u8, start: u32, mark: &Mark) -> Option<Clash<'a>>
+fn clash_in_mark<'a>(
+    seen: &'a IndexedHistory,
+    rank: u8,
+    start: u32,
+    mark: &Mark,
+) -> Option<Clash<'a>>
     requires order { IsInOrder seen.now.ranks rank (view_of seen.now.events rank) }
     requires fits { (group : List ℕ) × (mark_fits seen.now.ranks group rank (view_of seen.now.events rank) (start_at (view_of seen.now.events rank) start) mark.now ≡ true) }
     ensures { option_map found_of result ≡ break_mark seen.now.ranks (view_of seen.now.events) (view_of seen.now.events rank) rank start mark.now }
@@ -155,7 +164,7 @@ fn is_fitting(rank: u8, source: u8, taker: Option<&Call>, sent: &Call) -> bool
 }
 
 /// The first needed member's Enter that disagrees with the rank's collective.
-fn clash_entered<'a>(seen: &'a Seen, rank: u8, start: u32) -> Option<Clash<'a>>
+fn clash_entered<'a>(seen: &'a IndexedHistory, rank: u8, start: u32) -> Option<Clash<'a>>
     requires order { IsInOrder seen.now.ranks rank (view_of seen.now.events rank) }
     requires enter { IsEnterAt (view_of seen.now.events rank) start }
     ensures { option_map found_of result ≡ break_inner seen.now.ranks (view_of seen.now.events) (view_of seen.now.events rank) rank start (start_at (view_of seen.now.events rank) start) }
@@ -167,7 +176,7 @@ fn clash_entered<'a>(seen: &'a Seen, rank: u8, start: u32) -> Option<Clash<'a>>
 }
 
 /// The same, where that start is this Enter.
-fn clash_for<'a>(seen: &'a Seen, rank: u8, start: u32, call: &Call) -> Option<Clash<'a>>
+fn clash_for<'a>(seen: &'a IndexedHistory, rank: u8, start: u32, call: &Call) -> Option<Clash<'a>>
     requires order { IsInOrder seen.now.ranks rank (view_of seen.now.events rank) }
     requires start { start_at (view_of seen.now.events rank) start ≡ Some call.now }
     requires enter { is_enter call.now ≡ true }
@@ -179,7 +188,7 @@ fn clash_for<'a>(seen: &'a Seen, rank: u8, start: u32, call: &Call) -> Option<Cl
 }
 
 fn first_clash<'a>(
-    seen: &'a Seen,
+    seen: &'a IndexedHistory,
     call: &Call,
     members: &Ranks,
     rank: u8,

@@ -62,10 +62,8 @@ fn append(numbers: &mut Starts, number: u32) -> Result<(), AllocError>
     ensures ok { OnOk result (numbers.new ≡ numbers.old ++ number ∷ []) }
     ensures err { OnErr result (numbers.new ≡ numbers.old) }
 {
-    match numbers.push(number) {
-        Ok(()) => Ok(()),
-        Err(_) => Err(AllocError),
-    }
+    numbers.push(number)?;
+    Ok(())
 }
 
 /// How many of these rising numbers are below another.
@@ -112,7 +110,7 @@ impl EnterTable {
         }
     }
 
-    /// Adds an Enter. For want of memory nothing is added.
+    /// Adds an Enter. Out of memory, nothing is added.
     pub fn note(&mut self, rank: u8, comm: Comm, number: u32) -> Result<(), AllocError>
         requires { rank < length self.old }
         ensures ok { OnOk result (IsNotedFor self.old self.new rank comm number) }

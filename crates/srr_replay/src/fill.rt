@@ -13,9 +13,9 @@ ghost use Rattle.replay_model.specs.Filling.{absent_of, fill_inner, fill_made, f
 ghost use Rattle.srr_replay.specs.Collectives.{IsCollective};
 ghost use Rattle.replay_model.specs.Fits.{fits, mark_fits, marks_fit};
 
-use crate::asked::Asked;
 use crate::fit::comm_of;
-use crate::seen::Seen;
+use crate::indexed_history::IndexedHistory;
+use crate::next_call::NextCall;
 use mpi_call::call::{Call, Comm};
 use mpi_call::lists::{Inputs, Ints, Ranks};
 use mpi_call::needs::needs;
@@ -29,8 +29,8 @@ use std::alloc::{AllocError, Global};
 #[tactic(auto, unfolding(replay_model::specs::Fits::fits))]
 pub fn reply(
     alloc: Global,
-    seen: &Seen,
-    asked: &Asked<'_>,
+    seen: &IndexedHistory,
+    asked: &NextCall<'_>,
     entry: &Entry,
 ) -> Result<Reply, AllocError>
     requires rank { asked.now.rank < seen.now.ranks }
@@ -67,7 +67,7 @@ pub fn reply(
 }
 
 /// What a probe found.
-fn probed(seen: &Seen, source: u8, start: u32) -> Reply
+fn probed(seen: &IndexedHistory, source: u8, start: u32) -> Reply
     requires order { AreInOrder seen.now.ranks seen.now.events }
     requires there { missing_of (peeked_from source start (start_at (view_of seen.now.events source) start)) ≡ None }
     ensures { peeked_from source start (start_at (view_of seen.now.events source) start) ≡ Ok result }
@@ -87,7 +87,7 @@ fn probed(seen: &Seen, source: u8, start: u32) -> Reply
 /// What the marks of completed starts stand for. An index past the list reads start 0.
 fn items(
     alloc: Global,
-    seen: &Seen,
+    seen: &IndexedHistory,
     rank: u8,
     starts: &[u32],
     marks: &[Marked],
@@ -104,23 +104,23 @@ fn items(
     while let [marked, after @ ..] = rest {
         let start = starts.get(marked.index as usize).copied().unwrap_or(0);
         let got = got(alloc, seen, rank, start, &marked.mark)?;
-        push_item(&mut found, marked.index, got)?;
+        found.push(Item {
+            index: marked.index,
+            got,
+        })?;
         rest = after;
     }
     Ok(found)
 }
 
-fn push_item(items: &mut Items, index: u32, got: Got) -> Result<(), AllocError>
-    ensures { OnOk result (items.new ≡ items.old ++ (record { index = index; got = got }) ∷ []) }
-{
-    match items.push(Item { index, got }) {
-        Ok(()) => Ok(()),
-        Err(_) => Err(AllocError),
-    }
-}
-
 /// What the mark of the rank's start stands for.
-fn got(alloc: Global, seen: &Seen, rank: u8, start: u32, mark: &Mark) -> Result<Got, AllocError>
+fn got(
+    alloc: Global,
+    seen: &IndexedHistory,
+    rank: u8,
+    start: u32,
+    mark: &Mark,
+) -> Result<Got, AllocError>
     requires rank { rank < seen.now.ranks }
     requires order { AreInOrder seen.now.ranks seen.now.events }
     requires fits { (group : List ℕ) × (mark_fits seen.now.ranks group rank (view_of seen.now.events rank) (start_at (view_of seen.now.events rank) start) mark.now ≡ true) }
@@ -193,7 +193,7 @@ fn made_none(alloc: Global) -> Got
 }
 
 /// The message of a named Send.
-fn message(seen: &Seen, source: u8, start: u32) -> Result<Got, AllocError>
+fn message(seen: &IndexedHistory, source: u8, start: u32) -> Result<Got, AllocError>
     requires there { missing_of (message_from source start (start_at (view_of seen.now.events source) start)) ≡ None }
     ensures { IfOk result (λ got. message_from source start (start_at (view_of seen.now.events source) start) ≡ Ok got) }
 {
@@ -205,7 +205,7 @@ fn message(seen: &Seen, source: u8, start: u32) -> Result<Got, AllocError>
 }
 
 /// The result of the rank's collective, from what the needed members entered.
-fn result_of(alloc: Global, seen: &Seen, rank: u8, start: u32) -> Result<Got, AllocError>
+fn result_of(alloc: Global, seen: &IndexedHistory, rank: u8, start: u32) -> Result<Got, AllocError>
     requires rank { rank < seen.now.ranks }
     requires order { AreInOrder seen.now.ranks seen.now.events }
     requires enter { (call : Call) → start_at (view_of seen.now.events rank) start ≡ Some call → (is_enter call ≡ true) × (makes call ≡ false) }
@@ -225,7 +225,7 @@ fn result_of(alloc: Global, seen: &Seen, rank: u8, start: u32) -> Result<Got, Al
 /// The result, where that start is this Enter.
 fn result_for(
     alloc: Global,
-    seen: &Seen,
+    seen: &IndexedHistory,
     rank: u8,
     start: u32,
     call: &Call,
@@ -242,7 +242,13 @@ fn result_for(
 }
 
 /// The communicator that the rank's collective makes.
-fn made_of(alloc: Global, seen: &Seen, rank: u8, start: u32, comm: Comm) -> Result<Got, AllocError>
+fn made_of(
+    alloc: Global,
+    seen: &IndexedHistory,
+    rank: u8,
+    start: u32,
+    comm: Comm,
+) -> Result<Got, AllocError>
     requires rank { rank < seen.now.ranks }
     requires order { AreInOrder seen.now.ranks seen.now.events }
     requires enter { (call : Call) → start_at (view_of seen.now.events rank) start ≡ Some call → (is_enter call ≡ true) × (makes call ≡ true) }
@@ -262,7 +268,7 @@ fn made_of(alloc: Global, seen: &Seen, rank: u8, start: u32, comm: Comm) -> Resu
 /// Its members, where that start is this Enter.
 fn members_for(
     alloc: Global,
-    seen: &Seen,
+    seen: &IndexedHistory,
     rank: u8,
     start: u32,
     call: &Call,
@@ -281,7 +287,7 @@ fn members_for(
 /// What each member that is needed entered, in member order, and nothing for the others.
 fn inputs(
     alloc: Global,
-    seen: &Seen,
+    seen: &IndexedHistory,
     call: &Call,
     members: &Ranks,
     rank: u8,
@@ -297,11 +303,11 @@ fn inputs(
     while let [member, after @ ..] = rest {
         if needs(call, members, rank, *member) {
             match seen.entered(*member, comm_of(call), instance) {
-                Some(entered) => push_ints(&mut found, copy_ints(alloc, entered.call)?)?,
+                Some(entered) => found.push(copy_ints(alloc, entered.call)?)?,
                 None => unreachable!(),
             }
         } else {
-            push_ints(&mut found, Ints::new(alloc))?;
+            found.push(Ints::new(alloc))?;
         }
         rest = after;
     }
@@ -314,14 +320,5 @@ fn copy_ints(alloc: Global, call: &Call) -> Result<Ints, AllocError>
     match call {
         Call::Enter { ints, .. } | Call::Send { ints, .. } => ints.clone(),
         _ => Ok(Ints::new(alloc)),
-    }
-}
-
-fn push_ints(inputs: &mut Inputs, ints: Ints) -> Result<(), AllocError>
-    ensures { OnOk result (inputs.new ≡ inputs.old ++ ints ∷ []) }
-{
-    match inputs.push(ints) {
-        Ok(()) => Ok(()),
-        Err(_) => Err(AllocError),
     }
 }

@@ -2,30 +2,30 @@
 ghost use Rattle.std.specs.Prelude.{◌≡◌, ℕ, ℤ, List, Some, true, false, length, map};
 ghost use Rattle.std.specs.List.{list_all};
 ghost use Rattle.mpi_call.specs.Calls.{comm_of, is_enter, makes};
-ghost use Rattle.mpi_call.specs.Collectives.{IsEnterOf, is_member, is_uncoloured, needs};
+ghost use Rattle.mpi_call.specs.Collectives.{is_uncoloured};
 ghost use Rattle.run_model.specs.Communicators.{members_in};
 ghost use Rattle.run_model.specs.Forms.{IsInOrder};
 ghost use Rattle.run_model.specs.Shape.{are_members, can_take, is_dup, is_sized, rise_within};
 ghost use Rattle.run_model.specs.Views.{View, start_at, view_of};
 ghost use Rattle.srr_entry.specs.declared.entry.Mark.TheVariants.{Nothing, Inside, Outside};
 ghost use Rattle.srr_entry.specs.declared.entry.Marked.{Marked};
-ghost use Rattle.srr_entry.specs.Entries.{all_within, is_inner};
+ghost use Rattle.srr_entry.specs.Entries.{is_inner};
 ghost use Rattle.replay_model.specs.Fits.{fits, mark_fits, marks_fit};
 
-use crate::asked::Asked;
-use crate::seen::Seen;
+use crate::indexed_history::IndexedHistory;
+use crate::next_call::NextCall;
 use mpi_call::acceptance::{is_source_of, is_tag_of};
 use mpi_call::call::{Call, Comm, Kind, Source};
 use mpi_call::lists::Ranks;
-use mpi_call::members::is_member;
-use mpi_call::needs::{UNDEFINED, colour_in, needs};
+use mpi_call::needs::{UNDEFINED, colour_in};
 use run_model::communicators::are_same;
 use run_model::shape;
 use srr_entry::entry::{Entry, Mark, Marked};
+use srr_entry::members::all_within;
 
 /// Whether an entry and the rank's call agree, as far as the rank's own earlier calls and replies tell.
 #[tactic(auto, unfolding(replay_model::specs::Fits::fits))]
-pub fn fits(group: &[u8], seen: &Seen, asked: &Asked<'_>, entry: &Entry) -> bool
+pub fn fits(group: &[u8], seen: &IndexedHistory, asked: &NextCall<'_>, entry: &Entry) -> bool
     requires { IsInOrder seen.now.ranks asked.now.rank (view_of seen.now.events asked.now.rank) }
     ensures { result ≡ fits seen.now.ranks group.now asked.now.rank (view_of seen.now.events asked.now.rank) asked.now.call.now entry.now }
 {
@@ -85,7 +85,7 @@ fn do_rise(len: usize, marks: &[Marked]) -> bool
 }
 
 /// Whether each of these starts was made and not taken.
-fn are_open(seen: &Seen, rank: u8, starts: &[u32]) -> bool
+fn are_open(seen: &IndexedHistory, rank: u8, starts: &[u32]) -> bool
     ensures { result ≡ list_all (λ k. can_take (view_of seen.now.events rank) k) starts.now }
 {
     let mut rest = starts;
@@ -98,14 +98,20 @@ fn are_open(seen: &Seen, rank: u8, starts: &[u32]) -> bool
     true
 }
 
-fn is_open(seen: &Seen, rank: u8, start: u32) -> bool
+fn is_open(seen: &IndexedHistory, rank: u8, start: u32) -> bool
     ensures { result ≡ can_take (view_of seen.now.events rank) start }
 {
     seen.start(rank, start).is_some() && !seen.is_taken(rank, start)
 }
 
 /// Whether each mark fits its start. An index past the list reads start 0.
-fn marks_fit(group: &[u8], seen: &Seen, rank: u8, starts: &[u32], marks: &[Marked]) -> bool
+fn marks_fit(
+    group: &[u8],
+    seen: &IndexedHistory,
+    rank: u8,
+    starts: &[u32],
+    marks: &[Marked],
+) -> bool
     requires { IsInOrder seen.now.ranks rank (view_of seen.now.events rank) }
     ensures { result ≡ marks_fit seen.now.ranks group.now rank (view_of seen.now.events rank) starts.now marks.now }
 {
@@ -121,7 +127,7 @@ fn marks_fit(group: &[u8], seen: &Seen, rank: u8, starts: &[u32], marks: &[Marke
 }
 
 /// Whether a mark fits a start of the rank.
-fn mark_fits(group: &[u8], seen: &Seen, rank: u8, start: u32, mark: &Mark) -> bool
+fn mark_fits(group: &[u8], seen: &IndexedHistory, rank: u8, start: u32, mark: &Mark) -> bool
     requires { IsInOrder seen.now.ranks rank (view_of seen.now.events rank) }
     ensures { result ≡ mark_fits seen.now.ranks group.now rank (view_of seen.now.events rank) (start_at (view_of seen.now.events rank) start) mark.now }
 {
@@ -233,34 +239,18 @@ pub fn comm_of(call: &Call) -> Comm
 }
 
 /// Whether a collective's result needs members of the group alone.
-fn is_inner(group: &[u8], seen: &Seen, rank: u8, start: u32, call: &Call) -> bool
+fn is_inner(group: &[u8], seen: &IndexedHistory, rank: u8, start: u32, call: &Call) -> bool
     requires order { IsInOrder seen.now.ranks rank (view_of seen.now.events rank) }
     requires start { start_at (view_of seen.now.events rank) start ≡ Some call.now }
     requires enter { is_enter call.now ≡ true }
     ensures { result ≡ is_inner seen.now.ranks group.now rank (view_of seen.now.events rank) (Some call.now) }
 {
     let members = seen.members(rank, comm_of(call));
-    are_within(group, call, members, rank)
+    all_within(group, call, members, rank)
 }
 
-/// Whether all members that a collective's result needs are in the group.
-fn are_within(group: &[u8], call: &Call, members: &Ranks, rank: u8) -> bool
-    requires form { IsEnterOf call.now members.now rank }
-    requires member { is_member members.now rank ≡ true }
-    ensures { result ≡ all_within group.now (needs call.now members.now rank) members.now }
-{
-    let mut rest = members.as_slice();
-    while let [member, after @ ..] = rest {
-        if needs(call, members, rank, *member) && !is_member(group, *member) {
-            return false;
-        }
-        rest = after;
-    }
-    true
-}
-
-/// Whether a collective gives the rank so many ints.
-fn is_sized(seen: &Seen, rank: u8, call: &Call, len: usize) -> bool
+/// Whether a collective gives the rank this many ints.
+fn is_sized(seen: &IndexedHistory, rank: u8, call: &Call, len: usize) -> bool
     requires enter { is_enter call.now ≡ true }
     requires makes { makes call.now ≡ false }
     ensures { (ints : List ℤ) → len ≡ length ints → result ≡ is_sized seen.now.ranks (view_of seen.now.events rank) rank call.now ints }
@@ -270,7 +260,7 @@ fn is_sized(seen: &Seen, rank: u8, call: &Call, len: usize) -> bool
 }
 
 /// Whether these may be the members of a communicator that a collective makes for the rank.
-fn are_members(seen: &Seen, rank: u8, call: &Call, members: &[u8]) -> bool
+fn are_members(seen: &IndexedHistory, rank: u8, call: &Call, members: &[u8]) -> bool
     ensures { result ≡ are_members seen.now.ranks rank call.now (members_in seen.now.ranks (view_of seen.now.events rank) (comm_of call.now)) members.now }
 {
     shape::are_members(seen.ranks(), rank, members)

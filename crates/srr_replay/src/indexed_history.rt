@@ -1,12 +1,11 @@
-//! The events of a replay, and what each rank has seen in them.
+//! The events of a replay, with tables of what each rank has seen in them.
 ghost use Rattle.std.specs.Prelude.{◌≡◌, ◌<◌, ◌++◌, ◌∷◌, [], IfOk, IfSome, OnOk, OnErr, true, length, option_map};
 ghost use Rattle.mpi_call.specs.Calls.{is_enter};
 ghost use Rattle.mpi_call.specs.Collectives.{is_member};
 ghost use Rattle.run_model.specs.Communicators.{enter_at, instance_of, is_on, known_in, members_in};
-ghost use Rattle.run_model.specs.Lists.{world};
 ghost use Rattle.run_model.specs.Views.{start_at, taken_of, view_of};
 ghost use Rattle.srr_replay.specs.EnterTable.{AreEntersKnown};
-ghost use Rattle.srr_replay.specs.Seen.{entered_of};
+ghost use Rattle.srr_replay.specs.IndexedHistory.{entered_of};
 ghost use Rattle.srr_replay.specs.StartTable.{TakesMade};
 
 use crate::counts::Counts;
@@ -18,6 +17,7 @@ use mpi_call::call::{Call, Comm};
 use mpi_call::lists::Ranks;
 use run_model::event::Event;
 use run_model::history::History;
+use srr_entry::members::all_ranks;
 use std::alloc::{AllocError, Global};
 use std::marker::Model;
 
@@ -29,9 +29,9 @@ pub struct Enter<'a> {
     pub members: Option<&'a Ranks>,
 }
 
-/// The events so far. Contracts see the number of ranks and the events.
+/// The events so far, with tables in which starts, Enters and members are looked up. Contracts see the number of ranks and the events.
 #[derive(Drop)]
-pub struct Seen {
+pub struct IndexedHistory {
     ranks: u8,
     events: History,
     /// How many calls each rank has made.
@@ -48,23 +48,23 @@ pub struct Seen {
     nobody: Ranks,
 }
 
-impl Model for Seen {
+impl Model for IndexedHistory {
     ghost use Rattle.std.specs.Prelude.{◌≡◌, []};
     ghost use Rattle.run_model.specs.Lists.{world as all_of};
     ghost use Rattle.srr_replay.specs.Rounds.{AreCounts};
     ghost use Rattle.srr_replay.specs.EnterTable.{AreEntersKnown, IsEnterTable};
     ghost use Rattle.srr_replay.specs.MemberTable.{IsMemberTable};
-    ghost use Rattle.srr_replay.specs.Seen.{SeenSoFar};
+    ghost use Rattle.srr_replay.specs.IndexedHistory.{EventsSoFar};
     ghost use Rattle.srr_replay.specs.StartTable.{IsStartTable};
 
-    ghost Value = { SeenSoFar };
+    ghost Value = { EventsSoFar };
 
     ghost view = { λ s. record { ranks = s.ranks; events = s.events.events } };
 
     ghost invariant = { λ s. AreCounts s.ranks s.events.events s.counts × IsStartTable s.ranks s.events.events s.starts × (s.world ≡ all_of s.ranks 0) × (s.nobody ≡ []) × IsEnterTable s.ranks s.events.events s.enters × AreEntersKnown s.ranks s.events.events × IsMemberTable s.ranks s.events.events s.members };
 }
 
-impl Seen {
+impl IndexedHistory {
     /// No events of so many ranks.
     pub fn new(alloc: Global, ranks: u8) -> Result<Self, AllocError>
         ensures { IfOk result (λ seen. seen ≡ record { ranks = ranks; events = [] }) }
@@ -74,7 +74,7 @@ impl Seen {
         let enters = EnterTable::new(alloc, ranks)?;
         let members = MemberTable::new(alloc, ranks)?;
         let world = all_ranks(alloc, ranks)?;
-        Ok(Seen {
+        Ok(IndexedHistory {
             ranks,
             events: History::new(alloc),
             counts,
@@ -181,7 +181,7 @@ impl Seen {
         }
     }
 
-    /// Appends an event. For want of memory nothing has changed.
+    /// Appends an event. Out of memory, nothing has changed.
     pub fn add(&mut self, event: Event) -> Result<(), AllocError>
         requires rank { event.rank < self.old.ranks }
         requires takes { TakesMade (view_of self.old.events event.rank) event.call event.reply }
@@ -201,25 +201,5 @@ impl Seen {
         self.events.push(event);
         self.counts.rise(rank);
         Ok(())
-    }
-}
-
-/// All ranks below a number, rising.
-fn all_ranks(alloc: Global, ranks: u8) -> Result<Ranks, AllocError>
-    ensures { IfOk result (λ all. all ≡ world ranks 0) }
-{
-    let mut all = Ranks::new(alloc);
-    for rank in 0..ranks {
-        append(&mut all, rank)?;
-    }
-    Ok(all)
-}
-
-fn append(ranks: &mut Ranks, rank: u8) -> Result<(), AllocError>
-    ensures { OnOk result (ranks.new ≡ ranks.old ++ rank ∷ []) }
-{
-    match ranks.push(rank) {
-        Ok(()) => Ok(()),
-        Err(_) => Err(AllocError),
     }
 }

@@ -2,17 +2,17 @@
 #![tactic(auto)]
 
 mod answer;
-mod asked;
 mod clash;
 mod counts;
 mod enter_table;
 mod fill;
 mod find;
 mod fit;
+mod indexed_history;
 mod member_table;
 mod missing;
+mod next_call;
 mod note;
 pub mod replay;
-mod seen;
 pub mod serial;
 mod start_table;

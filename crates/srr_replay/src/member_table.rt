@@ -39,8 +39,8 @@ impl Members {
         self.lists.truncate(count);
     }
 
-    /// Adds what a reply made. For want of memory nothing has changed.
-    fn note(&mut self, reply: &Reply) -> Result<(), AllocError>
+    /// Adds what a reply made. Out of memory, nothing has changed.
+    fn add_reply(&mut self, reply: &Reply) -> Result<(), AllocError>
         ensures ok { OnOk result (self.new ≡ members_after self.old reply.now) }
         ensures err { OnErr result (self.new ≡ self.old) }
     {
@@ -48,38 +48,39 @@ impl Members {
             return Ok(());
         };
         let count = self.lists.len();
-        if let Err(error) = self.learn_all(items.as_slice()) {
+        if let Err(error) = self.add_items(items.as_slice()) {
             self.keep(count);
             return Err(error);
         }
         Ok(())
     }
 
-    /// Adds what these items made. For want of memory a part may have been added at the end.
-    fn learn_all(&mut self, items: &[Item]) -> Result<(), AllocError>
+    /// Adds what these items made. Out of memory, a part may have been added at the end.
+    fn add_items(&mut self, items: &[Item]) -> Result<(), AllocError>
         ensures ok { OnOk result (self.new ≡ with_all_got self.old items.now) }
         ensures err { OnErr result (take (length self.old) self.new ≡ self.old) }
     {
         let mut rest = items;
         while let [item, after @ ..] = rest {
-            self.learn(&item.got)?;
+            self.add_got(&item.got)?;
             rest = after;
         }
         Ok(())
     }
 
-    fn learn(&mut self, got: &Got) -> Result<(), AllocError>
+    /// Adds what a completed start made.
+    fn add_got(&mut self, got: &Got) -> Result<(), AllocError>
         ensures ok { OnOk result (self.new ≡ with_got self.old got.now) }
         ensures err { OnErr result (self.new ≡ self.old) }
     {
         match got {
-            Got::Made { comm, members } => self.add(*comm, members),
+            Got::Made { comm, members } => self.add_made(*comm, members),
             _ => Ok(()),
         }
     }
 
     /// Adds a communicator, where its number is new.
-    fn add(&mut self, comm: Comm, members: &Ranks) -> Result<(), AllocError>
+    fn add_made(&mut self, comm: Comm, members: &Ranks) -> Result<(), AllocError>
         ensures ok { OnOk result (self.new ≡ with_made self.old comm members.now) }
         ensures err { OnErr result (self.new ≡ self.old) }
     {
@@ -155,12 +156,12 @@ impl MemberTable {
         self.ranks[rank as usize].keep(count);
     }
 
-    /// Notes an event. For want of memory nothing has changed.
+    /// Notes an event. Out of memory, nothing has changed.
     pub fn note(&mut self, event: &Event) -> Result<(), AllocError>
         requires { event.now.rank < length self.old }
         ensures ok { OnOk result (self.new ≡ slice_set self.old event.now.rank (members_after (slice_index_or self.old event.now.rank []) event.now.reply)) }
         ensures err { OnErr result (self.new ≡ self.old) }
     {
-        self.ranks[event.rank as usize].note(&event.reply)
+        self.ranks[event.rank as usize].add_reply(&event.reply)
     }
 }

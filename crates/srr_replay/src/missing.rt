@@ -9,9 +9,9 @@ ghost use Rattle.run_model.specs.Views.{start_at, view_of};
 ghost use Rattle.replay_model.specs.Filling.{absent_of, fill_inner, fill_made, fill_mark, fill_marks, filled, joined, made_new, message_from, missing_of, peeked_from};
 ghost use Rattle.replay_model.specs.Fits.{IsEnterAt, fits, mark_fits, marks_fit};
 
-use crate::asked::Asked;
 use crate::fit::comm_of;
-use crate::seen::Seen;
+use crate::indexed_history::IndexedHistory;
+use crate::next_call::NextCall;
 use mpi_call::call::{Call, Comm};
 use mpi_call::lists::Ranks;
 use mpi_call::needs::needs;
@@ -20,7 +20,7 @@ use srr_entry::entry::{Entry, Mark, Marked};
 
 /// The first thing that an entry rests on and that is not there, in item order and then in member order. Takes no memory.
 #[tactic(auto, unfolding(replay_model::specs::Fits::fits))]
-pub fn find_missing(seen: &Seen, asked: &Asked<'_>, entry: &Entry) -> Option<Missing>
+pub fn find_missing(seen: &IndexedHistory, asked: &NextCall<'_>, entry: &Entry) -> Option<Missing>
     requires order { IsInOrder seen.now.ranks asked.now.rank (view_of seen.now.events asked.now.rank) }
     requires fits { (group : List ℕ) × (fits seen.now.ranks group asked.now.rank (view_of seen.now.events asked.now.rank) asked.now.call.now entry.now ≡ true) }
     ensures { result ≡ missing_of (filled seen.now.ranks (view_of seen.now.events) (view_of seen.now.events asked.now.rank) asked.now.rank asked.now.call.now entry.now) }
@@ -38,7 +38,7 @@ pub fn find_missing(seen: &Seen, asked: &Asked<'_>, entry: &Entry) -> Option<Mis
 }
 
 /// The named start of a probe, where it is not there.
-fn missing_probed(seen: &Seen, source: u8, start: u32) -> Option<Missing>
+fn missing_probed(seen: &IndexedHistory, source: u8, start: u32) -> Option<Missing>
     ensures { result ≡ missing_of (peeked_from source start (start_at (view_of seen.now.events source) start)) }
 {
     match seen.start(source, start) {
@@ -47,7 +47,12 @@ fn missing_probed(seen: &Seen, source: u8, start: u32) -> Option<Missing>
     }
 }
 
-fn missing_in_marks(seen: &Seen, rank: u8, starts: &[u32], marks: &[Marked]) -> Option<Missing>
+fn missing_in_marks(
+    seen: &IndexedHistory,
+    rank: u8,
+    starts: &[u32],
+    marks: &[Marked],
+) -> Option<Missing>
     requires order { IsInOrder seen.now.ranks rank (view_of seen.now.events rank) }
     requires fits { (group : List ℕ) × (marks_fit seen.now.ranks group rank (view_of seen.now.events rank) starts.now marks.now ≡ true) }
     ensures { result ≡ missing_of (fill_marks seen.now.ranks (view_of seen.now.events) (view_of seen.now.events rank) rank starts.now marks.now) }
@@ -64,7 +69,7 @@ fn missing_in_marks(seen: &Seen, rank: u8, starts: &[u32], marks: &[Marked]) -> 
 }
 
 /// What the mark of the rank's start rests on and that is not there.
-fn missing_in_mark(seen: &Seen, rank: u8, start: u32, mark: &Mark) -> Option<Missing>
+fn missing_in_mark(seen: &IndexedHistory, rank: u8, start: u32, mark: &Mark) -> Option<Missing>
     requires order { IsInOrder seen.now.ranks rank (view_of seen.now.events rank) }
     requires fits { (group : List ℕ) × (mark_fits seen.now.ranks group rank (view_of seen.now.events rank) (start_at (view_of seen.now.events rank) start) mark.now ≡ true) }
     ensures { result ≡ missing_of (fill_mark seen.now.ranks (view_of seen.now.events) (view_of seen.now.events rank) rank start mark.now) }
@@ -84,7 +89,7 @@ fn missing_in_mark(seen: &Seen, rank: u8, start: u32, mark: &Mark) -> Option<Mis
 }
 
 /// The named start of a message, where it is not there.
-fn missing_sent(seen: &Seen, source: u8, start: u32) -> Option<Missing>
+fn missing_sent(seen: &IndexedHistory, source: u8, start: u32) -> Option<Missing>
     ensures { result ≡ missing_of (message_from source start (start_at (view_of seen.now.events source) start)) }
 {
     match seen.start(source, start) {
@@ -94,7 +99,7 @@ fn missing_sent(seen: &Seen, source: u8, start: u32) -> Option<Missing>
 }
 
 /// The first member that the result of the rank's collective needs and that has not entered yet.
-fn missing_entered(seen: &Seen, rank: u8, start: u32) -> Option<Missing>
+fn missing_entered(seen: &IndexedHistory, rank: u8, start: u32) -> Option<Missing>
     requires order { IsInOrder seen.now.ranks rank (view_of seen.now.events rank) }
     requires enter { IsEnterAt (view_of seen.now.events rank) start }
     ensures inner { result ≡ missing_of (fill_inner seen.now.ranks (view_of seen.now.events) (view_of seen.now.events rank) rank start (start_at (view_of seen.now.events rank) start)) }
@@ -107,7 +112,7 @@ fn missing_entered(seen: &Seen, rank: u8, start: u32) -> Option<Missing>
 }
 
 /// The same, where that start is this Enter.
-fn missing_for(seen: &Seen, rank: u8, start: u32, call: &Call) -> Option<Missing>
+fn missing_for(seen: &IndexedHistory, rank: u8, start: u32, call: &Call) -> Option<Missing>
     requires order { IsInOrder seen.now.ranks rank (view_of seen.now.events rank) }
     requires start { start_at (view_of seen.now.events rank) start ≡ Some call.now }
     requires enter { is_enter call.now ≡ true }
@@ -128,7 +133,13 @@ fn missing_for(seen: &Seen, rank: u8, start: u32, call: &Call) -> Option<Missing
 }
 
 /// The first member that a collective's result needs and that has not entered the instance.
-fn first_absent(seen: &Seen, call: &Call, members: &Ranks, rank: u8, instance: u32) -> Option<u8>
+fn first_absent(
+    seen: &IndexedHistory,
+    call: &Call,
+    members: &Ranks,
+    rank: u8,
+    instance: u32,
+) -> Option<u8>
     requires form { IsEnterOf call.now members.now rank }
     requires member { is_member members.now rank ≡ true }
     ensures { result ≡ absent_of (gather (needs call.now members.now rank) (λ m. enter_at seen.now.ranks (view_of seen.now.events m) (comm_of call.now) instance) members.now) }

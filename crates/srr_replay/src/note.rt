@@ -27,7 +27,7 @@ fn entered_by(call: &Call, reply: &Reply) -> Option<Comm>
     }
 }
 
-/// Makes room for one more event, and notes it in the tables. For want of memory they and the events are as before.
+/// Makes room for one more event, and notes it in the tables. Out of memory, they and the events are as before.
 pub fn prepare(
     starts: &mut StartTable,
     enters: &mut EnterTable,
@@ -55,7 +55,7 @@ pub fn prepare(
     note(starts, enters, members, ranks, events, event)
 }
 
-/// Notes the event after these in the tables. For want of memory they are as before.
+/// Notes the event after these in the tables. Out of memory, they are as before.
 fn note(
     starts: &mut StartTable,
     enters: &mut EnterTable,
@@ -81,7 +81,7 @@ fn note(
     Ok(())
 }
 
-/// Notes it in the tables of starts and Enters. For want of memory they are as before.
+/// Notes it in the tables of starts and Enters. Out of memory, they are as before.
 fn note_start(
     starts: &mut StartTable,
     enters: &mut EnterTable,

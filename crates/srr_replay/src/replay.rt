@@ -9,8 +9,8 @@ ghost use Rattle.srr_replay.specs.Rounds.{IsReplayable};
 ghost use Rattle.replay_model.specs.declared.step.Step.TheVariants.{Replied};
 
 use crate::answer::answer;
-use crate::asked::Asked;
-use crate::seen::Seen;
+use crate::indexed_history::IndexedHistory;
+use crate::next_call::NextCall;
 use mpi_call::call::Call;
 use mpi_call::reply::Reply;
 use mpi_call::{call, reply};
@@ -28,7 +28,7 @@ pub struct Replay<'a, P: Program> {
     program: &'a P,
     log: &'a Log,
     stop: Option<(u8, u32)>,
-    seen: Seen,
+    seen: IndexedHistory,
     alloc: Global,
 }
 
@@ -56,7 +56,7 @@ impl<'a, P: Program> Replay<'a, P> {
         requires log { IsReplayable log.now }
         ensures { IfOk result (λ r. r ≡ record { program = program.now; log = log.now; stop = stop; events = [] }) }
     {
-        let seen = Seen::new(alloc, log.ranks)?;
+        let seen = IndexedHistory::new(alloc, log.ranks)?;
         Ok(Replay {
             program,
             log,
@@ -96,7 +96,7 @@ impl<'a, P: Program> Replay<'a, P> {
         ensures sure { takes_none (answer_of self.now.log self.now.stop (view_of self.now.events) (view_of self.now.events rank) rank call.now) ≡ true → IsOk result }
     {
         let number = self.seen.count(rank);
-        let asked = Asked { rank, number, call };
+        let asked = NextCall { rank, number, call };
         answer(self.alloc, self.log, &self.stop, &self.seen, &asked)
     }
 

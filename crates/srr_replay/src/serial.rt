@@ -7,7 +7,7 @@ ghost use Rattle.run_model.specs.Program.{IsAfter};
 ghost use Rattle.run_model.specs.Views.{view_of, replies_in};
 ghost use Rattle.replay_model.specs.Laws.{IsReplayOfEveryRun};
 ghost use Rattle.replay_model.specs.Replays.{IsExhausted, IsWholeReplay, Replays};
-ghost use Rattle.srr_replay.specs.Rounds.{AreRounds, GrowsBy, HasNoStep, IsReplayable, RunAll, attempt, attempts};
+ghost use Rattle.srr_replay.specs.Rounds.{AreRounds, GrowsBy, HasNoStep, IsReplayable, RunAll, SameReplay, attempt, attempts};
 ghost use Rattle.replay_model.specs.Stands.{IsReplayed, stand_of};
 ghost use Rattle.srr_entry.specs.Outputs.{printed_of};
 
@@ -32,9 +32,7 @@ fn try_rank<P: Program, R: RankRun<Of = P>>(
 ) -> Result<bool, AllocError>
     requires member { is_member replay.old.log.group rank ≡ true }
     requires run { IsAfter replay.old.program replay.old.log.ranks rank replay.old.events (R.standing run.old) }
-    ensures program { replay.new.program ≡ replay.old.program }
-    ensures log { replay.new.log ≡ replay.old.log }
-    ensures stop { replay.new.stop ≡ replay.old.stop }
+    ensures same { SameReplay replay.old replay.new }
     ensures run { OnOk result (IsAfter replay.old.program replay.old.log.ranks rank replay.new.events (R.standing run.new)) }
     ensures grows { IfOk result (λ moved. GrowsBy rank replay.old.events replay.new.events moved) }
     ensures rests { IfOk result (λ moved. moved ≡ false → HasNoStep (P.next replay.old.program) replay.old.log replay.old.stop replay.old.events rank) }
@@ -57,9 +55,7 @@ fn try_call<P: Program, R: RankRun<Of = P>>(
     requires run { IsAfter replay.old.program replay.old.log.ranks rank replay.old.events (R.standing run.old) }
     requires asked { (R.standing run.old).asked ≡ true }
     requires next { P.next replay.old.program replay.old.log.ranks rank (replies_in (view_of replay.old.events rank)) ≡ Some call.now }
-    ensures program { replay.new.program ≡ replay.old.program }
-    ensures log { replay.new.log ≡ replay.old.log }
-    ensures stop { replay.new.stop ≡ replay.old.stop }
+    ensures same { SameReplay replay.old replay.new }
     ensures run { OnOk result (IsAfter replay.old.program replay.old.log.ranks rank replay.new.events (R.standing run.new)) }
     ensures grows { IfOk result (λ moved. GrowsBy rank replay.old.events replay.new.events moved) }
     ensures rests { IfOk result (λ moved. moved ≡ false → HasNoStep (P.next replay.old.program) replay.old.log replay.old.stop replay.old.events rank) }
@@ -83,9 +79,7 @@ fn round<P: Program, R: RankRun<Of = P>>(
     requires group { group.now ≡ replay.old.log.group }
     requires distinct { is_distinct replay.old.log.group ≡ true }
     requires runs { RunAll R.standing replay.old.program replay.old.log replay.old.events runs.old }
-    ensures program { replay.new.program ≡ replay.old.program }
-    ensures log { replay.new.log ≡ replay.old.log }
-    ensures stop { replay.new.stop ≡ replay.old.stop }
+    ensures same { SameReplay replay.old replay.new }
     ensures runs { OnOk result (RunAll R.standing replay.old.program replay.old.log replay.new.events runs.new) }
     ensures begins { OnOk result (IsPrefixOf replay.old.events replay.new.events) }
     ensures moved { IfOk result (λ moved. moved ≡ true → length replay.old.events < length replay.new.events) }
@@ -230,9 +224,7 @@ fn run_all<P: Program, R: RankRun<Of = P>>(
     requires distinct { is_distinct replay.old.log.group ≡ true }
     requires runs { RunAll R.standing replay.old.program replay.old.log replay.old.events runs.old }
     ensures begins { OnOk result (IsPrefixOf replay.old.events replay.new.events) }
-    ensures program { replay.new.program ≡ replay.old.program }
-    ensures log { replay.new.log ≡ replay.old.log }
-    ensures stop { replay.new.stop ≡ replay.old.stop }
+    ensures same { SameReplay replay.old replay.new }
     ensures rests { OnOk result (IsExhausted (P.next replay.old.program) replay.old.log replay.old.stop replay.new.events) }
     ensures rounds { OnOk result (AreRounds (P.next replay.old.program) replay.old.log replay.old.stop replay.old.events replay.new.events) }
     ensures outputs { IfOk result (λ found. found.outputs ≡ map (printed_of (P.output replay.old.program) replay.old.log.ranks replay.new.events) replay.old.log.group) }
@@ -252,9 +244,7 @@ fn exhaust<P: Program, R: RankRun<Of = P>>(
     requires distinct { is_distinct replay.old.log.group ≡ true }
     requires runs { RunAll R.standing replay.old.program replay.old.log replay.old.events runs.old }
     ensures begins { OnOk result (IsPrefixOf replay.old.events replay.new.events) }
-    ensures program { replay.new.program ≡ replay.old.program }
-    ensures log { replay.new.log ≡ replay.old.log }
-    ensures stop { replay.new.stop ≡ replay.old.stop }
+    ensures same { SameReplay replay.old replay.new }
     ensures runs { OnOk result (RunAll R.standing replay.old.program replay.old.log replay.new.events runs.new) }
     ensures rests { OnOk result (IsExhausted (P.next replay.old.program) replay.old.log replay.old.stop replay.new.events) }
     ensures rounds { OnOk result (AreRounds (P.next replay.old.program) replay.old.log replay.old.stop replay.old.events replay.new.events) }
@@ -308,9 +298,10 @@ fn add_end<P: Program, R: RankRun<Of = P>>(
     ensures stands { OnOk result (map Some ends.new.stands ≡ map Some ends.old.stands ++ stand_of (P.next replay.old.program) (P.variables replay.old.program) replay.old.log replay.old.stop replay.old.events rank ∷ []) }
 {
     let stand = stand_of_rank(replay, run, rank)?;
-    add_stand(&mut ends.stands, stand)?;
+    ends.stands.push(stand)?;
     let printed = Bytes::from_slice(alloc, run.printed())?;
-    add_output(&mut ends.outputs, printed)
+    ends.outputs.push(printed)?;
+    Ok(())
 }
 
 /// A rank's stand where it has no step.
@@ -356,23 +347,5 @@ fn stand_at<P: Program, R: RankRun<Of = P>>(
         Step::Wait(missing) => Ok(Stand::Starved(missing)),
         Step::Diverged(divergence) => Ok(Stand::Diverged(divergence)),
         Step::Replied(_) => unreachable!(),
-    }
-}
-
-fn add_stand(stands: &mut Stands, stand: Stand) -> Result<(), AllocError>
-    ensures { OnOk result (stands.new ≡ stands.old ++ stand ∷ []) }
-{
-    match stands.push(stand) {
-        Ok(()) => Ok(()),
-        Err(_) => Err(AllocError),
-    }
-}
-
-fn add_output(outputs: &mut Outputs, printed: Bytes) -> Result<(), AllocError>
-    ensures { OnOk result (outputs.new ≡ outputs.old ++ printed ∷ []) }
-{
-    match outputs.push(printed) {
-        Ok(()) => Ok(()),
-        Err(_) => Err(AllocError),
     }
 }

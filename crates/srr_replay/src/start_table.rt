@@ -33,7 +33,7 @@ impl Model for Starts {
 }
 
 impl Starts {
-    /// Marks what an event of the rank took, or adds its start. For want of memory nothing has changed.
+    /// Marks what an event of the rank took, or adds its start. Out of memory, nothing has changed.
     fn note(&mut self, at: u32, call: &Call, reply: &Reply) -> Result<(), AllocError>
         ensures ok { OnOk result (self.new ≡ starts_after self.old at call.now reply.now) }
         ensures err { OnErr result (self.new ≡ self.old) }
@@ -141,7 +141,7 @@ impl StartTable {
         self.ranks[rank as usize].forget();
     }
 
-    /// Notes the event at a position. For want of memory nothing has changed.
+    /// Notes the event at a position. Out of memory, nothing has changed.
     pub fn note(&mut self, at: u32, event: &Event) -> Result<(), AllocError>
         requires { event.now.rank < length self.old }
         ensures ok { OnOk result (self.new ≡ slice_set self.old event.now.rank (starts_after (slice_index_or self.old event.now.rank []) at event.now.call event.now.reply)) }

@@ -20,6 +20,8 @@ mod memory;
 #[cfg(test)]
 mod plans;
 #[cfg(test)]
+mod run_entries;
+#[cfg(test)]
 mod stores;
 #[cfg(test)]
 mod traces;

@@ -41,6 +41,7 @@ fn send(alloc: Global, dest: u8) -> Result<Call, Fail> {
         dest,
         tag: 5,
         ints: Ints::from_slice(alloc, &[7])?,
+        sync: false,
     })
 }
 

@@ -4,7 +4,7 @@ use Rattle.mpi_call.specs.Collectives.{needs}
 use Rattle.run_model.specs.Communicators.{enter_at}
 use Rattle.run_model.specs.Views.{view_of}
 use Rattle.replay_model.specs.Breaks.{break_members}
-use Rattle.srr_replay.proofs.MemberLemmas.{AreAmong}
+use Rattle.srr_entry.proofs.MemberLemmas.{AreAmong}
 use Rattle.srr_replay.proofs.clash.first_clash.Given as goal
 
 abbrev pub invariant-loop-rest : goal.invariant-loop-rest

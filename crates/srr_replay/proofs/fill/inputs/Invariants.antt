@@ -6,7 +6,7 @@ use Rattle.run_model.specs.Inputs.{gather}
 use Rattle.run_model.specs.Views.{view_of}
 use Rattle.replay_model.specs.Filling.{absent_of}
 use Rattle.srr_replay.proofs.FillLemmas.{inputs_before}
-use Rattle.srr_replay.proofs.MemberLemmas.{AreAmong}
+use Rattle.srr_entry.proofs.MemberLemmas.{AreAmong}
 use Rattle.srr_replay.proofs.fill.inputs.Given as goal
 
 abbrev pub invariant-loop-rest : goal.invariant-loop-rest

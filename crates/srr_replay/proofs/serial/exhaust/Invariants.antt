@@ -1,14 +1,12 @@
 use Rattle.std.proofs.Common.{◌≡◌, ℕ, length, ◌-◌, ◌^◌}
 use Rattle.run_model.specs.Lists.{IsPrefixOf}
-use Rattle.srr_replay.specs.Rounds.{RunAll, rounds}
+use Rattle.srr_replay.specs.Rounds.{RunAll, SameReplay, rounds}
 use Rattle.srr_replay.proofs.serial.exhaust.Given as goal
 
 abbrev pub invariant-loop-replay : goal.invariant-loop-replay
 invariant-loop-replay g l =
     record {
-      program : l.replay.program ≡ l.fn.replay.program;
-      log : l.replay.log ≡ l.fn.replay.log;
-      stop : l.replay.stop ≡ l.fn.replay.stop;
+      same : SameReplay l.fn.replay l.replay;
       begins : IsPrefixOf l.fn.replay.events l.replay.events;
       runs : RunAll g.R.RankRun.standing l.replay.program l.replay.log l.replay.events l.runs;
       counted : l.count ≡ length l.replay.events;

@@ -1,14 +1,12 @@
 use Rattle.std.proofs.Common.{◌≡◌, ◌<◌, ℕ, length, take, true, false, slice_index}
 use Rattle.run_model.specs.Lists.{IsPrefixOf}
-use Rattle.srr_replay.specs.Rounds.{HasNoStep, RunAll, attempts}
+use Rattle.srr_replay.specs.Rounds.{HasNoStep, RunAll, SameReplay, attempts}
 use Rattle.srr_replay.proofs.serial.round.Given as goal
 
 abbrev pub invariant-loop-k : goal.invariant-loop-k
 invariant-loop-k g l =
     record {
-      program : l.replay.program ≡ l.fn.replay.program;
-      log : l.replay.log ≡ l.fn.replay.log;
-      stop : l.replay.stop ≡ l.fn.replay.stop;
+      same : SameReplay l.fn.replay l.replay;
       runs : RunAll g.R.RankRun.standing l.replay.program l.replay.log l.replay.events l.runs;
       begins : IsPrefixOf l.fn.replay.events l.replay.events;
       grown : l.moved ≡ true → length l.fn.replay.events < length l.replay.events;

@@ -1,7 +1,7 @@
 use Rattle.std.proofs.Common.{arith}
 use Rattle.run_model.proofs.Views.{length-view_of}
 use Rattle.srr_replay.proofs.ReplaysLemmas.{AreCounts-after}
-use Rattle.srr_replay.proofs.seen.Seen.add.Goals as goal
+use Rattle.srr_replay.proofs.indexed_history.IndexedHistory.add.Goals as goal
 
 pub rise-requires-clause-few : goal.rise-requires-clause-few
 rise-requires-clause-few c =

@@ -1,6 +1,6 @@
 use Rattle.std.proofs.Common.{◌≡◌, ◌∙◌, Some, ap, option_map, slice_get, sym}
 use Rattle.srr_replay.proofs.EnterTableLemmas.{enter_found, entered_same, number_there}
-use Rattle.srr_replay.proofs.seen.Seen.entered.Goals as goal
+use Rattle.srr_replay.proofs.indexed_history.IndexedHistory.entered.Goals as goal
 
 pub returns-in-Some-clause-enter : goal.returns-in-Some-clause-enter
 returns-in-Some-clause-enter c =

@@ -1,6 +1,6 @@
 use Rattle.std.proofs.Common.{◌∙◌, arith}
 use Rattle.srr_replay.proofs.InstanceLemmas.{instance_short, instance_there, numbers_rise}
-use Rattle.srr_replay.proofs.seen.Seen.instance.Goals as goal
+use Rattle.srr_replay.proofs.indexed_history.IndexedHistory.instance.Goals as goal
 
 pub count_below-count-requires : goal.count_below-count-requires
 count_below-count-requires c =

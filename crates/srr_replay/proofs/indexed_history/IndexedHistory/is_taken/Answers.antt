@@ -1,7 +1,7 @@
 use Rattle.std.proofs.Common.{◌∙◌, get_or, [], sym}
 use Rattle.run_model.specs.Views.{view_of}
 use Rattle.srr_replay.proofs.StartTableLemmas.{taken_absent, taken_there}
-use Rattle.srr_replay.proofs.seen.Seen.is_taken.Goals as goal
+use Rattle.srr_replay.proofs.indexed_history.IndexedHistory.is_taken.Goals as goal
 
 pub returns-in-Some : goal.returns-in-Some
 returns-in-Some c =

@@ -2,7 +2,7 @@ use Rattle.std.proofs.Common.{◌∙◌, Some, ap, sym}
 use Rattle.run_model.specs.Lists.{world}
 use Rattle.run_model.specs.Views.{view_of}
 use Rattle.run_model.proofs.CommunicatorLaws.{known_after-some}
-use Rattle.srr_replay.proofs.seen.Seen.known.Goals as goal
+use Rattle.srr_replay.proofs.indexed_history.IndexedHistory.known.Goals as goal
 
 pub returns-then-comm-eq0 : goal.returns-then-comm-eq0
 returns-then-comm-eq0 c =

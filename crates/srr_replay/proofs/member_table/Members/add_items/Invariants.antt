@@ -1,6 +1,6 @@
 use Rattle.std.proofs.Common.{◌≡◌, ◌≤◌, length, take}
 use Rattle.srr_replay.specs.MemberTable.{with_all_got}
-use Rattle.srr_replay.proofs.member_table.Members.learn_all.Given as goal
+use Rattle.srr_replay.proofs.member_table.Members.add_items.Given as goal
 
 abbrev pub invariant-loop-rest : goal.invariant-loop-rest
 invariant-loop-rest l =

@@ -1,7 +1,7 @@
 use Rattle.std.proofs.Common.{◌∙◌, ap, nat_eq}
 use Rattle.indexmap.specs.IndexMap.{insert_entry}
 use Rattle.srr_replay.proofs.MemberTableLemmas.{made_new, made_there}
-use Rattle.srr_replay.proofs.member_table.Members.add.Goals as goal
+use Rattle.srr_replay.proofs.member_table.Members.add_made.Goals as goal
 
 pub returns-in-Some-clause-ok : goal.returns-in-Some-clause-ok
 returns-in-Some-clause-ok c =
