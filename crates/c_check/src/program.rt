@@ -4,6 +4,7 @@ ghost use Rattle.std.specs.List.{list_any};
 ghost use Rattle.std.specs.Str.{bytes_eq};
 ghost use Rattle.c_grammar.specs.StmtView.{head_view, parameter_view, parameters_view, parts_view, external_view, tree_view, value_view};
 ghost use Rattle.c_check_expr.specs.Least.{IsFirst, least_from};
+ghost use Rattle.c_lex.specs.declared.limits.TheConstants.{MOST_BYTES};
 ghost use Rattle.c_check.specs.Programs.{after_parameter, after_parameters, after_external, are_main_parameters, declare_optional, define_value, faults, function_faults, heads_of, is_main, is_one_int, is_text, main_faults, optional_twice_faults, parameter_faults, parameter_name, parameter_entity, parameters_faults, prototype_faults, seen_after, text_env, external_faults, external_twice_faults, externals_faults, with_head};
 ghost use Rattle.c_check_expr.specs.Scopes.{token_bytes};
 ghost use Rattle.c_check_expr.specs.Signatures.{parameters_listed};
@@ -329,7 +330,7 @@ fn has_main(text: &[u8], externals: &[ExternalDeclaration]) -> bool
 
 /// A text without a main.
 fn want_main(best: &mut Option<TypingFault>, text: &[u8], tree: &Tree)
-    requires { length text.now ≤ 65536 }
+    requires { length text.now ≤ MOST_BYTES }
     ensures { best.new ≡ least_from best.old (main_faults text.now (tree_view tree.now)) }
 {
     if !has_main(text, &tree.externals) {
@@ -365,7 +366,7 @@ pub fn first_fault(
     text: &[u8],
     tree: &Tree,
 ) -> Result<Option<TypingFault>, AllocError>
-    requires { length text.now ≤ 65536 }
+    requires { length text.now ≤ MOST_BYTES }
     ensures { IfOk result (λ first. MatchOption first (faults text.now (tree_view tree.now) ≡ []) (λ found. IsFirst (faults text.now (tree_view tree.now)) found)) }
 {
     let mut best = None;
