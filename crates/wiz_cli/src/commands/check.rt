@@ -1,5 +1,5 @@
 //! `check PROGRAM PLAN [--serial]`: a run is recorded, and each group is replayed from the bytes of its log.
-ghost use Rattle.std.specs.Prelude.{◌≡◌, ◌++◌, ◌∷◌, [], Bool, IfOk, None, OnOk};
+ghost use Rattle.std.specs.Prelude.{◌≡◌, [], Bool, IfOk, None};
 ghost use Rattle.std.specs.List.{AllByRecursion, AllZip};
 ghost use Rattle.c_types.specs.Checks.{IsProgramOf};
 ghost use Rattle.srr_entry.specs.declared.log.Log.{Log};
@@ -116,7 +116,7 @@ fn replay_groups<G: Fn(&CProgram, &Log, Option<(u8, u32)>) -> Result<Replayed, A
     let mut replays = Replays::new(alloc);
     for log in logs {
         let replayed = replay_kept(alloc, program, log, replayer)?;
-        push_replay(&mut replays, replayed)?;
+        replays.push(replayed)?;
     }
     Ok(replays)
 }
@@ -139,13 +139,4 @@ fn replay_kept<G: Fn(&CProgram, &Log, Option<(u8, u32)>) -> Result<Replayed, All
         return Err(AllocError);
     };
     replay_text(program, read.program.as_slice(), &read, None, replayer)
-}
-
-fn push_replay(replays: &mut Replays, replayed: Replayed) -> Result<(), AllocError>
-    ensures { OnOk result (replays.new ≡ replays.old ++ replayed ∷ []) }
-{
-    match replays.push(replayed) {
-        Ok(()) => Ok(()),
-        Err(_) => Err(AllocError),
-    }
 }

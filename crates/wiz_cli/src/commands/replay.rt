@@ -71,8 +71,6 @@ fn one_replay(alloc: Global, replayed: Replayed) -> Result<Replays, AllocError>
     ensures { IfOk result (λ replays. replays ≡ replayed ∷ []) }
 {
     let mut replays = Replays::new(alloc);
-    match replays.push(replayed) {
-        Ok(()) => Ok(replays),
-        Err(_) => Err(AllocError),
-    }
+    replays.push(replayed)?;
+    Ok(replays)
 }
