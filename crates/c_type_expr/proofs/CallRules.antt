@@ -79,18 +79,18 @@ pub value_rule : (env : Env) (argument : Argument) (e : source.Expr) (typed : Ex
 value_rule env argument e typed s h = rw s (y.value h)
 
 -- what is a name and an operand added to it
-record SumOf (found : Option Span) (links : t.Links) (name : Span) (operand : t.Expr) : Type 0 where
-  operator : Symbol
-  at : Span
-  name_is : found ≡ Some name
-  links_are : links ≡ t.link operator at operand t.no_link
-  plus : is_plus operator ≡ true
+pub record SumOf (found : Option Span) (links : t.Links) (name : Span) (operand : t.Expr) : Type 0 where
+  pub operator : Symbol
+  pub at : Span
+  pub name_is : found ≡ Some name
+  pub links_are : links ≡ t.link operator at operand t.no_link
+  pub plus : is_plus operator ≡ true
 
 cases : (b : Bool) → (b ≡ true) ⊎ (b ≡ false)
 cases true = inl refl
 cases false = inr refl
 
-base_tells : (found : Option Span) (links : t.Links) (name : Span) (operand : t.Expr) → sum_base found links ≡ Some (name, operand) → SumOf found links name operand
+pub base_tells : (found : Option Span) (links : t.Links) (name : Span) (operand : t.Expr) → sum_base found links ≡ Some (name, operand) → SumOf found links name operand
 base_tells None links name operand h = absurd (let z : ⊥ = cc in z)
 base_tells (Some n) t.no_link name operand h = absurd (let z : ⊥ = cc in z)
 base_tells (Some n) (t.link operator at o (t.link p a q rest)) name operand h = absurd (let z : ⊥ = cc in z)

@@ -2,3 +2,5 @@ pub mod ExprRules
 pub mod CallRules
 pub mod Faultless
 pub mod ArgumentRules
+pub mod Longer
+pub mod Total

@@ -17,9 +17,7 @@ ghost use Rattle.c_type_expr.specs.Shapes.{is_array, is_reference, is_value};
 
 use crate::expr_of::expr_of;
 use c_check::argument::{array_sum, name_alone, predefined_of};
-use c_check::call::{
-    argument_at, argument_count, parameter_at,
-};
+use c_check::call::{argument_at, argument_count, parameter_at};
 use c_check_expr::meaning::{Entity, Meaning};
 use c_check_expr::scope::Scope;
 use c_grammar::terminal::Span;

@@ -1,1 +1,2 @@
 pub mod MpiRules
+pub mod Total

@@ -1,76 +1,25 @@
 -- The first fault is one, and has one place.
-use Rattle.std.proofs.Common.{◌≡◌, ◌⊎◌, inl, inr, ◌+◌, ◌-◌, ℕ, min, Bool, true, false, List, [], ◌∷◌, Ok, Err, length, get_or, refl, sym, subst, ap, ◌∙◌, arith}
-use Rattle.std.proofs.lemmas.Bool.Decides.{nat_tests}
+use Rattle.std.proofs.Common.{◌≡◌, ◌⊎◌, inl, inr, ℕ, min, List, [], length, sym, subst, ap, ◌∙◌}
 use Rattle.c_lex.specs.NoMemory.{no_memory}
 use Rattle.c_lex.specs.Places.{IsPlaceOf}
 use Rattle.c_lex.specs.declared.fault.SourceFault.{SourceFault}
-use Rattle.c_lex.specs.declared.fault.Why.{Why}
-use Rattle.c_lex.specs.declared.fault.Why.TheVariants as w
 use Rattle.c_lex.specs.Readings as lexed
 use Rattle.c_lex.specs.Readings.{AreTokens}
 use Rattle.c_lex.specs.declared.token.Token.{Token}
-use Rattle.c_lex.proofs.Laws.{begin_one, one_reading}
+use Rattle.c_lex.proofs.Laws.{one_reading}
 use Rattle.c_lex.proofs.Laws.{fault_one as lexer_one}
 use Rattle.c_grammar.specs.Tree.{Tree}
-use Rattle.c_grammar.specs.Reading.{Answer}
-use Rattle.c_grammar.specs.Reading.{Fault as Refusal}
-use Rattle.c_grammar.proofs.Firsts.{fault_read}
-use Rattle.c_grammar.proofs.Programs.{one_tree, tree_no_fault}
+use Rattle.c_grammar.proofs.Programs.{one_tree}
 use Rattle.c_parse.specs.Parsing as parsed
-use Rattle.c_parse.specs.Parsing.{IsTree, place_of, signs_of}
+use Rattle.c_parse.specs.Parsing.{IsTree, terminals_of}
+use Rattle.c_parse.proofs.OneReading as parsing
+use Rattle.c_parse.proofs.Parsed.{one_refusal}
 use Rattle.c_program.specs.declared.program.CProgram.{CProgram}
 use Rattle.c_check.specs.Programs.{faults}
-use Rattle.c_check_expr.specs.Least.{IsFirst, IsIn, is_less, reason_order}
+use Rattle.c_check_expr.proofs.Least.{first_in_none, first_one}
 use Rattle.c_check_expr.specs.declared.fault.TypingFault.{TypingFault}
 use Rattle.c_types.specs.Checks as x
 use Rattle.c_types.specs.Checks.{IsFaultOf, IsFirstIn, IsProgramOf}
-
-why_at : ℕ → Why
-why_at n =
-    get_or
-    (w.BadByte ∷ w.BadByte ∷ w.OpenComment ∷ w.OpenText ∷ w.BadLiteral ∷ w.Unexpected ∷ w.TooDeep ∷ w.Unknown ∷ w.Twice ∷ w.WrongType ∷ w.WrongCount ∷ w.NoMain
-    ∷ w.BadFormat ∷ w.LeftOut ∷ []) n w.NoMemory
-
-why_rank : (why : Why) → why_at (reason_order why) ≡ why
-unfolding why_at
-why_rank w.BadByte = refl
-why_rank w.OpenComment = refl
-why_rank w.OpenText = refl
-why_rank w.BadLiteral = refl
-why_rank w.Unexpected = refl
-why_rank w.TooDeep = refl
-why_rank w.Unknown = refl
-why_rank w.Twice = refl
-why_rank w.WrongType = refl
-why_rank w.WrongCount = refl
-why_rank w.NoMain = refl
-why_rank w.BadFormat = refl
-why_rank w.LeftOut = refl
-why_rank w.NoMemory = refl
-
-same_place : (a b : TypingFault) → is_less a b ≡ false → is_less b a ≡ false → a.at ≡ b.at
-same_place a b h k = grind (arith, nat_tests)
-
-same_rank : (a b : TypingFault) → is_less a b ≡ false → is_less b a ≡ false → reason_order a.why ≡ reason_order b.why
-same_rank a b h k = grind (arith, nat_tests)
-
-one_fault : (a b : TypingFault) → is_less a b ≡ false → is_less b a ≡ false → a ≡ b
-one_fault a b h k =
-    let why : a.why ≡ b.why = sym (why_rank a.why) ∙ ap why_at (same_rank a b h k) ∙ why_rank b.why in
-    let fault_of : ℕ → Why → TypingFault = λ at one. record { at = at; why = one } in
-    ap (λ at. fault_of at a.why) (same_place a b h k) ∙ ap (fault_of b.at) why
-
-pub first_one : (fs : List TypingFault) (a b : TypingFault) → IsFirst fs a → IsFirst fs b → a ≡ b
-first_one fs a b g h = one_fault a b (h.first a g.one) (g.first b h.one)
-
--- two refusals for one reason at one place are one
-one_refusal : (text : List ℕ) (place : ℕ) (first other : SourceFault) → first.why ≡ other.why
-    → IsPlaceOf text place first.line first.column → IsPlaceOf text place other.line other.column → first ≡ other
-one_refusal text place first other why u v =
-    let line : first.line ≡ other.line = u.line_is ∙ sym v.line_is in
-    let column : first.column ≡ other.column = u.column_is ∙ ap (λ begin. place - begin + 1) (begin_one u.begins v.begins) ∙ sym v.column_is in
-    let fault_of : ℕ → ℕ → Why → SourceFault = λ l c z. record { line = l; column = c; why = z } in
-    ap (λ l. fault_of l first.column first.why) line ∙ ap (λ c. fault_of other.line c first.why) column ∙ ap (fault_of other.line other.column) why
 
 pub one_first : (text : List ℕ) (fs : List TypingFault) (found other : SourceFault) → IsFirstIn text fs found → IsFirstIn text fs other → found ≡ other
 one_first text fs found other g h =
@@ -81,11 +30,7 @@ one_first text fs found other g h =
 
 -- where there is a first fault, there is one
 pub first_is_one : (text : List ℕ) (fs : List TypingFault) (found : SourceFault) → IsFirstIn text fs found → fs ≡ [] → ⊥
-first_is_one text fs found g e = none_in fs g.fault g.first.one e
-  where
-    none_in : (fs : List TypingFault) (f : TypingFault) → IsIn f fs → fs ≡ [] → ⊥
-    none_in [] f i e = i
-    none_in (g ∷ gs) f i e = cc
+first_is_one text fs found g e = first_in_none fs g.fault e g.first
 
 -- ---- a text has a program or a first fault
 
@@ -96,22 +41,14 @@ list_no_fault : (text : List ℕ) (list : List Token) (fault : SourceFault) → 
 list_no_fault text list fault a b = let e = one_reading text a b.1 in cc
 
 pub tree_one : (text : List ℕ) (list other : List Token) (tree another : Tree) → list ≡ other → IsTree text list tree → IsTree text other another → tree ≡ another
-tree_one text list other tree another e a b = one_tree (signs_of text other) tree another (subst (λ tokens. IsTree text tokens tree) e a) b
+tree_one text list other tree another e a b = one_tree (terminals_of text other) tree another (subst (λ tokens. IsTree text tokens tree) e a) b
 
 tree_never : (text : List ℕ) (list other : List Token) (tree : Tree) (fault : SourceFault) → list ≡ other → IsTree text list tree → parsed.IsFirstFault text other fault → ⊥
-tree_never text list other tree fault e a b =
-    tree_no_fault (signs_of text other) tree fault.why b.0 (subst (λ tokens. IsTree text tokens tree) e a) (fault_read _ fault.why b.0 b.1)
+tree_never text list other tree fault e a b = parsing.never_both text other tree fault (subst (λ tokens. IsTree text tokens tree) e a) b
 
 parse_one : (text : List ℕ) (list other : List Token) (fault another : SourceFault) → list ≡ other → parsed.IsFirstFault text list fault → parsed.IsFirstFault text other another
     → fault ≡ another
-parse_one text list other fault another e a b =
-    let here : parsed.IsFirstFault text other fault = subst (λ tokens. parsed.IsFirstFault text tokens fault) e a in
-    let p : Refusal = record { why = fault.why; rest = here.0 } in let q : Refusal = record { why = another.why; rest = b.0 } in
-    let m : ◌≡◌ {A = Answer Tree} (Err p) (Err q) = sym (fault_read _ fault.why here.0 here.1) ∙ fault_read _ another.why b.0 b.1 in
-    let same : p ≡ q = cc in
-    let rests : here.0 ≡ b.0 = ap (λ (f : Refusal). f.rest) same in
-    one_refusal text (place_of text b.0) fault another (ap (λ (f : Refusal). f.why) same)
-    (subst (λ z. IsPlaceOf text (place_of text z) fault.line fault.column) rests here.2) b.2
+parse_one text list other fault another e a b = parsing.one_fault text other fault another (subst (λ tokens. parsed.IsFirstFault text tokens fault) e a) b
 
 pub fault_one : (text : List ℕ) (fault other : SourceFault) → IsFaultOf text fault → IsFaultOf text other → fault ≡ other
 fault_one text fault other (x.of_tokens a) (x.of_tokens b) = lexer_one text fault other a b

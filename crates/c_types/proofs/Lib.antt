@@ -5,3 +5,7 @@ pub mod SameEffects
 pub mod SameSimples
 pub mod SameStatements
 pub mod SamePrograms
+pub mod Longer
+pub mod Total
+pub mod FewTokens
+pub mod Always

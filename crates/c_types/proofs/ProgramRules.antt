@@ -152,7 +152,7 @@ pub functions_end : (env start : Env) (externals : List source_external.External
     → AreFunctions start (map external_view externals) typed
 functions_end env start externals i typed past so_far =
     let P : List source_external.ExternalDeclaration → List Function → Type 0 = λ left all. AreFunctions env (map external_view left) all in
-    ended (P (drop i externals)) (λ all. AreFunctions start (map external_view externals) all) typed (subst (λ left. P left []) (sym (drop_past externals i past)) x.no_top) so_far
+    ended (P (drop i externals)) (λ all. AreFunctions start (map external_view externals) all) typed (subst (λ left. P left []) (sym (drop_past externals i past)) x.no_external) so_far
 
 -- ---- main
 

@@ -48,7 +48,7 @@ module _ (rank : Rank) where
   same_found : {env : Env} {externals : List t.ExternalDeclaration} {xs ys : List Function} → AreFunctions env externals xs → AreFunctions env externals ys
       → (f : ℕ) (calls : Calls) (arguments : List Passed) (s : State) (go : ℤ → Onward)
       → m.run_function rank calls (slice_get xs f) arguments s go ≡ m.run_function rank calls (slice_get ys f) arguments s go
-  same_found x.no_top x.no_top f calls arguments s go = refl
+  same_found x.no_external x.no_external f calls arguments s go = refl
   same_found (x.external x.define all) (x.external x.define both) f calls arguments s go = same_found all both f calls arguments s go
   same_found (x.external x.prototype all) (x.external x.prototype both) f calls arguments s go = same_found all both f calls arguments s go
   same_found (x.external (x.function {typed = a} one) all) (x.external (x.function {typed = b} other) both) zero calls arguments s go = same_run a b one other calls arguments s go

@@ -47,7 +47,7 @@ pub data IsFunctionOf (env : Env) : t.ExternalDeclaration → Option Function �
 
 -- defines are in their uses, and prototypes are gone
 pub data AreFunctions : Env → List t.ExternalDeclaration → List Function → Type 0 where
-  no_top : {env : Env} → AreFunctions env [] []
+  no_external : {env : Env} → AreFunctions env [] []
   external : {env : Env} {external : t.ExternalDeclaration} {externals : List t.ExternalDeclaration} {typed : Option Function} {others : List Function}
       → IsFunctionOf env external typed → AreFunctions (after_external env external) externals others → AreFunctions env (external ∷ externals) (option_to_list typed ++ others)
 

@@ -7,6 +7,7 @@ ghost use Rattle.c_grammar.specs.StmtView.{head_view, parameter_view, parameters
 ghost use Rattle.c_lex.specs.NoMemory.{no_memory};
 ghost use Rattle.c_lex.specs.Places.{IsPlaceOf};
 ghost use Rattle.c_lex.specs.declared.fault.SourceFault.{SourceFault};
+ghost use Rattle.c_lex.specs.declared.limits.TheConstants.{MOST_BYTES};
 ghost use Rattle.c_program.specs.declared.program.CProgram.{CProgram};
 ghost use Rattle.c_check.specs.Programs.{after_parameter, after_parameters, after_external, faults, function_faults, heads_of, is_main, parameter_name, external_faults, externals_faults, with_head};
 ghost use Rattle.c_check_expr.specs.Signatures.{parameters_listed};
@@ -201,7 +202,7 @@ fn program_of(alloc: Global, text: &[u8], tree: &Tree) -> Result<CProgram, Alloc
 
 /// A fault with its line and column.
 fn refused(text: &[u8], fault: TypingFault) -> SourceFault
-    requires { length text.now ≤ 65536 }
+    requires { length text.now ≤ MOST_BYTES }
     ensures place { IsPlaceOf text.now (min (length text.now) fault.at) result.line result.column }
     ensures why { result.why ≡ fault.why }
 {
@@ -211,7 +212,7 @@ fn refused(text: &[u8], fault: TypingFault) -> SourceFault
 
 /// The typed program of a tree, or its first fault in source order; on one place the reason that is listed first.
 pub fn check(alloc: Global, text: &[u8], tree: Tree) -> Result<CProgram, SourceFault>
-    requires fits { length text.now ≤ 65536 }
+    requires fits { length text.now ≤ MOST_BYTES }
     requires externals { AreExternals (tree_view tree) }
     ensures program { IfOk result (λ program. IsProgram text.now (tree_view tree) program) }
     ensures none { IfOk result (λ program. faults text.now (tree_view tree) ≡ []) }
@@ -232,7 +233,7 @@ pub fn check(alloc: Global, text: &[u8], tree: Tree) -> Result<CProgram, SourceF
 
 /// The program of a text: its tokens, its tree and its types, in this order.
 pub fn read_program(alloc: Global, text: &[u8]) -> Result<CProgram, SourceFault>
-    requires { length text.now ≤ 65536 }
+    requires { length text.now ≤ MOST_BYTES }
     ensures program { IfOk result (λ program. IsProgramOf text.now program) }
     ensures fault { IfErr result (λ fault. (fault ≡ no_memory) ⊎ IsFaultOf text.now fault) }
     ensures only { (program : CProgram) → IsProgramOf text.now program → IfErr result (λ fault. fault ≡ no_memory) }
@@ -245,10 +246,12 @@ pub fn read_program(alloc: Global, text: &[u8]) -> Result<CProgram, SourceFault>
     Ok(program)
 }
 
-/// A text has a program or one first fault, and never both.
+/// Each text of at most 65,536 bytes has a program or one first fault, always one of them and never both.
 pub fn one_program()
     ensures one_fault { (text : List ℕ) (fault other : SourceFault)
         → IsFaultOf text fault → IsFaultOf text other → fault ≡ other }
     ensures never_both { (text : List ℕ) (program : CProgram) (fault : SourceFault)
         → IsProgramOf text program → IsFaultOf text fault → ⊥ }
+    ensures always_one { (text : List ℕ) → length text ≤ MOST_BYTES
+        → ((program : CProgram) × IsProgramOf text program) ⊎ ((fault : SourceFault) × IsFaultOf text fault) }
 {}

@@ -1,3 +1,4 @@
+use Rattle.c_types.proofs.Always.{program_or_fault}
 use Rattle.c_types.proofs.CheckRules.{fault_one, never_both}
 use Rattle.c_types.proofs.typing.one_program.Goals as goal
 
@@ -6,3 +7,6 @@ returns-clause-one_fault c = fault_one
 
 pub returns-clause-never_both : goal.returns-clause-never_both
 returns-clause-never_both c = never_both
+
+pub returns-clause-always_one : goal.returns-clause-always_one
+returns-clause-always_one c = program_or_fault
