@@ -1,6 +1,6 @@
 #!/usr/bin/env bash
-# Ranks that run long, by `wiz` on one thread. First a ping-pong of so many messages between two ranks, recorded and then
-# replayed from its log; then a rank that takes so many steps in a loop without a call, and one that makes so many calls of a
+# Ranks that run long, by `wiz` on one thread. First a ping-pong between two ranks, recorded and then
+# replayed from its log; then a rank that takes steps in a loop without a call, and one that makes calls of a
 # function, both recorded. Needs `rt`. A row gives processor time (user and system, from start to end) in milliseconds: the
 # median of five measurements and their range, each the mean of as many runs as the row says. `growth` is the median against
 # that of the row above, `ns each` the median by the size.

@@ -1,5 +1,5 @@
 #!/usr/bin/env bash
-# Records a program with wildcard receives in a loop on threads, so many times (1,000, or the argument), and replays each group
+# Records a program with wildcard receives in a loop on threads, 1,000 times (or as often as the argument says), and replays each group
 # of each recording on threads and serially: both traces are to be the same, and each rank's output the recorded one. Prints how
 # many different orders were recorded, and fails at the first difference, or where there is one order alone. Needs `rt`.
 set -euo pipefail

@@ -1,5 +1,5 @@
 #!/usr/bin/env bash
-# Replays that grow: rank 0 sends so many messages to rank 1, and both are replayed on one thread from their log. First
+# Replays that grow: rank 0 sends a growing number of messages to rank 1, and both are replayed on one thread from their log. First
 # `wiz replay LOG --serial`, with programs as long as a text may be; then `replay_bench`, which makes the
 # log and the program in memory. Needs `rt`. A row gives processor time (user and system, from start to end) in milliseconds:
 # the median of five measurements and their range, each the mean of ten runs. `growth` is the median against that of the row
@@ -10,7 +10,7 @@ top=$(cd "$(dirname "$0")/.." && pwd)
 work=$(mktemp -d)
 trap 'rm -rf "$work"' EXIT
 
-# A program with so many messages, and its log for the group of both ranks.
+# A program with this many messages, and its log for the group of both ranks.
 make_log() {
   awk -v n="$1" 'BEGIN {
     text = "int main(void){int r,x=7;MPI_Comm_rank(MPI_COMM_WORLD,&r);if(r==0){"

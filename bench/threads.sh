@@ -13,7 +13,7 @@ cd "$work"
 "$top/wiz" replay "$top/examples/first/first.srr" --serial >/dev/null
 wiz=$top/crates/wiz/out/wiz
 
-# A program of this body, and a plan of so many ranks in one group.
+# A program of this body, and a plan of this many ranks in one group.
 program() {
   local name=$1 ranks=$2 body=$3
   printf '%s' "int main(void){int r,n,i,j,x=0,y=0;MPI_Status s;MPI_Comm_rank(MPI_COMM_WORLD,&r);MPI_Comm_size(MPI_COMM_WORLD,&n);$body printf(\"%d\\n\",x);return 0;}" >"$name.c"
