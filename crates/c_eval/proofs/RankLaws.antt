@@ -15,7 +15,7 @@ use Rattle.c_program.specs.Performing.{Onward}
 use Rattle.c_program.specs.Program.{next_of, output_of, variables_of}
 use Rattle.c_program.specs.State.{State}
 use Rattle.c_run_replies.proofs.MoreReplies.{live-variables, shaped-more}
-use Rattle.c_eval.specs.Standing.{IsRankAt, Wants}
+use Rattle.c_eval.specs.Ranks.{IsRankAt, Wants}
 
 -- ---- ranks
 

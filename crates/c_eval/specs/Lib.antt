@@ -2,5 +2,5 @@ pub mod Evaluated
 pub mod Leaving
 pub mod Parts
 pub mod Replies
-pub mod Standing
+pub mod Ranks
 pub mod Statements

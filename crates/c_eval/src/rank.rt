@@ -4,7 +4,7 @@ ghost use Rattle.c_program.specs.declared.state.Passed.TheVariants.{Number};
 ghost use Rattle.c_program.specs.Courses.{after, asks_last, ended};
 ghost use Rattle.c_program.specs.State.{State};
 ghost use Rattle.c_eval.specs.Parts.{calls_of};
-ghost use Rattle.c_eval.specs.Standing.{Wants};
+ghost use Rattle.c_eval.specs.Ranks.{Wants};
 
 use crate::calls::Calls;
 use crate::evaluate::call_function;
@@ -40,7 +40,7 @@ impl<'p> Model for EvalRank<'p> {
     ghost use Rattle.run_model.specs.Program.{Standing};
     ghost use Rattle.c_program.specs.declared.program.CProgram.{CProgram};
     ghost use Rattle.c_eval.specs.Parts.{calls_of};
-    ghost use Rattle.c_eval.specs.Standing.{IsRankAt};
+    ghost use Rattle.c_eval.specs.Ranks.{IsRankAt};
     ghost use Rattle.c_program.specs.contracts.statement.Part as part;
     ghost use Rattle.std.specs.Coded.{codes};
 

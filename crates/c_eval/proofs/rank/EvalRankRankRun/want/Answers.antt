@@ -2,7 +2,7 @@ use Rattle.std.proofs.Common.{◌≡◌, ◌∷◌, [], pos}
 use Rattle.c_program.specs.declared.state.Passed.TheVariants.{Number}
 use Rattle.c_program.specs.Courses.{after, ended}
 use Rattle.c_program.specs.Meaning.{course_of, start}
-use Rattle.c_eval.specs.Standing.{Wants}
+use Rattle.c_eval.specs.Ranks.{Wants}
 use Rattle.c_eval.proofs.RankLaws.{moved, rank-says, rank-wants}
 use Rattle.c_eval.proofs.rank.EvalRankRankRun.want.Goals as goal
 
