@@ -79,12 +79,15 @@ close_within (suc n) text from few = elim (cases_order (from + 1) (length text))
   | inr (inl less) ↦ elim (cases_Bool (closes text from)) [
     | inl here ↦ inl (from, record { low = omega arith; high = omega arith; is = here; first = λ k a b. absurd (omega arith) })
     | inr not_here ↦ elim (close_within n text (suc from) (omega arith)) [
-      | inl found ↦ let low = found.1.low in inl (found.0, record {
+      | inl found ↦ let low = found.1.low in inl (
+        found.0,
+        record {
           low = omega arith;
           high = found.1.high;
           is = found.1.is;
           first = onward (λ k. k < found.0 → closes text k ≡ false) from (λ _. not_here) found.1.first;
-        })
+        },
+      )
       | inr never ↦ inr (onward (λ k. k + 2 ≤ length text → closes text k ≡ false) from (λ _. not_here) never)
     ]
   ]
@@ -199,15 +202,15 @@ module _ (text : List ℕ) (at : ℕ) (less : at < length text) where
       let high = newline.1.high in
       elim (cases_order newline.0 close) [
         | inl e ↦ record {
-            step = Skip (close + 2);
-            stands = steps.comment (record { closed = is; on_line = λ define. subst (λ end. IsRun InLine text at close end) e newline.1 });
-            within = (omega arith, is.high);
-          }
+          step = Skip (close + 2);
+          stands = steps.comment (record { closed = is; on_line = λ define. subst (λ end. IsRun InLine text at close end) e newline.1 });
+          within = (omega arith, is.high);
+        }
         | inr (inl before) ↦ record {
-            step = Bad at whys.OpenComment;
-            stands = steps.split_comment refl (record { close = close; closed = is; newline = newline.0; run = newline.1; before = before });
-            within = omega arith;
-          }
+          step = Bad at whys.OpenComment;
+          stands = steps.split_comment refl (record { close = close; closed = is; newline = newline.0; run = newline.1; before = before });
+          within = omega arith;
+        }
         | inr (inr more) ↦ absurd (omega arith)
       ]
 
@@ -235,16 +238,16 @@ module _ (text : List ℕ) (at : ℕ) (less : at < length text) where
             }
         | inr other ↦ elim (cases_Bool (bytes_eq word (codes "define"))) [
           | inl define ↦ record {
-              step = Piece kinds.Define end.0;
-              stands = steps.define (record { from = spaces.0; spaces = spaces.1; run = end.1; is = is_word word (codes "define") define });
-              within = (omega arith, end.1.high);
-            }
+            step = Piece kinds.Define end.0;
+            stands = steps.define (record { from = spaces.0; spaces = spaces.1; run = end.1; is = is_word word (codes "define") define });
+            within = (omega arith, end.1.high);
+          }
           | inr neither ↦ record {
-              step = Bad at whys.LeftOut;
-              stands = steps.other_directive (record { from = spaces.0; spaces = spaces.1; run = end.1; is = refl })
-                  (is_no_word word (codes "include") other) (is_no_word word (codes "define") neither);
-              within = omega arith;
-            }
+            step = Bad at whys.LeftOut;
+            stands = steps.other_directive (record { from = spaces.0; spaces = spaces.1; run = end.1; is = refl })
+                (is_no_word word (codes "include") other) (is_no_word word (codes "define") neither);
+            within = omega arith;
+          }
         ]
       ]
 
@@ -285,15 +288,15 @@ module _ (text : List ℕ) (at : ℕ) (less : at < length text) where
       let short = place.1.high in
       elim (cases_order place.0 inside.end) [
         | inl e ↦ record {
-            step = Piece kinds.Text (inside.end + 1);
-            stands = steps.quoted (record { inside = inside.inside; closed = closed; printable = subst (λ end. IsRun Printable text (at + 1) inside.end end) e place.1 });
-            within = (omega arith, omega arith);
-          }
+          step = Piece kinds.Text (inside.end + 1);
+          stands = steps.quoted (record { inside = inside.inside; closed = closed; printable = subst (λ end. IsRun Printable text (at + 1) inside.end end) e place.1 });
+          within = (omega arith, omega arith);
+        }
         | inr (inl before) ↦ record {
-            step = Bad place.0 whys.BadByte;
-            stands = steps.bad_inside (record { close = inside.end; inside = inside.inside; closed = closed; printable = place.1; before = before });
-            within = omega arith;
-          }
+          step = Bad place.0 whys.BadByte;
+          stands = steps.bad_inside (record { close = inside.end; inside = inside.inside; closed = closed; printable = place.1; before = before });
+          within = omega arith;
+        }
         | inr (inr more) ↦ absurd (omega arith)
       ]
 
@@ -417,15 +420,19 @@ reads_within (suc n) text d at low few = reads_on n text (reads_within n text) d
 line_begin : (text : List ℕ) (place : ℕ) → (begin : ℕ) × IsLineBegin text place begin
 line_begin text zero = (0, record { before = omega arith; first = inl refl; same_line = λ k a b. absurd (omega arith) })
 line_begin text (suc p) = elim (cases_Bool (slice_index text p == 10)) [
-  | inl here ↦ (suc p, record {
+  | inl here ↦ (
+    suc p,
+    record {
       before = omega arith;
       first = inr (let e : suc p - 1 ≡ p = omega arith in rw e (eqb-true _ _ here));
       same_line = λ k a b. absurd (omega arith);
-    })
+    },
+  )
   | inr not_here ↦
       let begin = line_begin text p in
-      let before = begin.1.before in
-      (begin.0, record {
+      let before = begin.1.before in (
+        begin.0,
+        record {
           before = omega arith;
           first = begin.1.first;
           same_line = λ k a b. elim (cases_order k p) [
@@ -433,14 +440,14 @@ line_begin text (suc p) = elim (cases_Bool (slice_index text p == 10)) [
             | inr (inl less) ↦ begin.1.same_line k a less
             | inr (inr more) ↦ absurd (omega arith)
           ];
-        })
+        },
+      )
 ]
 
 -- each reason has a fault at each place
 pub fault_of : (text : List ℕ) (place : ℕ) (why : Why) → (fault : SourceFault) × (fault.why ≡ why) × IsPlaceOf text place fault.line fault.column
 fault_of text place why =
-    let begin = line_begin text place in
-    (
+    let begin = line_begin text place in (
       record { line = count_by (λ byte. byte == 10) (take place text) + 1; column = place - begin.0 + 1; why = why },
       refl,
       record { begin = begin.0; begins = begin.1; line_is = refl; column_is = refl },
