@@ -16,5 +16,6 @@ exit k Broke = k.broke
 exit k Again = k.again
 exit k (Back v) = k.back v
 
+-- a meaning comes to a way out, with replies left, or stops
 abbrev pub Leaves : Meaning → State → List Reply → Result Flow Stop → State → List Reply → Type 0
 Leaves m s rest result t rest' = Evaluated exit m s rest result t rest'

@@ -30,9 +30,11 @@ pub record Ways : Type 0 where
   pub on : Onward
   pub out : Exits
 
+-- a turn of a loop, after its step
 abbrev pub turn : Passing → Meaning → State → Ways → Course
 turn update body s ways = step s (λ s. body s (turn_exits update ways.on ways.out))
 
+-- where a turn leads: on to the next one, or out by a way out
 abbrev pub way : Ways → Option Flow → Onward
 way ways None = ways.on
 way ways (Some flow) = exit ways.out flow

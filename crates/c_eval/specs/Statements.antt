@@ -18,10 +18,11 @@ assigns calls place operator one s go = trying (cell_of place s) s (λ cell. rig
 
 -- ---- choices
 
+-- an `if`
 abbrev pub chosen : Expr → Meaning → Meaning → Meaning
 chosen e taken spared s k = trying (test (Some e) s) s (λ holds. choose holds (taken s k) (spared s k))
 
--- what stands behind an `else`
+-- what stands after an `else`
 abbrev pub otherwise : Rank → Calls → Option Stmt → Meaning
 otherwise rank calls None s k = k.next s
 otherwise rank calls (Some stmt) s k = started (act rank calls stmt) s k

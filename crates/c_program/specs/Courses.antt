@@ -19,25 +19,30 @@ pub data Course : Type 0 where
 abbrev pub asks_last : Call → State → Course
 asks_last call s = Asks s call (λ reply. Over s)
 
+-- the rank traps with a fault
 abbrev pub trapped : Fault → State → Course
 trapped fault s = asks_last (Trap fault) s
 
+-- the rank ends
 abbrev pub ended : State → Course
 ended s = asks_last End s
 
--- the course behind a reply
+-- the course after a reply
 abbrev pub behind : Course → Reply → Course
 behind (Over s) reply = Over s
 behind (Asks s call go) reply = if ends (call, reply) then Over s else go reply
 
+-- the course after some replies
 abbrev pub after : Course → List Reply → Course
 after course [] = course
 after course (reply ∷ replies) = after (behind course reply) replies
 
+-- the call that a course makes next, if any
 abbrev pub call_in : Course → Option Call
 call_in (Asks s call go) = Some call
 call_in (Over s) = None
 
+-- the state in which a course is
 abbrev pub state_in : Course → State
 state_in (Asks s call go) = s
 state_in (Over s) = s
@@ -53,9 +58,11 @@ shaped_after n me own (Asks s call go) (reply ∷ replies) =
 
 -- ---- what stands
 
+-- a variable with the values of its cells, elements and their fields in order
 abbrev pub variable_of : State → Slot → Variable
 variable_of s slot = record { depth = slot.depth; name = slot.name; values = values_from slot.cells.from (slot.cells.length * slot.cells.width) s }
 
+-- the variables that are listed, in order
 abbrev pub listed_of : State → List Slot → List Variable
 listed_of s [] = []
 listed_of s (slot ∷ slots) = if slot.is_listed then variable_of s slot ∷ listed_of s slots else listed_of s slots

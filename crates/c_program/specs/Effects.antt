@@ -56,11 +56,13 @@ pub record Communicator : Type 0 where
   pub number : ℕ
   pub members : List ℕ
 
+-- the communicator of a handle
 abbrev pub communicator_of : Rank → State → ℤ → Result Communicator Fault
 communicator_of rank s (negsuc c) = Err BadComm
 communicator_of rank s (pos c) =
     given (or_fault BadComm (members_of rank.ranks s c)) (λ members. Ok (record { number = c; members = members }))
 
+-- a count of ints
 abbrev pub count_of : ℤ → Result ℕ Fault
 count_of (negsuc n) = Err BadCount
 count_of (pos n) = if nat_le n MOST_INTS then Ok n else Err BadCount
@@ -88,19 +90,23 @@ member comm (pos r) = or_fault BadRank (slice_get comm.members r)
 abbrev pub some : Result ℕ Fault → Result (Option ℕ) Fault
 some found = given found (λ rank. Ok (Some rank))
 
+-- a destination as a rank of the world, or nothing for `MPI_PROC_NULL`
 abbrev pub destination : Communicator → ℤ → Result (Option ℕ) Fault
 destination comm r = if int_eq r null then Ok None else some (member comm r)
 
+-- the source of a receive or a probe
 abbrev pub source_of : Communicator → ℤ → Result Source Fault
 source_of comm r =
     if int_eq r null then Ok Null
     else (if int_eq r any_source then Ok AnySource
     else given (member comm r) (λ rank. Ok (FromRank rank)))
 
+-- the tag of a send
 abbrev pub tag_of : ℤ → Result ℕ Fault
 tag_of (negsuc t) = Err BadTag
 tag_of (pos t) = if nat_le t GREATEST_TAG then Ok t else Err BadTag
 
+-- the tag of a receive or a probe
 abbrev pub wanted_tag : ℤ → Result Tag Fault
 wanted_tag t = if int_eq t null then Ok AnyTag else given (tag_of t) (λ t. Ok (Is t))
 
@@ -112,10 +118,12 @@ first n cells = if nat_le n cells.length then Ok (record cells { length = n }) e
 abbrev pub cell : Cells → Result ℕ Fault
 cell cells = given (first 1 cells) (λ one. Ok one.from)
 
+-- the same check of what may be left out
 abbrev pub optional : {A B : Type 0} → (A → Result B Fault) → Option A → Result (Option B) Fault
 optional one None = Ok None
 optional one (Some x) = given (one x) (λ y. Ok (Some y))
 
+-- the cells of a status, or of several; nothing where they are ignored
 abbrev pub status : Option Reference → State → Result (Option Cells) Fault
 status given_status s = optional (λ reference. range reference s) given_status
 
@@ -124,9 +132,11 @@ abbrev pub rank_or_undefined : Option ℕ → ℤ
 rank_or_undefined None = undefined
 rank_or_undefined (Some r) = pos r
 
+-- the rank of a process in the world as its rank among members
 abbrev pub rank_in : List ℕ → ℕ → ℤ
 rank_in members world_rank = rank_or_undefined (position (λ member. member == world_rank) members)
 
+-- whether the rank that runs is this rank of the world
 abbrev pub is_me : Rank → ℕ → Bool
 is_me rank root = root == rank.number
 
@@ -142,9 +152,11 @@ count_in (Some at) s = cell_at s (at + 2)
 
 -- ---- sends and receives
 
+-- a message on a communicator
 abbrev pub message : Communicator → ℕ → ℕ → Cells → Bool → Message
 message comm dest tag ints sync = record { comm = comm.number; dest = dest; tag = tag; ints = ints; sync = sync }
 
+-- a receive on a communicator
 abbrev pub receive : Communicator → Source → Tag → Cells → Receive
 receive comm source tag buffer = record { comm = comm.number; source = source; tag = tag; buffer = buffer }
 
@@ -167,9 +179,11 @@ send_after comm (Some dest) tag ints = Some (message comm dest tag ints false)
 
 -- ---- completion
 
+-- a completion that answers nothing yet
 abbrev pub answers : Answer
 answers = record { flag = None; index = None; outcount = None; indices = None; statuses = None }
 
+-- the completion of what some handles name
 abbrev pub completes : Cells → TakeMode → Answer → Result Effect Fault
 completes requests mode answer = Ok (Completes requests mode answer)
 
@@ -185,9 +199,11 @@ abbrev pub at_root : {A : Type 0} → Bool → A → Result A Fault → Result A
 at_root true other rooted = rooted
 at_root false other rooted = Ok other
 
+-- so many ints are entered
 abbrev pub enters : ℕ → Cells → Result Entered Fault
 enters n cells = given (first n cells) (λ ints. Ok (EntersCells ints))
 
+-- so many ints are got
 abbrev pub gets : ℕ → Cells → Result Into Fault
 gets n cells = given (first n cells) (λ ints. Ok (IntoCells ints))
 

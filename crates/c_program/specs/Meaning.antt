@@ -44,6 +44,7 @@ abbrev pub trying : {A : Type 0} → Result A Fault → State → (A → Course)
 trying (Err fault) s go = trapped fault s
 trying (Ok x) s go = go x
 
+-- one of two courses
 abbrev pub choose : Bool → Course → Course → Course
 choose true a b = a
 choose false a b = b
@@ -55,6 +56,7 @@ pub record Exits : Type 0 where
   pub again : Onward
   pub back : ℤ → Onward
 
+-- what a statement means: a course by the state and the ways out
 abbrev pub Meaning : Type 0
 Meaning = State → Exits → Course
 
@@ -73,6 +75,7 @@ leaving mark k = record {
 
 -- ---- steps
 
+-- takes one of so many steps
 abbrev pub step_from : ℕ → State → Onward → Course
 step_from zero s go = trapped Budget s
 step_from (suc n) s go = go (record s { left = n })
@@ -81,15 +84,18 @@ step_from (suc n) s go = go (record s { left = n })
 abbrev pub step : Passing
 step s go = step_from s.left s go
 
+-- the same after a step
 abbrev pub started : Meaning → Meaning
 started m s k = step s (λ s. m s k)
 
 -- ---- calls of functions of the text
 
+-- what an argument passes: an int, or the cells of a reference
 abbrev pub passed : Argument → State → Result Passed Fault
 passed (ValueArgument e) s = given (value e s) (λ v. Ok (Number v))
 passed (ReferenceArgument reference) s = given (range reference s) (λ cells. Ok (Lent cells))
 
+-- what arguments pass, from left to right
 abbrev pub passed_all : List Argument → State → Result (List Passed) Fault
 passed_all [] s = Ok []
 passed_all (argument ∷ arguments) s = given (passed argument s) (λ one. given (passed_all arguments s) (λ others. Ok (one ∷ others)))
@@ -98,19 +104,23 @@ passed_all (argument ∷ arguments) s = given (passed argument s) (λ one. given
 abbrev pub Calls : Type 0
 Calls = ℕ → List Passed → State → (ℤ → Onward) → Course
 
+-- a call of a function of the text takes a step, and then evaluates its arguments
 abbrev pub invoke : Calls → FunctionCall → State → (ℤ → Onward) → Course
 invoke calls call s go = step s (λ s. trying (passed_all call.arguments.items s) s (λ arguments. calls call.function arguments s go))
 
+-- what a right side gives: a value, or what a call gives back
 abbrev pub right : Calls → Right → State → (ℤ → Onward) → Course
 right calls (ValueRight e) s go = trying (value e s) s (λ v. go v s)
 right calls (CallRight call) s go = invoke calls call s go
 
 -- ---- what stands before a `;`
 
+-- prints a text, or traps where more than `MOST_PRINTED` bytes were printed
 abbrev pub print : List ℕ → Passing
 print text s go =
     choose (nat_le (length s.printed + length text) MOST_PRINTED) (go (record s { printed = s.printed ++ text })) (trapped OutputFull s)
 
+-- assignments, calls and prints
 abbrev pub simple : Rank → Calls → Simple → Passing
 simple rank calls (Set place given_right) s go =
     trying (cell_of place s) s (λ cell. right calls given_right s (λ v s. go (put cell v s)))
@@ -125,14 +135,17 @@ simple rank calls Flush s go = go s
 
 -- ---- declarations
 
+-- how many elements a declared variable has
 abbrev pub length_or_one : Option ℕ → ℕ
 length_or_one None = 1
 length_or_one (Some n) = n
 
+-- the same cells so many times
 abbrev pub repeated : ℕ → List ℤ → List ℤ
 repeated zero cells = []
 repeated (suc n) cells = cells ++ repeated n cells
 
+-- how the cells of a declared variable begin
 abbrev pub item_cells : InitDeclarator → List ℤ
 item_cells item = repeated (length_or_one item.length) (first_cells item.kind)
 
@@ -152,25 +165,30 @@ with_slot name n width cells s = record s {
 abbrev pub has_room : ℕ → State → Bool
 has_room n s = nat_le (length s.cells + n) MOST_CELLS
 
+-- the values of expressions go into cells from one on, each before the next is evaluated
 abbrev pub put_values : List Expr → ℕ → Passing
 put_values [] cell s go = go s
 put_values (e ∷ es) cell s go = trying (value e s) s (λ v. put_values es (cell + 1) (put cell v s) go)
 
+-- an initializer, for a variable whose first cell is this
 abbrev pub begin : Calls → Initializer → ℕ → Passing
 begin calls NoInitial cell s go = go s
 begin calls (RightInitial given_right) cell s go = right calls given_right s (λ v s. go (put cell v s))
 begin calls (Values es) cell s go = put_values es.items cell s go
 
+-- a variable is declared, if its cells have room, and then initialized
 abbrev pub declare : Calls → InitDeclarator → Passing
 declare calls item s go =
     choose (has_room (length (item_cells item)) s)
     (begin calls item.initial (length s.cells) (with_slot item.name (length_or_one item.length) (width_of item.kind) (item_cells item) s) go)
     (trapped CellsFault s)
 
+-- variables are declared in order
 abbrev pub declare_all : Calls → List InitDeclarator → Passing
 declare_all calls [] s go = go s
 declare_all calls (item ∷ items) s go = declare calls item s (λ s. declare_all calls items s go)
 
+-- a declaration
 abbrev pub declaration : Calls → Declaration → Passing
 declaration calls d s go = declare_all calls d.items.items s go
 
@@ -181,7 +199,7 @@ abbrev pub test : Option Expr → State → Result Bool Fault
 test None s = Ok true
 test (Some e) s = given (value e s) (λ v. Ok (is_set v))
 
--- the ways out of a turn: behind it what stands in the head of a `for` comes, and then the loop again
+-- the ways out of a turn: after it comes what stands last in the head of a `for`, and then the loop again
 abbrev pub turn_exits : Passing → Onward → Exits → Exits
 turn_exits update go k = record {
   next = λ s. update s go;
@@ -202,6 +220,7 @@ turns (suc n) e update body s k =
 abbrev pub loop : Option Expr → Passing → Meaning → Meaning
 loop e update body s k = turns (suc s.left) e update body s k
 
+-- what follows on a turn of a `while` or a `do`
 abbrev pub no_update : Passing
 no_update s go = go s
 
@@ -211,15 +230,18 @@ loop_after e body s k = step s (λ s. body s (turn_exits no_update (λ s. loop (
 
 -- ---- statements
 
+-- what stands first in the head of a `for`
 abbrev pub for_start : Rank → Calls → ForStart → Passing
 for_start rank calls NoStart s go = go s
 for_start rank calls (DeclaredStart d) s go = step s (λ s. declaration calls d s go)
 for_start rank calls (SimpleStart one) s go = simple rank calls one s go
 
+-- what stands last in the head of a `for`
 abbrev pub for_update : Rank → Calls → Option Simple → Passing
 for_update rank calls None s go = go s
 for_update rank calls (Some one) s go = simple rank calls one s go
 
+-- a `return`, with 0 where it names no value
 abbrev pub return : Calls → Option Right → Meaning
 return calls None s k = k.back (pos 0) s
 return calls (Some given_right) s k = right calls given_right s (λ v s. k.back v s)
@@ -267,17 +289,21 @@ parameter_cells (parameter ∷ parameters) = of_kind parameter.kind + parameter_
     of_kind TextsParameter = 0
     of_kind kind = 1
 
+-- the int that was passed; 0 where none was
 abbrev pub number_in : Option Passed → ℤ
 number_in (Some (Number v)) = v
 number_in given_one = pos 0
 
+-- the cells that were passed; none where none were
 abbrev pub cells_in : Option Passed → Cells
 cells_in (Some (Lent cells)) = cells
 cells_in given_one = no_cells
 
+-- a variable on cells that are not its own
 abbrev pub unlisted : List ℕ → Cells → State → Slot
 unlisted name cells s = record { depth = s.opens - 1; name = name; is_listed = false; cells = cells }
 
+-- one parameter more, with what was passed for it
 abbrev pub with_parameter : Parameter → Option Passed → State → State
 with_parameter parameter given_one s = by_kind parameter.kind
   where
@@ -286,6 +312,7 @@ with_parameter parameter given_one s = by_kind parameter.kind
     by_kind TextsParameter = record s { slots = s.slots ++ unlisted parameter.name no_cells s ∷ [] }
     by_kind kind = with_slot parameter.name 1 1 (number_in given_one ∷ []) s
 
+-- parameters in order, each with what was passed for it
 abbrev pub with_parameters : List Parameter → List Passed → State → State
 with_parameters [] arguments s = s
 with_parameters (parameter ∷ parameters) [] s = with_parameters parameters [] (with_parameter parameter None s)

@@ -38,22 +38,28 @@ Onward = State → Course
 
 -- ---- starts
 
+-- the call of a send, with its ints as they are now
 abbrev pub send_call : Message → State → Call
 send_call m s = Send m.comm m.dest m.tag (ints_in m.ints s) m.sync
 
+-- the call of a receive
 abbrev pub post_call : Receive → Call
 post_call r = Post r.comm r.source r.tag r.buffer.length
 
+-- the call of a start
 abbrev pub start_call : Start → State → Call
 start_call (StartSend m) s = send_call m s
 start_call (StartReceive r) s = post_call r
 
+-- a start whose message goes to no cells
 abbrev pub sent : ℕ → Begun
 sent comm = record { comm = comm; buffer = no_cells }
 
+-- a start whose message goes to cells
 abbrev pub receiving : Receive → Begun
 receiving r = record { comm = r.comm; buffer = r.buffer }
 
+-- what is kept of a start
 abbrev pub start_of : Start → Begun
 start_of (StartSend m) = sent m.comm
 start_of (StartReceive r) = receiving r
@@ -62,22 +68,26 @@ start_of (StartReceive r) = receiving r
 abbrev pub begun : Begun → State → State
 begun start s = record s { starts = s.starts ++ start ∷ [] }
 
+-- the number of the next start
 abbrev pub number_of_next : State → ℕ
 number_of_next s = length s.starts
 
 -- ---- what replies change
 
+-- the source, the tag and the count of a status, where it is asked for
 abbrev pub put_status : Option ℕ → ℤ → ℤ → ℤ → State → State
 put_status None source tag count s = s
 put_status (Some at) source tag count s = put_all at (source ∷ (tag ∷ (count ∷ []))) s
 
--- the status of a completed send and of a null handle, and that of a receive or probe of `MPI_PROC_NULL`
+-- the status of a completed send and of a null handle
 abbrev pub put_empty : Option ℕ → State → State
 put_empty at s = put_status at any_source null (pos 0) s
 
+-- the status of a receive or a probe of `MPI_PROC_NULL`
 abbrev pub put_nothing : Option ℕ → State → State
 put_nothing at s = put_status at null null (pos 0) s
 
+-- the members, or none
 abbrev pub or_none : Option (List ℕ) → List ℕ
 or_none None = []
 or_none (Some members) = members
@@ -86,6 +96,7 @@ or_none (Some members) = members
 abbrev pub source_in : ℕ → ℕ → ℕ → State → ℤ
 source_in n comm source s = rank_in (or_none (members_of n s comm)) source
 
+-- the start of a number
 abbrev pub start_at : ℕ → State → Begun
 start_at number s = or_sent (slice_get s.starts number)
   where
@@ -111,13 +122,16 @@ abbrev pub made_by : Got → List MadeCommunicator
 made_by (Made comm members) = if comm == 0 then [] else record { comm = comm; members = members } ∷ []
 made_by got = []
 
+-- the communicators that items tell of, in order
 abbrev pub made_by_all : List Item → List MadeCommunicator
 made_by_all [] = []
 made_by_all (item ∷ items) = made_by item.got ++ made_by_all items
 
+-- a state that has learned what items tell of
 abbrev pub learned : List Item → State → State
 learned items s = record s { made = s.made ++ made_by_all items }
 
+-- the items of a reply
 abbrev pub items_of : Reply → List Item
 items_of (Took items) = items
 items_of reply = []
@@ -129,14 +143,17 @@ pub record Active : Type 0 where
   pub place : ℕ
   pub start : ℕ
 
+-- a handle at a place, as a start, where there are so many starts
 abbrev pub active_at : ℕ → ℕ → ℤ → List Active
 active_at starts place (negsuc v) = []
 active_at starts place (pos v) = if nat_lt v starts then record { place = place; start = v } ∷ [] else []
 
+-- the same of handles from a place on
 abbrev pub active_from : ℕ → ℕ → List ℤ → List Active
 active_from starts place [] = []
 active_from starts place (handle ∷ handles) = active_at starts place handle ++ active_from starts (suc place) handles
 
+-- the starts of handles
 abbrev pub active_in : Cells → State → List Active
 active_in requests s = active_from (length s.starts) 0 (ints_in requests s)
 
@@ -153,6 +170,7 @@ status_place AnyOne place number = 0
 status_place TestAny place number = 0
 status_place mode place number = number
 
+-- whether each handle has a status of its own
 abbrev pub takes_all : TakeMode → Bool
 takes_all All = true
 takes_all TestAll = true
@@ -168,10 +186,12 @@ put_empties statuses starts place (handle ∷ handles) s =
     by_place [] = put_empty (status_at statuses place) s
     by_place (one ∷ more) = s
 
+-- the empty statuses of a call that has one for each handle
 abbrev pub empties : Cells → TakeMode → Answer → State → State
 empties requests mode answer s =
     if takes_all mode then put_empties answer.statuses (length s.starts) 0 (ints_in requests s) s else s
 
+-- the start at an index
 abbrev pub active_or_none : List Active → ℕ → Active
 active_or_none active index = or_first (slice_get active index)
   where
@@ -202,10 +222,12 @@ abbrev pub places_of : List Active → List Item → List ℤ
 places_of active [] = []
 places_of active (item ∷ items) = pos (active_or_none active item.index).place ∷ places_of active items
 
+-- places go into cells, where they are asked for
 abbrev pub put_places : Option Cells → List ℤ → State → State
 put_places None places s = s
 put_places (Some indices) places s = put_all indices.from places s
 
+-- the first of the places; `MPI_UNDEFINED` where there is none
 abbrev pub first_place : List ℤ → ℤ
 first_place [] = undefined
 first_place (place ∷ places) = place
@@ -228,15 +250,18 @@ abbrev pub none_active : Cells → TakeMode → Answer → State → State
 none_active requests mode answer s =
     answered answer (pos 1) undefined undefined [] (put_only_empty mode answer (empties requests mode answer s))
 
+-- what follows on the reply to a completion: what was completed, or that nothing was
 abbrev pub after_take : ℕ → Cells → TakeMode → Answer → List Active → Reply → State → Onward → Course
 after_take n requests mode answer active (Took items) s go =
     put_items n requests mode answer active 0 items (empties requests mode answer (learned items s)) (λ s.
     go (answered answer (pos 1) (first_place (places_of active items)) (pos (length items)) (places_of active items) s))
 after_take n requests mode answer active reply s go = go (answered answer (pos 0) undefined (pos 0) [] s)
 
+-- the numbers of starts
 abbrev pub starts_in : List Active → List ℕ
 starts_in active = map (λ (one : Active). one.start) active
 
+-- a completion of starts: without any it makes no call
 abbrev pub completing : ℕ → Cells → TakeMode → Answer → List Active → State → Onward → Course
 completing n requests mode answer [] s go = go (none_active requests mode answer s)
 completing n requests mode answer (one ∷ more) s go =
@@ -244,17 +269,21 @@ completing n requests mode answer (one ∷ more) s go =
 
 -- ---- one start until it is complete
 
+-- the call that completes one start
 abbrev pub take_one : ℕ → Call
 take_one number = Take (number ∷ []) All
 
+-- what the first item gives
 abbrev pub first_got : List Item → Option Got
 first_got [] = None
 first_got (item ∷ items) = Some item.got
 
+-- the message of a receive and its status, or a trap
 abbrev pub put_message : ℕ → Begun → Option ℕ → Option Got → State → Onward → Course
 put_message n start status None s go = go s
 put_message n start status (Some got) s go = or_trap (completed n start status got s) s go
 
+-- completes a receive
 abbrev pub taking_message : ℕ → Receive → ℕ → Option ℕ → State → Onward → Course
 taking_message n receive number status s go =
     Asks s (take_one number) (λ reply. put_message n (receiving receive) status (first_got (items_of reply)) (learned (items_of reply) s) go)
@@ -264,6 +293,7 @@ abbrev pub sending : Option Message → State → Onward → Course
 sending None s go = go s
 sending (Some m) s go = Asks s (send_call m s) (λ reply. go (begun (sent m.comm) s))
 
+-- the ints of a collective, or the handle of a communicator that was made
 abbrev pub put_result : Into → Option Got → State → State
 put_result (IntoCells cells) (Some (Joined ints)) s = put_all cells.from ints s
 put_result (Handle at) (Some (Made comm members)) s = put at (if comm == 0 then null else pos comm) s
@@ -274,16 +304,19 @@ abbrev pub taking_result : Into → ℕ → State → Onward → Course
 taking_result into number s go =
     Asks s (take_one number) (λ reply. go (put_result into (first_got (items_of reply)) (learned (items_of reply) s)))
 
+-- the ints that a member enters
 abbrev pub entered_ints : Entered → State → List ℤ
 entered_ints EntersNothing s = []
 entered_ints (EntersCells cells) s = ints_in cells s
 entered_ints (Pair colour key) s = colour ∷ (key ∷ [])
 
+-- the call of a collective
 abbrev pub enter_call : Collective → State → Call
 enter_call j s = Enter j.comm j.kind j.root j.op j.count (entered_ints j.entered s)
 
 -- ---- probes
 
+-- what a probe found: the flag and the status
 abbrev pub probed : ℕ → ℕ → Option ℕ → Option ℕ → Reply → State → State
 probed n comm flag status (Peeked source start tag count) s =
     put_some flag (pos 1) (put_status status (source_in n comm source s) (pos tag) (pos count) s)
@@ -291,6 +324,7 @@ probed n comm flag status reply s = put_some flag (pos 0) s
 
 -- ---- effects
 
+-- what an effect does: its calls in order, and what their replies change
 abbrev pub perform : Rank → Effect → State → Onward → Course
 perform rank Nothing s go = go s
 perform rank (Sets cell value) s go = go (put cell value s)

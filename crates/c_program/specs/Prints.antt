@@ -14,6 +14,7 @@ use Rattle.c_names.specs.declared.format.FormatPiece.TheVariants.{Byte, Int}
 abbrev pub digit_text : ℕ → ℕ
 digit_text digit = if nat_lt digit 10 then 48 + digit else 87 + digit
 
+-- the hexadecimal digits of a number
 abbrev pub hexadecimal_text : ℕ → List ℕ
 hexadecimal_text n = if n == 0 then 48 ∷ [] else map digit_text (digits_of 16 n)
 
@@ -22,6 +23,7 @@ abbrev pub sign_text : Base → ℤ → List ℕ
 sign_text Decimal (negsuc n) = 45 ∷ []
 sign_text base v = []
 
+-- the digits of an int
 abbrev pub size_text : Base → ℤ → List ℕ
 size_text Decimal (pos n) = decimal_text n
 size_text Decimal (negsuc n) = decimal_text (suc n)
@@ -33,6 +35,7 @@ filled Blanks missing sign size = replicate missing 32 ++ (sign ++ size)
 filled Left missing sign size = (sign ++ size) ++ replicate missing 32
 filled Zeros missing sign size = sign ++ (replicate missing 48 ++ size)
 
+-- an int in its width
 abbrev pub int_text : Filling → ℕ → Base → ℤ → List ℕ
 int_text filling width base v =
     filled filling (width - length (sign_text base v ++ size_text base v)) (sign_text base v) (size_text base v)

@@ -1,5 +1,5 @@
 -- What a rank has between two steps of its program: one stack of int cells, and the variables that stand.
-use Rattle.std.specs.Prelude.{◌+◌, ◌==◌, ℕ, zero, suc, ℤ, pos, negsuc, Bool, List, [], ◌∷◌, Option, Some, None, if◌then◌else◌, take, length, slice_index_or, slice_set}
+use Rattle.std.specs.Prelude.{◌+◌, ◌==◌, ℕ, zero, suc, ℤ, pos, Bool, List, [], ◌∷◌, Option, Some, None, if◌then◌else◌, take, length, slice_index_or, slice_set}
 use Rattle.mpi_call.specs.declared.needs.TheConstants.{UNDEFINED}
 use Rattle.run_model.specs.Lists.{world}
 use Rattle.c_program.specs.declared.constants.TheConstants.{ANY_SOURCE, NULL}
@@ -16,13 +16,15 @@ use Rattle.c_names.specs.declared.kind.VariableKind.TheVariants.{Int, Status, Re
 abbrev pub no_cells : Cells
 no_cells = record { from = 0; length = 0; width = 1 }
 
--- `MPI_UNDEFINED`, `MPI_ANY_SOURCE`, and -1: `MPI_PROC_NULL`, `MPI_ANY_TAG`, null handles
+-- `MPI_UNDEFINED`
 abbrev pub undefined : ℤ
 undefined = UNDEFINED
 
+-- `MPI_ANY_SOURCE`
 abbrev pub any_source : ℤ
 any_source = ANY_SOURCE
 
+-- `MPI_PROC_NULL`, `MPI_ANY_TAG` and null handles
 abbrev pub null : ℤ
 null = NULL
 
@@ -33,6 +35,7 @@ first_cells Status = any_source ∷ (null ∷ (pos 0 ∷ []))
 first_cells Request = null ∷ []
 first_cells Communicator = null ∷ []
 
+-- how many cells an element has
 abbrev pub width_of : VariableKind → ℕ
 width_of Status = 3
 width_of kind = 1
@@ -58,16 +61,20 @@ pub record State : Type 0 where
   pub starts : List Begun
   pub made : List MadeCommunicator
 
+-- the value of a cell; 0 where there is none
 abbrev pub cell_at : State → ℕ → ℤ
 cell_at s cell = slice_index_or s.cells cell (pos 0)
 
+-- a cell gets a value; nothing changes where there is no such cell
 abbrev pub put : ℕ → ℤ → State → State
 put cell value s = record s { cells = slice_set s.cells cell value }
 
+-- cells from one on get values
 abbrev pub put_all : ℕ → List ℤ → State → State
 put_all cell [] s = s
 put_all cell (value ∷ values) s = put_all (cell + 1) values (put cell value s)
 
+-- a cell gets a value where one is asked for
 abbrev pub put_some : Option ℕ → ℤ → State → State
 put_some None value s = s
 put_some (Some cell) value s = put cell value s
@@ -93,6 +100,7 @@ leave mark s = record s { cells = take mark.cells s.cells; slots = take mark.slo
 
 -- ---- communicators
 
+-- the members of the first of the communicators with this number
 abbrev pub members_among : List MadeCommunicator → ℕ → Option (List ℕ)
 members_among [] comm = None
 members_among (known ∷ others) comm = if known.comm == comm then Some known.members else members_among others comm

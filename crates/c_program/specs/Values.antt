@@ -20,6 +20,7 @@ abbrev pub given : {A B : Type 0} → Result A Fault → (A → Result B Fault) 
 given (Err fault) go = Err fault
 given (Ok x) go = go x
 
+-- what is there, or a fault
 abbrev pub or_fault : {A : Type 0} → Fault → Option A → Result A Fault
 or_fault fault None = Err fault
 or_fault fault (Some x) = Ok x
@@ -45,6 +46,7 @@ elements_from cells (pos i) =
 
 -- ---- expressions
 
+-- the cell of a field of a status, from its first one on
 abbrev pub field_place : Field → ℕ
 field_place Source = 0
 field_place Tag = 1
@@ -55,6 +57,7 @@ is_decided LogicalAnd left = not (is_set left)
 is_decided LogicalOr left = is_set left
 is_decided operator left = false
 
+-- an operator between two values
 abbrev pub operated : Operator → ℤ → ℤ → Result ℤ Fault
 operated operator left right = or_fault DivideByZero (applied operator left right)
 
@@ -68,7 +71,7 @@ abbrev mutual
   value (Chain' p first shape links) s = given (value first s) (λ v. chained links v s)
   value (Choice' p test q taken r spared) s = given (value test s) (λ v. if is_set v then value taken s else value spared s)
 
-  -- the links behind an operand with this value
+  -- the links after an operand with this value
   pub chained : {m : _} → Row_of-Link m → ℤ → State → Result ℤ Fault
   chained end_of-Link v s = Ok v
   chained (more_of-Link operator operand links) v s =
@@ -80,12 +83,14 @@ abbrev mutual
   cell_of (Whole variable) s = given (cells_of variable s) (λ cells. Ok cells.from)
   cell_of (Element' variable p index) s = given (value index s) (λ i. given (cells_of variable s) (λ cells. element cells i))
 
+-- the values of expressions, from left to right
 abbrev pub values : List Expr → State → Result (List ℤ) Fault
 values [] s = Ok []
 values (e ∷ es) s = given (value e s) (λ v. given (values es s) (λ vs. Ok (v ∷ vs)))
 
 -- ---- references
 
+-- the cells that a reference means
 abbrev pub range : Reference → State → Result Cells Fault
 range Nothing s = Ok no_cells
 range (WholeReference variable) s = cells_of variable s

@@ -17,6 +17,7 @@ pub record Leads {K A : Type 0} (leads : K → A → Onward) (m : State → K �
   pub at : (k : K) → m s k ≡ leads k v t
   pub left : t.left ≤ s.left
 
+-- a meaning comes to a value, or fails
 abbrev pub Comes : {K A : Type 0} → (K → A → Onward) → (State → K → Course) → State → Result A Fail → State → Type 0
 Comes leads m s (Ok v) t = Leads leads m s v t
 Comes {K} leads m s (Err fail) t = (k : K) → Fails (m s k) fail t
