@@ -1,9 +1,8 @@
 -- Each call of an MPI function whose arguments fit has a typed call.
-use Rattle.std.proofs.Common.{◌≡◌, ◌≤◌, ◌+◌, ℕ, zero, suc, Bool, true, false, List, [], ◌∷◌, length, Option, Some, None, refl, sym, slice_get, arith}
+use Rattle.std.proofs.Common.{◌≡◌, ℕ, zero, suc, true, List, [], ◌∷◌, Option, Some, None, refl, sym, arith}
 use Rattle.mpi_call.specs.declared.call.Op.{Op}
 use Rattle.c_grammar.specs.StmtGrammar.{AreAll, spell_argument}
 use Rattle.c_grammar.specs.Tree as t
-use Rattle.c_names.specs.Functions.{arguments}
 use Rattle.c_names.specs.declared.function.MpiFunction.{MpiFunction}
 use Rattle.c_names.specs.declared.function.MpiFunction.TheVariants as f
 use Rattle.c_names.specs.declared.predefined.Predefined.{Predefined}
@@ -25,7 +24,7 @@ use Rattle.c_program.specs.declared.mpi.SomeRequests.{SomeRequests}
 use Rattle.c_check.specs.Calls.{predefined_of}
 use Rattle.c_check_expr.specs.Scopes.{Env}
 use Rattle.c_type_expr.specs.Calls.{IsReference, IsValue}
-use Rattle.c_type_expr.specs.MpiArguments.{Fits, argument, is_operation, is_status, or_text}
+use Rattle.c_type_expr.specs.MpiArguments.{Fits, argument, is_operation, is_status}
 use Rattle.c_type_expr.specs.Shapes.{has_cells, is_reference, is_value}
 use Rattle.c_type_expr.proofs.Longer.{IsShort}
 use Rattle.c_type_expr.proofs.Total.{cells_total, reference_total, value_total}
