@@ -23,6 +23,7 @@ module _ {A : Type 0} (spelled : A → List Terminal) (Good : A → Type 0) (dee
     pub before : MayBegin front
     pub none : NoneGoesOn front rest
 
+  -- the first terminal of rest begins what is too deep
   pub record IsTooDeep (ts rest : List Terminal) : Type 0 where
     pub front : List Terminal
     pub head : Terminal

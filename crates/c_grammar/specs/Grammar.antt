@@ -29,6 +29,7 @@ abbrev mutual
   spell_place (whole name) rest = at w.Name name ∷ rest
   spell_place (cell name opening index closing) rest = at w.Name name ∷ at w.OpenBracket opening ∷ spell index (at w.CloseBracket closing ∷ rest)
 
+  -- operator operand, for each link
   pub spell_links : Links → List Terminal → List Terminal
   spell_links no_link rest = rest
   spell_links (link operator span operand links) rest = at operator span ∷ spell operand (spell_links links rest)
@@ -39,6 +40,7 @@ precedence (chain level first links) = level
 precedence (choice test question branch colon other) = CONDITIONAL_LEVEL
 precedence _ = 0
 
+-- at least one link
 abbrev pub IsSome : Links → Type 0
 IsSome no_link = ⊥
 IsSome (link operator span operand links) = Unit {0}
@@ -54,10 +56,12 @@ abbrev mutual
   Is (chain level first links) = (0 < level) × (level < CONDITIONAL_LEVEL) × (precedence first < level) × Is first × IsSome links × AreLinks level links
   Is (choice test question branch colon other) = (precedence test < CONDITIONAL_LEVEL) × Is test × Is branch × Is other
 
+  -- an index is an expression of the grammar
   pub IsPlace : Place → Type 0
   IsPlace (whole name) = Unit {0}
   IsPlace (cell name opening index closing) = Is index
 
+  -- each operator is of this level, and each operand binds more tightly
   pub AreLinks : ℕ → Links → Type 0
   AreLinks level no_link = Unit {0}
   AreLinks level (link operator span operand links) = (level_of operator ≡ level) × (precedence operand < level) × Is operand × AreLinks level links

@@ -8,6 +8,7 @@ use Rattle.c_grammar.specs.StmtGrammar.{spell_tree, AreExternals}
 use Rattle.c_grammar.specs.Depth.{deep_tree}
 use Rattle.c_grammar.specs.Faults as texts
 
+-- what a whole program spells
 abbrev pub spelling : Tree → List Terminal
 spelling tree = spell_tree tree []
 

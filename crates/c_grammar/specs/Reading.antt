@@ -17,13 +17,16 @@ pub record Fault : Type 0 where
   pub why : Why
   pub rest : List Terminal
 
+-- what reading gives: a tree and the terminals after it, or a refusal
 abbrev pub Answer : Type 0 → Type 0
 Answer A = Result (A × List Terminal) Fault
 
+-- the refusal for this reason from these terminals on
 abbrev pub refuse : {A : Type 0} → Why → List Terminal → Answer A
 refuse why rest = Err (record { why = why; rest = rest })
 
 infixl 10 ◌>>=◌
+-- reading goes on after what was read
 abbrev pub ◌>>=◌ : {A B : Type 0} → Answer A → (A × List Terminal → Answer B) → Answer B
 (Ok x) >>= f = f x
 (Err e) >>= f = Err e
@@ -85,28 +88,34 @@ cell_of index name ts = do
   closing ← expect w.CloseBracket inner.1
   Ok (cell name opening.0 inner.0 closing.0, closing.1)
 
+-- what follows the name of a place: an index or nothing
 abbrev pub place_tail : (List Terminal → Answer Expr) → Span → List Terminal → Answer Place
 place_tail index name ts = if heads (is w.OpenBracket) ts then cell_of index name ts else Ok (whole name, ts)
 
+-- a place
 unfoldable pub place_of : (List Terminal → Answer Expr) → List Terminal → Answer Place
 place_of index ts = do
   name ← expect w.Name ts
   place_tail index name.0 name.1
 
+-- a dot and the name of a field after a place
 abbrev pub field_of : Place → List Terminal → Answer Expr
 field_of place ts = do
   dot ← expect w.Dot ts
   name ← expect w.Name dot.1
   Ok (field place dot.0 name.0, name.1)
 
+-- what follows a place that is read: a field or nothing
 abbrev pub field_tail : Place → List Terminal → Answer Expr
 field_tail place ts = if heads (is w.Dot) ts then field_of place ts else Ok (read place, ts)
 
+-- a place that is read, or a field of it
 abbrev pub named_of : (List Terminal → Answer Expr) → List Terminal → Answer Expr
 named_of index ts = do
   place ← place_of index ts
   field_tail place.0 place.1
 
+-- a number
 abbrev pub number_of : List Terminal → Answer Expr
 number_of ts = do
   span ← expect w.Number ts
@@ -120,18 +129,21 @@ paren_of under ts = do
   closing ← expect w.CloseParen inner.1
   Ok (paren opening.0 inner.0 closing.0, closing.1)
 
+-- a sign and its operand
 abbrev pub signed_of : (Bool → List Terminal → Answer Expr) → List Terminal → Answer Expr
 signed_of under ts = do
   sign ← one_of is_sign ts
   operand ← under false sign.1
   Ok (unary sign.0.symbol sign.0.span operand.0, operand.1)
 
+-- an operand with its signs, by its first symbol
 abbrev pub unary_by : (Bool → List Terminal → Answer Expr) → List Terminal → Option Symbol → Answer Expr
 unary_by under ts (Some w.Number) = number_of ts
 unary_by under ts (Some w.Name) = named_of (under true) ts
 unary_by under ts (Some w.OpenParen) = paren_of under ts
 unary_by under ts _ = signed_of under ts
 
+-- an operand with its signs
 unfoldable pub unary_of : (Bool → List Terminal → Answer Expr) → List Terminal → Answer Expr
 unary_of under ts = unary_by under ts (first_of ts)
 
@@ -142,6 +154,7 @@ link_of below k ts = do
   operand ← below operator.1
   Ok (record { operator = operator.0.symbol; at = operator.0.span; operand = operand.0 }, operand.1)
 
+-- the operands of one level: the first alone, or a chain
 abbrev pub chained : ℕ → Expr → List Piece → Expr
 chained k first [] = first
 chained k first (p ∷ ps) = chain k first (links_from (p ∷ ps))
@@ -163,9 +176,11 @@ branches_of under test ts = do
   other ← under true colon.1
   Ok (choice test question.0 branch.0 colon.0 other.0, other.1)
 
+-- what follows a test: two branches or nothing
 abbrev pub choice_tail : (Bool → List Terminal → Answer Expr) → Expr → List Terminal → Answer Expr
 choice_tail under test ts = if heads (is w.Question) ts then branches_of under test ts else Ok (test, ts)
 
+-- an expression: operators of all levels, then `?` and two branches or nothing
 unfoldable pub choice_of : (Bool → List Terminal → Answer Expr) → List Terminal → Answer Expr
 choice_of under ts = do
   test ← bin_of (unary_of under) (CONDITIONAL_LEVEL - 1) ts

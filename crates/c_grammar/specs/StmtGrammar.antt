@@ -13,6 +13,7 @@ abbrev pub spell_maybe : {A : Type 0} → (A → List Terminal → List Terminal
 spell_maybe one None rest = rest
 spell_maybe one (Some a) rest = one a rest
 
+-- if it is there it is good
 abbrev pub IsMaybe : {A : Type 0} → (A → Type 0) → Option A → Type 0
 IsMaybe Good None = Unit {0}
 IsMaybe Good (Some a) = Good a
@@ -22,6 +23,7 @@ abbrev pub spell_list : {A : Type 0} → (A → List Terminal → List Terminal)
 spell_list one [] rest = rest
 spell_list one (a ∷ more) rest = one a (spell_list one more rest)
 
+-- each of the list is good
 abbrev pub AreAll : {A : Type 0} → (A → Type 0) → List A → Type 0
 AreAll Good [] = Unit {0}
 AreAll Good (a ∷ more) = Good a × AreAll Good more
@@ -38,6 +40,7 @@ spell_after_comma one b rest = at w.Comma b.0 ∷ one b.1 rest
 abbrev pub spell_comma_list : {A : Type 0} → (A → List Terminal → List Terminal) → t.CommaList A → List Terminal → List Terminal
 spell_comma_list one (t.comma_list a more) rest = one a (spell_list (spell_after_comma one) more rest)
 
+-- each of them is good
 abbrev pub IsCommaList : {A : Type 0} → (A → Type 0) → t.CommaList A → Type 0
 IsCommaList Good (t.comma_list a more) = Good a × AreAll (λ b. Good b.1) more
 
@@ -47,6 +50,7 @@ spell_argument (t.text span) rest = at w.Text span ∷ rest
 spell_argument (t.address mark place) rest = at w.And mark ∷ spell_place place rest
 spell_argument (t.value expr) rest = spell expr rest
 
+-- its place or expression is of the grammar
 abbrev pub IsArgument : t.Argument → Type 0
 IsArgument (t.text span) = Unit {0}
 IsArgument (t.address mark place) = IsPlace place
@@ -57,6 +61,7 @@ abbrev pub spell_call : t.Call → List Terminal → List Terminal
 spell_call call rest =
     at w.Name call.name ∷ at w.OpenParen call.opening ∷ spell_maybe (spell_comma_list spell_argument) call.arguments (at w.CloseParen call.closing ∷ rest)
 
+-- its arguments are of the grammar
 abbrev pub IsCall : t.Call → Type 0
 IsCall call = IsMaybe (IsCommaList IsArgument) call.arguments
 
@@ -65,6 +70,7 @@ abbrev pub spell_right : t.Right → List Terminal → List Terminal
 spell_right (t.called call) rest = spell_call call rest
 spell_right (t.valued expr) rest = spell expr rest
 
+-- its call or expression is of the grammar
 abbrev pub IsRight : t.Right → Type 0
 IsRight (t.called call) = IsCall call
 IsRight (t.valued expr) = Is expr
@@ -76,6 +82,7 @@ spell_simple (t.after place operator span) rest = spell_place place (at operator
 spell_simple (t.before operator span place) rest = at operator span ∷ spell_place place rest
 spell_simple (t.invoke call) rest = spell_call call rest
 
+-- its parts are of the grammar, and the operator is one that may be there
 abbrev pub IsSimple : t.Simple → Type 0
 IsSimple (t.assign place operator span right) = IsPlace place × (is_assign operator ≡ true) × IsRight right
 IsSimple (t.after place operator span) = IsPlace place × (is_step operator ≡ true)
@@ -88,6 +95,7 @@ spell_initial (t.begun mark right) rest = at w.Assign mark ∷ spell_right right
 spell_initial (t.braced mark opening values closing) rest =
     at w.Assign mark ∷ at w.OpenBrace opening ∷ spell_comma_list spell values (at w.CloseBrace closing ∷ rest)
 
+-- its right side or its values are of the grammar
 abbrev pub IsInitializer : t.Initializer → Type 0
 IsInitializer (t.begun mark right) = IsRight right
 IsInitializer (t.braced mark opening values closing) = IsCommaList Is values
@@ -96,6 +104,7 @@ IsInitializer (t.braced mark opening values closing) = IsCommaList Is values
 abbrev pub spell_item : t.InitDeclarator → List Terminal → List Terminal
 spell_item item rest = spell_place item.place (spell_maybe spell_initial item.initial rest)
 
+-- its place and its initializer are of the grammar
 abbrev pub IsItem : t.InitDeclarator → Type 0
 IsItem item = IsPlace item.place × IsMaybe IsInitializer item.initial
 
@@ -103,6 +112,7 @@ IsItem item = IsPlace item.place × IsMaybe IsInitializer item.initial
 abbrev pub spell_declaration : t.Declaration → List Terminal → List Terminal
 spell_declaration one rest = at one.kind one.at ∷ spell_comma_list spell_item one.items rest
 
+-- it begins with a type, and its declarators are of the grammar
 abbrev pub IsDeclaration : t.Declaration → Type 0
 IsDeclaration one = (is_kind one.kind ≡ true) × IsCommaList IsItem one.items
 
@@ -112,6 +122,7 @@ spell_start t.no_start rest = rest
 spell_start (t.declared_start declaration) rest = spell_declaration declaration rest
 spell_start (t.simple_start simple) rest = spell_simple simple rest
 
+-- its declaration or simple statement is of the grammar
 abbrev pub IsStart : t.ForStart → Type 0
 IsStart t.no_start = Unit {0}
 IsStart (t.declared_start declaration) = IsDeclaration declaration
@@ -122,6 +133,7 @@ IsStart (t.simple_start simple) = IsSimple simple
 -- | "do" statement "while" "(" expression ")" ";" | "for" "(" start ";" [ expression ] ";" [ simple ] ")" statement
 -- block = "{" { declaration ";" | statement } "}"
 abbrev mutual
+  -- what a statement spells
   pub spell_stmt : t.Stmt → List Terminal → List Terminal
   spell_stmt (t.block opening parts closing) rest = at w.OpenBrace opening ∷ spell_parts parts (at w.CloseBrace closing ∷ rest)
   spell_stmt (t.empty end) rest = at w.Semicolon end ∷ rest
@@ -141,10 +153,12 @@ abbrev mutual
       at w.For keyword ∷ at w.OpenParen opening ∷ spell_start start (at w.Semicolon start_end ∷ spell_maybe spell test
       (at w.Semicolon test_end ∷ spell_maybe spell_simple step (at w.CloseParen closing ∷ spell_stmt body rest)))
 
+  -- what a part of a block spells
   pub spell_part : t.Part → List Terminal → List Terminal
   spell_part (t.declare declaration end) rest = spell_declaration declaration (at w.Semicolon end ∷ rest)
   spell_part (t.stmt inner) rest = spell_stmt inner rest
 
+  -- the parts one after the other
   pub spell_parts : t.Parts → List Terminal → List Terminal
   spell_parts t.no_part rest = rest
   spell_parts (t.part first more) rest = spell_part first (spell_parts more rest)
@@ -172,14 +186,17 @@ abbrev mutual
   IsStmt (t.do_while keyword body while_keyword opening test closing end) = IsStmt body × Is test
   IsStmt (t.for keyword opening start start_end test test_end step closing body) = IsStart start × IsMaybe Is test × IsMaybe IsSimple step × IsStmt body
 
+  -- its declaration or statement is of the grammar
   pub IsPart : t.Part → Type 0
   IsPart (t.declare declaration end) = IsDeclaration declaration
   IsPart (t.stmt inner) = IsStmt inner
 
+  -- each part is of the grammar
   pub AreParts : t.Parts → Type 0
   AreParts t.no_part = Unit {0}
   AreParts (t.part first more) = IsPart first × AreParts more
 
+-- a name or nothing
 abbrev pub spell_name : Option Span → List Terminal → List Terminal
 spell_name = spell_maybe (spell_symbol w.Name)
 
@@ -195,6 +212,7 @@ spell_parameter (t.text_pointers keyword star second name) rest = at w.Char keyw
 spell_parameter (t.text_array keyword star name opening closing) rest =
     at w.Char keyword ∷ at w.Times star ∷ spell_name name (at w.OpenBracket opening ∷ at w.CloseBracket closing ∷ rest)
 
+-- the length of an array is of the grammar
 abbrev pub IsParameter : t.Parameter → Type 0
 IsParameter (t.array keyword name opening length closing) = IsMaybe Is length
 IsParameter _ = Unit {0}
@@ -214,6 +232,7 @@ spell_parameters t.no_parameter rest = rest
 spell_parameters (t.void keyword) rest = at w.Void keyword ∷ rest
 spell_parameters (t.parameters list) rest = spell_comma_list spell_parameter list rest
 
+-- each parameter is of the grammar
 abbrev pub AreParameters : t.Parameters → Type 0
 AreParameters (t.parameters list) = IsCommaList IsParameter list
 AreParameters _ = Unit {0}
@@ -223,13 +242,16 @@ abbrev pub spell_head : t.Head → List Terminal → List Terminal
 spell_head head rest =
     at head.result head.at ∷ at w.Name head.name ∷ at w.OpenParen head.opening ∷ spell_parameters head.listed (at w.CloseParen head.closing ∷ rest)
 
+-- it begins with `int` or `void`, and its parameters are of the grammar
 abbrev pub IsHead : t.Head → Type 0
 IsHead head = (is_result head.result ≡ true) × AreParameters head.listed
 
+-- it is there
 abbrev pub has : {A : Type 0} → Option A → Bool
 has None = false
 has (Some a) = true
 
+-- each of these parameters has a name
 abbrev pub are_named : List (Span × t.Parameter) → Bool
 are_named [] = true
 are_named (first ∷ more) = if has (name_of first.1) then are_named more else false
@@ -261,8 +283,10 @@ IsExternal (t.define keyword name value end) = IsValue value
 IsExternal (t.function head opening parts closing) = IsHead head × (is_named head.listed ≡ true) × AreParts parts
 IsExternal (t.prototype head end) = IsHead head
 
+-- the external declarations one after the other
 abbrev pub spell_tree : t.Tree → List Terminal → List Terminal
 spell_tree = spell_list spell_external
 
+-- each external declaration is of the grammar
 abbrev pub AreExternals : t.Tree → Type 0
 AreExternals = AreAll IsExternal

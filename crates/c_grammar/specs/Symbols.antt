@@ -35,6 +35,7 @@ is_sign w.Not = true
 is_sign w.Complement = true
 is_sign _ = false
 
+-- an assignment operator
 abbrev pub is_assign : Symbol → Bool
 is_assign w.Assign = true
 is_assign w.PlusAssign = true
@@ -49,6 +50,7 @@ is_assign w.ShiftLeftAssign = true
 is_assign w.ShiftRightAssign = true
 is_assign _ = false
 
+-- `++` and `--`
 abbrev pub is_step : Symbol → Bool
 is_step w.Increment = true
 is_step w.Decrement = true
@@ -68,6 +70,7 @@ is_result w.Int = true
 is_result w.Void = true
 is_result _ = false
 
+-- the place in the list of symbols
 abbrev pub code_of : Symbol → ℕ
 code_of w.Name = 0
 code_of w.Number = 1
@@ -137,6 +140,7 @@ code_of w.Complement = 62
 abbrev pub is : Symbol → Symbol → Bool
 is x y = code_of y == code_of x
 
+-- the symbol y is another than x
 abbrev pub isnt : Symbol → Symbol → Bool
 isnt x y = not (is x y)
 

@@ -30,7 +30,7 @@ use Rattle.c_lex.specs.declared.fault.SourceFault.{SourceFault}
 use Rattle.c_lex.specs.declared.fault.Why.{Why}
 use Rattle.c_lex.specs.declared.fault.Why.TheVariants as whys
 use Rattle.c_lex.specs.declared.step.Step.{Step}
-use Rattle.c_lex.specs.declared.step.Step.TheVariants.{Skip, Piece, Bad}
+use Rattle.c_lex.specs.declared.step.Step.TheVariants.{Skip, Lexeme, Bad}
 use Rattle.c_lex.proofs.MarkLaws.{mark_length-within, past_is_zero}
 use Rattle.c_lex.proofs.Laws.{end_past, opening_past}
 
@@ -183,7 +183,7 @@ record Found (text : List ℕ) (on_define : Bool) (at : ℕ) (o : Opening) : Typ
 
 module _ (text : List ℕ) (at : ℕ) (less : at < length text) where
   newline : (on_define : Bool) → Found text on_define at opens.Newline
-  newline true = record { step = Piece kinds.EndLine at; stands = steps.define_line_ends refl; within = (refl, refl) }
+  newline true = record { step = Lexeme kinds.EndLine at; stands = steps.define_line_ends refl; within = (refl, refl) }
   newline false = record { step = Skip (at + 1); stands = steps.line_ends refl; within = (omega arith, omega arith) }
 
   line_comment : (on_define : Bool) → Found text on_define at opens.LineComment
@@ -238,7 +238,7 @@ module _ (text : List ℕ) (at : ℕ) (less : at < length text) where
             }
         | inr other ↦ elim (cases_Bool (bytes_eq word (codes "define"))) [
           | inl define ↦ record {
-            step = Piece kinds.Define end.0;
+            step = Lexeme kinds.Define end.0;
             stands = steps.define (record { from = spaces.0; spaces = spaces.1; run = end.1; is = is_word word (codes "define") define });
             within = (omega arith, end.1.high);
           }
@@ -257,7 +257,7 @@ module _ (text : List ℕ) (at : ℕ) (less : at < length text) where
       let low = end.1.low in
       elim (cases_Bool (is_left_out (slice_range text at end.0))) [
         | inl left_out ↦ record { step = Bad at whys.LeftOut; stands = steps.left_out_word end.1 left_out; within = omega arith }
-        | inr named ↦ record { step = Piece kinds.Name end.0; stands = steps.name end.1 named; within = (omega arith, end.1.high) }
+        | inr named ↦ record { step = Lexeme kinds.Name end.0; stands = steps.name end.1 named; within = (omega arith, end.1.high) }
       ]
 
   digits : (on_define : Bool) → Found text on_define at opens.Digits
@@ -265,7 +265,7 @@ module _ (text : List ℕ) (at : ℕ) (less : at < length text) where
       let end = run InWord text (at + 1) (length text) (omega arith) in
       let low = end.1.low in
       elim (literal_or_not (slice_range text at end.0)) [
-        | inl literal ↦ record { step = Piece kinds.Number end.0; stands = steps.number end.1 literal; within = (omega arith, end.1.high) }
+        | inl literal ↦ record { step = Lexeme kinds.Number end.0; stands = steps.number end.1 literal; within = (omega arith, end.1.high) }
         | inr never ↦ record { step = Bad at whys.BadLiteral; stands = steps.bad_literal end.1 never; within = omega arith }
       ]
 
@@ -288,7 +288,7 @@ module _ (text : List ℕ) (at : ℕ) (less : at < length text) where
       let short = place.1.high in
       elim (cases_order place.0 inside.end) [
         | inl e ↦ record {
-          step = Piece kinds.Text (inside.end + 1);
+          step = Lexeme kinds.Text (inside.end + 1);
           stands = steps.quoted (record { inside = inside.inside; closed = closed; printable = subst (λ end. IsRun Printable text (at + 1) inside.end end) e place.1 });
           within = (omega arith, omega arith);
         }
@@ -311,7 +311,7 @@ module _ (text : List ℕ) (at : ℕ) (less : at < length text) where
 
   mark : (on_define : Bool) → 0 < mark_length text at → Found text on_define at opens.Mark
   mark d some =
-      record { step = Piece kinds.Mark (at + mark_length text at); stands = steps.mark; within = (omega arith, mark_length-within text at (omega arith)) }
+      record { step = Lexeme kinds.Mark (at + mark_length text at); stands = steps.mark; within = (omega arith, mark_length-within text at (omega arith)) }
 
 -- a mark begins where the opening says so
 mark_begins : (a b c d e f g h i : Bool) → (if a then opens.Newline else (if b then opens.Space else (if c then opens.LineComment else (if d then opens.BlockComment else (if e then opens.Directive else (if f then opens.Word else (if g then opens.Digits else (if h then opens.Quote else (if i then opens.Mark else opens.Nothing))))))))) ≡ opens.Mark → i ≡ true
@@ -346,7 +346,7 @@ found_inside text d at less opens.Nothing e = record { step = Bad at whys.BadByt
 
 found_at_end : (text : List ℕ) (at : ℕ) → length text ≤ at → Found text true at (opening text at)
 found_at_end text at past =
-    subst (λ o. Found text true at o) (sym (opening_past text at past)) (record { step = Piece kinds.EndLine at; stands = steps.define_ends refl; within = (refl, refl) })
+    subst (λ o. Found text true at o) (sym (opening_past text at past)) (record { step = Lexeme kinds.EndLine at; stands = steps.define_ends refl; within = (refl, refl) })
 
 -- ---- the whole text
 
@@ -369,31 +369,31 @@ module _ (n : ℕ) (text : List ℕ) (again : (on_define : Bool) (at : ℕ) → 
       let after = again d end within.1 (omega arith) in
       (after.0, readings.skip is after.1)
   goes_on_by d at low few (Bad place why) is within = (FirstFault place why, readings.bad is)
-  goes_on_by true at low few (Piece kinds.EndLine end) is within =
+  goes_on_by true at low few (Lexeme kinds.EndLine end) is within =
       let same = within.0 in
       let after = again false end (omega arith) (omega arith) in
-      (with_token (token_at kinds.EndLine at end) after.0, readings.piece is after.1)
-  goes_on_by false at low few (Piece kinds.EndLine end) is within = absurd (let no = within.1 in cc)
-  goes_on_by d at low few (Piece kinds.Define end) is within =
+      (with_token (token_at kinds.EndLine at end) after.0, readings.lexeme is after.1)
+  goes_on_by false at low few (Lexeme kinds.EndLine end) is within = absurd (let no = within.1 in cc)
+  goes_on_by d at low few (Lexeme kinds.Define end) is within =
       let on = within.0 in
       let after = again true end within.1 (once_more d n (length text) at end within.0 within.1 few) in
-      (with_token (token_at kinds.Define at end) after.0, readings.piece is after.1)
-  goes_on_by d at low few (Piece kinds.Name end) is within =
+      (with_token (token_at kinds.Define at end) after.0, readings.lexeme is after.1)
+  goes_on_by d at low few (Lexeme kinds.Name end) is within =
       let on = within.0 in
       let after = again d end within.1 (omega arith) in
-      (with_token (token_at kinds.Name at end) after.0, readings.piece is after.1)
-  goes_on_by d at low few (Piece kinds.Number end) is within =
+      (with_token (token_at kinds.Name at end) after.0, readings.lexeme is after.1)
+  goes_on_by d at low few (Lexeme kinds.Number end) is within =
       let on = within.0 in
       let after = again d end within.1 (omega arith) in
-      (with_token (token_at kinds.Number at end) after.0, readings.piece is after.1)
-  goes_on_by d at low few (Piece kinds.Text end) is within =
+      (with_token (token_at kinds.Number at end) after.0, readings.lexeme is after.1)
+  goes_on_by d at low few (Lexeme kinds.Text end) is within =
       let on = within.0 in
       let after = again d end within.1 (omega arith) in
-      (with_token (token_at kinds.Text at end) after.0, readings.piece is after.1)
-  goes_on_by d at low few (Piece kinds.Mark end) is within =
+      (with_token (token_at kinds.Text at end) after.0, readings.lexeme is after.1)
+  goes_on_by d at low few (Lexeme kinds.Mark end) is within =
       let on = within.0 in
       let after = again d end within.1 (omega arith) in
-      (with_token (token_at kinds.Mark at end) after.0, readings.piece is after.1)
+      (with_token (token_at kinds.Mark at end) after.0, readings.lexeme is after.1)
 
   reads_on : (on_define : Bool) (at : ℕ) → at ≤ length text → left text on_define at ≤ suc n → HasReading text on_define at
   reads_on d at low few = elim (cases_order at (length text)) [

@@ -9,11 +9,11 @@ use Rattle.c_lex.specs.declared.fault.Why.TheVariants.{NoMemory}
 use Rattle.c_lex.specs.declared.opening.Opening.{Opening}
 use Rattle.c_lex.specs.declared.token.Token.{Token}
 use Rattle.c_lex.specs.declared.step.Step.{Step}
-use Rattle.c_lex.specs.declared.step.Step.TheVariants.{Skip, Piece, Bad}
+use Rattle.c_lex.specs.declared.step.Step.TheVariants.{Skip, Lexeme, Bad}
 
 abbrev NamesNoMemory : Step → Type 0
 NamesNoMemory (Skip end) = Unit {0}
-NamesNoMemory (Piece kind end) = Unit {0}
+NamesNoMemory (Lexeme kind end) = Unit {0}
 NamesNoMemory (Bad place why) = why ≢ NoMemory
 
 no_memory_step : (text : List ℕ) (on_define : Bool) (at : ℕ) {o : Opening} {step : Step} → Stands text on_define at o step → NamesNoMemory step
@@ -49,7 +49,7 @@ with_token_keeps token (FirstFault place why) h = h
 no_memory_reading : (text : List ℕ) {on_define : Bool} {at : ℕ} {reading : Reading} → Reads text on_define at reading → FaultsNoMemory reading
 no_memory_reading text (readings.at_end e) = tt
 no_memory_reading text (readings.skip s q) = no_memory_reading text q
-no_memory_reading text (readings.piece {at = at} {end = end} {kind = kind} {reading = r} s q) =
+no_memory_reading text (readings.lexeme {at = at} {end = end} {kind = kind} {reading = r} s q) =
     with_token_keeps (token_at kind at end) r (no_memory_reading text q)
 no_memory_reading text (readings.bad {on_define = m} {at = at} s) = no_memory_step text m at s
 

@@ -24,7 +24,7 @@ use Rattle.c_lex.specs.declared.fault.SourceFault.{SourceFault}
 use Rattle.c_lex.specs.declared.fault.Why.{Why}
 use Rattle.c_lex.specs.declared.fault.Why.TheVariants as whys
 use Rattle.c_lex.specs.declared.step.Step.{Step}
-use Rattle.c_lex.specs.declared.step.Step.TheVariants.{Skip, Piece, Bad}
+use Rattle.c_lex.specs.declared.step.Step.TheVariants.{Skip, Lexeme, Bad}
 
 -- a run has one end
 pub run_one : {class : ByteClass} {text : List ℕ} {from limit a b : ℕ} → IsRun class text from limit a → IsRun class text from limit b → a ≡ b
@@ -103,20 +103,20 @@ one_step text m at (steps.include d u) (steps.include {stop = stop} e v) =
 one_step text m at (steps.include d u) (steps.define e) = absurd (let same = (directive_one d e).1 in cc)
 one_step text m at (steps.include d u) (steps.other_directive e i n) = absurd (i (sym (directive_one d e).1))
 one_step text m at (steps.define d) (steps.include e u) = absurd (let same = (directive_one d e).1 in cc)
-one_step text m at (steps.define d) (steps.define e) = ap (Piece kinds.Define) (directive_one d e).0
+one_step text m at (steps.define d) (steps.define e) = ap (Lexeme kinds.Define) (directive_one d e).0
 one_step text m at (steps.define d) (steps.other_directive e i n) = absurd (n (sym (directive_one d e).1))
 one_step text m at (steps.other_directive d i n) (steps.include e u) = absurd (i (directive_one d e).1)
 one_step text m at (steps.other_directive d i n) (steps.define e) = absurd (n (directive_one d e).1)
 one_step text m at (steps.other_directive d i n) (steps.other_directive e j k) = refl
-one_step text m at (steps.name u h) (steps.name v k) = ap (Piece kinds.Name) (run_one u v)
+one_step text m at (steps.name u h) (steps.name v k) = ap (Lexeme kinds.Name) (run_one u v)
 one_step text m at (steps.name u h) (steps.left_out_word v k) = let e = ap (λ end. is_left_out (slice_range text at end)) (run_one u v) in cc
 one_step text m at (steps.left_out_word u h) (steps.name v k) = let e = ap (λ end. is_left_out (slice_range text at end)) (run_one u v) in cc
 one_step text m at (steps.left_out_word u h) (steps.left_out_word v k) = refl
-one_step text m at (steps.number u h) (steps.number v k) = ap (Piece kinds.Number) (run_one u v)
+one_step text m at (steps.number u h) (steps.number v k) = ap (Lexeme kinds.Number) (run_one u v)
 one_step text m at (steps.number u h) (steps.bad_literal v k) = absurd (k (rw (run_one u v) at h))
 one_step text m at (steps.bad_literal u h) (steps.number v k) = absurd (h (rw (run_one v u) at k))
 one_step text m at (steps.bad_literal u h) (steps.bad_literal v k) = refl
-one_step text m at (steps.quoted u) (steps.quoted v) = ap (λ close. Piece kinds.Text (close + 1)) (text_one u v)
+one_step text m at (steps.quoted u) (steps.quoted v) = ap (λ close. Lexeme kinds.Text (close + 1)) (text_one u v)
 one_step text m at (steps.quoted u) (steps.bad_inside v) = absurd (never_bad u v)
 one_step text m at (steps.quoted u) (steps.open_text v) = absurd (v.open_there (ap (slice_index text) (inside_one v.inside u.inside) ∙ u.closed))
 one_step text m at (steps.bad_inside u) (steps.quoted v) = absurd (never_bad v u)
@@ -139,27 +139,27 @@ ends_or_goes_on text at step e s = absurd (nothing_at_end text at step (subst (�
 pub one_reading : (text : List ℕ) {on_define : Bool} {at : ℕ} {r q : Reading} → Reads text on_define at r → Reads text on_define at q → r ≡ q
 one_reading text (readings.at_end e) (readings.at_end f) = refl
 one_reading text (readings.at_end e) (readings.skip s r) = ends_or_goes_on text _ _ e s
-one_reading text (readings.at_end e) (readings.piece s r) = ends_or_goes_on text _ _ e s
+one_reading text (readings.at_end e) (readings.lexeme s r) = ends_or_goes_on text _ _ e s
 one_reading text (readings.at_end e) (readings.bad s) = ends_or_goes_on text _ _ e s
 one_reading text (readings.skip s r) (readings.at_end e) = ends_or_goes_on text _ _ e s
 one_reading text (readings.skip {on_define = m} {end = a} {reading = x} s r) (readings.skip {end = b} {reading = y} t q) =
     let e = one_step text _ _ s t in
     let f : b ≡ a = cc in
     one_reading text r (subst (λ end. Reads text m end y) f q)
-one_reading text (readings.skip s r) (readings.piece t q) = let e = one_step text _ _ s t in cc
+one_reading text (readings.skip s r) (readings.lexeme t q) = let e = one_step text _ _ s t in cc
 one_reading text (readings.skip s r) (readings.bad t) = let e = one_step text _ _ s t in cc
-one_reading text (readings.piece s r) (readings.at_end e) = ends_or_goes_on text _ _ e s
-one_reading text (readings.piece s r) (readings.skip t q) = let e = one_step text _ _ s t in cc
-one_reading text (readings.piece {on_define = m} {at = at} {end = a} {kind = k} {reading = x} s r) (readings.piece {end = b} {kind = j} {reading = y} t q) =
+one_reading text (readings.lexeme s r) (readings.at_end e) = ends_or_goes_on text _ _ e s
+one_reading text (readings.lexeme s r) (readings.skip t q) = let e = one_step text _ _ s t in cc
+one_reading text (readings.lexeme {on_define = m} {at = at} {end = a} {kind = k} {reading = x} s r) (readings.lexeme {end = b} {kind = j} {reading = y} t q) =
     let e = one_step text _ _ s t in
     let f : b ≡ a = cc in
     let g : j ≡ k = cc in
     let h : x ≡ y = one_reading text r (subst (λ end. Reads text (stays_on_define k m) end y) f (subst (λ kind. Reads text (stays_on_define kind m) b y) g q)) in
     cc
-one_reading text (readings.piece s r) (readings.bad t) = let e = one_step text _ _ s t in cc
+one_reading text (readings.lexeme s r) (readings.bad t) = let e = one_step text _ _ s t in cc
 one_reading text (readings.bad s) (readings.at_end e) = ends_or_goes_on text _ _ e s
 one_reading text (readings.bad s) (readings.skip t q) = let e = one_step text _ _ s t in cc
-one_reading text (readings.bad s) (readings.piece t q) = let e = one_step text _ _ s t in cc
+one_reading text (readings.bad s) (readings.lexeme t q) = let e = one_step text _ _ s t in cc
 one_reading text (readings.bad s) (readings.bad t) = let e = one_step text _ _ s t in cc
 
 -- the tokens before a reading
@@ -196,13 +196,13 @@ pub on_define_at_end : (text : List ℕ) (on_define : Bool) (at : ℕ) → (at <
 on_define_at_end text m at (inl less) e = absurd (end_past text at e less)
 on_define_at_end text m at (inr define) e = define
 
-pub piece_inside : (text : List ℕ) (on_define : Bool) (at : ℕ) (kind : TokenKind) (end : ℕ) → at ≤ length text → steps.EndsWithin text on_define at (Piece kind end) → end ≤ length text
-piece_inside text m at kinds.EndLine end inside h = let e = h.0 in omega arith
-piece_inside text m at kinds.Name end inside h = h.1
-piece_inside text m at kinds.Number end inside h = h.1
-piece_inside text m at kinds.Text end inside h = h.1
-piece_inside text m at kinds.Mark end inside h = h.1
-piece_inside text m at kinds.Define end inside h = h.1
+pub lexeme_inside : (text : List ℕ) (on_define : Bool) (at : ℕ) (kind : TokenKind) (end : ℕ) → at ≤ length text → steps.EndsWithin text on_define at (Lexeme kind end) → end ≤ length text
+lexeme_inside text m at kinds.EndLine end inside h = let e = h.0 in omega arith
+lexeme_inside text m at kinds.Name end inside h = h.1
+lexeme_inside text m at kinds.Number end inside h = h.1
+lexeme_inside text m at kinds.Text end inside h = h.1
+lexeme_inside text m at kinds.Mark end inside h = h.1
+lexeme_inside text m at kinds.Define end inside h = h.1
 
 pub begin_one : {text : List ℕ} {place a b : ℕ} → IsLineBegin text place a → IsLineBegin text place b → a ≡ b
 begin_one {text} {place} {a} {b} u v = elim (cases_order a b) [

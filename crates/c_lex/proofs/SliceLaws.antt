@@ -13,14 +13,14 @@ use Rattle.c_lex.specs.declared.opening.Opening.TheVariants as opens
 use Rattle.c_lex.specs.declared.token.Token.{Token}
 use Rattle.c_lex.specs.declared.token.TokenKind.{TokenKind}
 use Rattle.c_lex.specs.declared.step.Step.{Step}
-use Rattle.c_lex.specs.declared.step.Step.TheVariants.{Skip, Piece, Bad}
+use Rattle.c_lex.specs.declared.step.Step.TheVariants.{Skip, Lexeme, Bad}
 use Rattle.c_lex.proofs.MarkLaws.{mark_length-within, past_is_zero}
 use Rattle.c_lex.proofs.Laws.{opening_past}
 
 -- a step goes on within the text
 abbrev pub GoesOn : List ℕ → ℕ → Step → Type 0
 GoesOn text at (Skip end) = (at ≤ end) × (end ≤ length text)
-GoesOn text at (Piece kind end) = (at ≤ end) × (end ≤ length text)
+GoesOn text at (Lexeme kind end) = (at ≤ end) × (end ≤ length text)
 GoesOn text at (Bad place why) = Unit {0}
 
 -- what begins at a place with a byte
@@ -93,7 +93,7 @@ slices_of text low (readings.at_end e) = tt
 slices_of text low (readings.skip {on_define = m} {at = at} {end = end} {reading = r} s q) =
     let g = goes_on_inside text m at low refl s in
     later_of text at end r g.0 (slices_of text g.1 q)
-slices_of text low (readings.piece {on_define = m} {at = at} {end = end} {kind = kind} {reading = r} s q) =
+slices_of text low (readings.lexeme {on_define = m} {at = at} {end = end} {kind = kind} {reading = r} s q) =
     let g = goes_on_inside text m at low refl s in
     one_more text kind at end r g.0 g.1 (slices_of text g.1 q)
 slices_of text low (readings.bad s) = tt

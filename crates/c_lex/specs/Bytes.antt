@@ -7,6 +7,7 @@ use Rattle.c_lex.specs.declared.bytes.ByteClass.TheVariants.{Space, InLine, InWo
 abbrev pub is_space : ℕ → Bool
 is_space byte = (byte == 9) || ((byte == 13) || (byte == 32))
 
+-- a decimal digit
 abbrev pub is_digit : ℕ → Bool
 is_digit byte = nat_le 48 byte && nat_le byte 57
 
@@ -14,6 +15,7 @@ is_digit byte = nat_le 48 byte && nat_le byte 57
 abbrev pub is_letter : ℕ → Bool
 is_letter byte = ((nat_le 65 byte && nat_le byte 90) || (nat_le 97 byte && nat_le byte 122)) || (byte == 95)
 
+-- the byte is of this kind
 abbrev pub is_of : ByteClass → ℕ → Bool
 is_of Space byte = is_space byte
 is_of InLine byte = not (byte == 10)

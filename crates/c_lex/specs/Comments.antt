@@ -14,6 +14,7 @@ pub record IsFirstClose (text : List ℕ) (from close : ℕ) : Type 0 where
   pub is : closes text close ≡ true
   pub first : (k : ℕ) → from ≤ k → k < close → closes text k ≡ false
 
+-- no `*/` from a place on
 abbrev pub NeverCloses : List ℕ → ℕ → Type 0
 NeverCloses text from = (k : ℕ) → from ≤ k → k + 2 ≤ length text → closes text k ≡ false
 

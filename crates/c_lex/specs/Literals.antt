@@ -11,9 +11,11 @@ prefix_length word = if (slice_index word 0 == 48) && ((slice_index word 1 == 12
 abbrev pub base : List ℕ → ℕ
 base word = if prefix_length word == 2 then 16 else (if slice_index word 0 == 48 then 8 else 10)
 
+-- what follows the prefix
 abbrev pub digits_of : List ℕ → List ℕ
 digits_of word = drop (prefix_length word) word
 
+-- the number that the digits make in their base
 abbrev pub literal_value : List ℕ → ℕ
 literal_value word = digits_value (base word) (digits_of word)
 

@@ -2,5 +2,6 @@
 use Rattle.c_lex.specs.declared.fault.SourceFault.{SourceFault}
 use Rattle.c_lex.specs.declared.fault.Why.TheVariants.{NoMemory}
 
+-- it is told at the first line and column
 abbrev pub no_memory : SourceFault
 no_memory = record { line = 1; column = 1; why = NoMemory }

@@ -24,6 +24,7 @@ opening_of first mark byte next =
     else (if mark then Mark
     else Nothing))))))))
 
+-- what begins at a place: the end of the text, or what its byte and the next one tell
 abbrev pub opening : List ℕ → ℕ → Opening
 opening text at =
     if nat_le (length text) at then TextEnd else opening_of (begins_line text at) (nat_lt 0 (mark_length text at)) (slice_index text at) (slice_index text (at + 1))

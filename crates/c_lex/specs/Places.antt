@@ -7,6 +7,7 @@ pub record IsLineBegin (text : List ℕ) (place begin : ℕ) : Type 0 where
   pub first : (begin ≡ 0) ⊎ (slice_index text (begin - 1) ≡ 10)
   pub same_line : (k : ℕ) → begin ≤ k → k < place → slice_index text k ≢ 10
 
+-- the line is the number of newlines before the place and 1, the column is counted from where the line begins
 pub record IsPlaceOf (text : List ℕ) (place line column : ℕ) : Type 0 where
   pub begin : ℕ
   pub begins : IsLineBegin text place begin

@@ -9,7 +9,7 @@ use Rattle.c_lex.specs.declared.token.TokenKind.{TokenKind}
 use Rattle.c_lex.specs.declared.token.TokenKind.TheVariants.{Define, EndLine}
 use Rattle.c_lex.specs.declared.fault.Why.{Why}
 use Rattle.c_lex.specs.declared.fault.SourceFault.{SourceFault}
-use Rattle.c_lex.specs.declared.step.Step.TheVariants.{Skip, Piece, Bad}
+use Rattle.c_lex.specs.declared.step.Step.TheVariants.{Skip, Lexeme, Bad}
 
 -- all tokens, or the place of the first fault and its reason
 pub data Reading : Type 0 where
@@ -21,6 +21,7 @@ abbrev pub with_token : Token → Reading → Reading
 with_token token (Tokens tokens) = Tokens (token ∷ tokens)
 with_token token (FirstFault place why) = FirstFault place why
 
+-- the token of this kind from one place to another
 abbrev pub token_at : TokenKind → ℕ → ℕ → Token
 token_at kind start end = record { kind = kind; start = start; len = end - start }
 
@@ -35,7 +36,7 @@ pub data Reads (text : List ℕ) : Bool → ℕ → Reading → Type 0 where
   at_end : {at : ℕ} → opening text at ≡ TextEnd → Reads text false at (Tokens [])
   skip : {on_define : Bool} {at end : ℕ} {reading : Reading} → IsStep text on_define at (Skip end)
       → Reads text on_define end reading → Reads text on_define at reading
-  piece : {on_define : Bool} {at end : ℕ} {kind : TokenKind} {reading : Reading} → IsStep text on_define at (Piece kind end)
+  lexeme : {on_define : Bool} {at end : ℕ} {kind : TokenKind} {reading : Reading} → IsStep text on_define at (Lexeme kind end)
       → Reads text (stays_on_define kind on_define) end reading → Reads text on_define at (with_token (token_at kind at end) reading)
   bad : {on_define : Bool} {at place : ℕ} {why : Why} → IsStep text on_define at (Bad place why)
       → Reads text on_define at (FirstFault place why)

@@ -13,12 +13,12 @@ use Rattle.c_lex.specs.declared.opening.Opening.TheVariants as opens
 use Rattle.c_lex.specs.declared.token.TokenKind.TheVariants as kinds
 use Rattle.c_lex.specs.declared.fault.Why.TheVariants.{BadByte, OpenComment, OpenText, BadLiteral, LeftOut}
 use Rattle.c_lex.specs.declared.step.Step.{Step}
-use Rattle.c_lex.specs.declared.step.Step.TheVariants.{Skip, Piece, Bad}
+use Rattle.c_lex.specs.declared.step.Step.TheVariants.{Skip, Lexeme, Bad}
 
--- a line for each kind of piece and of fault, by what begins at the place
+-- a line for each kind of lexeme and of fault, by what begins at the place
 pub data Stands (text : List ℕ) (on_define : Bool) (at : ℕ) : Opening → Step → Type 0 where
-  define_ends : on_define ≡ true → Stands text on_define at opens.TextEnd (Piece kinds.EndLine at)
-  define_line_ends : on_define ≡ true → Stands text on_define at opens.Newline (Piece kinds.EndLine at)
+  define_ends : on_define ≡ true → Stands text on_define at opens.TextEnd (Lexeme kinds.EndLine at)
+  define_line_ends : on_define ≡ true → Stands text on_define at opens.Newline (Lexeme kinds.EndLine at)
   line_ends : on_define ≡ false → Stands text on_define at opens.Newline (Skip (at + 1))
   space : Stands text on_define at opens.Space (Skip (at + 1))
   line_comment : {end : ℕ} → IsRun InLine text (at + 1) (length text) end
@@ -28,29 +28,30 @@ pub data Stands (text : List ℕ) (on_define : Bool) (at : ℕ) : Opening → St
   split_comment : on_define ≡ true → IsSplitComment text at → Stands text on_define at opens.BlockComment (Bad at OpenComment)
   include : {end stop : ℕ} → IsDirective text at end (codes "include") → IsRun InLine text end (length text) stop
       → Stands text on_define at opens.Directive (Skip stop)
-  define : {end : ℕ} → IsDirective text at end (codes "define") → Stands text on_define at opens.Directive (Piece kinds.Define end)
+  define : {end : ℕ} → IsDirective text at end (codes "define") → Stands text on_define at opens.Directive (Lexeme kinds.Define end)
   other_directive : {end : ℕ} {word : List ℕ} → IsDirective text at end word → word ≢ codes "include" → word ≢ codes "define"
       → Stands text on_define at opens.Directive (Bad at LeftOut)
   name : {end : ℕ} → IsRun InWord text (at + 1) (length text) end → is_left_out (slice_range text at end) ≡ false
-      → Stands text on_define at opens.Word (Piece kinds.Name end)
+      → Stands text on_define at opens.Word (Lexeme kinds.Name end)
   left_out_word : {end : ℕ} → IsRun InWord text (at + 1) (length text) end → is_left_out (slice_range text at end) ≡ true
       → Stands text on_define at opens.Word (Bad at LeftOut)
   number : {end : ℕ} → IsRun InWord text (at + 1) (length text) end → IsLiteral (slice_range text at end)
-      → Stands text on_define at opens.Digits (Piece kinds.Number end)
+      → Stands text on_define at opens.Digits (Lexeme kinds.Number end)
   bad_literal : {end : ℕ} → IsRun InWord text (at + 1) (length text) end → (IsLiteral (slice_range text at end) → ⊥)
       → Stands text on_define at opens.Digits (Bad at BadLiteral)
-  quoted : {close : ℕ} → IsText text at close → Stands text on_define at opens.Quote (Piece kinds.Text (close + 1))
+  quoted : {close : ℕ} → IsText text at close → Stands text on_define at opens.Quote (Lexeme kinds.Text (close + 1))
   bad_inside : {place : ℕ} → IsBadInside text at place → Stands text on_define at opens.Quote (Bad place BadByte)
   open_text : IsOpenText text at → Stands text on_define at opens.Quote (Bad at OpenText)
-  mark : Stands text on_define at opens.Mark (Piece kinds.Mark (at + mark_length text at))
+  mark : Stands text on_define at opens.Mark (Lexeme kinds.Mark (at + mark_length text at))
   bad_byte : Stands text on_define at opens.Nothing (Bad at BadByte)
 
+-- what is at this place of the text
 abbrev pub IsStep : List ℕ → Bool → ℕ → Step → Type 0
 IsStep text on_define at step = Stands text on_define at (opening text at) step
 
 -- each step but the end of a define goes on, within the text
 abbrev pub EndsWithin : List ℕ → Bool → ℕ → Step → Type 0
 EndsWithin text on_define at (Skip end) = (at < end) × (end ≤ length text)
-EndsWithin text on_define at (Piece kinds.EndLine end) = (end ≡ at) × (on_define ≡ true)
-EndsWithin text on_define at (Piece kind end) = (at < end) × (end ≤ length text)
+EndsWithin text on_define at (Lexeme kinds.EndLine end) = (end ≡ at) × (on_define ≡ true)
+EndsWithin text on_define at (Lexeme kind end) = (at < end) × (end ≤ length text)
 EndsWithin text on_define at (Bad place why) = place ≤ length text

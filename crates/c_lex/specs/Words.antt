@@ -10,14 +10,17 @@ abbrev pub onto_first : ℕ → List (List ℕ) → List (List ℕ)
 onto_first byte [] = (byte ∷ []) ∷ []
 onto_first byte (word ∷ words) = (byte ∷ word) ∷ words
 
+-- the words of a text, by its single blanks
 abbrev pub words : List ℕ → List (List ℕ)
 words [] = [] ∷ []
 words (byte ∷ bytes) = if byte == 32 then [] ∷ words bytes else onto_first byte (words bytes)
 
+-- the keywords of C that this language leaves out
 abbrev pub left_out_words : List (List ℕ)
 left_out_words =
     words (codes "auto case const default double enum extern float goto inline long register restrict short signed sizeof static struct switch typedef union unsigned volatile")
 
+-- the word is one of these keywords
 abbrev pub is_left_out : List ℕ → Bool
 is_left_out word = list_any (bytes_eq word) left_out_words
 

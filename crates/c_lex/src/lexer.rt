@@ -32,7 +32,7 @@ pub fn tokens(alloc: Global, text: &[u8]) -> Result<TokenList, SourceFault>
             Step::Skip { end } => {
                 at = end;
             }
-            Step::Piece { kind, end } => {
+            Step::Lexeme { kind, end } => {
                 found.push(token_at(kind, at, end))?;
                 on_define = stays_on_define(kind, on_define);
                 at = end;

@@ -4,12 +4,12 @@
 mod bytes;
 mod comment;
 pub mod fault;
+mod lexeme;
 pub mod lexer;
 pub mod limits;
 pub mod literal;
 mod mark;
 mod opening;
-mod piece;
 mod place;
 mod step;
 pub mod token;

@@ -6,8 +6,8 @@ ghost use Rattle.c_lex.specs.declared.limits.TheConstants.{MOST_BYTES};
 
 use crate::comment::{block_comment, line_comment};
 use crate::fault::Why;
+use crate::lexeme::{mark, number, quote};
 use crate::opening::{Opening, opening_at};
-use crate::piece::{mark, number, quote};
 use crate::token::TokenKind;
 use crate::word::{directive, word};
 
@@ -16,7 +16,7 @@ use crate::word::{directive, word};
 pub enum Step {
     /// No token.
     Skip { end: usize },
-    Piece { kind: TokenKind, end: usize },
+    Lexeme { kind: TokenKind, end: usize },
     Bad { place: usize, why: Why },
 }
 
@@ -29,7 +29,7 @@ pub fn step_at(text: &[u8], on_define: bool, at: usize) -> Step
     ensures within { EndsWithin text.now on_define at result }
 {
     match opening_at(text, at) {
-        Opening::TextEnd => Step::Piece {
+        Opening::TextEnd => Step::Lexeme {
             kind: TokenKind::EndLine,
             end: at,
         },
@@ -56,7 +56,7 @@ fn newline(text: &[u8], on_define: bool, at: usize) -> Step
     ensures within { EndsWithin text.now on_define at result }
 {
     if on_define {
-        Step::Piece {
+        Step::Lexeme {
             kind: TokenKind::EndLine,
             end: at,
         }

@@ -31,7 +31,7 @@ pub fn word(text: &[u8], at: usize) -> Step
             why: Why::LeftOut,
         }
     } else {
-        Step::Piece {
+        Step::Lexeme {
             kind: TokenKind::Name,
             end,
         }
@@ -71,7 +71,7 @@ pub fn directive(text: &[u8], at: usize) -> Step
         };
     }
     if is_same(name, b"define") {
-        return Step::Piece {
+        return Step::Lexeme {
             kind: TokenKind::Define,
             end,
         };

@@ -9,7 +9,7 @@ use Rattle.c_lex.specs.Steps as steps
 use Rattle.c_lex.specs.Steps.{Stands}
 use Rattle.c_lex.specs.declared.opening.Opening.{Opening}
 use Rattle.c_lex.specs.declared.opening.Opening.TheVariants as opens
-use Rattle.c_lex.specs.declared.step.Step.TheVariants.{Piece}
+use Rattle.c_lex.specs.declared.step.Step.TheVariants.{Lexeme}
 use Rattle.c_lex.specs.declared.token.Token.{Token}
 use Rattle.c_lex.specs.declared.token.TokenKind.{TokenKind}
 use Rattle.c_lex.specs.declared.token.TokenKind.TheVariants as kinds
@@ -38,15 +38,15 @@ mark_some text at e = elim (cases_lt at (length text)) [
 ]
 
 -- the end of a define's line, or a token with bytes
-piece_goes_on : (text : List ℕ) (on_define : Bool) (at : ℕ) {o : Opening} {kind : TokenKind} {end : ℕ} → opening text at ≡ o → Stands text on_define at o (Piece kind end)
+lexeme_goes_on : (text : List ℕ) (on_define : Bool) (at : ℕ) {o : Opening} {kind : TokenKind} {end : ℕ} → opening text at ≡ o → Stands text on_define at o (Lexeme kind end)
     → ((on_define ≡ true) × (kind ≡ kinds.EndLine)) ⊎ (at < end)
-piece_goes_on text m at e (steps.define_ends h) = inl (h, refl)
-piece_goes_on text m at e (steps.define_line_ends h) = inl (h, refl)
-piece_goes_on text m at e (steps.define d) = let a = d.spaces.low in let b = d.run.low in inr (omega arith)
-piece_goes_on text m at e (steps.name u h) = let a = u.low in inr (omega arith)
-piece_goes_on text m at e (steps.number u h) = let a = u.low in inr (omega arith)
-piece_goes_on text m at e (steps.quoted u) = let a = u.printable.low in inr (omega arith)
-piece_goes_on text m at e steps.mark = let a = mark_some text at e in inr (omega arith)
+lexeme_goes_on text m at e (steps.define_ends h) = inl (h, refl)
+lexeme_goes_on text m at e (steps.define_line_ends h) = inl (h, refl)
+lexeme_goes_on text m at e (steps.define d) = let a = d.spaces.low in let b = d.run.low in inr (omega arith)
+lexeme_goes_on text m at e (steps.name u h) = let a = u.low in inr (omega arith)
+lexeme_goes_on text m at e (steps.number u h) = let a = u.low in inr (omega arith)
+lexeme_goes_on text m at e (steps.quoted u) = let a = u.printable.low in inr (omega arith)
+lexeme_goes_on text m at e steps.mark = let a = mark_some text at e in inr (omega arith)
 
 abbrev Few : Reading → ℕ → Type 0
 Few (Tokens tokens) n = length tokens ≤ n
@@ -82,10 +82,10 @@ reads_few text low (readings.at_end e) = omega arith
 reads_few text low (readings.skip {on_define = m} {at = at} {end = end} {reading = r} s q) =
     let g = goes_on_inside text m at low refl s in
     more_few r (left text m end) (left text m at) (left_skip m (length text) at end g.0) (reads_few text g.1 q)
-reads_few text low (readings.piece {on_define = m} {at = at} {end = end} {kind = kind} {reading = r} s q) =
+reads_few text low (readings.lexeme {on_define = m} {at = at} {end = end} {kind = kind} {reading = r} s q) =
     let g = goes_on_inside text m at low refl s in
     let rest = reads_few text g.1 q in
-    elim (piece_goes_on text m at refl s) [
+    elim (lexeme_goes_on text m at refl s) [
       | inl line ↦ one_few (token_at kind at end) r (left text (stays_on_define kind m) end) (left text m at) (left_line m kind (length text) at end line.0 line.1 g.0) rest
       | inr byte ↦ one_few (token_at kind at end) r (left text (stays_on_define kind m) end) (left text m at) (left_byte m (stays_on_define kind m) (length text) at end byte g.1) rest
     ]

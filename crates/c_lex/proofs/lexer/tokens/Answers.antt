@@ -1,6 +1,6 @@
 use Rattle.std.proofs.Common.{false, inr, sym, ap, ◌∙◌, ◌++◌, ◌∷◌, [], subst}
-use Rattle.c_lex.specs.Readings.{Reads, FirstFault, skip, piece, bad, token_at, with_token}
-use Rattle.c_lex.proofs.Laws.{after, after_one, fault_one, one_reading, piece_inside, read_all}
+use Rattle.c_lex.specs.Readings.{Reads, FirstFault, skip, lexeme, bad, token_at, with_token}
+use Rattle.c_lex.proofs.Laws.{after, after_one, fault_one, one_reading, lexeme_inside, read_all}
 use Rattle.c_lex.proofs.SliceLaws.{tokens_are_slices}
 use Rattle.c_lex.proofs.lexer.tokens.Goals as goal
 
@@ -13,12 +13,12 @@ loop-at-preserved-in-Skip c = record {
 pub loop-at-preserved : goal.loop-at-preserved
 loop-at-preserved c =
     let before = c.loop-at.invariant in
-    let one = token_at c.in-Piece.kind c.loop-at.at c.in-Piece.end in
-    let pushed = c.in_ok-push-in-Piece.ensures.ok ∙ ap (λ token. c.loop-at.found ++ token ∷ []) c.token_at.ensures in
+    let one = token_at c.in-Lexeme.kind c.loop-at.at c.in-Lexeme.end in
+    let pushed = c.in_ok-push-in-Lexeme.ensures.ok ∙ ap (λ token. c.loop-at.found ++ token ∷ []) c.token_at.ensures in
     record {
-      inside = piece_inside c.args.text.now c.loop-at.on_define c.loop-at.at c.in-Piece.kind c.in-Piece.end before.inside c.in-Piece.ensures.within;
+      inside = lexeme_inside c.args.text.now c.loop-at.on_define c.loop-at.at c.in-Lexeme.kind c.in-Lexeme.end before.inside c.in-Lexeme.ensures.within;
       onward = λ reading behind.
-          let here = piece c.in-Piece.ensures.stands (subst (λ define. Reads c.args.text.now define c.in-Piece.end reading) c.stays_on_define-on_define.ensures behind) in
+          let here = lexeme c.in-Lexeme.ensures.stands (subst (λ define. Reads c.args.text.now define c.in-Lexeme.end reading) c.stays_on_define-on_define.ensures behind) in
           subst (Reads c.args.text.now false 0)
           (sym (after_one c.loop-at.found one reading) ∙ ap (λ found. after found reading) (sym pushed))
           (before.onward (with_token one reading) here);

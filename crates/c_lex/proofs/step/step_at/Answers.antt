@@ -2,13 +2,13 @@ use Rattle.std.proofs.Common.{◌+◌, refl, sym, subst}
 use Rattle.c_lex.specs.Steps.{Stands, define_ends, space, bad_byte}
 use Rattle.c_lex.specs.declared.token.TokenKind.TheVariants.{EndLine}
 use Rattle.c_lex.specs.declared.fault.Why.TheVariants.{BadByte}
-use Rattle.c_lex.specs.declared.step.Step.TheVariants.{Skip, Piece, Bad}
+use Rattle.c_lex.specs.declared.step.Step.TheVariants.{Skip, Lexeme, Bad}
 use Rattle.c_lex.proofs.Laws.{on_define_at_end}
 use Rattle.c_lex.proofs.step.step_at.Goals as goal
 
 pub returns-in-TextEnd-clause-stands : goal.returns-in-TextEnd-clause-stands
 returns-in-TextEnd-clause-stands c =
-    subst (λ o. Stands c.args.text.now c.args.on_define c.args.at o (Piece EndLine c.args.at)) c.in-TextEnd.ensures
+    subst (λ o. Stands c.args.text.now c.args.on_define c.args.at o (Lexeme EndLine c.args.at)) c.in-TextEnd.ensures
     (define_ends (on_define_at_end c.args.text.now c.args.on_define c.args.at c.requires.more (sym c.in-TextEnd.ensures)))
 
 pub returns-in-TextEnd-clause-within : goal.returns-in-TextEnd-clause-within

@@ -2,7 +2,7 @@ use Rattle.std.proofs.Common.{◌≡◌, ◌+◌, sym, ◌∙◌, subst, arith}
 use Rattle.c_lex.specs.Bytes.{IsRun}
 use Rattle.c_lex.specs.Steps.{quoted, bad_inside, open_text}
 use Rattle.c_lex.specs.declared.bytes.ByteClass.TheVariants.{Printable}
-use Rattle.c_lex.proofs.piece.quote.Goals as goal
+use Rattle.c_lex.proofs.lexeme.quote.Goals as goal
 
 pub returns-then-byte_at-ne34-clause-stands : goal.returns-then-byte_at-ne34-clause-stands
 returns-then-byte_at-ne34-clause-stands c =

@@ -1,6 +1,6 @@
 use Rattle.std.proofs.Common.{◌≡◌, ◌≤◌, ◌+◌, ◌-◌, ℕ, length}
 use Rattle.c_lex.specs.Texts.{Inside, character_length}
-use Rattle.c_lex.proofs.piece.inside_end.Given as goal
+use Rattle.c_lex.proofs.lexeme.inside_end.Given as goal
 
 -- whatever ends the characters from here ends those from the beginning
 abbrev pub invariant-loop-more : goal.invariant-loop-more

@@ -1,5 +1,5 @@
 use Rattle.c_lex.specs.Steps.{number, bad_literal}
-use Rattle.c_lex.proofs.piece.number.Goals as goal
+use Rattle.c_lex.proofs.lexeme.number.Goals as goal
 
 pub returns-in-Some-clause-stands : goal.returns-in-Some-clause-stands
 returns-in-Some-clause-stands c = λ on_define. number c.run_end-end.ensures c.in-Some.ensures.0

@@ -1,6 +1,6 @@
 use Rattle.std.proofs.Common.{◌≡◌, ◌+◌, ◌<◌, sym, ◌∙◌, subst, arith}
 use Rattle.c_lex.specs.Texts.{Inside, ends, goes_on}
-use Rattle.c_lex.proofs.piece.inside_end.Goals as goal
+use Rattle.c_lex.proofs.lexeme.inside_end.Goals as goal
 
 pub loop-more-preserved : goal.loop-more-preserved
 loop-more-preserved c =

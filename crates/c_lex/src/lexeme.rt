@@ -22,7 +22,7 @@ pub fn number(text: &[u8], at: usize) -> Step
 {
     let end = run_end(ByteClass::InWord, text, at + 1, text.len());
     match literal_value(&text[at..end]) {
-        Some(_) => Step::Piece {
+        Some(_) => Step::Lexeme {
             kind: TokenKind::Number,
             end,
         },
@@ -40,7 +40,7 @@ pub fn mark(text: &[u8], at: usize) -> Step
     ensures stands { (on_define : Bool) → Stands text.now on_define at opens.Mark result }
     ensures within { (on_define : Bool) → EndsWithin text.now on_define at result }
 {
-    Step::Piece {
+    Step::Lexeme {
         kind: TokenKind::Mark,
         end: at + mark_length(text, at),
     }
@@ -67,7 +67,7 @@ pub fn quote(text: &[u8], at: usize) -> Step
             why: Why::BadByte,
         }
     } else {
-        Step::Piece {
+        Step::Lexeme {
             kind: TokenKind::Text,
             end: close + 1,
         }
