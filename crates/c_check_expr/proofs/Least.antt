@@ -3,8 +3,9 @@ use Rattle.std.proofs.Common.{◌≡◌, ◌⊎◌, inl, inr, ◌++◌, ℕ, Lis
 use Rattle.std.proofs.lemmas.Bool.Decides.{nat_tests}
 use Rattle.c_lex.specs.declared.fault.Why.{Why}
 use Rattle.c_lex.specs.declared.fault.Why.TheVariants as w
+use Rattle.mpi_call.specs.Lists.{IsIn}
 use Rattle.c_check_expr.specs.declared.fault.TypingFault.{TypingFault}
-use Rattle.c_check_expr.specs.Least.{IsFirst, IsIn, is_less, least_from, reason_order, take_less}
+use Rattle.c_check_expr.specs.Least.{IsFirst, is_less, least_from, reason_order, take_less}
 
 pub least_from_append : (b : Option TypingFault) (xs ys : List TypingFault) → least_from b (xs ++ ys) ≡ least_from (least_from b xs) ys
 least_from_append b [] ys = refl
@@ -25,7 +26,7 @@ itself g = grind (arith, nat_tests)
 
 pub record Least (g : TypingFault) (fs : List TypingFault) (f : TypingFault) : Type 0 where
   pub is : least_from (Some g) fs ≡ Some f
-  pub one : (f ≡ g) ⊎ IsIn f fs
+  pub one : (g ≡ f) ⊎ IsIn f fs
   pub start : is_less g f ≡ false
   pub first : (h : TypingFault) → IsIn h fs → is_less h f ≡ false
 
@@ -50,13 +51,13 @@ least g (x ∷ fs) =
               is = rw e l.is;
               one = elim l.one [ inl q ↦ inl q | inr q ↦ inr (inr q) ];
               start = l.start;
-              first = λ h i. elim i [ inl q ↦ subst (λ z. is_less z k.0 ≡ false) (sym q) (at_least x g k.0 e l.start) | inr q ↦ l.first h q ];
+              first = λ h i. elim i [ inl q ↦ subst (λ z. is_less z k.0 ≡ false) q (at_least x g k.0 e l.start) | inr q ↦ l.first h q ];
             },
           )
     ]
   where
     either : (x : TypingFault) (fs : List TypingFault) (f : TypingFault) → Least x fs f → (h : TypingFault) → IsIn h (x ∷ fs) → is_less h f ≡ false
-    either x fs f l h (inl q) = subst (λ z. is_less z f ≡ false) (sym q) l.start
+    either x fs f l h (inl q) = subst (λ z. is_less z f ≡ false) q l.start
     either x fs f l h (inr q) = l.first h q
 
 pub first_of : (fs : List TypingFault) (o : Option TypingFault) → o ≡ least_from None fs → MatchOption o (fs ≡ []) (λ f. IsFirst fs f)
@@ -64,7 +65,7 @@ first_of [] o e = let nothing : List TypingFault = [] in subst (λ z. MatchOptio
 first_of (x ∷ fs) o e =
     let k = least x fs in let l = k.1 in
     subst (λ z. MatchOption z (x ∷ fs ≡ []) (λ f. IsFirst (x ∷ fs) f)) (sym (e ∙ l.is))
-    (record { one = l.one; first = λ h i. elim i [ inl q ↦ subst (λ z. is_less z k.0 ≡ false) (sym q) l.start | inr q ↦ l.first h q ] })
+    (record { one = l.one; first = λ h i. elim i [ inl q ↦ subst (λ z. is_less z k.0 ≡ false) q l.start | inr q ↦ l.first h q ] })
 
 -- faults have a first one, unless there are none
 pub none_or_first : (fs : List TypingFault) → (fs ≡ []) ⊎ ((f : TypingFault) × IsFirst fs f)
@@ -73,7 +74,7 @@ none_or_first (x ∷ fs) =
     let k = least x fs in let l = k.1 in
     inr (
       k.0,
-      record { one = l.one; first = λ h i. elim i [ inl q ↦ subst (λ z. is_less z k.0 ≡ false) (sym q) l.start | inr q ↦ l.first h q ] },
+      record { one = l.one; first = λ h i. elim i [ inl q ↦ subst (λ z. is_less z k.0 ≡ false) q l.start | inr q ↦ l.first h q ] },
     )
 
 pub first_in_none : (fs : List TypingFault) (f : TypingFault) → fs ≡ [] → IsFirst fs f → ⊥

@@ -1,9 +1,10 @@
 -- The first of several faults, by place and then by reason.
-use Rattle.std.specs.Prelude.{◌≡◌, ◌&&◌, ◌||◌, ◌==◌, Bool, ℕ, List, [], ◌∷◌, Option, Some, None, if◌then◌else◌, nat_lt, false, ◌⊎◌}
+use Rattle.std.specs.Prelude.{◌≡◌, ◌&&◌, ◌||◌, ◌==◌, Bool, ℕ, List, [], ◌∷◌, Option, Some, None, if◌then◌else◌, nat_lt, false}
 use Rattle.c_grammar.specs.declared.terminal.Span.{Span}
 use Rattle.c_lex.specs.declared.fault.Why.{Why}
 use Rattle.c_lex.specs.declared.fault.Why.TheVariants as w
 use Rattle.c_check_expr.specs.declared.fault.TypingFault.{TypingFault}
+use Rattle.mpi_call.specs.Lists.{IsIn}
 
 -- the place of a reason in the list of reasons
 abbrev pub reason_order : Why → ℕ
@@ -32,10 +33,6 @@ take_less (Some g) f = if is_less f g then Some f else Some g
 abbrev pub least_from : Option TypingFault → List TypingFault → Option TypingFault
 least_from b [] = b
 least_from b (f ∷ fs) = least_from (take_less b f) fs
-
-abbrev pub IsIn : TypingFault → List TypingFault → Type 0
-IsIn f [] = ⊥
-IsIn f (g ∷ gs) = (f ≡ g) ⊎ IsIn f gs
 
 -- one of them, and none of them is less
 pub record IsFirst (fs : List TypingFault) (f : TypingFault) : Type 0 where
