@@ -206,13 +206,14 @@ module _ (env : Env) (stmt : source.Stmt) (keyword opening : Span) (test : sourc
       let g : IsFaultless env if_else = rw (is, view-if_else) at f in
       (g.0, g.1, none_behind (int_faults env (view test)) _ (none_before _ _ g.2))
 
-  pub if_else_spared : IsFaultless env (stmt_view stmt) → IsFaultless env (stmt_view other.value)
-  if_else_spared f =
+  pub if_else_spared : (now : Env) → now ≡ env → IsFaultless env (stmt_view stmt) → IsFaultless now (stmt_view other.value)
+  if_else_spared now n f =
       let g : IsFaultless env if_else = rw (is, view-if_else) at f in
-      (g.0, g.1, none_behind (int_faults env (view test) ++ stmt_faults env g.0 g.1 (stmt_view then.value)) _ g.2)
+      rw n (g.0, g.1, none_behind (int_faults env (view test) ++ stmt_faults env g.0 g.1 (stmt_view then.value)) _ g.2)
 
-  pub if_else_rule : (typed : Stmt) → IsStmt env if_else typed → IsStmt env (stmt_view stmt) typed
-  if_else_rule typed h = rw (is, view-if_else) h
+  pub if_else_rule : (now : Env) (typed : Stmt) (e : Expr) (a b : Box Stmt Global) → now ≡ env → typed ≡ s.IfElse e a b
+      → IsExpr env (view test) e → IsStmt env (stmt_view then.value) a.value → IsStmt now (stmt_view other.value) b.value → IsStmt env (stmt_view stmt) typed
+  if_else_rule now typed e a b n same h k l = rw (same, is, view-if_else) (x.if_else h k (rw n at l))
 
 pub while_body : (env : Env) (stmt : source.Stmt) (keyword opening : Span) (test : source_expr.Expr) (closing : Span) (body : Box source.Stmt Global)
     → stmt ≡ ts.While keyword opening test closing body → IsFaultless env (stmt_view stmt) → IsFaultless env (stmt_view body.value)
@@ -264,6 +265,10 @@ module _ (env : Env) (stmt : source.Stmt) (keyword opening : Span) (start : sour
 pub ok_maps : {A E : Type 0} {P Q : A → Type 0} (found : Result A E) → ((x : A) → P x → Q x) → IfOk found P → IfOk found Q
 ok_maps (Ok x) h p = h x p
 ok_maps (Err e) h p = tt
+
+pub on_maps : {A E : Type 0} {P : A → Type 0} {Q : Type 0} (found : Result A E) → ((x : A) → P x → Q) → IfOk found P → OnOk found Q
+on_maps (Ok x) h p = h x p
+on_maps (Err e) h p = tt
 
 -- what holds where there is an Ok
 pub on_ok : {A B : Type 0} {found : Result A B} {x : A} (P : Type 0) → found ≡ Ok x → OnOk found P → P

@@ -1,5 +1,7 @@
 //! Typed statements and declarations.
-ghost use Rattle.std.specs.Prelude.{◌≡◌, ◌++◌, ◌∷◌, Bool, [], IfOk, OnOk, Some, option_map};
+ghost use Rattle.std.specs.Prelude.{◌≡◌, ◌++◌, ◌∷◌, Bool, [], IfOk, Ok, OnOk, Some, option_map};
+ghost use Rattle.std.specs.declared.alloc.Global.{Global};
+ghost use Rattle.std.specs.declared.boxed.Box.{Box};
 ghost use Rattle.c_grammar.specs.declared.terminal.Span.{Span};
 ghost use Rattle.c_grammar.specs.StmtView.{call_view, declaration_view, initial_view, item_view, part_view, parts_view, right_view, comma_list_view, simple_view, start_view, stmt_view};
 ghost use Rattle.c_grammar.specs.Tree as t;
@@ -9,6 +11,8 @@ ghost use Rattle.c_check_expr.specs.Scopes.{opened};
 ghost use Rattle.c_check_expr.specs.Signatures.{listed};
 ghost use Rattle.c_check.specs.Statements.{after_declaration, after_item, after_part, after_parts, after_start, declaration_faults, initial_faults, item_faults, part_faults, parts_faults, return_faults, simple_faults, start_faults, step_faults, stmt_faults, test_faults};
 ghost use Rattle.c_check_expr.specs.declared.meaning.Entity.{Entity};
+ghost use Rattle.c_program.specs.declared.statement.Stmt as typed;
+ghost use Rattle.c_program.specs.declared.statement.Stmt.TheVariants as v;
 ghost use Rattle.c_type_expr.specs.Exprs.{IsExpr};
 ghost use Rattle.c_type_stmt.specs.Statements.{AreExprs, AreParts, IsDeclaration, IsInitializer, IsItem, IsPart, IsReturn, IsSimple, IsStart, IsStep, IsStmt, IsTest, length_in, update_of};
 
@@ -304,6 +308,17 @@ fn push(typed: &mut Vec<Part>, part: Part) -> Result<(), AllocError>
     Ok(())
 }
 
+/// An `if` with an `else`, of its typed parts.
+fn if_else(
+    tested: (Box<Stmt>, Expr),
+    other: Result<Box<Stmt>, AllocError>,
+) -> Result<Stmt, AllocError>
+    ensures { IfOk result (λ all. (spared : Box typed.Stmt Global) × (other ≡ Ok spared) × (all ≡ v.IfElse tested.1 tested.0 spared)) }
+{
+    let ((then, test), other) = zip(Ok(tested), other)?;
+    Ok(Stmt::IfElse { test, then, other })
+}
+
 /// The typed statement of a statement without faults.
 #[cycle(statements)]
 fn stmt_of(alloc: Global, scope: &mut Scope, stmt: &statement::Stmt) -> Result<Stmt, AllocError>
@@ -331,7 +346,10 @@ fn stmt_of(alloc: Global, scope: &mut Scope, stmt: &statement::Stmt) -> Result<S
             then,
             other,
             ..
-        } => if_else_of(alloc, scope, test, then, other),
+        } => {
+            let tested = tested_of(alloc, scope, then, test)?;
+            if_else(tested, boxed_of(alloc, scope, other))
+        }
         statement::Stmt::While { test, body, .. } => {
             let (body, test) = tested_of(alloc, scope, body, test)?;
             Ok(Stmt::While { test, body })
@@ -348,26 +366,6 @@ fn stmt_of(alloc: Global, scope: &mut Scope, stmt: &statement::Stmt) -> Result<S
             ..
         } => for_of(alloc, scope, start, test, step, body),
     }
-}
-
-/// An `if` with an `else`.
-#[cycle(statements)]
-fn if_else_of(
-    alloc: Global,
-    scope: &mut Scope,
-    test: &tree::Expr,
-    then: &statement::Stmt,
-    other: &statement::Stmt,
-) -> Result<Stmt, AllocError>
-    requires then { (gives : Bool) × (loops : Bool) × (stmt_faults scope.old gives loops (stmt_view then.now) ≡ []) }
-    requires other { (gives : Bool) × (loops : Bool) × (stmt_faults scope.old gives loops (stmt_view other.now) ≡ []) }
-    ensures typed { IfOk result (λ typed. (keyword opening closing else_keyword : Span) → IsStmt scope.old (t.if_else keyword opening (view test.now) closing (stmt_view then.now) else_keyword (stmt_view other.now)) typed) }
-    ensures scope { OnOk result (scope.new ≡ scope.old) }
-{
-    let tested = tested_of(alloc, scope, then, test)?;
-    let other = boxed_of(alloc, scope, other);
-    let ((then, test), other) = zip(Ok(tested), other)?;
-    Ok(Stmt::IfElse { test, then, other })
 }
 
 /// The parts of a block, in a scope of their own.

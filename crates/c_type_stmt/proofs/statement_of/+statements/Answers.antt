@@ -1,12 +1,16 @@
-use Rattle.std.proofs.Common.{rules, arith, ap, ◌∙◌}
+use Rattle.std.proofs.Common.{◌≡◌, Ok, rules, arith, ap, ◌∙◌}
+use Rattle.std.specs.declared.alloc.Global.{Global}
+use Rattle.std.specs.declared.boxed.Box.{Box}
 use Rattle.c_grammar.specs.declared.statement.Part.{the_lemmas}
 use Rattle.c_grammar.specs.StmtView.{parts_view, start_view}
 use Rattle.c_grammar.proofs.StmtViewed.{view-declare, view-stmt}
 use Rattle.c_check.specs.Statements.{after_parts, after_start}
 use Rattle.c_check.proofs.Closed.{closed_parts, closed_start, closing}
+use Rattle.c_program.specs.declared.expr.Expr.{Expr}
+use Rattle.c_program.specs.declared.statement.Stmt.{Stmt}
+use Rattle.c_program.specs.declared.statement.Stmt.TheVariants as s
 use Rattle.c_type_mpi.proofs.MpiRules.{of_ok}
-use Rattle.c_type_stmt.proofs.StatementRules.{block_parts, block_rule, break_rule, continue_rule, declare_faultless, declare_rule, do_body, do_rule, empty_rule, for_body, for_rule, for_start, for_step, for_typed, if_else_rule, if_else_spared, if_else_taken, if_rule, if_taken, ok_maps, on_ok, part_next, parts_after, parts_end, parts_more, parts_next, return_faultless, return_rule, simple_faultless, simple_rule, stmt_faultless, stmt_rule, while_body, while_rule}
-use Rattle.c_type_stmt.specs.Statements as x
+use Rattle.c_type_stmt.proofs.StatementRules.{block_parts, block_rule, break_rule, continue_rule, declare_faultless, declare_rule, do_body, do_rule, empty_rule, for_body, for_rule, for_start, for_step, for_typed, if_else_rule, if_else_spared, if_else_taken, if_rule, if_taken, ok_maps, on_maps, on_ok, part_next, parts_after, parts_end, parts_more, parts_next, return_faultless, return_rule, simple_faultless, simple_rule, stmt_faultless, stmt_rule, while_body, while_rule}
 use Rattle.c_type_stmt.proofs.statement_of.+statements.Goals as goal
 
 pub stmt_of-block_of-requires : goal.stmt_of-block_of-requires
@@ -93,33 +97,28 @@ pub stmt_of-returns-in_ok-then-in-If-clause-typed : goal.stmt_of-returns-in_ok-t
 stmt_of-returns-in_ok-then-in-If-clause-typed t c =
     if_rule c.args.scope.now c.args.stmt.now c.in-If.keyword c.in-If.opening c.in-If.test c.in-If.closing c.in-If.then _ _ c.in-If.is c.in_ok-then-in-If.ensures.test (rw c.deref-in-If.ensures at c.in_ok-then-in-If.ensures.stmt)
 
-pub stmt_of-if_else_of-requires : goal.stmt_of-if_else_of-requires
-stmt_of-if_else_of-requires t c = (
+pub stmt_of-tested_of-requires-in-IfElse : goal.stmt_of-tested_of-requires-in-IfElse
+stmt_of-tested_of-requires-in-IfElse t c =
+    (first_of (search (rules, the_lemmas), search (rules, arith, the_lemmas)), rw c.deref-in-IfElse.ensures (if_else_taken c.args.scope.now c.args.stmt.now c.in-IfElse.keyword c.in-IfElse.opening c.in-IfElse.test c.in-IfElse.closing c.in-IfElse.then c.in-IfElse.else_keyword c.in-IfElse.other c.in-IfElse.is c.requires))
+
+pub stmt_of-boxed_of-requires : goal.stmt_of-boxed_of-requires
+stmt_of-boxed_of-requires t c = (
   first_of (search (rules, the_lemmas), search (rules, arith, the_lemmas)),
-  (rw c.deref-in-IfElse.ensures (if_else_taken c.args.scope.now c.args.stmt.now c.in-IfElse.keyword c.in-IfElse.opening c.in-IfElse.test c.in-IfElse.closing c.in-IfElse.then c.in-IfElse.else_keyword c.in-IfElse.other c.in-IfElse.is c.requires), rw c.deref-in-IfElse-2.ensures (if_else_spared c.args.scope.now c.args.stmt.now c.in-IfElse.keyword c.in-IfElse.opening c.in-IfElse.test c.in-IfElse.closing c.in-IfElse.then c.in-IfElse.else_keyword c.in-IfElse.other c.in-IfElse.is c.requires)),
+  rw c.deref-in-IfElse-2.ensures (if_else_spared c.args.scope.now c.args.stmt.now c.in-IfElse.keyword c.in-IfElse.opening c.in-IfElse.test c.in-IfElse.closing c.in-IfElse.then c.in-IfElse.else_keyword c.in-IfElse.other c.in-IfElse.is _ c.in_ok-tested-in-IfElse.ensures.scope c.requires),
 )
 
-pub stmt_of-returns-in-IfElse-clause-typed : goal.stmt_of-returns-in-IfElse-clause-typed
-stmt_of-returns-in-IfElse-clause-typed t c =
-    ok_maps c.if_else_of.result
-    (λ typed h. if_else_rule c.args.scope.now c.args.stmt.now c.in-IfElse.keyword c.in-IfElse.opening c.in-IfElse.test c.in-IfElse.closing c.in-IfElse.then c.in-IfElse.else_keyword c.in-IfElse.other c.in-IfElse.is typed
-    (rw (c.deref-in-IfElse.ensures, c.deref-in-IfElse-2.ensures) at (h c.in-IfElse.keyword c.in-IfElse.opening c.in-IfElse.closing c.in-IfElse.else_keyword)))
-    c.if_else_of.ensures.typed
+pub stmt_of-returns-in_ok-tested-in-IfElse-clause-typed : goal.stmt_of-returns-in_ok-tested-in-IfElse-clause-typed
+stmt_of-returns-in_ok-tested-in-IfElse-clause-typed t c =
+    let tested : Box Stmt Global × Expr = c.in_ok-tested-in-IfElse.tested in
+    ok_maps {P = λ typed. (spared : Box Stmt Global) × (c.boxed_of.result ≡ Ok spared) × (typed ≡ s.IfElse tested.1 tested.0 spared)} c.if_else.result
+    (λ typed h. if_else_rule c.args.scope.now c.args.stmt.now c.in-IfElse.keyword c.in-IfElse.opening c.in-IfElse.test c.in-IfElse.closing c.in-IfElse.then c.in-IfElse.else_keyword c.in-IfElse.other c.in-IfElse.is _ typed tested.1 tested.0 h.0 c.in_ok-tested-in-IfElse.ensures.scope h.2
+    c.in_ok-tested-in-IfElse.ensures.test (rw c.deref-in-IfElse.ensures at c.in_ok-tested-in-IfElse.ensures.stmt)
+    (rw c.deref-in-IfElse-2.ensures at (of_ok _ h.1 c.boxed_of.ensures.typed)))
+    c.if_else.ensures
 
-pub if_else_of-tested_of-requires : goal.if_else_of-tested_of-requires
-if_else_of-tested_of-requires t c = (first_of (search (rules, the_lemmas), search (rules, arith, the_lemmas)), c.requires.then)
-
-pub if_else_of-boxed_of-other-requires : goal.if_else_of-boxed_of-other-requires
-if_else_of-boxed_of-other-requires t c = (first_of (search (rules, the_lemmas), search (rules, arith, the_lemmas)), rw c.in_ok-tested.ensures.scope c.requires.other)
-
-pub if_else_of-returns-clause-typed : goal.if_else_of-returns-clause-typed
-if_else_of-returns-clause-typed t c = λ keyword opening closing else_keyword.
-    let first = c.in_ok-tested.was ∙ c.in_ok-then.ensures.first in
-    x.if_else (of_ok _ first c.tested_of.ensures.test) (of_ok _ first c.tested_of.ensures.stmt)
-    (rw c.in_ok-tested.ensures.scope at (of_ok _ c.in_ok-then.ensures.second c.boxed_of-other.ensures.typed))
-
-pub if_else_of-returns-clause-scope : goal.if_else_of-returns-clause-scope
-if_else_of-returns-clause-scope t c = on_ok _ c.in_ok-then.ensures.second c.boxed_of-other.ensures.scope ∙ c.in_ok-tested.ensures.scope
+pub stmt_of-returns-in_ok-tested-in-IfElse-clause-scope : goal.stmt_of-returns-in_ok-tested-in-IfElse-clause-scope
+stmt_of-returns-in_ok-tested-in-IfElse-clause-scope t c =
+    on_maps c.if_else.result (λ typed h. on_ok _ h.1 c.boxed_of.ensures.scope ∙ c.in_ok-tested-in-IfElse.ensures.scope) c.if_else.ensures
 
 pub stmt_of-tested_of-requires-in-While : goal.stmt_of-tested_of-requires-in-While
 stmt_of-tested_of-requires-in-While t c =
