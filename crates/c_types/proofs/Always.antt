@@ -1,5 +1,5 @@
 -- Each text has a program or a first fault.
-use Rattle.std.proofs.Common.{◌≡◌, ◌⊎◌, inl, inr, ◌≤◌, ◌*◌, ℕ, min, suc, List, [], ◌∷◌, length, map, refl, sym, ap, ◌∙◌, arith}
+use Rattle.std.proofs.Common.{◌≡◌, ◌⊎◌, inl, inr, ◌≤◌, ℕ, min, suc, List, [], ◌∷◌, length, map, refl, ap, arith}
 use Rattle.c_lex.specs.Readings.{AreTokens}
 use Rattle.c_lex.specs.declared.fault.SourceFault.{SourceFault}
 use Rattle.c_lex.specs.declared.token.Token.{Token}

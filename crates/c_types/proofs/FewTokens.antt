@@ -1,5 +1,5 @@
 -- A text has at most twice as many tokens as bytes: only the end of a define's line has no bytes.
-use Rattle.std.proofs.Common.{◌≡◌, ◌⊎◌, inl, inr, ◌≤◌, ◌<◌, ◌+◌, ◌-◌, ◌*◌, ℕ, suc, cond, if◌then◌else◌, Bool, true, false, nat_le, List, [], ◌∷◌, length, refl, sym, ◌∙◌, arith}
+use Rattle.std.proofs.Common.{◌≡◌, ◌⊎◌, inl, inr, ◌≤◌, ◌<◌, ◌+◌, ◌-◌, ◌*◌, ℕ, cond, if◌then◌else◌, Bool, true, false, nat_le, List, length, refl, sym, ◌∙◌, arith}
 use Rattle.std.proofs.lemmas.Bool.{cases_lt, false_from_ne_true, leb-true, ltb-true}
 use Rattle.c_lex.specs.Marks.{mark_length}
 use Rattle.c_lex.specs.Openings.{opening}

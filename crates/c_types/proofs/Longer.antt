@@ -1,11 +1,11 @@
 -- What a parameter, a head and an external declaration spell is no shorter than what follows it.
-use Rattle.std.proofs.Common.{◌≤◌, ◌<◌, ℕ, List, [], ◌∷◌, Option, Some, None, length, arith}
+use Rattle.std.proofs.Common.{◌≤◌, ◌<◌, List, ◌∷◌, Option, length, arith}
 use Rattle.c_grammar.specs.declared.terminal.Span.{Span}
 use Rattle.c_grammar.specs.declared.terminal.Symbol.{Symbol}
 use Rattle.c_grammar.specs.declared.terminal.Symbol.TheVariants as w
 use Rattle.c_grammar.specs.declared.terminal.Terminal.{Terminal}
 use Rattle.c_grammar.specs.Grammar.{at, spell}
-use Rattle.c_grammar.specs.StmtGrammar.{spell_comma_list, spell_external, spell_head, spell_list, spell_maybe, spell_name, spell_parameter, spell_parameters, spell_parts, spell_symbol, spell_value}
+use Rattle.c_grammar.specs.StmtGrammar.{spell_external, spell_head, spell_list, spell_maybe, spell_name, spell_parameter, spell_parameters, spell_parts, spell_symbol, spell_value}
 use Rattle.c_grammar.specs.Tree as t
 use Rattle.c_type_expr.proofs.Longer.{longer, longer_comma_list, longer_list, longer_maybe}
 use Rattle.c_type_stmt.proofs.Longer.{longer_parts}

@@ -7,8 +7,8 @@ use Rattle.c_grammar.specs.declared.statement.ExternalDeclaration as source_exte
 use Rattle.c_grammar.specs.StmtGrammar.{AreExternals, IsExternal, are_named, has, is_named, name_of}
 use Rattle.c_grammar.specs.StmtView.{external_view}
 use Rattle.c_grammar.specs.Tree as t
-use Rattle.c_check.specs.Programs.{after_parameter, after_parameters, after_external, declare_optional, function_faults, heads_of, is_main, main_faults, parameter_name, parameter_entity, parameters_faults, text_env, external_faults, external_twice_faults, externals_faults, with_head}
-use Rattle.c_check_expr.specs.Scopes.{Env, token_bytes, opened}
+use Rattle.c_check.specs.Programs.{after_parameter, after_parameters, after_external, declare_optional, function_faults, heads_of, is_main, main_faults, parameter_name, parameter_entity, parameters_faults, external_faults, external_twice_faults, externals_faults, with_head}
+use Rattle.c_check_expr.specs.Scopes.{Env, opened}
 use Rattle.c_check_expr.specs.declared.fault.TypingFault.{TypingFault}
 use Rattle.c_check_expr.specs.declared.meaning.Entity.{Entity}
 use Rattle.c_lex.specs.declared.fault.Why.TheVariants.{NoMain}

@@ -1,6 +1,6 @@
 -- Each tree without faults has a typed program.
-use Rattle.std.proofs.Common.{◌≡◌, ◌⊎◌, inl, inr, ◌≤◌, ◌<◌, ◌^◌, ◌+◌, ◌++◌, ◌||◌, ℕ, zero, suc, cond, Bool, true, false, List, [], ◌∷◌, length, map, Option, Some, None, refl, ap, ◌∙◌, slice_get, arith}
-use Rattle.std.specs.List.{list_any, position, position_from}
+use Rattle.std.proofs.Common.{◌≡◌, inl, inr, ◌≤◌, ◌<◌, ◌^◌, ◌+◌, ◌++◌, ℕ, suc, Bool, true, false, List, [], ◌∷◌, length, Option, Some, None, refl, ap, ◌∙◌, slice_get, arith}
+use Rattle.std.specs.List.{list_any, position_from}
 use Rattle.std.specs.Option.{is_some, option_to_list}
 use Rattle.std.proofs.lemmas.Iterator.Adapters.{position_from-zero}
 use Rattle.c_grammar.specs.declared.terminal.Span.{Span}
@@ -8,7 +8,7 @@ use Rattle.c_grammar.specs.declared.terminal.Symbol.TheVariants as w
 use Rattle.c_grammar.specs.declared.terminal.Terminal.{Terminal}
 use Rattle.c_grammar.specs.Grammar.{at}
 use Rattle.c_grammar.specs.Programs.{spelling}
-use Rattle.c_grammar.specs.StmtGrammar.{AreExternals, IsExternal, is_named, spell_external, spell_head, spell_list, spell_parameter, spell_parameters, spell_parts}
+use Rattle.c_grammar.specs.StmtGrammar.{AreExternals, IsExternal, is_named, spell_external, spell_list, spell_parameter, spell_parameters, spell_parts}
 use Rattle.c_grammar.specs.Tree as t
 use Rattle.c_check.specs.Programs.{after_external, after_parameter, after_parameters, declare_optional, external_faults, external_twice_faults, externals_faults, faults, function_faults, heads_of, is_main, parameter_entity, parameter_name, parameters_faults, seen_after, text_env}
 use Rattle.c_check_expr.specs.Scopes.{Env, opened, token_bytes}
@@ -20,7 +20,6 @@ use Rattle.c_program.specs.declared.program.Parameter.{Parameter}
 use Rattle.c_type_expr.proofs.Faultless.{cases, none_before, none_behind}
 use Rattle.c_type_expr.proofs.Longer.{IsShort, short_listed}
 use Rattle.c_type_expr.proofs.Total.{vec_of}
-use Rattle.c_type_stmt.proofs.Longer.{longer_parts}
 use Rattle.c_type_stmt.proofs.Total.{IsSmall, parts_total, small_opened, some_of}
 use Rattle.c_types.specs.Programs as x
 use Rattle.c_types.specs.Programs.{AreFunctions, AreParameters, IsFunction, IsFunctionOf, IsParameter, IsProgram, parameter_kind}
