@@ -1,5 +1,8 @@
 //! The entries of what a rank has seen of a run, worked out by hand.
-ghost use Rattle.std.specs.Prelude.{IfOk};
+ghost use Rattle.std.specs.Prelude.{◌≡◌, ◌∷◌, [], IfOk};
+ghost use Rattle.mpi_call.specs.declared.call.Call.TheVariants.{Take};
+ghost use Rattle.mpi_call.specs.declared.call.TakeMode.TheVariants.{All};
+ghost use Rattle.mpi_call.specs.declared.reply.Reply.TheVariants.{Took};
 ghost use Rattle.srr_entry.specs.Seen.{IsRanksView};
 
 use mpi_call::call::{Call, Source, Tag, TakeMode};
@@ -15,7 +18,9 @@ use std::test::Fail;
 use wiz_base::Bytes;
 
 /// A completion of the rank's first start.
-fn take(alloc: Global) -> Result<Call, AllocError> {
+fn take(alloc: Global) -> Result<Call, AllocError>
+    ensures { IfOk result (λ call. call ≡ Take (0 ∷ []) All) }
+{
     Ok(Call::Take {
         starts: Starts::from_slice(alloc, &[0])?,
         mode: TakeMode::All,
@@ -23,7 +28,9 @@ fn take(alloc: Global) -> Result<Call, AllocError> {
 }
 
 /// That start gave this.
-fn took(alloc: Global, got: Got) -> Result<Reply, AllocError> {
+fn took(alloc: Global, got: Got) -> Result<Reply, AllocError>
+    ensures { IfOk result (λ reply. reply ≡ Took (record { index = 0; got = got } ∷ [])) }
+{
     let mut items = Items::new(alloc);
     items.push(Item { index: 0, got })?;
     Ok(Reply::Took(items))
