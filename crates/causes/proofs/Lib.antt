@@ -1,0 +1,4 @@
+pub mod PositionLemmas
+pub mod Paths
+pub mod NewClocks
+pub mod TableLemmas

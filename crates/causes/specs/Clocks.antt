@@ -1,5 +1,5 @@
 -- Vector clocks: for each position and each rank, how many of the rank's events are at the position or before it.
-use Rattle.std.specs.Prelude.{◌≡◌, ◌<◌, ◌≤◌, ◌↔◌, ℕ, List, Some, All, length, slice_get, slice_index, take}
+use Rattle.std.specs.Prelude.{◌≡◌, ◌<◌, ◌≤◌, ◌↔◌, ℕ, suc, List, Some, All, length, slice_get, slice_index, take}
 use Rattle.run_model.specs.declared.event.Event.{Event}
 use Rattle.causes.specs.Before.{IsUpTo}
 use Rattle.causes.specs.Positions.{count_of}
@@ -17,9 +17,11 @@ AreOfRanks n events = All (λ (event : Event). event.rank < n) events
 abbrev pub number_at : List Event → ℕ → ℕ → ℕ
 number_at events rank t = count_of rank (take t events)
 
--- the clock of position u: an event up to there is u or before u if and only if its number is below the clock's entry of its rank
+-- the clock of position u: an event up to there is u or before u if and only if its number is below the clock's entry of its rank;
+-- an entry counts events up to there alone
 pub record IsClock (n : ℕ) (events : List Event) (u : ℕ) (clock : List ℕ) : Type 0 where
   pub wide : length clock ≡ n
+  pub few : (rank : ℕ) → slice_index clock rank ≤ count_of rank (take (suc u) events)
   pub tells : (t : ℕ) (event : Event) → t ≤ u → slice_get events t ≡ Some event → (number_at events event.rank t < slice_index clock event.rank) ↔ IsUpTo n events t u
 
 -- a clock for each position

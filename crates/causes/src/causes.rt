@@ -1,9 +1,10 @@
 //! Happens-before, by vector clocks.
-ghost use Rattle.std.specs.Prelude.{◌≡◌, ◌<◌, ◌≤◌, ◌^◌, ◌++◌, ◌∷◌, ◌↔◌, [], ℕ, List, IfOk, OnOk, IsTrue, Some, length, slice_get};
+ghost use Rattle.std.specs.Prelude.{◌≡◌, ◌<◌, ◌≤◌, ◌+◌, ◌^◌, ◌++◌, ◌∷◌, ◌↔◌, [], ℕ, List, IfOk, OnOk, IsTrue, Some, length, slice_get};
 ghost use Rattle.run_model.specs.declared.event.Event.{Event as EventSpec};
 ghost use Rattle.causes.specs.Before.{IsBefore, IsUpTo};
 ghost use Rattle.causes.specs.Beside.{AreTables};
 ghost use Rattle.causes.specs.Clocks.{AreClocks, AreNumbers, AreOfRanks, IsClock, number_at};
+ghost use Rattle.causes.specs.Positions.{count_of};
 
 use crate::clock::Clock;
 use crate::key::events_key;
@@ -97,7 +98,7 @@ fn clock_of(
     event: &Event,
 ) -> Result<Clock, AllocError>
     requires tables { AreTables before.now tables.now }
-    requires short { length before.now < 2 ^ 32 - 1 }
+    requires short { length before.now + 1 < 2 ^ 32 }
     requires clocks { AreClocks tables.now.ranks before.now clocks.now }
     requires rank { event.now.rank < tables.now.ranks }
     ensures { IfOk result (λ clock. IsClock tables.now.ranks (before.now ++ event.now ∷ []) (length before.now) clock) }

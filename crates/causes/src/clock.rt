@@ -1,5 +1,5 @@
 //! Vector clocks.
-ghost use Rattle.std.specs.Prelude.{◌≡◌, ◌<◌, ◌≤◌, ◌⊎◌, ◌+◌, ℕ, [], IfOk, OnOk, OnErr, Some, length, replicate, slice_get, slice_index, slice_set};
+ghost use Rattle.std.specs.Prelude.{◌≡◌, ◌<◌, ◌≤◌, ◌⊎◌, ◌+◌, ℕ, List, [], IfOk, OnOk, OnErr, Some, length, replicate, slice_get, slice_index, slice_set};
 ghost use Rattle.mpi_call.specs.Lists.{IsIn};
 ghost use Rattle.causes.specs.Joins.{IsJoin, IsJoinOfAll};
 
