@@ -2,3 +2,4 @@ pub mod PositionLemmas
 pub mod Paths
 pub mod NewClocks
 pub mod TableLemmas
+pub mod JoinLemmas

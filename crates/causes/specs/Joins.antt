@@ -1,13 +1,15 @@
 -- Joins of clocks.
-use Rattle.std.specs.Prelude.{◌≡◌, ◌<◌, ◌≤◌, ◌⊎◌, ℕ, List, Some, length, slice_get, slice_index}
+use Rattle.std.specs.Prelude.{◌≡◌, ◌<◌, ◌≤◌, ◌⊎◌, ℕ, List, Some, length, max, slice_get, slice_index}
 use Rattle.mpi_call.specs.Lists.{IsIn}
 
--- of a rank the join has the number of one of the two, and no less than either
-pub record IsJoin (old other new : List ℕ) : Type 0 where
+-- place by place the greater of the two numbers
+pub record AreGreater (old other new : List ℕ) : Type 0 where
   pub as_many : length new ≡ length old
-  pub from : (rank count : ℕ) → count < slice_index new rank → (count < slice_index old rank) ⊎ (count < slice_index other rank)
-  pub first : (rank : ℕ) → slice_index old rank ≤ slice_index new rank
-  pub second : (rank : ℕ) → slice_index other rank ≤ slice_index new rank
+  pub each : (rank : ℕ) → slice_index new rank ≡ max (slice_index old rank) (slice_index other rank)
+
+-- each of these clocks has as many numbers as this one
+abbrev pub AreAsWide : List (List ℕ) → List ℕ → Type 0
+AreAsWide clocks own = (at : ℕ) (clock : List ℕ) → slice_get clocks at ≡ Some clock → length clock ≡ length own
 
 -- one of the clocks at these positions has a greater number of the rank
 pub record IsAbove (clocks : List (List ℕ)) (places : List ℕ) (rank count : ℕ) : Type 0 where

@@ -6,3 +6,4 @@ pub mod Tables
 pub mod Beside
 pub mod Joins
 pub mod Clocks
+pub mod Seen

@@ -15,12 +15,15 @@ use Rattle.run_model.specs.Communicators.{members_in}
 use Rattle.run_model.specs.Views.{view_of}
 use Rattle.causes.specs.Positions.{enter_position, instance_at, listed, mates_of, start_position}
 
+-- the Enter of a member, if it is needed
+abbrev pub entered_one : List Event → ℕ → ℕ → (ℕ → Bool) → ℕ → List ℕ
+entered_one before comm instance needed m = if needed m then listed (enter_position before m comm instance) else []
+
 -- the Enters of the needed members of an instance
 abbrev pub entered_by : List Event → ℕ → ℕ → (ℕ → Bool) → List ℕ → List ℕ
 entered_by before comm instance needed [] = []
 entered_by before comm instance needed (m ∷ members) =
-    if needed m then listed (enter_position before m comm instance) ++ entered_by before comm instance needed members
-    else entered_by before comm instance needed members
+    entered_one before comm instance needed m ++ entered_by before comm instance needed members
 
 -- a result of rank `me` rests on the Enters of its instance that it needs; `at` is the position of the rank's own
 abbrev pub collected_from : ℕ → List Event → ℕ → ℕ → Call → List ℕ

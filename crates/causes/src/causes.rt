@@ -3,7 +3,8 @@ ghost use Rattle.std.specs.Prelude.{◌≡◌, ◌<◌, ◌≤◌, ◌+◌, ◌^
 ghost use Rattle.run_model.specs.declared.event.Event.{Event as EventSpec};
 ghost use Rattle.causes.specs.Before.{IsBefore, IsUpTo};
 ghost use Rattle.causes.specs.Beside.{AreTables};
-ghost use Rattle.causes.specs.Clocks.{AreClocks, AreNumbers, AreOfRanks, IsClock, number_at};
+ghost use Rattle.causes.specs.Clocks.{AreClocks, AreOfRanks, IsClock, number_at};
+ghost use Rattle.causes.specs.Seen.{IsSeen};
 ghost use Rattle.causes.specs.Positions.{count_of};
 
 use crate::clock::Clock;
@@ -43,21 +44,15 @@ impl<'a> Causes<'a> {
         ensures ranks { IfOk result (λ causes. causes.ranks ≡ ranks) }
         ensures events { IfOk result (λ causes. causes.events ≡ events.now) }
     {
-        let mut clocks = Vec::new(alloc);
-        let mut numbers = Vec::new(alloc);
-        let mut tables = Tables::new(alloc, ranks)?;
+        let mut seen = Seen::new(alloc, ranks)?;
         for (at, event) in events.iter().enumerate() {
-            let before = &events[..at];
-            numbers.push(number_of(&tables, event.rank))?;
-            let clock = clock_of(alloc, before, &tables, &clocks, event)?;
-            clocks.push(clock)?;
-            tables.note(at as u32, event)?;
+            seen.add(alloc, &events[..at], event)?;
         }
         Ok(Causes {
             ranks,
             events,
-            clocks,
-            numbers,
+            clocks: seen.clocks,
+            numbers: seen.numbers,
         })
     }
 
@@ -65,10 +60,12 @@ impl<'a> Causes<'a> {
     pub fn is_before(&self, t: u32, u: u32) -> bool
         ensures { IsTrue result ↔ IsBefore self.now.ranks self.now.events t u }
     {
-        let (Some(event), Some(clock)) = (self.events.get(t as usize), self.clocks.get(u as usize)) else {
+        if t >= u || u as usize >= self.events.len() {
             return false;
-        };
-        t < u && self.numbers[t as usize] < clock.get(event.rank)
+        }
+        let numbers = self.numbers.as_slice();
+        let rank = self.events[t as usize].rank;
+        numbers[t as usize] < self.count(u, rank)
     }
 
     /// How many of a rank's events are at a position or before it.
@@ -82,9 +79,46 @@ impl<'a> Causes<'a> {
     }
 }
 
+/// The tables, clocks and numbers beside the events so far.
+#[derive(Drop)]
+struct Seen {
+    tables: Tables,
+    clocks: Vec<Clock>,
+    numbers: Vec<u32>,
+}
+
+impl Seen {
+    /// No events.
+    fn new(alloc: Global, ranks: u8) -> Result<Self, AllocError>
+        ensures { IfOk result (λ seen. IsSeen ranks [] seen) }
+    {
+        Ok(Seen {
+            tables: Tables::new(alloc, ranks)?,
+            clocks: Vec::new(alloc),
+            numbers: Vec::new(alloc),
+        })
+    }
+
+    /// Adds the event that comes next.
+    fn add(&mut self, alloc: Global, before: &[Event], event: &Event) -> Result<(), AllocError>
+        requires seen { IsSeen self.old.tables.ranks before.now self.old }
+        requires short { length before.now + 1 < 2 ^ 32 }
+        requires rank { event.now.rank < self.old.tables.ranks }
+        ensures seen { OnOk result (IsSeen self.old.tables.ranks (before.now ++ event.now ∷ []) self.new) }
+    {
+        let clock = clock_of(alloc, before, &self.tables, self.clocks.as_slice(), event)?;
+        let number = number_of(&self.tables, before, event.rank);
+        self.clocks.push(clock)?;
+        self.numbers.push(number)?;
+        self.tables.note(before.len() as u32, event)
+    }
+}
+
 /// How many events of a rank there are so far.
-fn number_of(tables: &Tables, rank: u8) -> u32
-    ensures { (before : List EventSpec) → length before < 2 ^ 32 → AreTables before tables.now → result ≡ count_of rank before }
+fn number_of(tables: &Tables, before: &[Event], rank: u8) -> u32
+    requires tables { AreTables before.now tables.now }
+    requires short { length before.now < 2 ^ 32 }
+    ensures { result ≡ count_of rank before.now }
 {
     tables.places.get(&events_key(rank)).len() as u32
 }
@@ -103,12 +137,11 @@ fn clock_of(
     requires rank { event.now.rank < tables.now.ranks }
     ensures { IfOk result (λ clock. IsClock tables.now.ranks (before.now ++ event.now ∷ []) (length before.now) clock) }
 {
-    let own = tables.places.get(&events_key(event.rank));
     let mut places = Positions::new(alloc);
-    places.push_some(own.last().copied())?;
+    places.push_some(tables.places.get(&events_key(event.rank)).last().copied())?;
     push_rests(&mut places, before, tables, event)?;
     let mut clock = Clock::new(alloc, tables.ranks)?;
     clock.join_all(clocks, places.as_slice());
-    clock.set(event.rank, own.len() as u32 + 1);
+    clock.set(event.rank, number_of(tables, before, event.rank) + 1);
     Ok(clock)
 }

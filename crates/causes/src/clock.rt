@@ -1,7 +1,6 @@
 //! Vector clocks.
-ghost use Rattle.std.specs.Prelude.{◌≡◌, ◌<◌, ◌≤◌, ◌⊎◌, ◌+◌, ℕ, List, [], IfOk, OnOk, OnErr, Some, length, replicate, slice_get, slice_index, slice_set};
-ghost use Rattle.mpi_call.specs.Lists.{IsIn};
-ghost use Rattle.causes.specs.Joins.{IsJoin, IsJoinOfAll};
+ghost use Rattle.std.specs.Prelude.{◌≡◌, ◌<◌, ◌∷◌, [], IfOk, length, replicate, slice_index, slice_set};
+ghost use Rattle.causes.specs.Joins.{AreAsWide, AreGreater, IsJoinOfAll};
 
 use std::alloc::{AllocError, Global};
 use std::marker::Model;
@@ -48,29 +47,42 @@ impl Clock {
     }
 
     /// For each rank the greater of the two numbers.
-    pub fn join(&mut self, other: &Clock)
+    fn join(&mut self, other: &Clock)
         requires { length other.now ≡ length self.old }
-        ensures { IsJoin self.old other.now self.new }
+        ensures { AreGreater self.old other.now self.new }
     {
-        let counts = other.counts.as_slice();
-        for (rank, mine) in self.counts.iter_mut().enumerate() {
-            if *mine < counts[rank] {
-                *mine = counts[rank];
-            }
+        join_counts(self.counts.as_mut_slice(), other.counts.as_slice());
+    }
+
+    /// For each rank the greatest number of this clock and of the one at a position, if there is one.
+    fn join_at(&mut self, clocks: &[Clock], at: u32)
+        requires { AreAsWide clocks.now self.old }
+        ensures { IsJoinOfAll self.old clocks.now (at ∷ []) self.new }
+    {
+        if let Some(clock) = clocks.get(at as usize) {
+            self.join(clock);
         }
     }
 
     /// For each rank the greatest number of this clock and of those at these positions.
     pub fn join_all(&mut self, clocks: &[Clock], places: &[u32])
-        requires { (at : ℕ) (clock : List ℕ) → slice_get clocks.now at ≡ Some clock → length clock ≡ length self.old }
+        requires { AreAsWide clocks.now self.old }
         ensures { IsJoinOfAll self.old clocks.now places.now self.new }
     {
         let mut rest = places;
         while let [at, after @ ..] = rest {
-            if let Some(clock) = clocks.get(*at as usize) {
-                self.join(clock);
-            }
+            self.join_at(clocks, *at);
             rest = after;
         }
+    }
+}
+
+/// Place by place the greater of the two numbers.
+fn join_counts(mine: &mut [u32], other: &[u32])
+    requires { length other.now ≡ length mine.old }
+    ensures { AreGreater mine.old other.now mine.new }
+{
+    for (rank, count) in other.iter().enumerate() {
+        mine[rank] = mine[rank].max(*count);
     }
 }

@@ -1,9 +1,10 @@
 //! The communicators that each rank knows.
 ghost use Rattle.std.specs.Map.{lookup};
-ghost use Rattle.std.specs.Prelude.{◌≡◌, ◌++◌, ◌∷◌, ◌==◌, [], ℕ, List, IfOk, OnOk, None, Some, if◌then◌else◌, option_map};
+ghost use Rattle.std.specs.Prelude.{◌≡◌, ◌++◌, ◌∷◌, [], ℕ, List, IfOk, OnOk, option_map};
 ghost use Rattle.run_model.specs.declared.event.Event.{Event as EventSpec};
 ghost use Rattle.causes.specs.Keys.{enters_key, same_key};
 ghost use Rattle.run_model.specs.Communicators.{made_in_got, made_in_items};
+ghost use Rattle.mpi_call.specs.declared.reply.Got.TheVariants.{Made};
 ghost use Rattle.causes.specs.Tables.{IsKnownTable, Learns};
 
 use crate::key::{Key, enters_key};
@@ -49,7 +50,7 @@ impl Known {
 
     /// Adds a communicator, where its number is new to the rank.
     fn add_made(&mut self, rank: u8, comm: Comm, members: &Ranks) -> Result<(), AllocError>
-        ensures { OnOk result (Learns rank (λ other. if other == comm then Some members.now else None) self.old self.new) }
+        ensures { OnOk result (Learns rank (λ on. made_in_got on (Made comm members.now)) self.old self.new) }
     {
         if self.get(rank, comm).is_some() {
             return Ok(());

@@ -9,3 +9,5 @@ mod places;
 mod positions;
 mod rests;
 mod tables;
+#[cfg(test)]
+mod tests;

@@ -6,7 +6,7 @@ ghost use Rattle.run_model.specs.Views.{view_of};
 ghost use Rattle.run_model.specs.declared.event.Event.{Event as EventSpec};
 ghost use Rattle.causes.specs.Beside.{AreTables};
 ghost use Rattle.causes.specs.Positions.{listed, mate_in};
-ghost use Rattle.causes.specs.Steps.{collected_from, completed_from, entered_by, given_from, received_at, rests_on, taken_from};
+ghost use Rattle.causes.specs.Steps.{collected_from, completed_from, entered_by, entered_one, given_from, received_at, rests_on, taken_from};
 
 use crate::positions::Positions;
 use crate::tables::Tables;
@@ -40,6 +40,25 @@ fn is_needed(enter: &Call, members: &Ranks, me: u8, who: u8) -> bool
     }
 }
 
+/// Adds the Enter of a member, if it is needed.
+fn push_enter(
+    found: &mut Positions,
+    tables: &Tables,
+    comm: Comm,
+    instance: usize,
+    enter: &Call,
+    members: &Ranks,
+    me: u8,
+    member: u8,
+) -> Result<(), AllocError>
+    ensures { OnOk result ((before : List EventSpec) → AreTables before tables.now → found.new ≡ found.old ++ entered_one before comm instance (needs enter.now members.now me) member) }
+{
+    if is_needed(enter, members, me, member) {
+        return found.push_some(tables.enter(member, comm, instance));
+    }
+    Ok(())
+}
+
 /// Adds the Enters of the needed members of an instance.
 fn push_enters(
     found: &mut Positions,
@@ -54,9 +73,7 @@ fn push_enters(
 {
     let mut rest = members.as_slice();
     while let [member, after @ ..] = rest {
-        if is_needed(enter, members, me, *member) {
-            found.push_some(tables.enter(*member, comm, instance))?;
-        }
+        push_enter(found, tables, comm, instance, enter, members, me, *member)?;
         rest = after;
     }
     Ok(())
