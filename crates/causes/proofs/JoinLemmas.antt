@@ -1,5 +1,6 @@
 -- Joins of clocks.
-use Rattle.std.proofs.Common.{◌≡◌, ◌≢◌, ◌≤◌, ◌<◌, ◌+◌, ◌⊎◌, ℕ, zero, suc, List, [], ◌∷◌, Some, None, inl, inr, refl, ap, sym, ◌∙◌, arith, get_or, get_or-set_other, get_or-set_same, length, length-set, max, set, slice_get, subst}
+use Rattle.std.proofs.Common.{◌≡◌, ◌≢◌, ◌≤◌, ◌<◌, ◌+◌, ◌-◌, ◌⊎◌, ℕ, zero, suc, List, [], ◌∷◌, Some, None, inl, inr, refl, ap, sym, ◌∙◌, arith, drop, take, get_or, get_or-set_other, get_or-set_same, length, length-set, max, set, slice_get, subst}
+use Rattle.std.proofs.lemmas.List.{take_all}
 use Rattle.mpi_call.specs.Lists.{IsIn}
 use Rattle.causes.specs.Joins.{AreGreater, IsAbove, IsJoinOfAll}
 
@@ -76,7 +77,7 @@ join_one old other new clocks at there greater =
             let Q : List ℕ → Type 0 = λ c. get_or c rank 0 ≤ get_or new rank 0 in
             let is = greater.each rank in
             subst Q same (omega (arith, is)))
-        | inr no ↦ absurd no
+        | inr never ↦ absurd never
       ];
     }
 
@@ -91,7 +92,7 @@ join_none old clocks at none =
             let P : ℕ → Type 0 = λ j. slice_get clocks j ≡ Some clock in
             let some : slice_get clocks at ≡ Some clock = subst P (sym e) found in
             absurd (cc))
-        | inr no ↦ absurd no
+        | inr never ↦ absurd never
       ];
     }
 
@@ -106,7 +107,7 @@ join_nothing old clocks =
 
 above_first : (clocks : List (List ℕ)) (at : ℕ) (places : List ℕ) (rank count : ℕ) → IsAbove clocks (at ∷ []) rank count → IsAbove clocks (at ∷ places) rank count
 above_first clocks at places rank count is =
-    record { at = is.at; clock = is.clock; placed = elim is.placed [ inl e ↦ inl e | inr no ↦ absurd no ]; there = is.there; above = is.above }
+    record { at = is.at; clock = is.clock; placed = elim is.placed [ inl e ↦ inl e | inr never ↦ absurd never ]; there = is.there; above = is.above }
 
 above_later : (clocks : List (List ℕ)) (at : ℕ) (places : List ℕ) (rank count : ℕ) → IsAbove clocks places rank count → IsAbove clocks (at ∷ places) rank count
 above_later clocks at places rank count is =
@@ -129,3 +130,16 @@ join_more old middle new clocks at places first second =
         | inr later ↦ second.each k clock later found rank
       ];
     }
+
+-- the rest of a list that has a first
+pub tail_is : {A : Type 0} (x : A) (xs : List A) → take (length (x ∷ xs) - 1) (drop 1 (x ∷ xs)) ≡ xs
+tail_is x xs = (let long : length (x ∷ xs) - 1 ≡ length xs = omega arith in rw long (take_all (length xs) xs (omega arith)))
+
+pub joins_more : (old middle new : List ℕ) (clocks : List (List ℕ)) (rest : List ℕ) → 1 ≤ length rest → IsJoinOfAll old clocks (get_or rest 0 0 ∷ []) middle → IsJoinOfAll middle clocks (take (length rest - 1) (drop 1 rest)) new → IsJoinOfAll old clocks rest new
+joins_more old middle new clocks [] long first second = absurd (omega (arith, long))
+joins_more old middle new clocks (x ∷ xs) long first second =
+    (let P : List ℕ → Type 0 = λ l. IsJoinOfAll middle clocks l new in join_more old middle new clocks x xs first (subst P (tail_is x xs) second))
+
+pub joins_end : (old : List ℕ) (clocks : List (List ℕ)) (rest : List ℕ) → length rest < 1 → IsJoinOfAll old clocks rest old
+joins_end old clocks [] short = join_nothing old clocks
+joins_end old clocks (x ∷ xs) short = absurd (omega (arith, short))

@@ -3,3 +3,4 @@ pub mod Paths
 pub mod NewClocks
 pub mod TableLemmas
 pub mod JoinLemmas
+pub mod Deciding

@@ -1,5 +1,5 @@
 -- The clock of one more event.
-use Rattle.std.proofs.Common.{◌≡◌, ◌≢◌, ◌≤◌, ◌<◌, ◌+◌, ◌-◌, ◌⊎◌, ◌↔◌, ◌==◌, ℕ, zero, suc, List, [], ◌∷◌, ◌++◌, Option, Some, None, true, false, inl, inr, refl, ap, sym, ◌∙◌, arith, get_or, get_or-set_other, get_or-set_same, length, length-append, length-set, replicate, set, slice_get, subst, take}
+use Rattle.std.proofs.Common.{◌≡◌, ◌≢◌, ◌≤◌, ◌<◌, ◌+◌, ◌-◌, ◌⊎◌, ◌↔◌, ◌==◌, ℕ, zero, suc, List, [], ◌∷◌, ◌++◌, Option, Some, None, true, false, inl, inr, refl, ap, sym, ◌∙◌, arith, get_or, get_or-set_other, get_or-set_same, length, length-append, length-set, length-take-le, replicate, set, slice_get, subst, take}
 use Rattle.std.proofs.lemmas.Bool.{eqb-true, eq-eqb}
 use Rattle.std.proofs.lemmas.List.{length-replicate, take-append-le, take_all}
 use Rattle.mpi_call.specs.Lists.{IsIn}
@@ -20,7 +20,7 @@ below_some [] k h = absurd (omega (arith, h))
 below_some (x ∷ xs) zero h = (x, refl)
 below_some (x ∷ xs) (suc k) h = below_some xs k (omega (arith, h))
 
-get_or-zeros : (n k : ℕ) → get_or (replicate n 0) k 0 ≡ 0
+get_or-zeros : (n k : ℕ) → get_or {A = ℕ} (replicate {A = ℕ} n zero) k zero ≡ zero
 get_or-zeros zero k = refl
 get_or-zeros (suc n) zero = refl
 get_or-zeros (suc n) (suc k) = get_or-zeros n k
@@ -78,7 +78,7 @@ listed_own before rank (Some p) s is h = elim h [
   | inl e ↦ (
       let P : ℕ → Type 0 = λ k. IsOwn before rank k in
       subst P e (own_of before rank p (get_in (positions (is_of rank) 0 before) (length (positions (is_of rank) 0 before) - 1) p (sym is))))
-  | inr no ↦ absurd no
+  | inr never ↦ absurd never
 ]
 
 -- a position whose clock was joined is directly before
@@ -200,10 +200,10 @@ comes_by n before event last t s is direct up = elim direct.why [
 ]
 
 arrives : (n : ℕ) (before : List Event) (event : Event) (last : Option ℕ) (t u : ℕ) → last ≡ slice_get (positions (is_of event.rank) 0 before) (length (positions (is_of event.rank) 0 before) - 1) → u ≡ length before → IsBefore n (before ++ event ∷ []) t u → ComesBy n before event last t
-arrives n before event last t u is at (step t u last_step) =
+arrives n before event last _ _ is at (step t u last_step) =
     let P : ℕ → Type 0 = λ k. IsStep n (before ++ event ∷ []) t k in
     comes_by n before event last t t is (step_from n before event t (subst P at last_step)) (inl refl)
-arrives n before event last s u is at (path s t u first last_step) =
+arrives n before event last _ _ is at (path s t u first last_step) =
     let P : ℕ → Type 0 = λ k. IsStep n (before ++ event ∷ []) t k in
     let direct = step_from n before event t (subst P at last_step) in
     comes_by n before event last s t is direct (inr (before-back n before (event ∷ []) s t direct.less first))
@@ -236,11 +236,16 @@ other_tells n before event clocks last joined made t e there = (
       | inr first ↦ (let less = before-less n before t s first in omega (arith, less))
     ]
 
-front_number : (before : List Event) (event : Event) (rank t : ℕ) → t ≤ length before → number_at (before ++ event ∷ []) rank t ≡ number_at before rank t
+pub front_number : (before : List Event) (event : Event) (rank t : ℕ) → t ≤ length before → number_at (before ++ event ∷ []) rank t ≡ number_at before rank t
 front_number before event rank t low = ap (count_of rank) (take-append-le t before (event ∷ []) low)
 
 whole : (before : List Event) (event : Event) → take (suc (length before)) (before ++ event ∷ []) ≡ before ++ event ∷ []
 whole before event = take_all (suc (length before)) (before ++ event ∷ []) (let long = length-append before (event ∷ []) in omega (arith, long))
+
+over : (a b : ℕ) → (a ≤ b) ⊎ (b < a)
+over zero b = inl (omega arith)
+over (suc a) zero = inr (omega arith)
+over (suc a) (suc b) = elim (over a b) [ inl h ↦ inl (omega (arith, h)) | inr h ↦ inr (omega (arith, h)) ]
 
 -- the clock of one more event
 pub new_clock : (n : ℕ) (before : List Event) (event : Event) (clocks : List (List ℕ)) (last : Option ℕ) (joined : List ℕ) → Is_made n before event clocks last joined → IsClock n (before ++ event ∷ []) (length before) (set joined event.rank (count_of event.rank before + 1))
@@ -317,10 +322,6 @@ new_clock n before event clocks last joined made =
             absurd (omega (arith, few, less, high)))
       ]
     ]
-    over : (a b : ℕ) → (a ≤ b) ⊎ (b < a)
-    over zero b = inl (omega arith)
-    over (suc a) zero = inr (omega arith)
-    over (suc a) (suc b) = elim (over a b) [ inl h ↦ inl (omega (arith, h)) | inr h ↦ inr (omega (arith, h)) ]
 
 -- a clock stays one, with more events
 pub clock_kept : (n : ℕ) (events : List Event) (event : Event) (u : ℕ) (clock : List ℕ) → u < length events → IsClock n events u clock → IsClock n (events ++ event ∷ []) u clock

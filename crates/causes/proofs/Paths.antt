@@ -21,15 +21,15 @@ pub step-within : (n : ℕ) (events : List Event) (t u : ℕ) → IsStep n event
 step-within n events t u is = slice_get-below events u is.event is.at
 
 pub before-less : (n : ℕ) (events : List Event) (t u : ℕ) → IsBefore n events t u → t < u
-before-less n events t u (step t u is) = step-less n events t u is
-before-less n events s u (path s t u first is) =
+before-less n events _ _ (step t u is) = step-less n events t u is
+before-less n events _ _ (path s t u first is) =
     let less = before-less n events s t first in
     let last = step-less n events t u is in
     omega (arith, less, last)
 
 pub before-within : (n : ℕ) (events : List Event) (t u : ℕ) → IsBefore n events t u → u < length events
-before-within n events t u (step t u is) = step-within n events t u is
-before-within n events s u (path s t u first is) = step-within n events t u is
+before-within n events _ _ (step t u is) = step-within n events t u is
+before-within n events _ _ (path s t u first is) = step-within n events t u is
 
 -- a step stays one, and a step of before is one there
 pub step-kept : (n : ℕ) (events ys : List Event) (t u : ℕ) → IsStep n events t u → IsStep n (events ++ ys) t u
@@ -51,11 +51,11 @@ step-back n events ys t u low is =
     record { event = is.event; at = get_front events ys u is.event low is.at; direct = subst P same is.direct }
 
 pub before-kept : (n : ℕ) (events ys : List Event) (t u : ℕ) → IsBefore n events t u → IsBefore n (events ++ ys) t u
-before-kept n events ys t u (step t u is) = step t u (step-kept n events ys t u is)
-before-kept n events ys s u (path s t u first is) = path s t u (before-kept n events ys s t first) (step-kept n events ys t u is)
+before-kept n events ys _ _ (step t u is) = step t u (step-kept n events ys t u is)
+before-kept n events ys _ _ (path s t u first is) = path s t u (before-kept n events ys s t first) (step-kept n events ys t u is)
 
 pub before-back : (n : ℕ) (events ys : List Event) (t u : ℕ) → u < length events → IsBefore n (events ++ ys) t u → IsBefore n events t u
-before-back n events ys t u low (step t u is) = step t u (step-back n events ys t u low is)
-before-back n events ys s u low (path s t u first is) =
+before-back n events ys _ _ low (step t u is) = step t u (step-back n events ys t u low is)
+before-back n events ys _ _ low (path s t u first is) =
     let less = step-less n (events ++ ys) t u is in
     path s t u (before-back n events ys s t (omega (arith, less, low)) first) (step-back n events ys t u low is)

@@ -158,7 +158,7 @@ pub last_rising : (low : ℕ) (xs : List ℕ) (t : ℕ) → Rises low xs → IsI
 last_rising low [] t rises h = absurd h
 last_rising low (x ∷ []) t rises h = elim h [
   | inl e ↦ record { last = x; is = refl; among = inl refl; low = omega (arith, e) }
-  | inr no ↦ absurd no
+  | inr never ↦ absurd never
 ]
 last_rising low (x ∷ y ∷ ys) t rises h =
     let at : length (x ∷ y ∷ ys) - 1 ≡ suc (length (y ∷ ys) - 1) = omega arith in
@@ -179,15 +179,15 @@ rise_least low (x ∷ xs) zero d rises h = rises.0
 rise_least low (x ∷ xs) (suc k) d rises h =
     (let first = rises.0 in let rest = rise_least (x + 1) xs k d rises.1 (omega (arith, h)) in omega (arith, first, rest))
 
+sorted_at : (x : ℕ) (xs : List ℕ) → Rises (x + 1) xs → IsNonDecreasingBy (λ (n : ℕ). n) xs → (i j d : ℕ) → i ≤ j → j < length (x ∷ xs) → get_or (x ∷ xs) i d ≤ get_or (x ∷ xs) j d
+sorted_at x xs rises rest zero zero d h less = omega arith
+sorted_at x xs rises rest zero (suc j) d h less = (let low = rise_least (x + 1) xs j d rises (omega (arith, less)) in omega (arith, low))
+sorted_at x xs rises rest (suc i) zero d h less = absurd (omega (arith, h))
+sorted_at x xs rises rest (suc i) (suc j) d h less = rest i j d (omega (arith, h)) (omega (arith, less))
+
 sorted : (low : ℕ) (xs : List ℕ) → Rises low xs → IsNonDecreasingBy (λ (n : ℕ). n) xs
 sorted low [] rises = λ i j d h less. absurd (omega (arith, less))
-sorted low (x ∷ xs) rises = λ i j d h less. sorted_at i j d h less
-  where
-    sorted_at : (i j d : ℕ) → i ≤ j → j < length (x ∷ xs) → get_or (x ∷ xs) i d ≤ get_or (x ∷ xs) j d
-    sorted_at zero zero d h less = omega arith
-    sorted_at zero (suc j) d h less = (let rest = rise_least (x + 1) xs j d rises.1 (omega (arith, less)) in omega (arith, rest))
-    sorted_at (suc i) zero d h less = absurd (omega (arith, h))
-    sorted_at (suc i) (suc j) d h less = sorted (x + 1) xs rises.1 i j d (omega (arith, h)) (omega (arith, less))
+sorted low (x ∷ xs) rises = λ i j d h less. sorted_at x xs rises.1 (sorted (x + 1) xs rises.1) i j d h less
 
 pub positions-sorted : (test : Event → Bool) (events : List Event) → IsNonDecreasingBy (λ (n : ℕ). n) (positions test 0 events)
 positions-sorted test events = sorted 0 (positions test 0 events) (positions-rise test 0 events)
@@ -197,8 +197,8 @@ none_below : (low at : ℕ) (xs : List ℕ) → at ≤ low → Rises low xs → 
 none_below low at [] h rises = refl
 none_below low at (x ∷ xs) h rises =
     let first = rises.0 in
-    let no : nat_lt x at ≡ false = le-ltb at x (omega (arith, h, first)) in
-    rw no (none_below (x + 1) at xs (omega (arith, h, first)) rises.1)
+    let past : nat_lt x at ≡ false = le-ltb x at (omega (arith, h, first)) in
+    rw past (none_below (x + 1) at xs (omega (arith, h, first)) rises.1)
 
 below_from : (test : Event → Bool) (from k : ℕ) (events : List Event) → count_below (from + k) (positions test from events) ≡ length (positions test from (take k events))
 below_from test from zero events = none_below from (from + 0) (positions test from events) (omega arith) (positions-rise test from events)
@@ -233,3 +233,13 @@ below_point (x ∷ xs) (suc i) at short point =
       λ k d low high. point.0 (suc k) d (omega arith) (omega (arith, high)),
       λ k d low high. point.1 (suc k) d (omega (arith, low)) (omega (arith, high)),
     )))
+
+-- no more positions than events
+pub few-positions : (test : Event → Bool) (at : ℕ) (events : List Event) → length (positions test at events) ≤ length events
+few-positions test at [] = omega arith
+few-positions test at (x ∷ xs) =
+    (let rest = few-positions test (at + 1) xs in
+    elim (test_cases (test x)) [
+      | inl h ↦ rw h (omega (arith, rest))
+      | inr h ↦ rw h (omega (arith, rest))
+    ])

@@ -1,5 +1,5 @@
 -- The tables after one more event.
-use Rattle.std.proofs.Common.{◌≡◌, ◌≢◌, ℕ, List, [], ◌∷◌, ◌++◌, ◌==◌, ◌&&◌, Bool, Option, Some, None, true, false, cond, inl, inr, refl, ap, sym, ◌∙◌, append-nil, is_some, length, subst, if◌then◌else◌}
+use Rattle.std.proofs.Common.{◌≡◌, ◌≢◌, ◌≤◌, ◌-◌, ℕ, List, [], ◌∷◌, ◌++◌, ◌==◌, ◌&&◌, arith, drop, get_or, take, Bool, Option, Some, None, true, false, cond, inl, inr, refl, ap, sym, ◌∙◌, append-nil, is_some, length, subst, if◌then◌else◌}
 use Rattle.std.specs.Map.{lookup}
 use Rattle.std.proofs.lemmas.Bool.{eqb-true, eq-eqb}
 use Rattle.mpi_call.specs.declared.call.Call.{Call}
@@ -20,6 +20,7 @@ use Rattle.causes.specs.declared.key.TheConstants.{MATES}
 use Rattle.causes.specs.Keys.{enters_key, events_key, mates_key, same_key, starts_key}
 use Rattle.causes.specs.Positions.{is_enter_of, is_mate_of, is_of, is_start_of, is_there, positions}
 use Rattle.causes.specs.Tables.{Adds, IsKnownTable, IsPlaceTable, Learns, adds_enter, adds_enter_by, adds_mate, adds_mate_by, adds_start, places_at}
+use Rattle.causes.proofs.JoinLemmas.{tail_is}
 use Rattle.causes.proofs.PositionLemmas.{positions-push}
 
 and-false : (a : Bool) → (a && false) ≡ false
@@ -32,7 +33,7 @@ and-true false = refl
 
 -- nothing is added for a key of another kind
 skipped : (test : Key → Bool) (at : ℕ) (old new : List (Key × List ℕ)) (key : Key) → Adds test at old new → test key ≡ false → places_at new key ≡ places_at old key
-skipped test at old new key adds no = adds key ∙ rw no refl
+skipped test at old new key adds apart = adds key ∙ rw apart refl
 
 no_mate : (mate : Option ℕ) (key : Key) → (MATES == key.kind) ≡ false → adds_mate_by mate key ≡ false
 no_mate None key h = refl
@@ -49,7 +50,7 @@ no_enter rank (Trap fault) key h = refl
 no_enter rank End key h = refl
 
 enter_kept : (event : Event) (key : Key) → ((comm : ℕ) → same_key (enters_key event.rank comm) key ≡ false) → adds_enter event key ≡ false
-enter_kept event key h = (let no = no_enter event.rank event.call key h in rw no (and-false (is_start (event.call, event.reply))))
+enter_kept event key h = (let apart = no_enter event.rank event.call key h in rw apart (and-false (is_start (event.call, event.reply))))
 
 enter_is : (rank : ℕ) (call : Call) (other comm : ℕ) → adds_enter_by rank call (enters_key other comm) ≡ (is_on comm call && (rank == other))
 enter_is rank (Enter on kind root op count ints) other comm = refl
@@ -118,12 +119,12 @@ learned_all (Some members) comm items = refl
 learned_all None comm items = refl
 
 pub learned_none : (known : Option (List ℕ)) (comm : ℕ) (reply : Reply) → ((items : List Item) → reply ≡ Took items → ⊥) → learned comm known reply ≡ known
-learned_none (Some members) comm reply no = refl
-learned_none None comm Done no = refl
-learned_none None comm (Took items) no = absurd (no items refl)
-learned_none None comm NotYet no = refl
-learned_none None comm (Peeked source start tag count) no = refl
-learned_none None comm (Stopped halt) no = refl
+learned_none (Some members) comm reply apart = refl
+learned_none None comm Done apart = refl
+learned_none None comm (Took items) apart = absurd (apart items refl)
+learned_none None comm NotYet apart = refl
+learned_none None comm (Peeked source start tag count) apart = refl
+learned_none None comm (Stopped halt) apart = refl
 
 known_more : (events : List Event) (event : Event) (rank comm : ℕ) → known_after comm None (view_of (events ++ event ∷ []) rank) ≡ (if event.rank == rank then learned comm (known_after comm None (view_of events rank)) event.reply else known_after comm None (view_of events rank))
 known_more events event rank comm =
@@ -149,12 +150,12 @@ known_took events event items old new reply learns is =
     }
 
 pub known_same : (events : List Event) (event : Event) (table : List (Key × List ℕ)) → ((items : List Item) → event.reply ≡ Took items → ⊥) → IsKnownTable events table → IsKnownTable (events ++ event ∷ []) table
-known_same events event table no is =
+known_same events event table apart is =
     record {
       each = λ rank comm.
           is.each rank comm
           ∙ elim (test_cases (event.rank == rank)) [
-            | inl h ↦ rw h (sym (learned_none (known_after comm None (view_of events rank)) comm event.reply no))
+            | inl h ↦ rw h (sym (learned_none (known_after comm None (view_of events rank)) comm event.reply apart))
             | inr h ↦ rw h refl
           ]
           ∙ sym (known_more events event rank comm);
@@ -206,8 +207,8 @@ learns_new rank comm members old new none updates other on =
       | inl k ↦ elim (test_cases (rank == other)) [
         | inl h ↦ (
             let P : Key → Type 0 = λ key. lookup (same_key key) old ≡ None in
-            let no = at_key rank comm other on h k P none in
-            rw (h, k, no) refl)
+            let apart = at_key rank comm other on h k P none in
+            rw (h, k, apart) refl)
         | inr h ↦ rw (h, k) (sym (or_none (lookup (same_key (enters_key other on)) old)))
       ]
       | inr k ↦ elim (test_cases (rank == other)) [
@@ -223,3 +224,20 @@ stays_known comm members ((call, reply) ∷ own) = stays_known comm members own
 
 pub members-world : (n : ℕ) (own : View) → world n 0 ≡ members_in n own 0
 members-world n own = sym (ap or_no_members (stays_known 0 (world n 0) own))
+
+pub learns_more : (rank : ℕ) (rest : List Item) (old middle new : List (Key × List ℕ)) (item : Item) → 1 ≤ length rest → item ≡ get_or rest 0 item → Learns rank (λ comm. made_in_got comm item.got) old middle → Learns rank (λ comm. made_in_items comm (take (length rest - 1) (drop 1 rest))) middle new → Learns rank (λ comm. made_in_items comm rest) old new
+learns_more rank [] old middle new item long is first second = absurd (omega (arith, long))
+learns_more rank (x ∷ xs) old middle new item long is first second =
+    let P : List Item → Type 0 = λ l. Learns rank (λ comm. made_in_items comm l) middle new in
+    let Q : Item → Type 0 = λ i. Learns rank (λ comm. made_in_got comm i.got) old middle in
+    learns_both rank (λ comm. made_in_got comm x.got) (λ comm. made_in_items comm xs) old middle new (subst Q is first) (subst P (tail_is x xs) second)
+
+-- the places of one more event, at the position that comes next
+pub placed_at : (events : List Event) (event : Event) (at : ℕ) (key : Key) (old first second third new : List (Key × List ℕ)) → key ≡ events_key event.rank → at ≡ length events → Adds (same_key key) at old first → Adds (adds_start event) at first second → Adds (adds_enter event) at second third → Adds (adds_mate event) at third new → IsPlaceTable events old → IsPlaceTable (events ++ event ∷ []) new
+placed_at events event at key old first second third new own is a b c d table =
+    let K : Key → Type 0 = λ k. Adds (same_key k) at old first in
+    let A : ℕ → Type 0 = λ n. Adds (same_key (events_key event.rank)) n old first in
+    let B : ℕ → Type 0 = λ n. Adds (adds_start event) n first second in
+    let C : ℕ → Type 0 = λ n. Adds (adds_enter event) n second third in
+    let D : ℕ → Type 0 = λ n. Adds (adds_mate event) n third new in
+    placed events event old first second third new (subst A is (subst K own a)) (subst B is b) (subst C is c) (subst D is d) table
