@@ -1,6 +1,8 @@
 -- Joins of clocks.
-use Rattle.std.proofs.Common.{◌≡◌, ◌≢◌, ◌≤◌, ◌<◌, ◌+◌, ◌-◌, ◌⊎◌, ℕ, zero, suc, List, [], ◌∷◌, Some, None, inl, inr, refl, ap, sym, ◌∙◌, arith, drop, take, get_or, get_or-set_other, get_or-set_same, length, length-set, max, set, slice_get, subst}
+use Rattle.std.proofs.Common.{◌≡◌, ◌≢◌, ◌≤◌, ◌<◌, ◌+◌, ◌-◌, ◌⊎◌, ℕ, zero, suc, List, [], ◌∷◌, Some, None, true, inl, inr, refl, ap, sym, ◌∙◌, arith, drop, take, nat_lt, get_or, get_or-set_other, get_or-set_same, length, length-set, max, set, slice_get, subst}
+use Rattle.std.proofs.lemmas.Bool.{ltb-true}
 use Rattle.std.proofs.lemmas.List.{take_all}
+use Rattle.std.proofs.lemmas.Option.{slice_get-get_or}
 use Rattle.mpi_call.specs.Lists.{IsIn}
 use Rattle.causes.specs.Joins.{AreGreater, IsAbove, IsJoinOfAll}
 
@@ -143,3 +145,16 @@ joins_more old middle new clocks (x ∷ xs) long first second =
 pub joins_end : (old : List ℕ) (clocks : List (List ℕ)) (rest : List ℕ) → length rest < 1 → IsJoinOfAll old clocks rest old
 joins_end old clocks [] short = join_nothing old clocks
 joins_end old clocks (x ∷ xs) short = absurd (omega (arith, short))
+
+-- the same, in the words of a look-up
+get_none : {A : Type 0} (xs : List A) (k : ℕ) → length xs ≤ k → slice_get xs k ≡ None
+get_none [] k h = refl
+get_none (x ∷ xs) zero h = absurd (omega (arith, h))
+get_none (x ∷ xs) (suc k) h = get_none xs k (omega (arith, h))
+
+pub join_found : (old other new : List ℕ) (clocks : List (List ℕ)) (at : ℕ) → true ≡ nat_lt at (length clocks) → other ≡ get_or clocks at other → AreGreater old other new → IsJoinOfAll old clocks (at ∷ []) new
+join_found old other new clocks at there is greater =
+    join_one old other new clocks at (slice_get-get_or clocks at other (ltb-true at (length clocks) (sym there)) ∙ ap Some (sym is)) greater
+
+pub join_past : (old : List ℕ) (clocks : List (List ℕ)) (at : ℕ) → length clocks ≤ at → IsJoinOfAll old clocks (at ∷ []) old
+join_past old clocks at past = join_none old clocks at (get_none clocks at past)

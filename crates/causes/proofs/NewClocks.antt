@@ -41,7 +41,7 @@ in_second [] ys t h = h
 in_second (x ∷ xs) ys t h = inr (in_second xs ys t h)
 
 -- what a clock that was joined from others and then set says
-pub record Is_made (n : ℕ) (before : List Event) (event : Event) (clocks : List (List ℕ)) (last : Option ℕ) (joined : List ℕ) : Type 0 where
+pub record IsMade (n : ℕ) (before : List Event) (event : Event) (clocks : List (List ℕ)) (last : Option ℕ) (joined : List ℕ) : Type 0 where
   pub clocks_are : AreClocks n before clocks
   pub below : event.rank < n
   pub last_is : last ≡ slice_get (positions (is_of event.rank) 0 before) (length (positions (is_of event.rank) 0 before) - 1)
@@ -164,6 +164,7 @@ own_step n before rank s p first second less =
     get_taken (y ∷ xs) zero s x less h = absurd (omega (arith, less))
     get_taken (y ∷ xs) (suc p) zero x less h = h
     get_taken (y ∷ xs) (suc p) (suc s) x less h = get_taken xs p s x (omega (arith, less)) h
+
     length_of : p < length before → s < length (take p before)
     length_of low = (let long = length-take-le p before (omega (arith, low)) in omega (arith, long, less))
 
@@ -187,6 +188,7 @@ by_own n before event last t s is own up =
     le_cases zero (suc b) h = inr (omega arith)
     le_cases (suc a) zero h = absurd (omega (arith, h))
     le_cases (suc a) (suc b) h = elim (le_cases a b (omega (arith, h))) [ inl e ↦ inl (ap suc e) | inr l ↦ inr (omega (arith, l)) ]
+
     further : (p : ℕ) → IsStep n before s p → IsBefore n before t p
     further p last_step = elim up [
       | inl e ↦ (let P : ℕ → Type 0 = λ k. IsBefore n before k p in subst P (sym e) (step s p last_step))
@@ -209,7 +211,7 @@ arrives n before event last _ _ is at (path s t u first last_step) =
     comes_by n before event last s t is direct (inr (before-back n before (event ∷ []) s t direct.less first))
 
 -- the new clock, of an earlier event of another rank
-other_tells : (n : ℕ) (before : List Event) (event : Event) (clocks : List (List ℕ)) (last : Option ℕ) (joined : List ℕ) → Is_made n before event clocks last joined → (t : ℕ) (e : Event) → slice_get before t ≡ Some e → (number_at before e.rank t < get_or joined e.rank 0) ↔ IsBefore n (before ++ event ∷ []) t (length before)
+other_tells : (n : ℕ) (before : List Event) (event : Event) (clocks : List (List ℕ)) (last : Option ℕ) (joined : List ℕ) → IsMade n before event clocks last joined → (t : ℕ) (e : Event) → slice_get before t ≡ Some e → (number_at before e.rank t < get_or joined e.rank 0) ↔ IsBefore n (before ++ event ∷ []) t (length before)
 other_tells n before event clocks last joined made t e there = (
   λ above. elim (made.join.from e.rank (number_at before e.rank t) above) [
     | inl zeros ↦ (let none = get_or-zeros n e.rank in absurd (omega (arith, none, zeros)))
@@ -248,7 +250,7 @@ over (suc a) zero = inr (omega arith)
 over (suc a) (suc b) = elim (over a b) [ inl h ↦ inl (omega (arith, h)) | inr h ↦ inr (omega (arith, h)) ]
 
 -- the clock of one more event
-pub new_clock : (n : ℕ) (before : List Event) (event : Event) (clocks : List (List ℕ)) (last : Option ℕ) (joined : List ℕ) → Is_made n before event clocks last joined → IsClock n (before ++ event ∷ []) (length before) (set joined event.rank (count_of event.rank before + 1))
+pub new_clock : (n : ℕ) (before : List Event) (event : Event) (clocks : List (List ℕ)) (last : Option ℕ) (joined : List ℕ) → IsMade n before event clocks last joined → IsClock n (before ++ event ∷ []) (length before) (set joined event.rank (count_of event.rank before + 1))
 new_clock n before event clocks last joined made =
     let count : ℕ = count_of event.rank before + 1 in
     let many = made.join.as_many in
@@ -288,8 +290,7 @@ new_clock n before event clocks last joined made =
               let number = front_number before event e.rank t low in
               let less = count-take e.rank t before in
               let counts = ap (λ r. count_of r before) own in
-              let entry = ap (λ r. get_or (set joined event.rank count) r 0) own in
-              (
+              let entry = ap (λ r. get_or (set joined event.rank count) r 0) own in (
                 λ above. inr (step t (length before) (step_to n before event t (record { less = inside; why = inl (record { earlier = e; at = was; own = own }) }))),
                 λ up. omega (arith, now, number, less, counts, entry),
               ))
@@ -298,8 +299,7 @@ new_clock n before event clocks last joined made =
               let same = get_or-set_other joined event.rank e.rank count 0 ne in
               let number = front_number before event e.rank t low in
               let inside = slice_get-below before t e was in
-              let tells = other_tells n before event clocks last joined made t e was in
-              (
+              let tells = other_tells n before event clocks last joined made t e was in (
                 λ above. inr (tells.0 (omega (arith, same, number, above))),
                 λ up. elim up [
                   | inl at ↦ absurd (omega (arith, at, inside))
@@ -333,8 +333,7 @@ clock_kept n events event u clock low is =
       tells = λ t e less there.
           let was = get_front events (event ∷ []) t e (omega (arith, less, low)) there in
           let number = front_number events event e.rank t (omega (arith, less, low)) in
-          let tells = is.tells t e less was in
-          (
+          let tells = is.tells t e less was in (
             λ above. elim (tells.0 (omega (arith, number, above))) [
               | inl at ↦ inl at
               | inr first ↦ inr (before-kept n events (event ∷ []) t u first)

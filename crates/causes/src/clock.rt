@@ -59,8 +59,9 @@ impl Clock {
         requires { AreAsWide clocks.now self.old }
         ensures { IsJoinOfAll self.old clocks.now (at ∷ []) self.new }
     {
-        if let Some(clock) = clocks.get(at as usize) {
-            self.join(clock);
+        match clocks.get(at as usize) {
+            Some(clock) => self.join(clock),
+            None => {}
         }
     }
 
