@@ -1,6 +1,6 @@
 -- Clocks decide whether an event is before another.
-use Rattle.std.proofs.Common.{◌≡◌, ◌≤◌, ◌<◌, ◌+◌, ◌⊎◌, ◌↔◌, ◌&&◌, ℕ, zero, suc, List, [], ◌∷◌, ◌++◌, Bool, Option, Some, None, true, false, inl, inr, refl, ap, sym, ◌∙◌, arith, get_or, length, length-append, nat_lt, slice_get, subst, take, IsTrue}
-use Rattle.std.proofs.lemmas.Bool.{and_parts, lt-ltb, ltb-true}
+use Rattle.std.proofs.Common.{◌≡◌, ◌≤◌, ◌<◌, ◌⊎◌, ◌↔◌, ℕ, zero, suc, List, [], ◌∷◌, ◌++◌, Some, inl, inr, refl, ap, sym, ◌∙◌, arith, get_or, length, length-append, nat_lt, slice_get, subst, take, IsTrue}
+use Rattle.std.proofs.lemmas.Bool.{lt-ltb, ltb-true}
 use Rattle.std.proofs.lemmas.List.{take-append-le, take_all}
 use Rattle.run_model.specs.declared.event.Event.{Event}
 use Rattle.run_model.proofs.StartLemmas.{slice_get-below, slice_get-last, slice_get-push}

@@ -3,7 +3,6 @@ use Rattle.std.proofs.Common.{◌≡◌, ◌≢◌, ◌≤◌, ◌<◌, ◌+◌,
 use Rattle.std.proofs.lemmas.Bool.{ltb-true}
 use Rattle.std.proofs.lemmas.List.{take_all}
 use Rattle.std.proofs.lemmas.Option.{slice_get-get_or}
-use Rattle.mpi_call.specs.Lists.{IsIn}
 use Rattle.causes.specs.Joins.{AreGreater, IsAbove, IsJoinOfAll}
 
 -- joined at the places below one

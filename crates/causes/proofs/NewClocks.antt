@@ -1,5 +1,5 @@
 -- The clock of one more event.
-use Rattle.std.proofs.Common.{◌≡◌, ◌≢◌, ◌≤◌, ◌<◌, ◌+◌, ◌-◌, ◌⊎◌, ◌↔◌, ◌==◌, ℕ, zero, suc, List, [], ◌∷◌, ◌++◌, Option, Some, None, true, false, inl, inr, refl, ap, sym, ◌∙◌, arith, get_or, get_or-set_other, get_or-set_same, length, length-append, length-set, length-take-le, replicate, set, slice_get, subst, take}
+use Rattle.std.proofs.Common.{◌≡◌, ◌≢◌, ◌≤◌, ◌<◌, ◌+◌, ◌-◌, ◌⊎◌, ◌↔◌, ◌==◌, ℕ, zero, suc, List, [], ◌∷◌, ◌++◌, Option, Some, None, true, inl, inr, refl, ap, sym, ◌∙◌, arith, get_or, get_or-set_other, get_or-set_same, length, length-append, length-set, length-take-le, replicate, set, slice_get, subst, take}
 use Rattle.std.proofs.lemmas.Bool.{eqb-true, eq-eqb}
 use Rattle.std.proofs.lemmas.List.{length-replicate, take-append-le, take_all}
 use Rattle.mpi_call.specs.Lists.{IsIn}
@@ -8,12 +8,12 @@ use Rattle.run_model.proofs.StartLemmas.{slice_get-below, slice_get-last, slice_
 use Rattle.run_model.proofs.Views.{test_cases}
 use Rattle.causes.specs.Before.{IsBefore, IsDirectlyBefore, IsOwn, IsStep, IsUpTo}
 use Rattle.causes.specs.Before.IsBefore.{step, path}
-use Rattle.causes.specs.Clocks.{AreClocks, AreNumbers, IsClock, number_at}
-use Rattle.causes.specs.Joins.{IsAbove, IsJoinOfAll}
+use Rattle.causes.specs.Clocks.{AreClocks, IsClock, number_at}
+use Rattle.causes.specs.Joins.{IsJoinOfAll}
 use Rattle.causes.specs.Positions.{count_of, is_of, listed, positions}
 use Rattle.causes.specs.Steps.{rests_on}
-use Rattle.causes.proofs.PositionLemmas.{IsLast, count-less, count-other, count-own, count-take, in-placed, last_rising, placed-in, positions-rise}
-use Rattle.causes.proofs.Paths.{before-back, before-kept, before-less, before-within, get_front, step-less}
+use Rattle.causes.proofs.PositionLemmas.{count-less, count-other, count-own, count-take, in-placed, last_rising, placed-in, positions-rise}
+use Rattle.causes.proofs.Paths.{before-back, before-kept, before-less, get_front}
 
 below_some : {A : Type 0} (xs : List A) (k : ℕ) → k < length xs → (x : A) × (slice_get xs k ≡ Some x)
 below_some [] k h = absurd (omega (arith, h))

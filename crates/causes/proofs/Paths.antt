@@ -1,5 +1,5 @@
 -- Paths in longer histories.
-use Rattle.std.proofs.Common.{◌≡◌, ◌≤◌, ◌<◌, ◌+◌, ◌⊎◌, ℕ, zero, suc, List, [], ◌∷◌, ◌++◌, Some, inl, inr, refl, ap, sym, ◌∙◌, arith, length, length-append, subst, take, slice_get}
+use Rattle.std.proofs.Common.{◌≡◌, ◌≤◌, ◌<◌, ℕ, zero, suc, List, [], ◌∷◌, ◌++◌, Some, sym, arith, length, subst, take, slice_get}
 use Rattle.std.proofs.lemmas.List.{take-append-le}
 use Rattle.run_model.specs.declared.event.Event.{Event}
 use Rattle.run_model.proofs.StartLemmas.{slice_get-append, slice_get-below}

@@ -1,6 +1,6 @@
 -- Positions of events in longer lists.
-use Rattle.std.proofs.Common.{◌≡◌, ◌≤◌, ◌<◌, ◌+◌, ◌-◌, ◌⊎◌, ℕ, zero, suc, List, [], ◌∷◌, ◌++◌, ◌==◌, Bool, Option, Some, None, true, false, inl, inr, refl, ap, sym, ◌∙◌, arith, append-nil, drop, length, length-append, ltb, nat_lt, subst, take, slice_get, get_or, if◌then◌else◌}
-use Rattle.std.proofs.lemmas.Bool.{eqb-true, eq-eqb, le-ltb, lt-ltb}
+use Rattle.std.proofs.Common.{◌≡◌, ◌≤◌, ◌<◌, ◌+◌, ◌-◌, ℕ, zero, suc, List, [], ◌∷◌, ◌++◌, ◌==◌, Bool, Some, true, false, inl, inr, refl, ap, sym, ◌∙◌, arith, append-nil, drop, length, length-append, ltb, nat_lt, subst, take, slice_get, get_or, if◌then◌else◌}
+use Rattle.std.proofs.lemmas.Bool.{eq-eqb, le-ltb, lt-ltb}
 use Rattle.std.specs.List.Sorted.{IsNonDecreasingBy, IsPartitionPoint}
 use Rattle.mpi_call.specs.Lists.{IsIn, Rises}
 use Rattle.run_model.specs.declared.event.Event.{Event}

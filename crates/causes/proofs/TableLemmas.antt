@@ -1,11 +1,10 @@
 -- The tables after one more event.
-use Rattle.std.proofs.Common.{◌≡◌, ◌≢◌, ◌≤◌, ◌-◌, ℕ, List, [], ◌∷◌, ◌++◌, ◌==◌, ◌&&◌, arith, drop, get_or, take, Bool, Option, Some, None, true, false, cond, inl, inr, refl, ap, sym, ◌∙◌, append-nil, is_some, length, subst, if◌then◌else◌}
+use Rattle.std.proofs.Common.{◌≡◌, ◌≤◌, ◌-◌, ℕ, List, [], ◌∷◌, ◌++◌, ◌==◌, ◌&&◌, arith, drop, get_or, take, Bool, Option, Some, None, true, false, cond, inl, inr, refl, ap, sym, ◌∙◌, is_some, length, subst, if◌then◌else◌}
 use Rattle.std.specs.Map.{lookup}
-use Rattle.std.proofs.lemmas.Bool.{eqb-true, eq-eqb}
+use Rattle.std.proofs.lemmas.Bool.{eqb-true}
 use Rattle.mpi_call.specs.declared.call.Call.{Call}
 use Rattle.mpi_call.specs.declared.call.Call.TheVariants.{Send, Post, Enter, Take, Peek, Abort, Trap, End}
-use Rattle.mpi_call.specs.declared.reply.Got.{Got}
-use Rattle.mpi_call.specs.declared.reply.Got.TheVariants.{Sent, Nothing, Message, Joined, Made}
+use Rattle.mpi_call.specs.declared.reply.Got.TheVariants.{Made}
 use Rattle.mpi_call.specs.declared.reply.Item.{Item}
 use Rattle.mpi_call.specs.declared.reply.Reply.{Reply}
 use Rattle.mpi_call.specs.declared.reply.Reply.TheVariants.{Done, Took, NotYet, Peeked, Stopped}

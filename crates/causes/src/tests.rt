@@ -1,5 +1,5 @@
 //! Happens-before on worked examples.
-ghost use Rattle.std.specs.Prelude.{◌≡◌, ◌<◌, ◌^◌, length};
+ghost use Rattle.std.specs.Prelude.{◌≡◌, ◌<◌, ◌^◌, length, true};
 ghost use Rattle.causes.specs.Clocks.{AreOfRanks};
 
 use crate::causes::Causes;

@@ -1,5 +1,5 @@
 //! Races of worked examples.
-ghost use Rattle.std.specs.Prelude.{◌≡◌};
+ghost use Rattle.std.specs.Prelude.{◌≡◌, true};
 ghost use Rattle.causes.specs.Clocks.{AreOfRanks};
 
 use crate::names::{Name, Names};

@@ -1,4 +1,4 @@
-use Rattle.std.proofs.Common.{◌∙◌, arith}
+use Rattle.std.proofs.Common.{◌∙◌}
 use Rattle.causes.proofs.JoinLemmas.{joins_end, joins_more}
 use Rattle.causes.proofs.clock.Clock.join_all.Goals as goal
 
