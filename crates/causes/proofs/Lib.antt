@@ -1,0 +1,6 @@
+pub mod PositionLemmas
+pub mod Paths
+pub mod NewClocks
+pub mod TableLemmas
+pub mod JoinLemmas
+pub mod Deciding

@@ -1,0 +1,35 @@
+-- Vector clocks: for each position and each rank, how many of the rank's events are at the position or before it.
+use Rattle.std.specs.Prelude.{◌≡◌, ◌<◌, ◌≤◌, ◌↔◌, ℕ, suc, List, Some, All, length, slice_get, slice_index, take}
+use Rattle.run_model.specs.declared.event.Event.{Event}
+use Rattle.causes.specs.Before.{IsUpTo}
+use Rattle.causes.specs.Positions.{count_of}
+
+-- the number of ranks, and the events
+pub record Observed : Type 0 where
+  pub ranks : ℕ
+  pub events : List Event
+
+-- each event's rank is below n
+abbrev pub AreOfRanks : ℕ → List Event → Type 0
+AreOfRanks n events = All (λ (event : Event). event.rank < n) events
+
+-- of the event at position t the number among its rank's events
+abbrev pub number_at : List Event → ℕ → ℕ → ℕ
+number_at events rank t = count_of rank (take t events)
+
+-- the clock of position u: an event up to there is u or before u if and only if its number is below the clock's entry of its rank;
+-- an entry counts events up to there alone
+pub record IsClock (n : ℕ) (events : List Event) (u : ℕ) (clock : List ℕ) : Type 0 where
+  pub wide : length clock ≡ n
+  pub few : (rank : ℕ) → slice_index clock rank ≤ count_of rank (take (suc u) events)
+  pub tells : (t : ℕ) (event : Event) → t ≤ u → slice_get events t ≡ Some event → (number_at events event.rank t < slice_index clock event.rank) ↔ IsUpTo n events t u
+
+-- a clock for each position
+pub record AreClocks (n : ℕ) (events : List Event) (clocks : List (List ℕ)) : Type 0 where
+  pub as_many : length clocks ≡ length events
+  pub each : (u : ℕ) (clock : List ℕ) → slice_get clocks u ≡ Some clock → IsClock n events u clock
+
+-- the number of each event among its rank's events
+pub record AreNumbers (events : List Event) (numbers : List ℕ) : Type 0 where
+  pub as_many : length numbers ≡ length events
+  pub each : (t : ℕ) (event : Event) → slice_get events t ≡ Some event → slice_index numbers t ≡ number_at events event.rank t

@@ -1,0 +1,9 @@
+pub mod Positions
+pub mod Steps
+pub mod Before
+pub mod Keys
+pub mod Tables
+pub mod Beside
+pub mod Joins
+pub mod Clocks
+pub mod Seen

@@ -1,0 +1,66 @@
+-- Tables beside the events: positions by keys, and the communicators that each rank knows.
+use Rattle.std.specs.Prelude.{◌≡◌, ℕ, suc, List, [], ◌∷◌, ◌++◌, Option, Some, None, Bool, false, ◌&&◌, ◌==◌, if◌then◌else◌, nat_lt}
+use Rattle.std.specs.Map.{lookup}
+use Rattle.mpi_call.specs.declared.call.Call.{Call}
+use Rattle.mpi_call.specs.declared.call.Call.TheVariants.{Enter}
+use Rattle.run_model.specs.declared.event.Event.{Event}
+use Rattle.run_model.specs.Communicators.{known_after, or_members}
+use Rattle.run_model.specs.Views.{is_start, view_of}
+use Rattle.causes.specs.declared.key.Key.{Key}
+use Rattle.causes.specs.Keys.{enters_key, events_key, mates_key, same_key, starts_key}
+use Rattle.causes.specs.Positions.{is_enter_of, is_mate_of, is_of, is_start_of, positions}
+
+-- no positions where there is no list
+abbrev pub or_no_positions : Option (List ℕ) → List ℕ
+or_no_positions None = []
+or_no_positions (Some places) = places
+
+-- the positions that a table has for a key
+abbrev pub places_at : List (Key × List ℕ) → Key → List ℕ
+places_at table key = or_no_positions (lookup (same_key key) table)
+
+-- one position more for the keys that pass a test, and none more for another
+abbrev pub Adds : (Key → Bool) → ℕ → List (Key × List ℕ) → List (Key × List ℕ) → Type 0
+Adds test at old new = (key : Key) → places_at new key ≡ (if test key then places_at old key ++ at ∷ [] else places_at old key)
+
+-- the positions of each rank's events, starts and Enters, and of the later starts of pairs
+pub record IsPlaceTable (events : List Event) (table : List (Key × List ℕ)) : Type 0 where
+  pub own : (rank : ℕ) → places_at table (events_key rank) ≡ positions (is_of rank) 0 events
+  pub starts : (rank : ℕ) → places_at table (starts_key rank) ≡ positions (is_start_of rank) 0 events
+  pub enters : (rank comm : ℕ) → places_at table (enters_key rank comm) ≡ positions (is_enter_of rank comm) 0 events
+  pub mates : (at : ℕ) → places_at table (mates_key at) ≡ positions (is_mate_of at) 0 events
+
+-- the members of each communicator that a rank's replies made
+pub record IsKnownTable (events : List Event) (table : List (Key × List ℕ)) : Type 0 where
+  pub each : (rank comm : ℕ) → lookup (same_key (enters_key rank comm)) table ≡ known_after comm None (view_of events rank)
+
+-- whether a key is that of a start's rank
+abbrev pub adds_start : Event → Key → Bool
+adds_start event key = is_start (event.call, event.reply) && same_key (starts_key event.rank) key
+
+-- whether a key is that of an Enter's rank and communicator
+abbrev pub adds_enter_by : ℕ → Call → Key → Bool
+adds_enter_by rank (Enter comm kind root op count ints) key = same_key (enters_key rank comm) key
+adds_enter_by rank call key = false
+
+-- the same, of an Enter that was made
+abbrev pub adds_enter : Event → Key → Bool
+adds_enter event key = is_start (event.call, event.reply) && adds_enter_by event.rank event.call key
+
+-- whether a key is that of an event's mate
+abbrev pub adds_mate_by : Option ℕ → Key → Bool
+adds_mate_by None key = false
+adds_mate_by (Some at) key = same_key (mates_key at) key
+
+abbrev pub adds_mate : Event → Key → Bool
+adds_mate event key = adds_mate_by event.mate key
+
+-- how many positions stand before another
+abbrev pub count_below : ℕ → List ℕ → ℕ
+count_below at [] = 0
+count_below at (place ∷ places) = if nat_lt place at then suc (count_below at places) else count_below at places
+
+-- what is learned of a rank's communicators; the first members of a number stay
+abbrev pub Learns : ℕ → (ℕ → Option (List ℕ)) → List (Key × List ℕ) → List (Key × List ℕ) → Type 0
+Learns rank made old new =
+    (other comm : ℕ) → lookup (same_key (enters_key other comm)) new ≡ or_members (lookup (same_key (enters_key other comm)) old) (if rank == other then made comm else None)

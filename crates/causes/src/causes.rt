@@ -1,0 +1,147 @@
+//! Happens-before, by vector clocks.
+ghost use Rattle.std.specs.Prelude.{◌≡◌, ◌<◌, ◌≤◌, ◌+◌, ◌^◌, ◌++◌, ◌∷◌, ◌↔◌, [], ℕ, List, IfOk, OnOk, IsTrue, Some, length, slice_get};
+ghost use Rattle.run_model.specs.declared.event.Event.{Event as EventSpec};
+ghost use Rattle.causes.specs.Before.{IsBefore, IsUpTo};
+ghost use Rattle.causes.specs.Beside.{AreTables};
+ghost use Rattle.causes.specs.Clocks.{AreClocks, AreOfRanks, IsClock, number_at};
+ghost use Rattle.causes.specs.Seen.{IsSeen};
+ghost use Rattle.causes.specs.Positions.{count_of};
+
+use crate::clock::Clock;
+use crate::key::events_key;
+use crate::positions::Positions;
+use crate::rests::push_rests;
+use crate::tables::Tables;
+use run_model::event::Event;
+use std::alloc::{AllocError, Global};
+use std::marker::Model;
+
+/// Events, with a clock for each; contracts see the number of ranks and the events.
+#[derive(Drop)]
+pub struct Causes<'a> {
+    ranks: u8,
+    events: &'a [Event],
+    clocks: Vec<Clock>,
+    /// The number of each event among its rank's events.
+    numbers: Vec<u32>,
+}
+
+impl<'a> Model for Causes<'a> {
+    ghost use Rattle.causes.specs.Clocks.{AreClocks, AreNumbers, AreOfRanks, Observed};
+
+    ghost Value = { Observed };
+
+    ghost view = { λ s. record { ranks = s.ranks; events = s.events.now } };
+
+    ghost invariant = { λ s. AreOfRanks s.ranks s.events.now × AreClocks s.ranks s.events.now s.clocks.items × AreNumbers s.events.now s.numbers.items };
+}
+
+impl<'a> Causes<'a> {
+    /// The clocks of these events, in one pass over them.
+    pub fn new(alloc: Global, ranks: u8, events: &'a [Event]) -> Result<Self, AllocError>
+        requires ranks { AreOfRanks ranks events.now }
+        requires short { length events.now < 2 ^ 32 }
+        ensures ranks { IfOk result (λ causes. causes.ranks ≡ ranks) }
+        ensures events { IfOk result (λ causes. causes.events ≡ events.now) }
+    {
+        let mut seen = Seen::new(alloc, ranks)?;
+        for (at, event) in events.iter().enumerate() {
+            seen.add(alloc, &events[..at], event)?;
+        }
+        Ok(Causes {
+            ranks,
+            events,
+            clocks: seen.clocks,
+            numbers: seen.numbers,
+        })
+    }
+
+    /// Whether the event at `t` is before the one at `u`. No position past the events is before another, or after one.
+    pub fn is_before(&self, t: u32, u: u32) -> bool
+        ensures { IsTrue result ↔ IsBefore self.now.ranks self.now.events t u }
+    {
+        if t >= u || u as usize >= self.events.len() {
+            return false;
+        }
+        let numbers = self.numbers.as_slice();
+        let rank = self.events[t as usize].rank;
+        numbers[t as usize] < self.count(u, rank)
+    }
+
+    /// How many of a rank's events are at a position or before it.
+    pub fn count(&self, u: u32, rank: u8) -> u32
+        requires place { u < length self.now.events }
+        requires rank { rank < self.now.ranks }
+        ensures { (t : ℕ) (event : EventSpec) → t ≤ u → slice_get self.now.events t ≡ Some event → event.rank ≡ rank
+            → (number_at self.now.events rank t < result) ↔ IsUpTo self.now.ranks self.now.events t u }
+    {
+        self.clocks[u as usize].get(rank)
+    }
+}
+
+/// The tables, clocks and numbers beside the events so far.
+#[derive(Drop)]
+struct Seen {
+    tables: Tables,
+    clocks: Vec<Clock>,
+    numbers: Vec<u32>,
+}
+
+impl Seen {
+    /// No events.
+    fn new(alloc: Global, ranks: u8) -> Result<Self, AllocError>
+        ensures { IfOk result (λ seen. IsSeen ranks [] seen) }
+    {
+        Ok(Seen {
+            tables: Tables::new(alloc, ranks)?,
+            clocks: Vec::new(alloc),
+            numbers: Vec::new(alloc),
+        })
+    }
+
+    /// Adds the event that comes next.
+    fn add(&mut self, alloc: Global, before: &[Event], event: &Event) -> Result<(), AllocError>
+        requires seen { IsSeen self.old.tables.ranks before.now self.old }
+        requires short { length before.now + 1 < 2 ^ 32 }
+        requires rank { event.now.rank < self.old.tables.ranks }
+        ensures seen { OnOk result (IsSeen self.old.tables.ranks (before.now ++ event.now ∷ []) self.new) }
+    {
+        let clock = clock_of(alloc, before, &self.tables, self.clocks.as_slice(), event)?;
+        let number = number_of(&self.tables, before, event.rank);
+        self.clocks.push(clock)?;
+        self.numbers.push(number)?;
+        self.tables.note(before.len() as u32, event)
+    }
+}
+
+/// How many events of a rank there are so far.
+fn number_of(tables: &Tables, before: &[Event], rank: u8) -> u32
+    requires tables { AreTables before.now tables.now }
+    requires short { length before.now < 2 ^ 32 }
+    ensures { result ≡ count_of rank before.now }
+{
+    tables.places.get(&events_key(rank)).len() as u32
+}
+
+/// The clock of the event that comes next.
+fn clock_of(
+    alloc: Global,
+    before: &[Event],
+    tables: &Tables,
+    clocks: &[Clock],
+    event: &Event,
+) -> Result<Clock, AllocError>
+    requires tables { AreTables before.now tables.now }
+    requires short { length before.now + 1 < 2 ^ 32 }
+    requires clocks { AreClocks tables.now.ranks before.now clocks.now }
+    requires rank { event.now.rank < tables.now.ranks }
+    ensures { IfOk result (λ clock. IsClock tables.now.ranks (before.now ++ event.now ∷ []) (length before.now) clock) }
+{
+    let mut places = Positions::new(alloc);
+    places.push_some(tables.places.get(&events_key(event.rank)).last().copied())?;
+    push_rests(&mut places, before, tables, event)?;
+    let mut clock = Clock::new(alloc, tables.ranks)?;
+    clock.join_all(clocks, places.as_slice());
+    clock.set(event.rank, number_of(tables, before, event.rank) + 1);
+    Ok(clock)
+}

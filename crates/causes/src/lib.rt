@@ -1,0 +1,13 @@
+//! Happens-before over the events of a run or of a replay.
+#![tactic(auto)]
+
+pub mod causes;
+mod clock;
+mod key;
+mod known;
+mod places;
+mod positions;
+mod rests;
+mod tables;
+#[cfg(test)]
+mod tests;
