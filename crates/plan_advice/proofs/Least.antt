@@ -2,7 +2,7 @@
 use Rattle.std.proofs.Common.{◌≡◌, ◌≤◌, ◌<◌, ◌+◌, ◌∷◌, List, [], ap, arith, slice_index, ℕ}
 use Rattle.plan_advice.specs.Cuttings.{AreEnds, CertificatesBound, IsBlock, IsCertificate, IsCutting, cost_from, cutting_cost}
 
-ends_within : (n most begin : ℕ) (ends : List ℕ) → AreEnds n most begin ends → begin ≤ n
+pub ends_within : (n most begin : ℕ) (ends : List ℕ) → AreEnds n most begin ends → begin ≤ n
 ends_within n most begin [] are = omega (arith, are)
 ends_within n most begin (end ∷ ends) are =
     let rest = ends_within n most end ends are.1 in
