@@ -46,28 +46,28 @@ way_more block most bounds next end best way best' below is begins costs chosen 
           let less : way.cost < best.cost = ltb-true way.cost best.cost t in
           let P : Way → Type 0 = λ w. IsCheapest block most bounds (next + 1) end w in
           subst P (sym same) (record {
-              is_block = subst B (sym begins) is_block;
-              cost = subst C (sym begins) costs;
-              before = omega (arith, begins);
-              least = λ other under one. elim (last_or other next under) [
-                | inl early ↦ (let was = is.least other early one in omega (arith, was, less))
-                | inr last ↦ (let D : ℕ → Type 0 = λ k. way.cost ≤ cost_by block bounds k end in subst D (sym last) (omega (arith, costs)))
-              ];
-              first = λ other under one. (let was = is.least other (omega (arith, under, begins)) one in omega (arith, was, less));
+            is_block = subst B (sym begins) is_block;
+            cost = subst C (sym begins) costs;
+            before = omega (arith, begins);
+            least = λ other under one. elim (last_or other next under) [
+              | inl early ↦ (let was = is.least other early one in omega (arith, was, less))
+              | inr last ↦ (let D : ℕ → Type 0 = λ k. way.cost ≤ cost_by block bounds k end in subst D (sym last) (omega (arith, costs)))
+            ];
+            first = λ other under one. (let was = is.least other (omega (arith, under, begins)) one in omega (arith, was, less));
           }))
       | inr f ↦ (
           let same : best' ≡ best = rw f at chosen in
           let more : best.cost ≤ way.cost = ltb-false way.cost best.cost f in
           let P : Way → Type 0 = λ w. IsCheapest block most bounds (next + 1) end w in
           subst P (sym same) (record {
-              is_block = is.is_block;
-              cost = is.cost;
-              before = omega (arith, before);
-              least = λ other under one. elim (last_or other next under) [
-                | inl early ↦ is.least other early one
-                | inr last ↦ (let D : ℕ → Type 0 = λ k. best.cost ≤ cost_by block bounds k end in subst D (sym last) (omega (arith, costs, more)))
-              ];
-              first = is.first;
+            is_block = is.is_block;
+            cost = is.cost;
+            before = omega (arith, before);
+            least = λ other under one. elim (last_or other next under) [
+              | inl early ↦ is.least other early one
+              | inr last ↦ (let D : ℕ → Type 0 = λ k. best.cost ≤ cost_by block bounds k end in subst D (sym last) (omega (arith, costs, more)))
+            ];
+            first = is.first;
           }))
     ]
   where
@@ -176,8 +176,8 @@ ways_more block most n begins begins' bounds bounds' way are is small began grow
             let R : ℕ → Type 0 = λ k. IsLeastReached block most bounds' k end in
             let less : end < length bounds = omega (arith, early, many) in
             subst R (sym same) (record {
-                reached = stays block most bounds bounds' way.cost (slice_index begins end) end grown less so.reached;
-                least = λ other under reached. so.least other under (was block most bounds bounds' way.cost other end grown less reached);
+              reached = stays block most bounds bounds' way.cost (slice_index begins end) end grown less so.reached;
+              least = λ other under reached. so.least other under (was block most bounds bounds' way.cost other end grown less reached);
             }))
         | inr last ↦ (
             let R : ℕ → Type 0 = λ k. IsLeastReached block most bounds' (slice_index begins' k) k in
@@ -239,7 +239,7 @@ ends_more begins begin end ends ends' some at led grown block most bounds first 
     let same = here.reached.same in
     let Q : List ℕ → Type 0 = λ l. LeadTo block most bounds end l in
     subst Q (sym grown) (record {
-        cutting = ends_push most begin 0 end ends so.cutting one;
-        cost = omega (arith, push, cost, same);
-        least = least_push block most bounds begin 0 end ends so.cutting so.least here;
+      cutting = ends_push most begin 0 end ends so.cutting one;
+      cost = omega (arith, push, cost, same);
+      least = least_push block most bounds begin 0 end ends so.cutting so.least here;
     })

@@ -104,17 +104,17 @@ costs_more n count events lists lists' pieces grown are is few =
     record {
       many = long;
       each = λ rank below. elim (last_or rank count below) [
-          | inl less ↦ (let P : List Piece → Type 0 = λ l. ArePieces n rank (view_of events rank) l in subst P (sym (old rank less)) (are.each rank less))
-          | inr same ↦ (
-              let P : List Piece → Type 0 = λ l. ArePieces n count (view_of events count) l in
-              let Q : ℕ → Type 0 = λ r. ArePieces n r (view_of events r) (slice_index_or lists' r []) in
-              subst Q (sym same) (subst P (sym new) is))
+        | inl less ↦ (let P : List Piece → Type 0 = λ l. ArePieces n rank (view_of events rank) l in subst P (sym (old rank less)) (are.each rank less))
+        | inr same ↦ (
+            let P : List Piece → Type 0 = λ l. ArePieces n count (view_of events count) l in
+            let Q : ℕ → Type 0 = λ r. ArePieces n r (view_of events r) (slice_index_or lists' r []) in
+            subst Q (sym same) (subst P (sym new) is))
       ];
       few = λ rank below. elim (last_or rank count (omega (arith, below, long))) [
-          | inl less ↦ (let P : List Piece → Type 0 = λ l. ints_in_pieces l < 2 ^ 32 in subst P (sym (old rank less)) (are.few rank (omega (arith, less, many))))
-          | inr same ↦ (
-              let P : List Piece → Type 0 = λ l. ints_in_pieces l < 2 ^ 32 in
-              let Q : ℕ → Type 0 = λ r. ints_in_pieces (slice_index_or lists' r []) < 2 ^ 32 in
-              subst Q (sym same) (subst P (sym new) few))
+        | inl less ↦ (let P : List Piece → Type 0 = λ l. ints_in_pieces l < 2 ^ 32 in subst P (sym (old rank less)) (are.few rank (omega (arith, less, many))))
+        | inr same ↦ (
+            let P : List Piece → Type 0 = λ l. ints_in_pieces l < 2 ^ 32 in
+            let Q : ℕ → Type 0 = λ r. ints_in_pieces (slice_index_or lists' r []) < 2 ^ 32 in
+            subst Q (sym same) (subst P (sym new) few))
       ];
     }

@@ -16,3 +16,6 @@ pub use advising::advise;
 pub use holding::holds;
 pub use laws::every_cutting_costs;
 pub use plans::plan_cost;
+
+#[cfg(test)]
+mod tests;

@@ -175,7 +175,13 @@ pub fn pieces_of(alloc: Global, owner: &Owner<'_>, events: &[Event]) -> Result<P
     let mut rest = events;
     while let [event, after @ ..] = rest {
         if event.rank == owner.rank {
-            add_reply(&mut pieces, owner, own.as_slice(), &event.call, &event.reply)?;
+            add_reply(
+                &mut pieces,
+                owner,
+                own.as_slice(),
+                &event.call,
+                &event.reply,
+            )?;
             add_seen(&mut own, event)?;
         }
         rest = after;

@@ -26,12 +26,7 @@ pub fn plan_cost(alloc: Global, history: &History, plan: &Plan) -> Result<u64, A
 }
 
 /// The ints that the log of a group keeps.
-fn group_cost(
-    alloc: Global,
-    n: u8,
-    group: &Ranks,
-    history: &History,
-) -> Result<u64, AllocError>
+fn group_cost(alloc: Global, n: u8, group: &Ranks, history: &History) -> Result<u64, AllocError>
     requires run { IsRunOfAProgram n history.now.events }
     requires group { IsGroup group.now }
     requires below { All (λ rank. rank < n) group.now }

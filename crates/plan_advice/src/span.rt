@@ -51,8 +51,8 @@ fn with_needed(span: Span, call: &Call, members: &Ranks, rank: u8, member: u8) -
     requires member { is_member members.now member ≡ true }
     ensures { (begin end : ℕ) → is_within begin end result.least result.greatest
         ≡ (if needs call.now members.now rank member
-            then is_within begin end span.least span.greatest && is_within begin end member member
-            else is_within begin end span.least span.greatest) }
+        then is_within begin end span.least span.greatest && is_within begin end member member
+        else is_within begin end span.least span.greatest) }
 {
     if !needs(call, members, rank, member) {
         return span;

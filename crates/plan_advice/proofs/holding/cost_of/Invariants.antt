@@ -1,6 +1,6 @@
 use Rattle.std.proofs.Common.{length}
 use Rattle.plan_advice.specs.Costs.{block_cost}
-use Rattle.plan_advice.proofs.Tests.{IsCut}
+use Rattle.plan_advice.proofs.Certified.{IsCut}
 use Rattle.plan_advice.proofs.holding.cost_of.Given as goal
 
 abbrev pub invariant-loop-rest : goal.invariant-loop-rest

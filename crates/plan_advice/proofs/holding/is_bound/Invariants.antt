@@ -1,5 +1,5 @@
 use Rattle.plan_advice.specs.Costs.{block_cost}
-use Rattle.plan_advice.proofs.Tests.{IsTested}
+use Rattle.plan_advice.proofs.Certified.{IsTested}
 use Rattle.plan_advice.proofs.holding.is_bound.Given as goal
 
 abbrev pub invariant-loop-begin : goal.invariant-loop-begin

@@ -2,6 +2,7 @@
 use Rattle.std.proofs.Common.{◌≡◌, ◌≤◌, ◌<◌, ◌+◌, ◌-◌, ◌*◌, ◌^◌, ◌∷◌, ◌∙◌, ◌⊎◌, Bool, List, [], ap, arith, false, inl, inr, length, refl, subst, suc, sym, true, zero, ℕ}
 use Rattle.std.specs.Prelude.{MatchBool, slice_index}
 use Rattle.std.proofs.lemmas.Bool.{cases_lt, eqb-true, eqb-false, or_cases, or_parts}
+use Rattle.run_model.proofs.Views.{test_cases}
 use Rattle.plan_advice.specs.Cuttings.{AreEnds, IsBlock, IsCertificate, IsReached, cost_from}
 use Rattle.plan_advice.specs.Ways.{IsBound, cost_by}
 use Rattle.plan_advice.proofs.Least.{ends_within}
@@ -28,29 +29,24 @@ pub tested_more : (block : ℕ → ℕ → ℕ) (most : ℕ) (bounds : List ℕ)
     → (now ≡ true → (was ≡ true) ⊎ (cost_by block bounds next end ≡ slice_index bounds end))
     → (now ≡ false → (was ≡ false) × (cost_by block bounds next end ≡ slice_index bounds end → ⊥))
     → IsTested block most bounds (next + 1) end now
-tested_more block most bounds next end was true low high is here yes no =
+tested_more block most bounds next end was now low high is here gain loss =
+    let Some : Type 0 = (other : ℕ) × IsReached block most bounds other end in
+    let Old : Bool → Type 0 = λ b. MatchBool b Some ((other : ℕ) → other < next → IsReached block most bounds other end → ⊥) in
+    let New : Bool → Type 0 = λ b. MatchBool b Some ((other : ℕ) → other < next + 1 → IsReached block most bounds other end → ⊥) in
     record {
       below = λ other under one. elim (last_or other next under) [
-          | inl early ↦ is.below other early one
-          | inr last ↦ (let D : ℕ → Type 0 = λ k. slice_index bounds end ≤ cost_by block bounds k end in subst D (sym last) here)
+        | inl early ↦ is.below other early one
+        | inr last ↦ (let D : ℕ → Type 0 = λ k. slice_index bounds end ≤ cost_by block bounds k end in subst D (sym last) here)
       ];
-      found = elim (yes refl) [
-          | inl before ↦ (let P : Bool → Type 0 = λ b. MatchBool b ((other : ℕ) × IsReached block most bounds other end) ((other : ℕ) → other < next → IsReached block most bounds other end → ⊥) in subst P before is.found)
+      found = elim (test_cases now) [
+        | inl t ↦ subst New (sym t) (elim (gain t) [
+          | inl before ↦ subst Old before is.found
           | inr same ↦ (next, record { is_block = record { some = high; few = omega (arith, low) }; same = same })
-      ];
-    }
-tested_more block most bounds next end was false low high is here yes no =
-    record {
-      below = λ other under one. elim (last_or other next under) [
-          | inl early ↦ is.below other early one
-          | inr last ↦ (let D : ℕ → Type 0 = λ k. slice_index bounds end ≤ cost_by block bounds k end in subst D (sym last) here)
-      ];
-      found = λ other under reached. elim (last_or other next under) [
-          | inl early ↦ (
-              let P : Bool → Type 0 = λ b. MatchBool b ((other : ℕ) × IsReached block most bounds other end) ((other : ℕ) → other < next → IsReached block most bounds other end → ⊥) in
-              let none : (other : ℕ) → other < next → IsReached block most bounds other end → ⊥ = subst P (no refl).0 is.found in
-              none other early reached)
-          | inr last ↦ (let R : ℕ → Type 0 = λ k. IsReached block most bounds k end in let now = subst R last reached in (no refl).1 now.same)
+        ])
+        | inr f ↦ subst New (sym f) (λ other under reached. elim (last_or other next under) [
+          | inl early ↦ (let none : (other : ℕ) → other < next → IsReached block most bounds other end → ⊥ = subst Old (loss f).0 is.found in none other early reached)
+          | inr last ↦ (let R : ℕ → Type 0 = λ k. IsReached block most bounds k end in let now = subst R last reached in (loss f).1 now.same)
+        ])
       ];
     }
 
@@ -101,7 +97,7 @@ pub record IsCut (block : ℕ → ℕ → ℕ) (n most : ℕ) (all : List ℕ) (
   pub within : begin ≤ n
 
 pub cut_first : (block : ℕ → ℕ → ℕ) (n most : ℕ) (all : List ℕ) → IsCut block n most all 0 0 all
-cut_first block n most all = record { onward = λ are. are; back = λ are. are; sum = refl; few = omega arith; within = omega arith }
+cut_first block n most all = record { onward = λ are. are; back = λ are. are; sum = omega arith; few = omega arith; within = omega arith }
 
 pub cut_more : (block : ℕ → ℕ → ℕ) (n most : ℕ) (all : List ℕ) (begin total total' cost end : ℕ) (rest after : List ℕ) → rest ≡ end ∷ after
     → IsBlock most begin end → end ≤ n → cost ≡ block begin end → cost ≤ (end - begin) * 2 ^ 32 → total' ≡ total + cost
