@@ -1,0 +1,5 @@
+pub mod Advices
+pub mod Costs
+pub mod Cuttings
+pub mod Pieces
+pub mod Ways

@@ -1,0 +1,124 @@
+//! How far the ranks reach that a collective's result came from.
+ghost use Rattle.std.specs.Prelude.{◌≡◌, ◌&&◌, ℕ, IsTrue, if◌then◌else◌, max, min, option_map, true};
+ghost use Rattle.mpi_call.specs.Members.{is_member};
+ghost use Rattle.mpi_call.specs.Needs.{IsEnterOf, needs};
+ghost use Rattle.run_model.specs.Communicators.{known_in};
+ghost use Rattle.run_model.specs.Forms.{IsInOrder};
+ghost use Rattle.run_model.specs.Lists.{world};
+ghost use Rattle.run_model.specs.Views.{start_at};
+ghost use Rattle.srr_entry.specs.Entries.{all_within, is_inner};
+ghost use Rattle.plan_advice.specs.Pieces.{HasRank, block_ranks, is_within};
+
+use mpi_call::call::{Call, Comm};
+use mpi_call::lists::Ranks;
+use mpi_call::needs::needs;
+use mpi_call::reply::Reply;
+use run_model::communicators::find_made;
+use run_model::starts::find_start;
+
+/// A rank of a run on so many ranks.
+#[derive(Clone, Copy)]
+pub struct Owner<'a> {
+    pub ranks: u8,
+    pub rank: u8,
+    /// All ranks.
+    pub world: &'a Ranks,
+}
+
+/// The least and the greatest of some ranks.
+#[derive(Clone, Copy)]
+pub struct Span {
+    pub least: u8,
+    pub greatest: u8,
+}
+
+fn lesser(a: u8, b: u8) -> u8
+    ensures { result ≡ min a b }
+{
+    if b < a { b } else { a }
+}
+
+fn greater(a: u8, b: u8) -> u8
+    ensures { result ≡ max a b }
+{
+    if a < b { b } else { a }
+}
+
+/// The span with a member more, where the rank's Enter needs it.
+fn with_needed(span: Span, call: &Call, members: &Ranks, rank: u8, member: u8) -> Span
+    requires form { IsEnterOf call.now members.now rank }
+    requires rank { is_member members.now rank ≡ true }
+    requires member { is_member members.now member ≡ true }
+    ensures { (begin end : ℕ) → is_within begin end result.least result.greatest
+        ≡ (if needs call.now members.now rank member
+        then is_within begin end span.least span.greatest && is_within begin end member member
+        else is_within begin end span.least span.greatest) }
+{
+    if !needs(call, members, rank, member) {
+        return span;
+    }
+    Span {
+        least: lesser(span.least, member),
+        greatest: greater(span.greatest, member),
+    }
+}
+
+/// The span of a rank and the members that its Enter needs.
+fn needed_span(call: &Call, members: &Ranks, rank: u8) -> Span
+    requires form { IsEnterOf call.now members.now rank }
+    requires member { is_member members.now rank ≡ true }
+    ensures { (begin end : ℕ) → HasRank rank begin end
+        → all_within (block_ranks begin end) (needs call.now members.now rank) members.now ≡ is_within begin end result.least result.greatest }
+{
+    let mut span = Span {
+        least: rank,
+        greatest: rank,
+    };
+    let mut rest = members.as_slice();
+    while let [member, after @ ..] = rest {
+        span = with_needed(span, call, members, rank, *member);
+        rest = after;
+    }
+    span
+}
+
+/// The members of a communicator that the rank knows.
+fn known_members<'a>(
+    owner: &'a Owner<'_>,
+    own: &'a [(Call, Reply)],
+    comm: Comm,
+) -> Option<&'a Ranks>
+    requires { owner.now.world.now ≡ world owner.now.ranks 0 }
+    ensures { option_map (λ members. members.now) result ≡ known_in owner.now.ranks own.now comm }
+{
+    if comm == 0 {
+        return Some(owner.world);
+    }
+    find_made(own, comm)
+}
+
+/// The span of the rank and of those that its start's result came from. A start that was never made has the span of no block.
+pub fn span_of(owner: &Owner<'_>, own: &[(Call, Reply)], start: u32) -> Span
+    requires world { owner.now.world.now ≡ world owner.now.ranks 0 }
+    requires order { IsInOrder owner.now.ranks owner.now.rank own.now }
+    ensures { (begin end : ℕ) → HasRank owner.now.rank begin end
+        → is_inner owner.now.ranks (block_ranks begin end) owner.now.rank own.now (start_at own.now start) ≡ is_within begin end result.least result.greatest }
+{
+    let alone = Span {
+        least: owner.rank,
+        greatest: owner.rank,
+    };
+    match find_start(own, start) {
+        Some(call) => match call {
+            Call::Enter { comm, .. } => match known_members(owner, own, *comm) {
+                Some(members) => needed_span(call, members, owner.rank),
+                None => alone,
+            },
+            _ => alone,
+        },
+        None => Span {
+            least: 0,
+            greatest: u8::MAX,
+        },
+    }
+}
