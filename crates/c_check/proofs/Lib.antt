@@ -5,3 +5,4 @@ pub mod Texts
 pub mod Externals
 pub mod More
 pub mod Parameters
+pub mod Names

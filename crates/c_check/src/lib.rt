@@ -5,4 +5,5 @@ pub mod argument;
 pub mod call;
 pub mod laws;
 pub mod program;
+mod seen;
 pub mod statement;

@@ -1,15 +1,15 @@
 //! The faults of a whole program.
 ghost use Rattle.std.specs.Prelude.{◌≡◌, ◌≤◌, ◌++◌, ◌∷◌, [], IfOk, MatchOption, OnOk, length, map};
 ghost use Rattle.std.specs.List.{list_any};
-ghost use Rattle.std.specs.Str.{bytes_eq};
 ghost use Rattle.c_grammar.specs.StmtView.{head_view, parameter_view, parameters_view, parts_view, external_view, tree_view, value_view};
 ghost use Rattle.c_check_expr.specs.Least.{IsFirst, least_from};
 ghost use Rattle.c_lex.specs.declared.limits.TheConstants.{MOST_BYTES};
 ghost use Rattle.c_check.specs.Programs.{after_parameter, after_parameters, after_external, are_main_parameters, declare_optional, define_value, faults, function_faults, heads_of, is_main, is_one_int, is_text, main_faults, optional_twice_faults, parameter_faults, parameter_name, parameter_entity, parameters_faults, prototype_faults, seen_after, text_env, external_faults, external_twice_faults, externals_faults, with_head};
-ghost use Rattle.c_check_expr.specs.Scopes.{token_bytes};
+ghost use Rattle.c_check.specs.Seen.{HaveSame};
 ghost use Rattle.c_check_expr.specs.Signatures.{parameters_listed};
 
 use crate::call::{is_int, parameter_at, parameter_count};
+use crate::seen::Seen;
 use crate::statement::check_parts;
 use c_check_expr::constant::want_length;
 use c_check_expr::fault::{TypingFault, note, note_unless};
@@ -200,31 +200,13 @@ fn check_function(
 
 // ---- the text
 
-fn is_seen(seen: &[&[u8]], name: &[u8]) -> bool
-    ensures { result ≡ list_any (bytes_eq name.now) (map (λ other. other.now) seen.now) }
-{
-    for other in seen {
-        if is_same(name, other) {
-            return true;
-        }
-    }
-    false
-}
-
 /// A name that is free in the text.
-fn want_new(best: &mut Option<TypingFault>, text: &[u8], seen: &[&[u8]], span: Span)
-    ensures { best.new ≡ least_from best.old (external_twice_faults text.now (map (λ other. other.now) seen.now) span) }
+fn want_new(best: &mut Option<TypingFault>, text: &[u8], seen: &Seen, span: Span)
+    ensures { best.new ≡ least_from best.old (external_twice_faults text.now seen.now span) }
 {
     let name = token_bytes(text, span);
-    let taken = meaning_of(name).is_some() || is_seen(seen, name);
+    let taken = meaning_of(name).is_some() || seen.has(name);
     note_unless(best, !taken, span, Why::Twice);
-}
-
-fn see<'a>(text: &'a [u8], seen: &mut Vec<&'a [u8]>, span: Span) -> Result<(), AllocError>
-    ensures { OnOk result (map (λ other. other.now) seen.new.items ≡ map (λ other. other.now) seen.old.items ++ token_bytes text.now span ∷ []) }
-{
-    seen.push(token_bytes(text, span))?;
-    Ok(())
 }
 
 /// The value of a define.
@@ -244,23 +226,23 @@ pub fn define_value(text: &[u8], value: &Value) -> i32
 fn check_external<'a>(
     best: &mut Option<TypingFault>,
     scope: &mut Scope<'a>,
-    seen: &mut Vec<&'a [u8]>,
+    seen: &mut Seen<'a>,
     external: &ExternalDeclaration,
 ) -> Result<(), AllocError>
-    ensures faults { OnOk result (best.new ≡ least_from best.old (external_faults scope.old (map (λ other. other.now) seen.old.items) (external_view external.now))) }
+    ensures faults { OnOk result (best.new ≡ least_from best.old (external_faults scope.old seen.old (external_view external.now))) }
     ensures scope { OnOk result (scope.new ≡ after_external scope.old (external_view external.now)) }
-    ensures seen { OnOk result (map (λ other. other.now) seen.new.items ≡ seen_after scope.old.text (map (λ other. other.now) seen.old.items) (external_view external.now)) }
+    ensures seen { OnOk result (HaveSame seen.new (seen_after scope.old.text seen.old (external_view external.now))) }
 {
     let text = scope.text();
     match external {
         ExternalDeclaration::Define { name, value, .. } => {
             want_new(best, text, seen, *name);
-            see(text, seen, *name)?;
+            seen.add(token_bytes(text, *name))?;
             scope.declare(*name, Entity::Define(define_value(text, value)))
         }
         ExternalDeclaration::Function { head, parts, .. } => {
             want_new(best, text, seen, head.name);
-            see(text, seen, head.name)?;
+            seen.add(token_bytes(text, head.name))?;
             check_function(best, scope, head, parts)
         }
         ExternalDeclaration::Prototype { head, .. } => {
@@ -352,7 +334,7 @@ fn check_externals<'a>(
 ) -> Result<(), AllocError>
     ensures { OnOk result (best.new ≡ least_from best.old (externals_faults scope.old [] (map external_view externals.now))) }
 {
-    let mut seen = Vec::new(alloc);
+    let mut seen = Seen::new(alloc);
     for external in externals {
         check_external(best, scope, &mut seen, external)?;
     }

@@ -5,3 +5,4 @@ pub mod Rows
 pub mod Entries
 pub mod Lists
 pub mod Links
+pub mod Hiding

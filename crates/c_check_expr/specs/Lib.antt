@@ -2,8 +2,9 @@ pub mod Least
 pub mod Scopes
 pub mod Signatures
 pub mod Rows
-pub mod ScopeView
 pub mod Variables
+pub mod Innermost
+pub mod ScopeView
 pub mod Kinds
 pub mod Literals
 pub mod Constants

@@ -3,8 +3,10 @@
 
 pub mod comma_list;
 pub mod constant;
+mod declarations;
 pub mod expression;
 pub mod fault;
+mod innermost;
 pub mod kind;
 pub mod meaning;
 pub mod scope;

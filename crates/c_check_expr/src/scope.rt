@@ -5,9 +5,10 @@ ghost use Rattle.c_grammar.specs.StmtView.{head_view};
 ghost use Rattle.c_check_expr.specs.Least.{least_from};
 ghost use Rattle.c_check_expr.specs.Literals.{number_at};
 ghost use Rattle.c_check_expr.specs.Signatures.{function_entries, signature_of};
-ghost use Rattle.c_check_expr.specs.Variables.{is_variable, variable};
-ghost use Rattle.c_check_expr.specs.Scopes.{closed, token_bytes, declare, declared_meaning, found, is_in_block, is_taken, meaning, meaning_of, name_faults, opened, twice_faults};
+ghost use Rattle.c_check_expr.specs.Variables.{variable};
+ghost use Rattle.c_check_expr.specs.Scopes.{closed, token_bytes, declare, declared_meaning, found, is_taken, meaning, meaning_of, name_faults, opened, twice_faults};
 
+use crate::declarations::Declarations;
 use crate::fault::{TypingFault, note_at, note_unless};
 use crate::meaning::{Entity, Meaning};
 use c_grammar::statement::Head;
@@ -40,19 +41,12 @@ pub fn number_at(text: &[u8], span: Span) -> u32
     literal_value(token_bytes(text, span)).unwrap_or(0)
 }
 
-/// The begin of a block, or a declaration.
-#[derive(Clone, Copy)]
-pub enum Placed<'a> {
-    Opening,
-    Named { name: &'a [u8], entity: Entity },
-}
-
-/// The text, the heads of its functions, and what is declared, the outermost first. Contracts see an `Env`.
+/// The text, the heads of its functions, and what is declared. Contracts see an `Env`.
 #[derive(Drop)]
 pub struct Scope<'a> {
     text: &'a [u8],
     heads: Vec<&'a Head>,
-    placed: Vec<Placed<'a>>,
+    declared: Declarations<'a>,
 }
 
 impl<'a> Model for Scope<'a> {
@@ -60,11 +54,10 @@ impl<'a> Model for Scope<'a> {
     ghost use Rattle.c_grammar.specs.StmtView.{head_view};
     ghost use Rattle.c_check_expr.specs.Scopes.{Env};
     ghost use Rattle.c_check_expr.specs.Signatures.{signature_of};
-    ghost use Rattle.c_check_expr.specs.ScopeView.{entries_view};
 
     ghost Value = { Env };
 
-    ghost view = { λ s. record { text = s.text.now; functions = map (λ head. signature_of (head_view head.now)) s.heads.items; entries = entries_view s.placed.items } };
+    ghost view = { λ s. record { text = s.text.now; functions = map (λ head. signature_of (head_view head.now)) s.heads.items; entries = s.declared } };
 }
 
 impl<'a> Scope<'a> {
@@ -77,19 +70,19 @@ impl<'a> Scope<'a> {
     ) -> Result<Self, AllocError>
         ensures { IfOk result (λ scope. scope ≡ record { text = text.now; functions = map (λ head. signature_of (head_view head.now)) heads.entry.items; entries = function_entries text.now 0 (map (λ head. head_view head.now) heads.entry.items) }) }
     {
-        let mut placed = Vec::new(alloc);
+        let mut declared = Declarations::new(alloc);
         let mut number = heads.len();
         while number > 0 {
             number -= 1;
-            placed.push(Placed::Named {
-                name: token_bytes(text, heads[number].name),
-                entity: Entity::Function(number),
-            })?;
+            declared.declare(
+                token_bytes(text, heads[number].name),
+                Entity::Function(number),
+            )?;
         }
         Ok(Scope {
             text,
             heads,
-            placed,
+            declared,
         })
     }
 
@@ -109,48 +102,31 @@ impl<'a> Scope<'a> {
     pub fn declare(&mut self, name: Span, entity: Entity) -> Result<(), AllocError>
         ensures { OnOk result (self.new ≡ declare self.old name entity) }
     {
-        let name = token_bytes(self.text, name);
-        self.placed.push(Placed::Named { name, entity })?;
-        Ok(())
+        self.declared.declare(token_bytes(self.text, name), entity)
     }
 
     /// Begins a block.
     pub fn open(&mut self) -> Result<(), AllocError>
         ensures { OnOk result (self.new ≡ opened self.old) }
     {
-        self.placed.push(Placed::Opening)?;
-        Ok(())
+        self.declared.open()
     }
 
-    #[tactic(auto, using(crate::proofs::Entries::entries_push))]
     /// Ends the innermost block.
     pub fn close(&mut self)
         ensures { self.new ≡ record self.old { entries = closed self.old.entries } }
     {
-        while let Some(placed) = self.placed.pop() {
-            if let Placed::Opening = placed {
-                return;
-            }
-        }
+        self.declared.close();
     }
 
-    #[tactic(auto, using(crate::proofs::Entries::entries_more))]
+    #[tactic(auto, using(crate::proofs::Hiding::found_is))]
     fn find(&self, name: &[u8]) -> Option<Entity>
         ensures { result ≡ found self.now.entries name.now }
     {
-        let mut found = None;
-        for placed in &self.placed {
-            if let Placed::Named {
-                name: other,
-                entity,
-            } = placed
-            {
-                if is_same(other, name) {
-                    found = Some(*entity);
-                }
-            }
+        match self.declared.get(name) {
+            Some(declaration) => Some(declaration.entity),
+            None => None,
         }
-        found
     }
 
     /// What a name means.
@@ -164,41 +140,15 @@ impl<'a> Scope<'a> {
         }
     }
 
-    #[tactic(auto, using(crate::proofs::Entries::entries_more))]
     /// How many variables of the function stand before this one.
+    #[tactic(auto, using(crate::proofs::Hiding::number_is))]
     pub fn variable(&self, span: Span) -> usize
         ensures { result ≡ variable self.now span }
     {
-        let name = token_bytes(self.text, span);
-        let mut number = 0;
-        let mut found = 0;
-        for placed in &self.placed {
-            if let Placed::Named {
-                name: other,
-                entity,
-            } = placed
-            {
-                if is_same(other, name) {
-                    found = number;
-                }
-                number += is_variable(*entity);
-            }
+        match self.declared.get(token_bytes(self.text, span)) {
+            Some(declaration) => declaration.variables,
+            None => 0,
         }
-        found
-    }
-
-    #[tactic(auto, using(crate::proofs::Entries::entries_more))]
-    fn is_in_block(&self, name: &[u8]) -> bool
-        ensures { result ≡ is_in_block self.now.entries name.now }
-    {
-        let mut found = false;
-        for placed in &self.placed {
-            match placed {
-                Placed::Opening => found = false,
-                Placed::Named { name: other, .. } => found = is_same(other, name) || found,
-            }
-        }
-        found
     }
 
     /// A name that may not be declared here.
@@ -206,7 +156,7 @@ impl<'a> Scope<'a> {
         ensures { best.new ≡ least_from best.old (twice_faults self.now span) }
     {
         let name = token_bytes(self.text, span);
-        let taken = meaning_of(name).is_some() || self.is_in_block(name);
+        let taken = meaning_of(name).is_some() || self.declared.is_in_block(name);
         note_unless(best, !taken, span, Why::Twice);
     }
 }
@@ -224,15 +174,6 @@ fn declared_meaning(name: &[u8], found: Option<Entity>) -> Meaning
                 Meaning::Unknown
             }
         }
-    }
-}
-
-fn is_variable(entity: Entity) -> usize
-    ensures { result ≡ is_variable entity }
-{
-    match entity {
-        Entity::Function(_) | Entity::Define(_) => 0,
-        _ => 1,
     }
 }
 

@@ -13,7 +13,7 @@ use Rattle.causes.specs.declared.causes.Seen.{Seen}
 use Rattle.causes.proofs.NewClocks.{clocks-push, front_number}
 use Rattle.causes.proofs.Paths.{before-less, before-within}
 
-below_some : {A : Type 0} (xs : List A) (k : ℕ) → k < length xs → (x : A) × (slice_get xs k ≡ Some x)
+pub below_some : {A : Type 0} (xs : List A) (k : ℕ) → k < length xs → (x : A) × (slice_get xs k ≡ Some x)
 below_some [] k h = absurd (omega (arith, h))
 below_some (x ∷ xs) zero h = (x, refl)
 below_some (x ∷ xs) (suc k) h = below_some xs k (omega (arith, h))

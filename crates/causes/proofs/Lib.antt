@@ -4,3 +4,4 @@ pub mod NewClocks
 pub mod TableLemmas
 pub mod JoinLemmas
 pub mod Deciding
+pub mod Telling

@@ -3,12 +3,13 @@ ghost use Rattle.std.specs.Prelude.{◌≡◌, ◌<◌, ◌≤◌, ◌+◌, ◌^
 ghost use Rattle.run_model.specs.declared.event.Event.{Event as EventSpec};
 ghost use Rattle.causes.specs.Before.{IsBefore, IsUpTo};
 ghost use Rattle.causes.specs.Beside.{AreTables};
-ghost use Rattle.causes.specs.Clocks.{AreClocks, AreOfRanks, IsClock, number_at};
+ghost use Rattle.causes.specs.Clocks.{AreClocks, AreOfRanks, IsClock, Tells, comes_before, number_at};
 ghost use Rattle.causes.specs.Seen.{IsSeen};
-ghost use Rattle.causes.specs.Positions.{count_of};
+ghost use Rattle.causes.specs.Positions.{count_of, is_start_of, positions};
 
 use crate::clock::Clock;
-use crate::key::events_key;
+use crate::key::{events_key, starts_key};
+use crate::places::Places;
 use crate::positions::Positions;
 use crate::rests::push_rests;
 use crate::tables::Tables;
@@ -16,7 +17,7 @@ use run_model::event::Event;
 use std::alloc::{AllocError, Global};
 use std::marker::Model;
 
-/// Events, with a clock for each; contracts see the number of ranks and the events.
+/// Events, with a clock for each; contracts see the number of ranks, the events, their clocks and their numbers.
 #[derive(Drop)]
 pub struct Causes<'a> {
     ranks: u8,
@@ -24,16 +25,20 @@ pub struct Causes<'a> {
     clocks: Vec<Clock>,
     /// The number of each event among its rank's events.
     numbers: Vec<u32>,
+    /// Positions of events by keys.
+    places: Places,
 }
 
 impl<'a> Model for Causes<'a> {
+    ghost use Rattle.std.specs.Prelude.{◌<◌, ◌^◌, length};
     ghost use Rattle.causes.specs.Clocks.{AreClocks, AreNumbers, AreOfRanks, Observed};
+    ghost use Rattle.causes.specs.Tables.{IsPlaceTable};
 
     ghost Value = { Observed };
 
-    ghost view = { λ s. record { ranks = s.ranks; events = s.events.now } };
+    ghost view = { λ s. record { ranks = s.ranks; events = s.events.now; clocks = s.clocks.items; numbers = s.numbers.items } };
 
-    ghost invariant = { λ s. AreOfRanks s.ranks s.events.now × AreClocks s.ranks s.events.now s.clocks.items × AreNumbers s.events.now s.numbers.items };
+    ghost invariant = { λ s. AreOfRanks s.ranks s.events.now × AreClocks s.ranks s.events.now s.clocks.items × AreNumbers s.events.now s.numbers.items × IsPlaceTable s.events.now s.places × (length s.events.now < 2 ^ 32) };
 }
 
 impl<'a> Causes<'a> {
@@ -53,12 +58,14 @@ impl<'a> Causes<'a> {
             events,
             clocks: seen.clocks,
             numbers: seen.numbers,
+            places: seen.tables.places,
         })
     }
 
     /// Whether the event at `t` is before the one at `u`. No position past the events is before another, or after one.
     pub fn is_before(&self, t: u32, u: u32) -> bool
-        ensures { IsTrue result ↔ IsBefore self.now.ranks self.now.events t u }
+        ensures before { IsTrue result ↔ IsBefore self.now.ranks self.now.events t u }
+        ensures test { result ≡ comes_before self.now t u }
     {
         if t >= u || u as usize >= self.events.len() {
             return false;
@@ -66,6 +73,35 @@ impl<'a> Causes<'a> {
         let numbers = self.numbers.as_slice();
         let rank = self.events[t as usize].rank;
         numbers[t as usize] < self.count(u, rank)
+    }
+
+    /// The test of the clocks tells which events are before which.
+    pub fn tells(&self)
+        ensures { Tells (comes_before self.now) self.now.ranks self.now.events }
+    {
+        let _ = &self.ranks;
+    }
+
+    /// The number of ranks.
+    pub fn ranks(&self) -> u8
+        ensures { result ≡ self.now.ranks }
+    {
+        self.ranks
+    }
+
+    /// The events in order.
+    pub fn events(&self) -> &[Event]
+        ensures { result.now ≡ self.now.events }
+    {
+        self.events
+    }
+
+    /// The positions of a rank's starts, in order.
+    pub fn starts(&self, rank: u8) -> &[u32]
+        ensures starts { result.now ≡ positions (is_start_of rank) 0 self.now.events }
+        ensures short { length result.now < 2 ^ 32 }
+    {
+        self.places.get(&starts_key(rank))
     }
 
     /// How many of a rank's events are at a position or before it.

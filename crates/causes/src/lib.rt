@@ -5,8 +5,8 @@ pub mod causes;
 mod clock;
 mod key;
 mod known;
-mod places;
-mod positions;
+pub mod places;
+pub mod positions;
 mod rests;
 mod tables;
 #[cfg(test)]

@@ -1,14 +1,16 @@
 -- Facts about the board as a list of communicators.
-use Rattle.std.proofs.Common.{◌≡◌, ◌≢◌, ℕ, zero, suc, ◌<◌, ◌≤◌, ◌-◌, List, [], ◌∷◌, ◌++◌, true, ◌&&◌, cond, get_or, set, length, map, refl, sym, inl, inr, ap, ap₂, ◌∙◌, subst, arith, Result, Ok, Err, OnErr, ◌⊎◌}
-use Rattle.std.proofs.Common.{get_or-set_same, get_or-set_other}
-use Rattle.std.proofs.lemmas.Bool.{cases_Bool, cases_eq, cases_lt, eq-eqb, ltb-true}
-use Rattle.std.proofs.lemmas.List.{get_or_default}
-use Rattle.std.specs.Prelude.{◌==◌, nat_lt}
+use Rattle.std.proofs.Common.{◌≡◌, ◌≢◌, ℕ, zero, suc, ◌≤◌, ◌-◌, List, [], ◌∷◌, ◌++◌, ◌&&◌, Option, Some, None, cond, get_or, length, map, refl, sym, inl, inr, ap, ap₂, ◌∙◌, subst, arith, ◌⊎◌}
+use Rattle.std.proofs.lemmas.Bool.{cases_Bool, cases_eq, cases_lt, eq-eqb, eqb-true}
+use Rattle.std.proofs.lemmas.List.FromFn.{get_or-map-range_with_len, length-map-range_with_len}
+use Rattle.std.proofs.lemmas.Map.Entries.{lookup_tail}
+use Rattle.std.specs.Map.{lookup}
+use Rattle.std.specs.Prelude.{◌==◌, nat_eq, nat_lt, unwrap_or}
 use Rattle.mpi_call.specs.Calls.{comm_of}
 use Rattle.mpi_call.specs.declared.call.Call.{Call}
 use Rattle.collectives.proofs.InstanceLemmas.{neq-eqb}
 use Rattle.collectives.specs.Boards.{enters_of, enters_on, entered_by, instances_on, stages_of, trim, trim_before, GainsEnter, IsBoardAfter, IsOrderly, IsTrimmed, LosesEnter, Stages}
 use Rattle.collectives.specs.Entrants.{AllAgree, first_against, has_entered, without}
+use Rattle.collectives.specs.InstanceTable.{HaveSame, HaveSameBeside, Table, above_all, instances_in, listed}
 use Rattle.collectives.specs.Instances.{answer_of, enters_by, instance_at, joins_unless, AreOrderly, Gains, IsInstancesAfter, Loses}
 use Rattle.collectives.specs.declared.entrants.Entrant.{Entrant}
 use Rattle.collectives.specs.declared.instances.Entered.{Entered}
@@ -94,19 +96,63 @@ loses_seen old new comm instance rank loses = record {
       ∙ (loses.at other number ∙ sym (ap (λ (es : List Entrant). cond (other == comm && number == instance) (without rank es) es) (enters_seen old other number)));
 }
 
+-- past the last communicator nobody has entered
+none_past : (stages : Stages) (comm : ℕ) → length stages ≤ comm → instances_on stages comm ≡ []
+none_past [] comm past = refl
+none_past (stage ∷ stages) zero past = absurd (omega arith)
+none_past (stage ∷ stages) (suc comm) past = none_past stages comm (omega arith)
+
+-- the list reads as the table
+none_above : (table : Table) (comm : ℕ) → above_all table ≤ comm → lookup (nat_eq comm) table ≡ None
+none_above [] comm above = refl
+none_above (entry ∷ entries) comm above =
+    lookup_tail (nat_eq comm) entry entries (neq-eqb comm entry.0 (λ same. let is : comm ≡ entry.0 = same in absurd (omega (arith, is, above))))
+    ∙ none_above entries comm (omega (arith, above))
+
+pub instances_listed : (table : Table) (comm : ℕ) → instances_on (listed table) comm ≡ instances_in table comm
+instances_listed table comm =
+    elim (cases_lt comm (above_all table)) [
+      | inl below ↦ get_or-map-range_with_len (instances_in table) 0 (above_all table) comm comm [] below (omega arith)
+      | inr above ↦ (
+          let many : length (listed table) ≡ above_all table = length-map-range_with_len (instances_in table) 0 (above_all table) in
+          none_past (listed table) comm (omega (arith, many, above)) ∙ sym (ap (λ (found : Option (List (List Entrant))). unwrap_or found []) (none_above table comm above)))
+    ]
+
+-- what is found of a communicator's instances, or not
+pub on_found : (table : Table) (comm : ℕ) (found : List (List Entrant)) → Some found ≡ lookup (nat_eq comm) table → found ≡ instances_on (listed table) comm
+on_found table comm found is = ap (λ (o : Option (List (List Entrant))). unwrap_or o []) is ∙ sym (instances_listed table comm)
+
+pub on_none : (table : Table) (comm : ℕ) → None ≡ lookup (nat_eq comm) table → [] ≡ instances_on (listed table) comm
+on_none table comm is = ap (λ (o : Option (List (List Entrant))). unwrap_or o []) is ∙ sym (instances_listed table comm)
+
+-- the same instances are the same board
+pub same_read : (old new : Table) (seen : Stages) → stages_of (listed old) ≡ seen → HaveSame old new → stages_of (listed new) ≡ seen
+same_read old new seen view same =
+    stages_same (listed new) (listed old)
+    (λ other instance. ap (λ (all : List (List Entrant)). instance_at all instance) (instances_listed new other ∙ (same other ∙ sym (instances_listed old other))))
+    ∙ view
+
+all_same : (old new : Table) (comm : ℕ) → HaveSameBeside comm old new → instances_in new comm ≡ instances_in old comm → HaveSame old new
+all_same old new comm others same other =
+    elim (cases_Bool (comm == other)) [
+      | inl here ↦ (let F : ℕ → Type 0 = λ c. instances_in new c ≡ instances_in old c in subst F (eqb-true comm other here) same)
+      | inr away ↦ others other away
+    ]
+
 -- one communicator's instances are others, and all else stays
-pub record Sets (old new : Stages) (comm : ℕ) (instances : List (List Entrant)) : Type 0 where
-  pub at : (other : ℕ) → instances_on new other ≡ cond (other == comm) instances (instances_on old other)
+record Sets (old new : Stages) (comm : ℕ) (instances : List (List Entrant)) : Type 0 where
+  at : (other : ℕ) → instances_on new other ≡ cond (other == comm) instances (instances_on old other)
 
-pub sets_is : (old more : Stages) (comm : ℕ) (instances : List (List Entrant)) → ((other : ℕ) → get_or more other [] ≡ get_or old other []) → comm < length more
-    → Sets old (set more comm instances) comm instances
-sets_is old more comm instances same within = record { at = λ other. at other (cases_eq other comm) }
+sets_is : (old new : Table) (comm : ℕ) → HaveSameBeside comm old new → Sets (listed old) (listed new) comm (instances_in new comm)
+sets_is old new comm others = record { at = λ other. at other (cases_eq other comm) }
   where
-    at : (other : ℕ) → (other ≡ comm) ⊎ (other ≢ comm) → instances_on (set more comm instances) other ≡ cond (other == comm) instances (instances_on old other)
-    at other (inl here) = rw (eq-eqb other comm here) (ap (instances_on (set more comm instances)) here ∙ get_or-set_same more comm instances [] within)
-    at other (inr away) = rw (neq-eqb other comm away) (get_or-set_other more comm other instances [] away ∙ same other)
+    at : (other : ℕ) → (other ≡ comm) ⊎ (other ≢ comm) → instances_on (listed new) other ≡ cond (other == comm) (instances_in new comm) (instances_on (listed old) other)
+    at other (inl here) = rw (eq-eqb other comm here) (instances_listed new other ∙ ap (instances_in new) here)
+    at other (inr away) =
+        rw (neq-eqb other comm away)
+        (instances_listed new other ∙ (others other (neq-eqb comm other (λ same. away (sym same))) ∙ sym (instances_listed old other)))
 
-pub gains_enter : (old new : Stages) (comm instance : ℕ) (entrant : Entrant) (instances : List (List Entrant)) → Sets old new comm instances
+gains_enter : (old new : Stages) (comm instance : ℕ) (entrant : Entrant) (instances : List (List Entrant)) → Sets old new comm instances
     → Gains (instances_on old comm) instances instance entrant → GainsEnter old new comm instance entrant
 gains_enter old new comm instance entrant instances sets gains = record { at = λ other number. at other number (cases_eq other comm) }
   where
@@ -118,7 +164,7 @@ gains_enter old new comm instance entrant instances sets gains = record { at = �
     at other number (inr away) =
         ap (λ (all : List (List Entrant)). instance_at all number) (sets.at other) ∙ rw (neq-eqb other comm away) refl
 
-pub loses_enter : (old new : Stages) (comm instance rank : ℕ) (instances : List (List Entrant)) → Sets old new comm instances
+loses_enter : (old new : Stages) (comm instance rank : ℕ) (instances : List (List Entrant)) → Sets old new comm instances
     → Loses (instances_on old comm) instances instance rank → LosesEnter old new comm instance rank
 loses_enter old new comm instance rank instances sets loses = record { at = λ other number. at other number (cases_eq other comm) }
   where
@@ -130,50 +176,24 @@ loses_enter old new comm instance rank instances sets loses = record { at = λ o
     at other number (inr away) =
         ap (λ (all : List (List Entrant)). instance_at all number) (sets.at other) ∙ rw (neq-eqb other comm away) refl
 
--- the same instances, written back, change nothing
-pub unchanged : (old new : Stages) (comm : ℕ) (found left : List (List Entrant)) → Sets old new comm left → found ≡ instances_on old comm → left ≡ found → stages_of new ≡ stages_of old
-unchanged old new comm found left sets is same =
-    stages_same new old (λ other instance. ap (λ (all : List (List Entrant)). instance_at all instance) (sets.at other ∙ at other (cases_eq other comm)))
-  where
-    at : (other : ℕ) → (other ≡ comm) ⊎ (other ≢ comm) → cond (other == comm) left (instances_on old other) ≡ instances_on old other
-    at other (inl here) = rw (eq-eqb other comm here) (same ∙ (is ∙ ap (instances_on old) (sym here)))
-    at other (inr away) = rw (neq-eqb other comm away) refl
-
--- the board after an Enter, from one communicator's instances after it, in the words of the board that was passed
-pub board_after : (old new seen : Stages) (comm rank : ℕ) (call : Call) (found left : List (List Entrant)) (entered : Entered) → stages_of old ≡ seen → comm ≡ comm_of call
-    → found ≡ instances_on old comm → Sets old new comm left → IsInstancesAfter found left rank call entered → IsBoardAfter seen (stages_of new) rank call entered
-board_after old new seen comm rank call found left (Joined instance) view same is sets after =
+-- the board after an Enter, in the words of the board that was passed
+pub board_after : (old new : Table) (seen : Stages) (comm rank : ℕ) (call : Call) (entered : Entered) → stages_of (listed old) ≡ seen → comm ≡ comm_of call → HaveSameBeside comm old new
+    → IsInstancesAfter (instances_in old comm) (instances_in new comm) rank call entered → IsBoardAfter seen (stages_of (listed new)) rank call entered
+board_after old new seen comm rank call (Joined instance) view same others after =
     let me : Entrant = record { rank = rank; call = call } in
-    let P : List (List Entrant) → Type 0 = λ all. Gains all left instance me in
-    let Q : ℕ → Type 0 = λ c. GainsEnter (stages_of old) (stages_of new) c instance me in
-    let R : Stages → Type 0 = λ s. GainsEnter s (stages_of new) (comm_of call) instance me in
-    subst R view (subst Q same (gains_seen old new comm instance me (gains_enter old new comm instance me left sets (subst P is after))))
-board_after old new seen comm rank call found left (Disagrees other) view same is sets after = unchanged old new comm found left sets is after ∙ view
+    let P : List (List Entrant) → Type 0 = λ all. Gains all (instances_in new comm) instance me in
+    let Q : ℕ → Type 0 = λ c. GainsEnter (stages_of (listed old)) (stages_of (listed new)) c instance me in
+    let R : Stages → Type 0 = λ s. GainsEnter s (stages_of (listed new)) (comm_of call) instance me in
+    subst R view (subst Q same (gains_seen (listed old) (listed new) comm instance me
+    (gains_enter (listed old) (listed new) comm instance me (instances_in new comm) (sets_is old new comm others) (subst P (sym (instances_listed old comm)) after))))
+board_after old new seen comm rank call (Disagrees other) view same others after = same_read old new seen view (all_same old new comm others after)
 
 -- the answer, in the same words
-pub answer_is : (old seen : Stages) (comm rank : ℕ) (call : Call) (found : List (List Entrant)) → stages_of old ≡ seen → comm ≡ comm_of call → found ≡ instances_on old comm
-    → answer_of found rank call ≡ entered_by seen rank call
-answer_is old seen comm rank call found view same is =
-    ap (λ (all : List (List Entrant)). answer_of all rank call) (is ∙ ap (instances_on old) same)
-    ∙ (sym (answer_seen old rank call) ∙ ap (λ (s : Stages). entered_by s rank call) view)
-
--- past the last communicator nobody has entered
-pub none_past : (stages : Stages) (comm : ℕ) → length stages ≤ comm → instances_on stages comm ≡ []
-none_past [] comm past = refl
-none_past (stage ∷ stages) zero past = absurd (omega arith)
-none_past (stage ∷ stages) (suc comm) past = none_past stages comm (omega arith)
-
--- so nothing disagrees there
-pub first_joins : (old seen : Stages) (comm rank : ℕ) (call : Call) (other : ℕ) → stages_of old ≡ seen → comm ≡ comm_of call → length old ≤ comm → entered_by seen rank call ≡ Disagrees other → ⊥
-first_joins old seen comm rank call other view same past disagrees =
-    let joins : Joined 0 ≡ Disagrees other = answer_is old seen comm rank call [] view same (sym (none_past old comm past)) ∙ disagrees in cc
-
--- what is found of a communicator's instances
-pub at_place : (stages : Stages) (comm : ℕ) (found : List (List Entrant)) → comm < length stages → found ≡ get_or stages comm found → found ≡ instances_on stages comm
-at_place stages comm found there is = is ∙ get_or_default stages comm found [] there
-
-pub on_found : (stages : Stages) (comm : ℕ) (found : List (List Entrant)) → true ≡ nat_lt comm (length stages) → found ≡ get_or stages comm found → found ≡ instances_on stages comm
-on_found stages comm found there is = at_place stages comm found (ltb-true comm (length stages) (sym there)) is
+pub answer_is : (table : Table) (seen : Stages) (comm rank : ℕ) (call : Call) → stages_of (listed table) ≡ seen → comm ≡ comm_of call
+    → answer_of (instances_in table comm) rank call ≡ entered_by seen rank call
+answer_is table seen comm rank call view same =
+    ap (λ (all : List (List Entrant)). answer_of all rank call) (sym (instances_listed table comm) ∙ ap (instances_on (listed table)) same)
+    ∙ (sym (answer_seen (listed table) rank call) ∙ ap (λ (s : Stages). entered_by s rank call) view)
 
 -- what is found, in the words of the board that was passed
 pub seen_enters : (stages seen : Stages) (comm instance : ℕ) (found : List (List Entrant)) → stages_of stages ≡ seen → found ≡ instances_on stages comm
@@ -187,44 +207,25 @@ pub seen_count : (stages seen : Stages) (comm rank : ℕ) (found : List (List En
 seen_count stages seen comm rank found view is =
     ap (λ (all : List (List Entrant)). enters_by all rank) is ∙ (sym (count_seen stages comm rank) ∙ ap (λ (s : Stages). enters_on s comm rank) view)
 
-pub seen_orderly : (stages seen : Stages) (comm rank : ℕ) (found : List (List Entrant)) → stages_of stages ≡ seen → found ≡ instances_on stages comm → AreOrderly found rank
-    → IsOrderly seen comm rank
-seen_orderly stages seen comm rank found view is orderly = record {
-  counted = λ number. sym (ap (λ (es : List Entrant). has_entered es rank) (seen_enters stages seen comm number found view is))
-      ∙ (orderly.counted number ∙ ap (nat_lt number) (seen_count stages seen comm rank found view is));
-  agreed = λ number. subst AllAgree (seen_enters stages seen comm number found view is) (orderly.agreed number);
+pub seen_orderly : (seen : Stages) (comm rank : ℕ) (found : List (List Entrant)) → ((instance : ℕ) → instance_at found instance ≡ enters_of seen comm instance)
+    → enters_by found rank ≡ enters_on seen comm rank → AreOrderly found rank → IsOrderly seen comm rank
+seen_orderly seen comm rank found enters count orderly = record {
+  counted = λ number. sym (ap (λ (es : List Entrant). has_entered es rank) (enters number)) ∙ (orderly.counted number ∙ ap (nat_lt number) count);
+  agreed = λ number. subst AllAgree (enters number) (orderly.agreed number);
 }
 
 pub seen_trimmed : (stages seen : Stages) → stages_of stages ≡ seen → IsTrimmed seen
 seen_trimmed stages seen view = subst IsTrimmed view (trimmed stages)
 
--- the place of a communicator on which a rank has entered
-pub within : (stages seen : Stages) (comm rank : ℕ) → stages_of stages ≡ seen → 0 < enters_on seen comm rank → comm < length stages
-within stages seen comm rank view some =
-    elim (cases_lt comm (length stages)) [
-      | inl less ↦ less
-      | inr past ↦ absurd (
-          let none : 0 ≡ enters_on seen comm rank = seen_count stages seen comm rank [] view (sym (none_past stages comm past)) in
-          omega (arith, none, some))
-    ]
-
 -- the board after a rank has left
-pub board_left : (stages seen : Stages) (comm rank : ℕ) (found left : List (List Entrant)) → stages_of stages ≡ seen → comm < length stages → found ≡ instances_on stages comm
-    → Loses found left (enters_by found rank - 1) rank → LosesEnter seen (stages_of (set stages comm left)) comm (enters_on seen comm rank - 1) rank
-board_left stages seen comm rank found left view there is loses =
-    let new : Stages = set stages comm left in
-    let P : List (List Entrant) → Type 0 = λ all. Loses all left (enters_by found rank - 1) rank in
-    let Q : ℕ → Type 0 = λ k. LosesEnter (stages_of stages) (stages_of new) comm (k - 1) rank in
-    let R : Stages → Type 0 = λ s. LosesEnter s (stages_of new) comm (enters_on seen comm rank - 1) rank in
-    subst R view (subst Q (seen_count stages seen comm rank found view is)
-    (loses_seen stages new comm (enters_by found rank - 1) rank
-    (loses_enter stages new comm (enters_by found rank - 1) rank left (sets_is stages stages comm left (λ other. refl) there) (subst P is loses))))
-
--- the same lists read the same
-pub same_read : (old new seen : Stages) → stages_of old ≡ seen → ((other : ℕ) → get_or new other [] ≡ get_or old other []) → stages_of new ≡ seen
-same_read old new seen view same =
-    stages_same new old (λ other instance. ap (λ (all : List (List Entrant)). instance_at all instance) (same other)) ∙ view
-
-pub on_err_given : {A E : Type 0} (result : Result A E) (P : Type 0) → P → OnErr result P
-on_err_given (Ok value) P h = tt
-on_err_given (Err error) P h = h
+pub board_left : (old new : Table) (seen : Stages) (comm rank : ℕ) → stages_of (listed old) ≡ seen → HaveSameBeside comm old new
+    → Loses (instances_in old comm) (instances_in new comm) (enters_by (instances_in old comm) rank - 1) rank → LosesEnter seen (stages_of (listed new)) comm (enters_on seen comm rank - 1) rank
+board_left old new seen comm rank view others loses =
+    let was : List (List Entrant) = instances_in old comm in
+    let is : was ≡ instances_on (listed old) comm = sym (instances_listed old comm) in
+    let P : List (List Entrant) → Type 0 = λ all. Loses all (instances_in new comm) (enters_by was rank - 1) rank in
+    let Q : ℕ → Type 0 = λ k. LosesEnter (stages_of (listed old)) (stages_of (listed new)) comm (k - 1) rank in
+    let R : Stages → Type 0 = λ s. LosesEnter s (stages_of (listed new)) comm (enters_on seen comm rank - 1) rank in
+    subst R view (subst Q (seen_count (listed old) seen comm rank was view is)
+    (loses_seen (listed old) (listed new) comm (enters_by was rank - 1) rank
+    (loses_enter (listed old) (listed new) comm (enters_by was rank - 1) rank (instances_in new comm) (sets_is old new comm others) (subst P is loses))))

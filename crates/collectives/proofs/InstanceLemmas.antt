@@ -11,9 +11,8 @@ use Rattle.mpi_call.specs.Needs.{agree}
 use Rattle.mpi_call.specs.declared.call.Call.{Call}
 use Rattle.mpi_call.specs.Lists.{IsIn}
 use Rattle.collectives.specs.Entrants.{AllAgree, first_against, has_entered, without}
-use Rattle.collectives.specs.Instances.{enters_by, answer_of, instance_at, joins_unless, AreOrderly, Gains, IsKept, Loses}
+use Rattle.collectives.specs.Instances.{enters_by, instance_at, AreOrderly, Gains, IsKept, Loses}
 use Rattle.collectives.specs.declared.entrants.Entrant.{Entrant}
-use Rattle.collectives.specs.declared.instances.Entered.TheVariants.{Joined, Disagrees}
 
 not_less : (a b : ℕ) → b ≤ a → nat_lt a b ≡ false
 not_less a b h = elim (cases_Bool (nat_lt a b)) [ inl less ↦ absurd (let below : a < b = ltb-true a b less in omega arith) | inr more ↦ more ]
@@ -58,19 +57,6 @@ count_is instances counts rank kept = sym (enters_by_is instances rank (get_or c
 pub orderly_is : (instances : List (List Entrant)) (counts : List ℕ) (rank : ℕ) → IsKept instances counts → AreOrderly instances rank
 orderly_is instances counts rank kept = record {
   counted = λ number. kept.counted rank number ∙ ap (nat_lt number) (count_is instances counts rank kept);
-  agreed = kept.agreed;
-}
-
-pub orderly_first : (rank : ℕ) → AreOrderly [] rank
-orderly_first rank = record {
-  counted = λ number. sym (not_less number 0 (omega arith));
-  agreed = λ number. record { pairs = λ a b h g. absurd h };
-}
-
--- counts that read the same
-pub kept_same : (instances : List (List Entrant)) (counts more : List ℕ) → IsKept instances counts → ((rank : ℕ) → get_or more rank 0 ≡ get_or counts rank 0) → IsKept instances more
-kept_same instances counts more kept same = record {
-  counted = λ rank number. kept.counted rank number ∙ ap (nat_lt number) (sym (same rank));
   agreed = kept.agreed;
 }
 
@@ -250,26 +236,19 @@ kept_after_leave old new counts last rank kept loses within is = record {
 pub left_is : (old : List (List Entrant)) (last rank : ℕ) (found left : List Entrant) → last < length old → found ≡ get_or old last found → left ≡ without rank found → left ≡ without rank (instance_at old last)
 left_is old last rank found left within at is = is ∙ ap (without rank) (at ∙ get_or_default old last found [] within)
 
--- the answer to an Enter
-pub joins_is : (instances seen : List (List Entrant)) (counts : List ℕ) (lists : List (List Entrant)) (rank : ℕ) (call : Call) (instance : ℕ) (other : Option ℕ)
-    → IsKept instances counts → instances ≡ seen → lists ≡ instances → instance ≡ get_or counts rank 0
-    → other ≡ first_against (instance_at lists instance) call → joins_unless instance other ≡ answer_of seen rank call
-joins_is instances seen counts lists rank call instance other kept view is count against =
-    let next : instance ≡ enters_by seen rank = count ∙ (count_is instances counts rank kept ∙ ap (λ (all : List (List Entrant)). enters_by all rank) view) in
-    let found : other ≡ first_against (instance_at seen (enters_by seen rank)) call =
-    against ∙ ap₂ (λ (all : List (List Entrant)) (n : ℕ). first_against (instance_at all n) call) (is ∙ view) next in
-    ap₂ joins_unless next found
+-- a rank's count of Enters is its count that is kept
+pub count_kept : (instances seen : List (List Entrant)) (counts : List ℕ) (rank count : ℕ) → IsKept instances counts → instances ≡ seen → count ≡ enters_by seen rank → count ≡ get_or counts rank 0
+count_kept instances seen counts rank count kept view is =
+    is ∙ sym (count_is instances counts rank kept ∙ ap (λ (all : List (List Entrant)). enters_by all rank) view)
+
+-- the earliest Enter that does not agree, in the words of the instances that were passed
+pub against_is : (lists instances seen : List (List Entrant)) (rank : ℕ) (call : Call) (instance : ℕ) (other : Option ℕ) → lists ≡ instances → instances ≡ seen → instance ≡ enters_by seen rank
+    → other ≡ first_against (instance_at lists instance) call → other ≡ first_against (instance_at seen (enters_by seen rank)) call
+against_is lists instances seen rank call instance other is view next against =
+    against ∙ ap₂ (λ (all : List (List Entrant)) (n : ℕ). first_against (instance_at all n) call) (is ∙ view) next
 
 pub loses_at : (old seen new : List (List Entrant)) (last number rank : ℕ) → old ≡ seen → last ≡ number → Loses old new last rank → Loses seen new number rank
 loses_at old seen new last number rank view is loses =
     let P : List (List Entrant) → Type 0 = λ all. Loses all new number rank in
     let Q : ℕ → Type 0 = λ n. Loses old new n rank in
     subst P view (subst Q is loses)
-
--- an Enter that joins does not disagree
-pub joins_not : (instances seen : List (List Entrant)) (counts : List ℕ) (lists : List (List Entrant)) (rank : ℕ) (call : Call) (instance : ℕ)
-    → IsKept instances counts → instances ≡ seen → lists ≡ instances → instance ≡ get_or counts rank 0
-    → None ≡ first_against (instance_at lists instance) call → (other : ℕ) → answer_of seen rank call ≡ Disagrees other → ⊥
-joins_not instances seen counts lists rank call instance kept view is count against other disagrees =
-    let joins : Joined instance ≡ Disagrees other = joins_is instances seen counts lists rank call instance None kept view is count against ∙ disagrees in
-    cc

@@ -1,3 +1,4 @@
 pub mod Boards
 pub mod Entrants
 pub mod Instances
+pub mod InstanceTable

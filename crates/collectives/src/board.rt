@@ -1,11 +1,12 @@
 //! The collectives of all communicators.
-ghost use Rattle.std.specs.Prelude.{◌≡◌, ◌-◌, ◌<◌, ◌≤◌, [], ℕ, map, vec_len, IfOk, IsOk, IsTrue, OnErr, OnOk};
-ghost use Rattle.std.specs.List.{slice_index_or};
+ghost use Rattle.std.specs.Prelude.{◌≡◌, ◌-◌, ◌<◌, [], ℕ, map, IfOk, IsOk, IsTrue, OnErr};
 ghost use Rattle.mpi_call.specs.Calls.{comm_of, is_enter};
 ghost use Rattle.collectives.specs.Boards.{entered_by, enters_of, enters_on, IsBoardAfter, IsOrderly, IsTrimmed, LosesEnter};
 ghost use Rattle.collectives.specs.Entrants.{has_entered, ints_by};
+ghost use Rattle.collectives.specs.Instances.{enters_by, instance_at};
 ghost use Rattle.collectives.specs.declared.instances.Entered.TheVariants.{Disagrees};
 
+use crate::instance_table::InstanceTable;
 use crate::instances::{Entered, Instances};
 use mpi_call::call::{Call, Comm};
 use mpi_call::lists::{Inputs, Ranks};
@@ -16,16 +17,22 @@ use std::marker::Model;
 /// empty ones at the end.
 #[derive(Drop)]
 pub struct Board {
-    stages: Vec<Instances>,
+    table: InstanceTable,
+    /// Those of a communicator that no rank has entered.
+    none: Instances,
     alloc: Global,
 }
 
 impl Model for Board {
+    ghost use Rattle.std.specs.Prelude.{◌≡◌, []};
     ghost use Rattle.collectives.specs.Boards.{Stages, stages_of};
+    ghost use Rattle.collectives.specs.InstanceTable.{listed};
 
     ghost Value = { Stages };
 
-    ghost view = { λ s. stages_of s.stages.items };
+    ghost view = { λ s. stages_of (listed s.table) };
+
+    ghost invariant = { λ s. s.none ≡ [] };
 }
 
 impl Board {
@@ -34,7 +41,8 @@ impl Board {
         ensures { result ≡ [] }
     {
         Board {
-            stages: Vec::new(alloc),
+            table: InstanceTable::new(alloc),
+            none: Instances::new(alloc),
             alloc,
         }
     }
@@ -50,9 +58,19 @@ impl Board {
         ensures after { IfOk result (λ entered. IsBoardAfter self.old self.new rank call.now entered) }
         ensures err { OnErr result (self.new ≡ self.old) }
     {
-        let comm = comm_of(call);
-        reserve(self.alloc, &mut self.stages, comm)?;
-        self.stages[comm as usize].enter(self.alloc, rank, call)
+        self.table.enter(comm_of(call), rank, call)
+    }
+
+    /// The instances of a communicator. Who asks for several ranks looks their communicator up once. Takes no memory.
+    pub fn instances_on(&self, comm: Comm) -> &Instances
+        ensures enters { (instance : ℕ) → instance_at result.now instance ≡ enters_of self.now comm instance }
+        ensures count { (rank : ℕ) → enters_by result.now rank ≡ enters_on self.now comm rank }
+        ensures trimmed { IsTrimmed self.now }
+    {
+        match self.table.get(comm) {
+            Some(instances) => instances,
+            None => &self.none,
+        }
     }
 
     /// How many Enters a rank has made on a communicator: the instance of its next one. Takes no memory.
@@ -61,30 +79,22 @@ impl Board {
         ensures orderly { IsOrderly self.now comm rank }
         ensures trimmed { IsTrimmed self.now }
     {
-        match self.stages.get(comm as usize) {
-            Some(instances) => instances.enters_by(rank),
-            None => 0,
-        }
+        self.instances_on(comm).enters_by(rank)
     }
 
     /// Whether a rank has entered an instance. Takes no memory.
     pub fn entered(&self, comm: Comm, instance: u32, who: u8) -> bool
         ensures { result ≡ has_entered (enters_of self.now comm instance) who }
     {
-        match self.stages.get(comm as usize) {
-            Some(instances) => instances.entered(instance, who),
-            None => false,
-        }
+        self.instances_on(comm).entered(instance, who)
     }
 
     /// What each of these members entered in an instance, nothing where it has not.
     pub fn inputs(&self, comm: Comm, instance: u32, members: &Ranks) -> Result<Inputs, AllocError>
         ensures { IfOk result (λ inputs. inputs ≡ map (ints_by (enters_of self.now comm instance)) members.now) }
     {
-        match self.stages.get(comm as usize) {
-            Some(instances) => instances.inputs(self.alloc, instance, members.as_slice()),
-            None => Instances::new(self.alloc).inputs(self.alloc, instance, members.as_slice()),
-        }
+        self.instances_on(comm)
+            .inputs(self.alloc, instance, members.as_slice())
     }
 
     /// Takes a rank's latest Enter on a communicator out. Takes no memory.
@@ -93,20 +103,8 @@ impl Board {
         ensures loses { LosesEnter self.old self.new comm (enters_on self.old comm rank - 1) rank }
         ensures trimmed { IsTrimmed self.new }
     {
-        self.stages[comm as usize].leave(rank);
+        self.table.leave(rank, comm);
     }
-}
-
-/// Makes a place for a communicator's instances, where nobody has entered.
-fn reserve(alloc: Global, stages: &mut Vec<Instances>, comm: Comm) -> Result<(), AllocError>
-    ensures same { (other : ℕ) → slice_index_or stages.new.items other [] ≡ slice_index_or stages.old.items other [] }
-    ensures ok { OnOk result (comm < vec_len stages.new) }
-    ensures past { OnErr result (vec_len stages.old ≤ comm) }
-{
-    while stages.len() <= comm as usize {
-        stages.push(Instances::new(alloc))?;
-    }
-    Ok(())
 }
 
 /// The communicator of an Enter. Takes no memory.

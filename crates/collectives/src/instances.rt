@@ -1,5 +1,5 @@
 //! The instances of one communicator's collectives.
-ghost use Rattle.std.specs.Prelude.{◌≡◌, ◌-◌, ◌<◌, ◌≤◌, [], ℕ, length, map, IfOk, IsOk, IsTrue, OnErr, OnOk, slice_index, vec_len};
+ghost use Rattle.std.specs.Prelude.{◌≡◌, ◌-◌, ◌<◌, ◌≤◌, [], ℕ, length, map, IfOk, IsOk, IsTrue, None, OnErr, OnOk, slice_index, vec_len};
 ghost use Rattle.mpi_call.specs.Calls.{is_enter};
 ghost use Rattle.collectives.specs.Entrants.{first_against, has_entered, ints_by, AllAgree};
 ghost use Rattle.collectives.specs.Instances.{answer_of, enters_by, instance_at, AreOrderly, Gains, IsInstancesAfter, Loses};
@@ -86,11 +86,24 @@ impl Instances {
         ensures after { IfOk result (λ entered. IsInstancesAfter self.old self.new rank call.now entered) }
         ensures err { OnErr result (self.new ≡ self.old) }
     {
-        let instance = count_of(&self.counts, rank);
-        match first_against(&self.lists, instance, call) {
-            Some(other) => return Ok(Entered::Disagrees { other }),
-            None => {}
+        match first_against(&self.lists, self.enters_by(rank), call) {
+            Some(other) => Ok(Entered::Disagrees { other }),
+            None => {
+                let instance = self.join(alloc, rank, call)?;
+                Ok(Entered::Joined { instance })
+            }
         }
+    }
+
+    /// Adds an Enter of a rank, which agrees with those before, to that rank's next instance, and answers the instance.
+    fn join(&mut self, alloc: Global, rank: u8, call: &Call) -> Result<u32, AllocError>
+        requires call { IsTrue (is_enter call.now) }
+        requires agrees { first_against (instance_at self.old (enters_by self.old rank)) call.now ≡ None }
+        ensures instance { IfOk result (λ instance. instance ≡ enters_by self.old rank) }
+        ensures gains { OnOk result (Gains self.old self.new (enters_by self.old rank) (record { rank = rank; call = call.now })) }
+        ensures err { OnErr result (self.new ≡ self.old) }
+    {
+        let instance = self.enters_by(rank);
         // No memory holds so many Enters.
         if instance == u32::MAX {
             return Err(AllocError);
@@ -99,7 +112,7 @@ impl Instances {
         reserve(&mut self.counts, rank)?;
         add(alloc, &mut self.lists, instance, Entrant { rank, call })?;
         self.counts[rank as usize] = instance + 1;
-        Ok(Entered::Joined { instance })
+        Ok(instance)
     }
 
     /// Takes a rank's latest Enter out. Takes no memory.
@@ -107,7 +120,7 @@ impl Instances {
         requires { 0 < enters_by self.old rank }
         ensures { Loses self.old self.new (enters_by self.old rank - 1) rank }
     {
-        let last = count_of(&self.counts, rank) - 1;
+        let last = self.enters_by(rank) - 1;
         self.lists[last as usize].remove(rank);
         self.counts[rank as usize] = last;
     }

@@ -6,4 +6,5 @@
 
 pub mod board;
 pub mod entrants;
+mod instance_table;
 pub mod instances;

@@ -1,5 +1,5 @@
 //! Commands whose files cannot be read, are too long, or whose output cannot be written.
-use crate::programs::{FIRST, FIRST_CHECKED, FIRST_LOG, SENT_TO_SELF};
+use crate::programs::{FIRST, FIRST_ADVISED, FIRST_CHECKED, FIRST_LOG, SENT_TO_SELF};
 use crate::serial::{answers, files};
 use std::alloc::Global;
 use wiz_cli::top::wiz_serial;
@@ -7,11 +7,19 @@ use wiz_io::{MemorySink, MemoryStore};
 
 const CHECK: &[&str] = &["check", "P", "Q", "--serial"];
 
+const ORDERED: &[&str] = &["advise", "P", "Q", "1", "--order", "F"];
+
 const REPLAY: &[&str] = &["replay", "L", "--program", "P", "--serial"];
 
-/// The files `P`, `Q` and `L`: a program, a plan of two groups and a log.
+/// The files `P`, `Q`, `L` and `F`: a program, a plan of two groups, a log and an order.
 fn inputs(alloc: Global, program: &[u8]) -> Option<MemoryStore> {
-    files(alloc, &[("P", program), ("Q", b"0\n1\n"), ("L", FIRST_LOG)])
+    let named: [(&str, &[u8]); 4] = [
+        ("P", program),
+        ("Q", b"0\n1\n"),
+        ("L", FIRST_LOG),
+        ("F", b"0\n"),
+    ];
+    files(alloc, &named)
 }
 
 #[test]
@@ -19,10 +27,12 @@ fn each_read_of_a_command_fails_in_turn(rt: HostRuntime) {
     let alloc = rt.alloc();
     // The call that fails, over reads and writes, the arguments, the status, and what is printed. A command that ends with status 0 does
     // not come to that call.
-    let rows: [(u32, &[&str], u8, &[u8]); 9] = [
+    let rows: [(u32, &[&str], u8, &[u8]); 11] = [
         (0, CHECK, 3, b"cannot read P\n"),
         (1, CHECK, 3, b"cannot read Q\n"),
         (2, CHECK, 0, FIRST_CHECKED),
+        (2, ORDERED, 3, b"cannot read F\n"),
+        (3, ORDERED, 0, FIRST_ADVISED),
         (0, &["show", "L"], 3, b"cannot read L\n"),
         (
             1,
@@ -54,8 +64,10 @@ fn each_read_of_a_command_fails_in_turn(rt: HostRuntime) {
 fn a_first_put_that_fails_leaves_no_output(rt: HostRuntime) {
     let alloc = rt.alloc();
     // The arguments, and the status: a failed put of a message changes none.
-    let rows: [(&[&str], u8); 9] = [
+    let rows: [(&[&str], u8); 11] = [
         (CHECK, 4),
+        (&["races", "P", "Q", "--serial"], 4),
+        (ORDERED, 4),
         (REPLAY, 4),
         (&["replay", "L", "--serial"], 4),
         (&["show", "L"], 4),

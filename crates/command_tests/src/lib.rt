@@ -2,13 +2,19 @@
 #![tactic(auto)]
 
 #[cfg(test)]
+mod advice;
+#[cfg(test)]
 mod checks;
+#[cfg(test)]
+mod conversions;
 #[cfg(test)]
 mod faults;
 #[cfg(test)]
 mod logs;
 #[cfg(test)]
 mod programs;
+#[cfg(test)]
+mod races;
 #[cfg(test)]
 mod records;
 #[cfg(test)]

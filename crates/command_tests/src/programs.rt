@@ -8,6 +8,14 @@ pub const FIRST: &[u8] =
 pub const FIRST_CHECKED: &[u8] =
     b"rank 0 group 0 calls 2 output 0 same\nrank 1 group 1 calls 3 output 2 same\nfinished\n";
 
+/// The advice on it with one rank for a block at most, where each rank is a group.
+pub const FIRST_ADVISED: &[u8] =
+    b"advice cost 1 given 1\n0\n1\nbound 0 0\nbound 1 0\nbound 2 1\nfinished\n";
+
+/// The same with two ranks or more.
+pub const FIRST_TOGETHER: &[u8] =
+    b"advice cost 0 given 1\n0-1\nbound 0 0\nbound 1 0\nbound 2 0\nfinished\n";
+
 /// Two ranks that receive from each other before anything is sent.
 pub const CYCLE: &[u8] =
     b"int main(void){int r,x=0;MPI_Comm_rank(MPI_COMM_WORLD,&r);if(r==0){MPI_Recv(&x,1,MPI_INT,1,5,MPI_COMM_WORLD,MPI_STATUS_IGNORE);}if(r==1){MPI_Recv(&x,1,MPI_INT,0,5,MPI_COMM_WORLD,MPI_STATUS_IGNORE);}return 0;}";
@@ -46,6 +54,10 @@ pub const NOT_SENT: &[u8] =
 /// Rank 0 waits for rank 2, which first waits for rank 1.
 pub const CHAIN: &[u8] =
     b"int main(void){int r,x=0;MPI_Comm_rank(MPI_COMM_WORLD,&r);if(r==0)MPI_Recv(&x,1,MPI_INT,2,5,MPI_COMM_WORLD,MPI_STATUS_IGNORE);if(r==1)MPI_Send(&x,1,MPI_INT,2,5,MPI_COMM_WORLD);if(r==2){MPI_Recv(&x,1,MPI_INT,1,5,MPI_COMM_WORLD,MPI_STATUS_IGNORE);MPI_Send(&x,1,MPI_INT,0,5,MPI_COMM_WORLD);}return 0;}";
+
+/// Ranks 0 and 1 send to rank 2, which takes them as they come and prints both.
+pub const TWO_SENDERS: &[u8] =
+    b"int main(void){int r,x=0;MPI_Comm_rank(MPI_COMM_WORLD,&r);if(r<2)MPI_Send(&r,1,MPI_INT,2,9,MPI_COMM_WORLD);if(r==2){MPI_Recv(&x,1,MPI_INT,MPI_ANY_SOURCE,9,MPI_COMM_WORLD,MPI_STATUS_IGNORE);printf(\"%d\\n\",x);MPI_Recv(&x,1,MPI_INT,MPI_ANY_SOURCE,9,MPI_COMM_WORLD,MPI_STATUS_IGNORE);printf(\"%d\\n\",x);}return 0;}";
 
 /// The log of the first program, both ranks in one group.
 pub const FIRST_LOG: &[u8] =

@@ -1,6 +1,6 @@
 //! Recordings of files in memory: status, files and what is printed.
 use crate::programs::{BAD_RANK, CYCLE, FIRST};
-use crate::serial::{answers, files};
+use crate::serial::{answers, files, lines_of};
 use std::alloc::Global;
 use wiz_cli::top::wiz_serial;
 use wiz_io::{MemorySink, MemoryStore};
@@ -80,8 +80,9 @@ fn runs_are_recorded(rt: HostRuntime) {
     for (program, plan, words, status, printed, name, tail, order) in rows {
         let mut store = inputs(alloc, program, plan, b"1\n1\n").expect(&rt, "files");
         assert!(&rt; answers(alloc, &mut store, words, status, printed));
-        assert!(&rt; ends_with(&store, name, tail));
         assert!(&rt; ends_with(&store, "A.order", order));
+        let lines = lines_of(alloc, &mut store, name).expect(&rt, "a log");
+        assert!(&rt; lines.ends_with(tail));
     }
 }
 

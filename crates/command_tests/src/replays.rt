@@ -10,7 +10,7 @@ use c_types::read_program;
 use rank_threads::OpenGate;
 use replay_model::replayed::Replayed;
 use srr_entry::log::Log;
-use srr_log::read_log::read_log;
+use srr_log2::read_either::read_either;
 use srr_replay::serial::replay_serial;
 use std::alloc::{AllocError, Global};
 use std::sync::Wait;
@@ -22,7 +22,7 @@ use wiz_io::{MemorySink, MemoryStore};
 use wiz_trace::trace::trace_text;
 
 /// The trace of the first log.
-const FIRST_TRACE: &[u8] =
+pub const FIRST_TRACE: &[u8] =
     b"rank 0\n0 send comm=0 to=1 tag=5 data=7 -> done\n1 end -> done\noutput 0\n\nended\nrank 1\n0 post comm=0 from=0 tag=5 room=1 -> done\n1 take all 0 -> took 0=0.0 tag=5 data=7\n2 end -> done\noutput 2\n7\n\nended\n";
 
 /// The same, where rank 1 stops before its second call.
@@ -30,34 +30,34 @@ const STOPPED_TRACE: &[u8] =
     b"rank 0\n0 send comm=0 to=1 tag=5 data=7 -> done\n1 end -> done\noutput 0\n\nended\nrank 1\n0 post comm=0 from=0 tag=5 room=1 -> done\noutput 0\n\nbreak\nvar 0 r 1\nvar 0 x 0\n";
 
 /// The first log, but its program sends to rank 0.
-const DIVERGED: &[u8] =
+pub const DIVERGED: &[u8] =
     b"srr 1\nranks 2\ngroup 0 1\nprogram 209\nint main(void){int r,x=7;MPI_Comm_rank(MPI_COMM_WORLD,&r);if(r==0)MPI_Send(&x,1,MPI_INT,0,5,MPI_COMM_WORLD);if(r==1){x=0;MPI_Recv(&x,1,MPI_INT,0,5,MPI_COMM_WORLD,MPI_STATUS_IGNORE);printf(\"%d\\n\",x);}return 0;}\nrank 0 2\ns\nz\nrank 1 3\np\nt 0=0.0\nz\nend\n";
 
 const DIVERGED_TRACE: &[u8] =
     b"rank 0\n0 send comm=0 to=0 tag=5 data=7 -> done\n1 end -> done\noutput 0\n\nended\nrank 1\n0 post comm=0 from=0 tag=5 room=1 -> done\noutput 0\n\ndiverged call 1 entry t 0=0.0 made take all 0 found 0.0 send comm=0 to=0 tag=5 data=7\n";
 
 /// The first log, but rank 0 ends at once.
-const ENDS_AT_ONCE: &[u8] =
+pub const ENDS_AT_ONCE: &[u8] =
     b"srr 1\nranks 2\ngroup 0 1\nprogram 209\nint main(void){int r,x=7;MPI_Comm_rank(MPI_COMM_WORLD,&r);if(r==0)MPI_Send(&x,1,MPI_INT,1,5,MPI_COMM_WORLD);if(r==1){x=0;MPI_Recv(&x,1,MPI_INT,0,5,MPI_COMM_WORLD,MPI_STATUS_IGNORE);printf(\"%d\\n\",x);}return 0;}\nrank 0 1\nz\nrank 1 3\np\nt 0=0.0\nz\nend\n";
 
 /// The first log, but its program sends nothing and rank 0 ends at once.
-const STARVED: &[u8] =
+pub const STARVED: &[u8] =
     b"srr 1\nranks 2\ngroup 0 1\nprogram 159\nint main(void){int r,x=7;MPI_Comm_rank(MPI_COMM_WORLD,&r);if(r==1){x=0;MPI_Recv(&x,1,MPI_INT,0,5,MPI_COMM_WORLD,MPI_STATUS_IGNORE);printf(\"%d\\n\",x);}return 0;}\nrank 0 1\nz\nrank 1 3\np\nt 0=0.0\nz\nend\n";
 
 const STARVED_TRACE: &[u8] =
     b"rank 0\n0 end -> done\noutput 0\n\nended\nrank 1\n0 post comm=0 from=0 tag=5 room=1 -> done\noutput 0\n\nstarved 0.0\n";
 
-const ALONE: &[u8] =
+pub const ALONE: &[u8] =
     b"srr 1\nranks 1\ngroup 0\nprogram 68\nint main(void){int r,x=0;MPI_Comm_rank(MPI_COMM_WORLD,&r);return 0;}\nrank 0 1\nz\nend\n";
 
 const ALONE_TRACE: &[u8] = b"rank 0\n0 end -> done\noutput 0\n\nended\n";
 
-const NO_ENTRY: &[u8] =
+pub const NO_ENTRY: &[u8] =
     b"srr 1\nranks 1\ngroup 0\nprogram 68\nint main(void){int r,x=0;MPI_Comm_rank(MPI_COMM_WORLD,&r);return 0;}\nrank 0 0\nend\n";
 
 const NO_ENTRY_TRACE: &[u8] = b"rank 0\noutput 0\n\nlog ended\n";
 
-const REFUSED: &[u8] =
+pub const REFUSED: &[u8] =
     b"srr 1\nranks 1\ngroup 0\nprogram 25\nint main(void){return y;}\nrank 0 0\nend\n";
 
 const UNEXPECTED: &[u8] = b"srr 1\nranks 1\ngroup 0\nprogram 6\nint x;\nrank 0 0\nend\n";
@@ -76,7 +76,7 @@ const CUT_OFF: &[u8] =
     b"srr 1\nranks 1\ngroup 0\nprogram 23\nint main(void){return 0\nrank 0 0\nend\n";
 
 /// A program that makes no call but the last, and none in the log.
-const SHORT: &[u8] =
+pub const SHORT: &[u8] =
     b"srr 1\nranks 1\ngroup 0\nprogram 25\nint main(void){return 0;}\nrank 0 0\nend\n";
 
 /// Runs a command over files with these names and bytes, and compares its status and output.
@@ -99,7 +99,7 @@ fn answers<R: Threads + Wait + Sync + AllocGlobal>(
 fn commands_have_their_status_and_output(rt: HostRuntime) {
     let replay: &[&str] = &["replay", "L", "--serial"];
     let on_threads: &[&str] = &["replay", "L"];
-    let table: [(&[&str], &[u8], u8, &[u8]); 24] = [
+    let table: [(&[&str], &[u8], u8, &[u8]); 25] = [
         (on_threads, FIRST_LOG, 0, FIRST_TRACE),
         (on_threads, DIVERGED, 9, DIVERGED_TRACE),
         (on_threads, STARVED, 10, STARVED_TRACE),
@@ -118,7 +118,8 @@ fn commands_have_their_status_and_output(rt: HostRuntime) {
         (replay, CUT_OFF, 5, b"program 1:24 unexpected\n"),
         (replay, SHORT, 0, b"rank 0\noutput 0\n\nlog ended\n"),
         (replay, &FIRST_LOG[..270], 8, b"log 270 short\n"),
-        (replay, b"srr 2\n", 8, b"log 0 bad version\n"),
+        (replay, b"srr 3\n", 8, b"log 0 bad version\n"),
+        (replay, b"srr 2\nranks 2\n", 8, b"log 6 bad number\n"),
         (&["replay", "L9", "--serial"], FIRST_LOG, 2, b"no file L9\n"),
         (&[], FIRST_LOG, 1, b"refused words\n"),
         (&["play"], FIRST_LOG, 1, b"refused words\n"),
@@ -153,7 +154,7 @@ fn a_log_is_replayed_with_another_program(rt: HostRuntime) {
             b"rank 0\noutput 0\n\nlog ended\n",
         ),
         (replay, FIRST_LOG, b"int x;", 5, b"program 1:6 unexpected\n"),
-        (replay, b"srr 2\n", b"int x;", 8, b"log 0 bad version\n"),
+        (replay, b"srr 3\n", b"int x;", 8, b"log 0 bad version\n"),
         (
             &["replay", "L", "--program", "H", "--serial"],
             b"srr 2\n",
@@ -304,7 +305,7 @@ pub fn trace_of_both(alloc: Global, log: &[u8], stop: Option<(u8, u32)>) -> Opti
     if log.len() > 134_217_728 {
         return None;
     }
-    let Ok(log) = read_log(alloc, log) else {
+    let Ok(log) = read_either(alloc, log) else {
         return None;
     };
     let program = read_program(alloc, log.program.as_slice()).ok()?;

@@ -1,5 +1,6 @@
 //! Programs recorded, each run and its files byte for byte, and each log replayed.
 use crate::replays::trace_of_both;
+use crate::serial::lines_of;
 use std::alloc::Global;
 use wiz_base::{Bytes, push_decimal, push_text};
 use wiz_cli::top::wiz_serial;
@@ -36,8 +37,13 @@ fn joined(alloc: Global, parts: &[&[u8]]) -> Option<Bytes> {
     Some(text)
 }
 
-/// Whether the file is there and is this log.
-fn holds(alloc: Global, store: &MemoryStore, program: &[u8], file: &LogFile<'_>) -> Option<bool> {
+/// Whether the file is there and is this log, by its lines in format 1.
+fn holds(
+    alloc: Global,
+    store: &mut MemoryStore,
+    program: &[u8],
+    file: &LogFile<'_>,
+) -> Option<bool> {
     let (name, head, lists) = file;
     let mut text = joined(alloc, &[head])?;
     push_decimal(&mut text, program.len() as u64).ok()?;
@@ -45,7 +51,7 @@ fn holds(alloc: Global, store: &MemoryStore, program: &[u8], file: &LogFile<'_>)
     push_text(&mut text, program).ok()?;
     push_text(&mut text, b"\n").ok()?;
     push_text(&mut text, lists).ok()?;
-    Some(store.file(name)?.as_slice() == text.as_slice())
+    Some(lines_of(alloc, store, name)? == text.as_slice())
 }
 
 /// Whether the log is replayed with status 0, and with the trace that both evaluators have.
@@ -70,7 +76,7 @@ fn is_so(alloc: Global, row: &Row<'_>) -> Option<bool> {
     let mut so = report.status == *status && out.bytes() == *printed;
     for log in *logs {
         so = so
-            && holds(alloc, &store, program.as_slice(), log)?
+            && holds(alloc, &mut store, program.as_slice(), log)?
             && replays(alloc, &mut store, log.0)?;
     }
     Some(so)

@@ -24,3 +24,12 @@ pub fn answers(
     let report = wiz_serial(alloc, words, store, &mut out);
     report.status == status && out.bytes() == printed
 }
+
+/// The lines of a log file: its log in format 1, to which it is converted.
+pub fn lines_of<'a>(alloc: Global, store: &'a mut MemoryStore, name: &str) -> Option<&'a [u8]> {
+    let words: &[&str] = &["convert", name, "lines", "--text"];
+    if !answers(alloc, store, words, 0, b"") {
+        return None;
+    }
+    Some(store.file("lines")?.as_slice())
+}

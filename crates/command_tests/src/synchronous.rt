@@ -1,6 +1,6 @@
 //! Programs with synchronous sends, and one that leans on buffering, recorded on one thread; and their logs replayed.
 use crate::replays::trace_of_both;
-use crate::serial::{answers, files};
+use crate::serial::{answers, files, lines_of};
 use std::alloc::Global;
 
 /// Two ranks that both send first and then receive: it leans on buffering.
@@ -80,7 +80,7 @@ fn is_so(alloc: Global, row: &Row<'_>) -> Option<bool> {
     let mut store = files(alloc, &[("P", program), ("Q", b"0 1"), ("F", turns)])?;
     let arguments = if turns.is_empty() { SERIAL } else { ORDERED };
     let recorded = answers(alloc, &mut store, arguments, *status, printed);
-    let logged = store.file("A.0.srr")?.as_slice().ends_with(lists);
+    let logged = lines_of(alloc, &mut store, "A.0.srr")?.ends_with(lists);
     let ordered = store.file("A.order")?.as_slice() == *order;
     let replayed = trace_of_both(alloc, store.file("A.0.srr")?.as_slice(), None)?;
     Some(recorded && logged && ordered && replayed.as_slice() == *trace)

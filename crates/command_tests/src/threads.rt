@@ -1,5 +1,8 @@
 //! Programs recorded on threads, and the log of each group replayed on threads.
-use crate::programs::{FIRST, FIRST_CHECKED, RING, RING_CHECKED, SUM, SUM_CHECKED, SUM_PLAN};
+use crate::programs::{
+    FIRST, FIRST_ADVISED, FIRST_CHECKED, FIRST_TOGETHER, RING, RING_CHECKED, SUM, SUM_CHECKED,
+    SUM_PLAN,
+};
 use crate::serial::files;
 use rank_threads::OpenGate;
 use std::sync::Wait;
@@ -99,11 +102,27 @@ fn runs_are_checked_on_threads(rt: HostRuntime) {
 }
 
 #[test]
+fn a_run_on_threads_is_advised_on_and_its_races_listed(rt: HostRuntime) {
+    let mut store = inputs(&rt, FIRST, b"0\n1\n").expect(&rt, "files");
+    // The arguments, and what is printed.
+    let table: [(&[&str], &[u8]); 3] = [
+        (&["races", "P", "Q"], b"receives 0 raced 0\nfinished\n"),
+        (&["advise", "P", "Q", "1"], FIRST_ADVISED),
+        (&["advise", "P", "Q", "2"], FIRST_TOGETHER),
+    ];
+    for (words, printed) in table {
+        assert!(&rt; answers(&rt, &mut store, words, printed, b""));
+    }
+}
+
+#[test]
 fn threads_are_refused_where_there_are_none(rt: HostRuntime) {
-    let table: [&[&str]; 3] = [
+    let table: [&[&str]; 5] = [
         &["replay", "A.0.srr"],
         &["record", "P", "Q", "A"],
         &["check", "P", "Q"],
+        &["advise", "P", "Q", "1"],
+        &["races", "P", "Q"],
     ];
     for words in table {
         let mut store = inputs(&rt, FIRST, b"0 1").expect(&rt, "files");

@@ -42,7 +42,7 @@ fn words_in_form_ask_for_a_command(rt: HostRuntime) {
         stop: Some((63, 999_999)),
         ..serial_replay
     };
-    let table: [(&[&str], bool, Command<&str>); 20] = [
+    let table: [(&[&str], bool, Command<&str>); 28] = [
         (
             &["record", "P", "Q", "A"],
             true,
@@ -80,6 +80,38 @@ fn words_in_form_ask_for_a_command(rt: HostRuntime) {
             &["check", "P", "Q", "--serial"],
             false,
             Command::Check(serial_run),
+        ),
+        (&["races", "P", "Q"], true, Command::Races(RUN)),
+        (
+            &["races", "P", "Q", "--serial"],
+            false,
+            Command::Races(serial_run),
+        ),
+        (
+            &["races", "--order=F", "P", "Q"],
+            false,
+            Command::Races(ordered_run),
+        ),
+        (
+            &["advise", "P", "Q", "3"],
+            true,
+            Command::Advise { run: RUN, most: 3 },
+        ),
+        (
+            &["advise", "--serial", "P", "Q", "1"],
+            false,
+            Command::Advise {
+                run: serial_run,
+                most: 1,
+            },
+        ),
+        (
+            &["advise", "P", "Q", "--order", "F", "64"],
+            false,
+            Command::Advise {
+                run: ordered_run,
+                most: 64,
+            },
         ),
         (
             &["demo", "1", "8"],
@@ -140,6 +172,24 @@ fn words_in_form_ask_for_a_command(rt: HostRuntime) {
         (&["show", "--", "L"], false, Command::Show("L")),
         (&["stats", "L"], false, Command::Stats("L")),
         (&["stats", ""], false, Command::Stats("")),
+        (
+            &["convert", "L", "M"],
+            false,
+            Command::Convert {
+                log: "L",
+                file: "M",
+                is_text: false,
+            },
+        ),
+        (
+            &["convert", "--text", "L", "M"],
+            false,
+            Command::Convert {
+                log: "L",
+                file: "M",
+                is_text: true,
+            },
+        ),
     ];
     for (words, threads, wanted) in table {
         let found = read_command(rt.alloc(), words).expect(&rt, "memory");
@@ -158,7 +208,7 @@ fn ask_for_nothing(alloc: Global, words: &[&str]) -> bool {
 
 #[test]
 fn words_out_of_form_ask_for_nothing(rt: HostRuntime) {
-    let table: [&[&str]; 30] = [
+    let table: [&[&str]; 42] = [
         &[],
         &[""],
         &["play"],
@@ -173,6 +223,15 @@ fn words_out_of_form_ask_for_nothing(rt: HostRuntime) {
         &["record", "P", "Q", "A", "--order", "F", "--order", "F"],
         &["check", "P", "Q", "--order", "F"],
         &["check", "P", "Q", "--serial", "--serial"],
+        &["races", "P"],
+        &["races", "P", "Q", "A"],
+        &["races", "P", "Q", "--order", "F", "--serial"],
+        &["advise", "P", "Q"],
+        &["advise", "P", "Q", "0"],
+        &["advise", "P", "Q", "65"],
+        &["advise", "P", "Q", "01"],
+        &["advise", "P", "Q", "1", "2"],
+        &["advise", "P", "Q", "1", "--order", "F", "--serial"],
         &["demo", "1"],
         &["demo", "1", "0"],
         &["demo", "1", "1001"],
@@ -189,6 +248,9 @@ fn words_out_of_form_ask_for_nothing(rt: HostRuntime) {
         &["show"],
         &["show", "A", "B"],
         &["stats", "L", "--serial"],
+        &["convert", "L"],
+        &["convert", "L", "M", "N"],
+        &["convert", "L", "M", "--text", "--text"],
     ];
     for words in table {
         assert!(&rt; ask_for_nothing(rt.alloc(), words), "{words:?}");

@@ -18,4 +18,5 @@ pub mod Shares
 pub mod Listed
 pub mod Collected
 pub mod Sent
+pub mod RecordLengths
 pub mod LogBytes

@@ -1,4 +1,4 @@
--- The text of the log of a run is no longer than its limit.
+-- The text of the log of a run is no longer than its limit, in either format.
 use Rattle.std.proofs.Common.{◌≡◌, ◌≤◌, ◌<◌, ◌+◌, ◌*◌, ◌++◌, ◌∷◌, List, [], arith, false, inl, inr, length, nat_le, refl, true, ℕ}
 use Rattle.std.proofs.lemmas.Bool.{leb-false, or_parts}
 use Rattle.mpi_call.specs.declared.call.Call.{Call}
@@ -16,11 +16,12 @@ use Rattle.run_model.proofs.Along.{Along-keeps, Along-snoc}
 use Rattle.run_model.proofs.Halts.{is_stopped}
 use Rattle.run_model.proofs.RunLaws.{Lawful, kept_run}
 use Rattle.run_model.proofs.Views.{test_cases}
-use Rattle.log_bounds.specs.RunBounds.{LogTextsAreShort}
+use Rattle.log_bounds.specs.RunBounds.{LogBytesAreShort, LogTextsAreShort}
 use Rattle.log_bounds.proofs.HistoryLengths.{short_run}
 use Rattle.log_bounds.proofs.Listed.{reply_taken}
 use Rattle.log_bounds.proofs.RunEntries.{InBounds}
 use Rattle.log_bounds.proofs.RunLengths.{going_on, short_history}
+use Rattle.log_bounds.proofs.RecordLengths.{log_bytes_short}
 use Rattle.log_bounds.proofs.Sent.{contents_sent}
 use Rattle.log_bounds.proofs.Sizes.{all_content, all_ints, all_items, content_in, content_of, content_seen, ints_seen, items_in, items_seen}
 use Rattle.log_bounds.proofs.SmallNumbers.{logs_are_in_bounds}
@@ -123,6 +124,13 @@ light_run next n run laws is =
 pub log_texts_are_short : (next : Next) (n : ℕ) → InBounds next → LogTextsAreShort next n
 log_texts_are_short next n laws run group text chosen words fine short =
     let bytes = log_text_short n run group text (logs_are_in_bounds next n laws run group text chosen words fine short) in
+    let events = short_run next n run laws.lawful chosen.run in
+    let light = (light_run next n run laws chosen.run).light in
+    omega (arith, bytes, events, light, short)
+
+pub log_bytes_are_short : (next : Next) (n : ℕ) → InBounds next → LogBytesAreShort next n
+log_bytes_are_short next n laws run group text chosen words fine short =
+    let bytes = log_bytes_short n run group text (logs_are_in_bounds next n laws run group text chosen words fine short) in
     let events = short_run next n run laws.lawful chosen.run in
     let light = (light_run next n run laws chosen.run).light in
     omega (arith, bytes, events, light, short)

@@ -1,7 +1,9 @@
-//! Tests that cross the crates of matching and recording: calls and histories, who meets whom, starts, a machine's runs, and
-//! recordings.
+//! Tests that cross the crates of matching and recording: calls and histories, who meets whom, starts, a machine's runs,
+//! recordings, and races of recorded runs and advice on them.
 #![tactic(auto)]
 
+#[cfg(test)]
+mod advice;
 #[cfg(test)]
 mod boards;
 #[cfg(test)]
@@ -15,10 +17,18 @@ mod machines;
 #[cfg(test)]
 mod matching;
 #[cfg(test)]
+mod races;
+#[cfg(test)]
 mod recordings;
 #[cfg(test)]
+mod rows;
+#[cfg(test)]
 mod scripts;
+#[cfg(test)]
+mod splits;
 #[cfg(test)]
 mod starting;
 #[cfg(test)]
 mod steps;
+#[cfg(test)]
+mod synchronous;

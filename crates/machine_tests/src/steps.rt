@@ -53,7 +53,8 @@ fn calls_of(alloc: Global, steps: &[Step]) -> Result<Calls, AllocError> {
     Ok(Calls::new(values))
 }
 
-fn call_of(alloc: Global, step: Step) -> Result<Call, AllocError> {
+/// The call of a step.
+pub fn call_of(alloc: Global, step: Step) -> Result<Call, AllocError> {
     let comm = 0;
     let source = Source::Any;
     match step {

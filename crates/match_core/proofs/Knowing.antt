@@ -14,7 +14,7 @@ use Rattle.match_core.specs.declared.start.Start.{Start}
 use Rattle.mpi_call.specs.Lists.{IsIn}
 use Rattle.run_model.specs.Choice.{suits}
 use Rattle.match_core.specs.Starts.{AreBelow, IsEarliest, suits_start, is_message, left_by, start_of, without, without_ints}
-use Rattle.match_core.specs.Histories.{SuitsAt, IsChoice, IsKept, IsOther, IsUnpaired, Knows, KnowsMore, event_of}
+use Rattle.match_core.specs.Histories.{SuitsAt, IsAdded, IsChoice, IsKept, IsOther, IsUnpaired, Knows, KnowsMore, event_of}
 use Rattle.match_core.proofs.Pairing.{AreMatched-alone, AreMatched-paired, free_before, new_free, new_partner, old_partner, partner_of-past, same_name-true}
 use Rattle.match_core.proofs.Grown.{Grows-event, named-new, named-other, pairs_of-push}
 use Rattle.run_model.proofs.Positions.{name_at-below, name_at-lower, new_name}
@@ -265,8 +265,19 @@ knows_more events starts rank call (Some at) knows message e =
     }
 
 -- the list of starts after one that found no partner
-pub pushed : (starts inside items : List Start) (at rank last : ℕ) (call kept : Call) (mate : Option ℕ) → inside ≡ starts → items ≡ inside ++ record { at = at; rank = rank; call = kept } ∷ [] → kept ≡ without_ints call → mate ≡ None → at ≡ last → items ≡ left_by starts (start_of last rank call) mate
-pushed starts inside items at rank last call kept mate i h k m e = rw (h, i, k, m, e) refl
+pub pushed : (starts inside items : List Start) (at rank : ℕ) (call kept : Call) → inside ≡ starts → items ≡ inside ++ record { at = at; rank = rank; call = kept } ∷ [] → kept ≡ without_ints call → items ≡ left_by starts (start_of at rank call) None
+pushed starts inside items at rank call kept i h k = rw (h, i, k) refl
+
+-- a start that got the earliest partner and leaves the others was added
+pub added : (at rank : ℕ) (call : Call) (old new : List Start) (mate : Option ℕ) → is_message call ≡ true → IsEarliest rank call old mate → new ≡ left_by old (start_of at rank call) mate → IsAdded at rank call old new mate
+added at rank call old new mate message e left = record {
+  earliest = e;
+  left = left;
+  knows = λ events knows here.
+      subst (λ (starts : List Start). KnowsMore events (event_of rank call mate) starts)
+      (sym (left ∙ ap (λ (p : ℕ). left_by old (start_of p rank call) mate) here))
+      (knows_more events old rank call mate knows message e);
+}
 
 -- a start that is not matched
 knows_start : (events : List Event) (starts : List Start) (event : Event) → Knows events starts → is_start (event.call, event.reply) ≡ true → is_message event.call ≡ false → event.mate ≡ None → Knows (events ++ event ∷ []) starts

@@ -1,8 +1,8 @@
 //! The pairing of sends with receives.
-ghost use Rattle.std.specs.Prelude.{◌≡◌, ◌++◌, ◌∷◌, [], ℕ, List, length, IfOk, IsTrue, OnErr};
+ghost use Rattle.std.specs.Prelude.{◌≡◌, ◌++◌, ◌∷◌, [], List, length, IfOk, IsTrue, OnErr};
 ghost use Rattle.run_model.specs.declared.event.Event.{Event};
-ghost use Rattle.match_core.specs.Starts.{is_message, is_peek, is_post, is_send, left_by, start_of, AreBelow, IsEarliest};
-ghost use Rattle.match_core.specs.Histories.{event_of, IsChoice, IsOther, Knows, KnowsMore};
+ghost use Rattle.match_core.specs.Starts.{is_message, is_peek, is_post, is_send, AreBelow, IsEarliest};
+ghost use Rattle.match_core.specs.Histories.{IsAdded, IsChoice, IsOther, Knows};
 
 use crate::buckets::Buckets;
 use crate::index::{add, place_for, position_at, take};
@@ -50,12 +50,9 @@ impl Matcher {
     /// Adds the Send at position `at` of the history and answers the position of its partner: the earliest unpaired Post
     /// that accepts it. When out of memory, nothing has changed.
     pub fn send(&mut self, at: u32, rank: u8, call: &Call) -> Result<Option<u32>, AllocError>
-        requires kind { IsTrue (is_send call.now) }
-        requires position { AreBelow at self.old }
-        ensures mate { IfOk result (λ mate. IsEarliest rank call.now self.old mate) }
-        ensures ok { IfOk result (λ mate. self.new ≡ left_by self.old (start_of at rank call.now) mate) }
+        requires { IsTrue (is_send call.now) × AreBelow at self.old }
+        ensures added { IfOk result (λ mate. IsAdded at rank call.now self.old self.new mate) }
         ensures err { OnErr result (self.new ≡ self.old) }
-        ensures knows { IfOk result (λ mate. (events : List Event) → Knows events self.old → at ≡ length events → KnowsMore events (event_of rank call.now mate) self.new) }
     {
         self.add(at, rank, call)
     }
@@ -63,12 +60,9 @@ impl Matcher {
     /// Adds the Post at position `at` of the history and answers the position of its partner: the earliest unpaired Send
     /// that it accepts. When out of memory, nothing has changed.
     pub fn post(&mut self, at: u32, rank: u8, call: &Call) -> Result<Option<u32>, AllocError>
-        requires kind { IsTrue (is_post call.now) }
-        requires position { AreBelow at self.old }
-        ensures mate { IfOk result (λ mate. IsEarliest rank call.now self.old mate) }
-        ensures ok { IfOk result (λ mate. self.new ≡ left_by self.old (start_of at rank call.now) mate) }
+        requires { IsTrue (is_post call.now) × AreBelow at self.old }
+        ensures added { IfOk result (λ mate. IsAdded at rank call.now self.old self.new mate) }
         ensures err { OnErr result (self.new ≡ self.old) }
-        ensures knows { IfOk result (λ mate. (events : List Event) → Knows events self.old → at ≡ length events → KnowsMore events (event_of rank call.now mate) self.new) }
     {
         self.add(at, rank, call)
     }
@@ -96,10 +90,8 @@ impl Matcher {
     fn add(&mut self, at: u32, rank: u8, call: &Call) -> Result<Option<u32>, AllocError>
         requires kind { IsTrue (is_message call.now) }
         requires position { AreBelow at self.old }
-        ensures mate { IfOk result (λ mate. IsEarliest rank call.now self.old mate) }
-        ensures ok { IfOk result (λ mate. self.new ≡ left_by self.old (start_of at rank call.now) mate) }
+        ensures added { IfOk result (λ mate. IsAdded at rank call.now self.old self.new mate) }
         ensures err { OnErr result (self.new ≡ self.old) }
-        ensures knows { IfOk result (λ mate. (events : List Event) → Knows events self.old → at ≡ length events → KnowsMore events (event_of rank call.now mate) self.new) }
     {
         if let Some(place) = place_for(&self.buckets, rank, call) {
             let partner = position_at(&self.slots, place);

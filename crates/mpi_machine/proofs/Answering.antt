@@ -17,14 +17,14 @@ use Rattle.run_model.specs.Allowed.{can_go, flags_of, has_open, holds, is_prompt
 use Rattle.run_model.specs.Choice.{choice}
 use Rattle.run_model.specs.Chosen.{chosen_answer, chosen_reply}
 use Rattle.run_model.specs.Due.{bad_request, due, halt_at, halted, is_full, is_mismatched, or_else}
-use Rattle.run_model.specs.Serial.{is_stuck}
+use Rattle.run_model.specs.Serial.{is_stuck, others_wait}
 use Rattle.run_model.specs.Shape.{is_test}
 use Rattle.run_model.specs.Views.{Next, View, view_of}
 use Rattle.run_model.proofs.ChosenProbes.{peek_missed, peek_there}
 use Rattle.run_model.proofs.Origins.{AllBelow}
 use Rattle.run_model.proofs.Views.{option_cases}
 use Rattle.mpi_machine.specs.Courses.{bound_of}
-use Rattle.mpi_machine.specs.Turns.{HasReply, IsAsked, IsHeldBack, others_wait}
+use Rattle.mpi_machine.specs.Turns.{HasReply, IsAsked, IsHeldBack, stage_of}
 use Rattle.mpi_machine.specs.Waits.{is_there, waits}
 
 pub record Unbound (events : List Event) : Type 0 where
@@ -174,7 +174,7 @@ pub has_reply : (next : Next) (n : ℕ) (events : List Event) (kept : List (Opti
 has_reply next n events kept rank call reply asked a =
     record {
       asked = asked;
-      answered = or_left (can_go n events (view_of events rank) rank call) (is_stuck next n events && others_wait next n events kept rank) a.go;
+      answered = or_left (can_go n events (view_of events rank) rank call) (is_stuck next n events && others_wait next n (stage_of events kept) rank) a.go;
       reply_is = a.reply_is;
     }
 

@@ -12,13 +12,13 @@ use Rattle.run_model.specs.Chosen.{IsChosen, chosen_event, chosen_reply}
 use Rattle.run_model.specs.Lists.{world}
 use Rattle.run_model.specs.Pairs.{IsMatched}
 use Rattle.run_model.specs.Program.{MayGive, ends}
-use Rattle.run_model.specs.Serial.{call_after, goes, is_stuck}
+use Rattle.run_model.specs.Serial.{call_after, goes, is_stuck, others_wait}
 use Rattle.run_model.specs.Views.{Next, is_start, replies_in, view_of}
 use Rattle.run_model.proofs.GoingOn.{goes_on}
 use Rattle.run_model.proofs.RunLaws.{IsRun-event, Lawful, event_shaped, kept_run}
 use Rattle.run_model.proofs.Views.{option_cases, test_cases, view_of-other}
 use Rattle.mpi_machine.specs.Courses.{has_ended}
-use Rattle.mpi_machine.specs.Turns.{HasReply, is_answered, others_wait}
+use Rattle.mpi_machine.specs.Turns.{HasReply, is_answered, stage_of}
 use Rattle.mpi_machine.specs.Waits.{AreKept, IsKept}
 
 pub world_at : (f : ℕ → Bool) (n low m : ℕ) → list_all f (world n low) ≡ true → low ≤ m → m < low + n → f m ≡ true
@@ -49,9 +49,9 @@ stuck_is next n events h rank call below asked =
 answered_goes : (next : Next) (n : ℕ) (events : List Event) (kept : List (Option Call)) (rank : ℕ) (call : Call) → is_answered next n events kept rank call ≡ true
     → (can_go n events (view_of events rank) rank call ≡ true) ⊎ IsStuck next n events
 answered_goes next n events kept rank call h =
-    elim (or_cases (can_go n events (view_of events rank) rank call) (is_stuck next n events && others_wait next n events kept rank) h) [
+    elim (or_cases (can_go n events (view_of events rank) rank call) (is_stuck next n events && others_wait next n (stage_of events kept) rank) h) [
       | inl t ↦ inl t
-      | inr t ↦ inr (stuck_is next n events (and_parts (is_stuck next n events) (others_wait next n events kept rank) t).0)
+      | inr t ↦ inr (stuck_is next n events (and_parts (is_stuck next n events) (others_wait next n (stage_of events kept) rank) t).0)
     ]
 
 abbrev pub event_with : ℕ → Call → Reply → Option ℕ → Event

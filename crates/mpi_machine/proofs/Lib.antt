@@ -11,3 +11,4 @@ pub mod Roomy
 pub mod Serially
 pub mod Standing
 pub mod Waiting
+pub mod WaitingRanks

@@ -8,10 +8,11 @@ use Rattle.mpi_call.specs.Members.{is_member}
 use Rattle.run_model.specs.declared.event.Event.{Event}
 use Rattle.run_model.specs.Allowed.{can_go}
 use Rattle.run_model.specs.Lists.{world}
-use Rattle.run_model.specs.Serial.{Stage, attempt, attempt_with, call_after, is_stuck, others_wait as stage_waits}
+use Rattle.run_model.specs.Serial.{Stage, attempt, attempt_with, call_after, is_stuck, others_wait}
 use Rattle.run_model.specs.Views.{Next, view_of}
 use Rattle.run_model.proofs.Views.{test_cases}
-use Rattle.mpi_machine.specs.Turns.{MachineState, StandsAt, after_turn, kept_of, others_wait, turn_of}
+use Rattle.mpi_machine.specs.Turns.{MachineState, StandsAt, after_turn, kept_of, stage_of, turn_of, waiting_from}
+use Rattle.mpi_machine.proofs.WaitingRanks.{kept_waits}
 
 all_same : (f g : ℕ → Bool) (xs : List ℕ) → ((m : ℕ) → f m ≡ g m) → list_all f xs ≡ list_all g xs
 all_same f g [] h = refl
@@ -88,16 +89,16 @@ attempted : {P : Type 0} (program : P) (next : Next) (n : ℕ) (events : List Ev
 attempted program next n events kept waiting rank call many below w =
     let go : Bool = can_go n events (view_of events rank) rank call in
     let stage : Stage = stage_with events waiting in
-    let same : stage_waits next n stage rank ≡ others_wait next n events kept rank =
+    let same : others_wait next n stage rank ≡ others_wait next n (stage_of events kept) rank =
     all_same (λ other. (other == rank) || (not (is_some (call_after next n events other)) || is_member waiting other))
-    (λ other. (other == rank) || (not (is_some (call_after next n events other)) || is_some (kept_of kept other)))
+    (λ other. (other == rank) || (not (is_some (call_after next n events other)) || is_member (waiting_from 0 kept) other))
     (world n 0)
-    (λ other. ap (λ b. (other == rank) || (not (is_some (call_after next n events other)) || b)) (w.same other)) in
+    (λ other. ap (λ b. (other == rank) || (not (is_some (call_after next n events other)) || b)) (w.same other ∙ sym (kept_waits kept other))) in
     let answered = answered_waiting waiting kept rank (omega arith) w in
     let held = kept_waiting waiting kept rank call (omega arith) w in
     elim (test_cases go) [
       | inl t ↦ rw t (record { events = refl; waiting = answered.same })
-      | inr t ↦ elim (test_cases (is_stuck next n events && others_wait next n events kept rank)) [
+      | inr t ↦ elim (test_cases (is_stuck next n events && others_wait next n (stage_of events kept) rank)) [
         | inl u ↦ rw (t, same, u) (record { events = refl; waiting = answered.same })
         | inr u ↦ rw (t, same, u) (record { events = refl; waiting = held.same })
       ]

@@ -2,18 +2,20 @@
 use Rattle.std.proofs.Common.{◌≡◌, ◌||◌, ◌&&◌, ◌==◌, ◌∙◌, ◌<◌, Bool, List, None, Option, Some, ap, arith, false, inl, inr, is_some, not, refl, subst, sym, true, ℕ}
 use Rattle.std.proofs.lemmas.Bool.{and_parts, eqb-true, or_parts}
 use Rattle.mpi_call.specs.declared.call.Call.{Call}
+use Rattle.mpi_call.specs.Members.{is_member}
 use Rattle.run_model.specs.declared.event.Event.{Event}
 use Rattle.run_model.specs.Allowed.{can_go}
 use Rattle.run_model.specs.Chosen.{IsChosen}
-use Rattle.run_model.specs.Serial.{call_after, goes, is_stuck}
+use Rattle.run_model.specs.Serial.{call_after, goes, is_stuck, others_wait}
 use Rattle.run_model.specs.Views.{Next, view_of}
 use Rattle.run_model.proofs.RunLaws.{Lawful, kept_run}
 use Rattle.run_model.proofs.Views.{test_cases}
 use Rattle.mpi_machine.specs.Courses.{bound_of, has_ended}
-use Rattle.mpi_machine.specs.Turns.{IsAsked, kept_of, others_wait, stands}
+use Rattle.mpi_machine.specs.Turns.{IsAsked, kept_of, stage_of, stands, waiting_from}
 use Rattle.mpi_machine.specs.Waits.{AreKept, is_there}
 use Rattle.mpi_machine.proofs.Answering.{waits_go}
 use Rattle.mpi_machine.proofs.Growing.{ended_is, over, world_all, world_at}
+use Rattle.mpi_machine.proofs.WaitingRanks.{kept_waits}
 
 -- whether a rank stands, by whether it has a call, whether it waits, and whether its call can go
 parts_of : (called waits go : Bool) → (called ≡ false → go ≡ false) → (not called || (waits && not go)) ≡ true → (not go ≡ true) × ((not called || waits) ≡ true)
@@ -39,11 +41,15 @@ both x y h k = rw h k
 abbrev pub Stands : Next → ℕ → List Event → List (Option Call) → ℕ → ℕ → Type 0
 Stands next n events kept rank m = ((m == rank) || stands next n events kept m) ≡ true
 
+-- a rank is this one, or has ended, or waits
+abbrev Waits : Next → ℕ → List Event → ℕ → ℕ → Bool → Type 0
+Waits next n events rank m waiting = ((m == rank) || (not (is_some (call_after next n events m)) || waiting)) ≡ true
+
 all_held : (next : Next) (n : ℕ) (events : List Event) (kept : List (Option Call)) (rank : ℕ) (call : Call) → IsAsked next n events rank call
     → can_go n events (view_of events rank) rank call ≡ false → ((m : ℕ) → m < n → Stands next n events kept rank m)
-    → (is_stuck next n events && others_wait next n events kept rank) ≡ true
+    → (is_stuck next n events && others_wait next n (stage_of events kept) rank) ≡ true
 all_held next n events kept rank call asked held all =
-    let at : (m : ℕ) → m < n → (not (goes n events m (call_after next n events m)) ≡ true) × (((m == rank) || (not (is_some (call_after next n events m)) || is_some (kept_of kept m))) ≡ true) =
+    let at : (m : ℕ) → m < n → (not (goes n events m (call_after next n events m)) ≡ true) × Waits next n events rank m (is_some (kept_of kept m)) =
     λ m below. elim (test_cases (m == rank)) [
       | inl h ↦ (
           let same : m ≡ rank = eqb-true m rank h in
@@ -56,19 +62,21 @@ all_held next n events kept rank call asked held all =
           let p = parts_of (is_some (call_after next n events m)) (is_some (kept_of kept m)) (goes n events m (call_after next n events m)) (none_goes n events m (call_after next n events m)) s in
           (p.0, rw h p.1))
     ] in
-    both (is_stuck next n events) (others_wait next n events kept rank)
+    both (is_stuck next n events) (others_wait next n (stage_of events kept) rank)
     (world_all (λ m. not (goes n events m (call_after next n events m))) n 0 (λ m above below. (at m (omega arith)).0))
-    (world_all (λ m. (m == rank) || (not (is_some (call_after next n events m)) || is_some (kept_of kept m))) n 0 (λ m above below. (at m (omega arith)).1))
+    (world_all (λ m. (m == rank) || (not (is_some (call_after next n events m)) || is_member (waiting_from 0 kept) m)) n 0
+    (λ m above below. subst (Waits next n events rank m) (sym (kept_waits kept m)) (at m (omega arith)).1))
 
 some_moves : (next : Next) (n : ℕ) (events : List Event) (kept : List (Option Call)) (rank m : ℕ) → m < n → (m == rank) ≡ false
-    → stands next n events kept m ≡ false → (is_stuck next n events && others_wait next n events kept rank) ≡ false
+    → stands next n events kept m ≡ false → (is_stuck next n events && others_wait next n (stage_of events kept) rank) ≡ false
 some_moves next n events kept rank m below apart moves =
-    elim (test_cases (is_stuck next n events && others_wait next n events kept rank)) [
+    elim (test_cases (is_stuck next n events && others_wait next n (stage_of events kept) rank)) [
       | inl t ↦ (
-          let parts = and_parts (is_stuck next n events) (others_wait next n events kept rank) t in
+          let parts = and_parts (is_stuck next n events) (others_wait next n (stage_of events kept) rank) t in
           let held = world_at (λ r. not (goes n events r (call_after next n events r))) n 0 m parts.0 (omega arith) (omega arith) in
-          let waits : ((m == rank) || (not (is_some (call_after next n events m)) || is_some (kept_of kept m))) ≡ true =
-          world_at (λ r. (r == rank) || (not (is_some (call_after next n events r)) || is_some (kept_of kept r))) n 0 m parts.1 (omega arith) (omega arith) in
+          let waits : Waits next n events rank m (is_some (kept_of kept m)) =
+          subst (Waits next n events rank m) (kept_waits kept m)
+          (world_at (λ r. (r == rank) || (not (is_some (call_after next n events r)) || is_member (waiting_from 0 kept) r)) n 0 m parts.1 (omega arith) (omega arith)) in
           let waited : (not (is_some (call_after next n events m)) || is_some (kept_of kept m)) ≡ true = rw apart at waits in
           let s = from_parts (is_some (call_after next n events m)) (is_some (kept_of kept m)) (goes n events m (call_after next n events m)) held waited in
           let no : true ≡ false = sym s ∙ moves in
@@ -78,11 +86,11 @@ some_moves next n events kept rank m below apart moves =
 
 pub all_stand : (next : Next) (n : ℕ) (events : List Event) (kept : List (Option Call)) (rank : ℕ) (call : Call) → IsAsked next n events rank call
     → can_go n events (view_of events rank) rank call ≡ false → ((m : ℕ) → m < n → Stands next n events kept rank m)
-    → true ≡ (is_stuck next n events && others_wait next n events kept rank)
+    → true ≡ (is_stuck next n events && others_wait next n (stage_of events kept) rank)
 all_stand next n events kept rank call asked held all = sym (all_held next n events kept rank call asked held all)
 
 pub one_moves : (next : Next) (n : ℕ) (events : List Event) (kept : List (Option Call)) (rank m : ℕ) → m < n → (m == rank) ≡ false
-    → stands next n events kept m ≡ false → false ≡ (is_stuck next n events && others_wait next n events kept rank)
+    → stands next n events kept m ≡ false → false ≡ (is_stuck next n events && others_wait next n (stage_of events kept) rank)
 one_moves next n events kept rank m below apart moves = sym (some_moves next n events kept rank m below apart moves)
 
 -- a rank that is another and does not stand

@@ -1,7 +1,7 @@
 -- What a recording machine is, and what an attempt of a rank does to it.
 -- (MPI 3.1, Point-to-Point Communication, "Semantics of Point-to-Point Communication": progress.)
-use Rattle.std.specs.Prelude.{◌≡◌, ◌<◌, ℕ, List, [], ◌∷◌, ◌++◌, Option, Some, None, Bool, true, false, not, ◌&&◌, ◌||◌, ◌==◌, is_some}
-use Rattle.std.specs.List.{list_all, slice_index_or, slice_set}
+use Rattle.std.specs.Prelude.{◌≡◌, ◌<◌, ℕ, suc, List, [], ◌∷◌, ◌++◌, Option, Some, None, Bool, true, false, not, ◌&&◌, ◌||◌, is_some}
+use Rattle.std.specs.List.{slice_index_or, slice_set}
 use Rattle.mpi_call.specs.declared.call.Call.{Call}
 use Rattle.mpi_call.specs.declared.call.Halt.{Halt}
 use Rattle.mpi_call.specs.declared.call.Halt.TheVariants.{Mismatched}
@@ -13,9 +13,8 @@ use Rattle.run_model.specs.Allowed.{can_go}
 use Rattle.run_model.specs.Chosen.{held_reply}
 use Rattle.run_model.specs.Chosen.{chosen_event, chosen_reply}
 use Rattle.run_model.specs.Due.{halted}
-use Rattle.run_model.specs.Lists.{world}
 use Rattle.run_model.specs.Program.{ends}
-use Rattle.run_model.specs.Serial.{Stage, call_after, goes, is_stuck}
+use Rattle.run_model.specs.Serial.{Stage, call_after, goes, is_stuck, others_wait}
 use Rattle.run_model.specs.Views.{Next, view_of}
 use Rattle.run_model.specs.Pairs.{Name, name_at, named}
 use Rattle.mpi_machine.specs.declared.turn.Turn.{Turn}
@@ -33,10 +32,15 @@ pub record MachineState (P : Type 0) : Type 0 where
 abbrev pub kept_of : List (Option Call) → ℕ → Option Call
 kept_of kept rank = slice_index_or kept rank None
 
--- all other live ranks wait
-abbrev pub others_wait : Next → ℕ → List Event → List (Option Call) → ℕ → Bool
-others_wait next n events kept rank =
-    list_all (λ other. (other == rank) || (not (is_some (call_after next n events other)) || is_some (kept_of kept other))) (world n 0)
+-- the ranks that wait with a call, of those from a number on
+abbrev pub waiting_from : ℕ → List (Option Call) → List ℕ
+waiting_from low [] = []
+waiting_from low (None ∷ kept) = waiting_from (suc low) kept
+waiting_from low (Some call ∷ kept) = low ∷ waiting_from (suc low) kept
+
+-- the events and the ranks that wait
+abbrev pub stage_of : List Event → List (Option Call) → Stage
+stage_of events kept = record { events = events; waiting = waiting_from 0 kept }
 
 -- a rank has ended, or waits with a call that cannot go
 abbrev pub stands : Next → ℕ → List Event → List (Option Call) → ℕ → Bool
@@ -46,7 +50,7 @@ stands next n events kept rank =
 -- a call is answered where it can go, or where no call can and all other live ranks wait
 abbrev pub is_answered : Next → ℕ → List Event → List (Option Call) → ℕ → Call → Bool
 is_answered next n events kept rank call =
-    can_go n events (view_of events rank) rank call || (is_stuck next n events && others_wait next n events kept rank)
+    can_go n events (view_of events rank) rank call || (is_stuck next n events && others_wait next n (stage_of events kept) rank)
 
 -- by whether the call is answered
 abbrev pub turn_by : Bool → Reply → Turn

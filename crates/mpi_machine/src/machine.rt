@@ -12,14 +12,14 @@ ghost use Rattle.run_model.specs.Chosen.{chosen_reply, peeked_at, IsChosen};
 ghost use Rattle.run_model.specs.Due.{halted};
 ghost use Rattle.run_model.specs.Pairs.{name_at};
 ghost use Rattle.run_model.specs.Program.{ends, MayGive};
-ghost use Rattle.run_model.specs.Serial.{attempt, call_after, is_stuck, Stage};
+ghost use Rattle.run_model.specs.Serial.{attempt, call_after, is_stuck, others_wait, Stage};
 ghost use Rattle.run_model.specs.Views.{is_start, replies_in, taken_of, view_of};
 ghost use Rattle.requests.specs.Histories.{took_event, Knows};
 ghost use Rattle.requests.specs.States.{with_rows, State};
 ghost use Rattle.requests.specs.Taking.{answer_in, rows_after};
 ghost use Rattle.requests.specs.declared.requests.TakeAnswer.TheVariants.{Took as TookItems};
 ghost use Rattle.mpi_machine.specs.Courses.{bound_of, has_ended, HasRoom};
-ghost use Rattle.mpi_machine.specs.Turns.{after_turn, last_reply, others_wait, stands, takes_none, turn_of, HasReply, IsAsked, IsHeldBack, IsStartAt, StandsAt};
+ghost use Rattle.mpi_machine.specs.Turns.{after_turn, last_reply, stage_of, stands, takes_none, turn_of, HasReply, IsAsked, IsHeldBack, IsStartAt, StandsAt};
 ghost use Rattle.mpi_machine.specs.declared.turn.Turn.TheVariants.{Replied};
 
 use crate::course::Course;
@@ -308,7 +308,7 @@ impl<'a, P: Program> Machine<'a, P> {
     /// Whether no other rank can go on. Takes no memory.
     fn others_stand(&self, rank: u8) -> bool
         requires bound { bound_of self.now.events ≡ None }
-        ensures { (call : Call) → IsAsked (P.next self.now.program) self.now.ranks self.now.events rank call → can_go self.now.ranks self.now.events (view_of self.now.events rank) rank call ≡ false → result ≡ (is_stuck (P.next self.now.program) self.now.ranks self.now.events && others_wait (P.next self.now.program) self.now.ranks self.now.events self.now.kept rank) }
+        ensures { (call : Call) → IsAsked (P.next self.now.program) self.now.ranks self.now.events rank call → can_go self.now.ranks self.now.events (view_of self.now.events rank) rank call ≡ false → result ≡ (is_stuck (P.next self.now.program) self.now.ranks self.now.events && others_wait (P.next self.now.program) self.now.ranks (stage_of self.now.events self.now.kept) rank) }
     {
         for other in 0..self.course.ranks() {
             if !self.is_still(other, rank) {

@@ -16,3 +16,8 @@ pub record IsCertified (n : ℕ) (events : List Event) (most : ℕ) (advice : Ad
 pub record IsAdvice (n : ℕ) (events : List Event) (most : ℕ) (advice : Advice) : Type 0 where
   pub certified : IsCertified n events most advice
   pub least : AreLeast (block_cost n events) most advice.bounds 0 advice.ends
+
+-- there is one advice on a run
+abbrev pub RunsHaveOneAdvice : Type 0
+RunsHaveOneAdvice =
+    (n : ℕ) (events : List Event) (most : ℕ) (one other : Advice) → IsAdvice n events most one → IsAdvice n events most other → one ≡ other

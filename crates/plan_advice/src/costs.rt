@@ -8,7 +8,6 @@ ghost use Rattle.plan_advice.specs.Pieces.{AreCosts, AreFew, block_ranks, ints_g
 use crate::pieces::{Piece, Pieces, pieces_of};
 use crate::span::Owner;
 use run_model::history::History;
-use srr_entry::members::all_ranks;
 use std::alloc::{AllocError, Global};
 use std::marker::Model;
 
@@ -38,14 +37,9 @@ impl<'a> Costs<'a> {
         ensures ranks { IfOk result (λ costs. costs.ranks ≡ n) }
         ensures events { IfOk result (λ costs. costs.events ≡ history.now.events) }
     {
-        let world = all_ranks(alloc, n)?;
         let mut lists = Vec::new(alloc);
         for rank in 0..n {
-            let owner = Owner {
-                ranks: n,
-                rank,
-                world: &world,
-            };
+            let owner = Owner { ranks: n, rank };
             let pieces = pieces_of(alloc, &owner, history.as_slice())?;
             lists.push(pieces)?;
         }

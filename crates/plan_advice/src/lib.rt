@@ -14,7 +14,7 @@ mod ways;
 pub use advice::{Advice, Bounds};
 pub use advising::advise;
 pub use holding::holds;
-pub use laws::every_cutting_costs;
+pub use laws::{every_cutting_costs, one_advice};
 pub use plans::plan_cost;
 
 #[cfg(test)]

@@ -1,19 +1,19 @@
 //! What the completions of a rank gave it, as far as costs go.
 ghost use Rattle.std.specs.Prelude.{◌≡◌, ◌≤◌, ◌<◌, ◌+◌, ◌^◌, ◌++◌, ◌∷◌, [], IfOk, OnOk, OnErr, IfErr, slice_index};
-ghost use Rattle.mpi_call.specs.Calls.{listed_by};
 ghost use Rattle.run_model.specs.Forms.{IsInOrder};
-ghost use Rattle.run_model.specs.Lists.{world};
-ghost use Rattle.run_model.specs.Views.{view_of};
+ghost use Rattle.run_model.specs.Views.{View, view_of};
+ghost use Rattle.srr_entry.specs.Known.{IsKnownOf};
 ghost use Rattle.srr_entry.specs.Seen.{IsRanksView};
 ghost use Rattle.plan_advice.specs.Pieces.{AreGrown, ArePieces, IsGrown, IsPiece, ints_given, ints_in_pieces, ints_of_got, ints_of_items, ints_of_reply};
 
 use crate::span::{Owner, span_of};
-use mpi_call::call::{self, Call};
-use mpi_call::reply::{self, Got, Item, Reply};
+use mpi_call::call::Call;
+use mpi_call::reply::{Got, Item, Reply};
 use run_model::event::Event;
-use run_model::lists::View;
+use srr_entry::known::Known;
 use std::alloc::{AllocError, AllocFailed, Global};
 use std::marker::Model;
+use view_tables::start_table::listed_by;
 
 /// The ints of a completion, and the least and the greatest rank among its own and those that they came from.
 #[derive(Clone, Copy)]
@@ -66,10 +66,9 @@ impl Pieces {
 }
 
 /// The piece of what a start of the rank gave.
-fn piece_of(owner: &Owner<'_>, own: &[(Call, Reply)], start: u32, got: &Got) -> Piece
-    requires world { owner.now.world.now ≡ world owner.now.ranks 0 }
-    requires order { IsInOrder owner.now.ranks owner.now.rank own.now }
-    ensures piece { IsPiece owner.now.ranks owner.now.rank own.now start got.now result }
+fn piece_of(owner: &Owner, known: &Known<'_>, start: u32, got: &Got) -> Piece
+    requires { (own : View) × IsKnownOf owner.now.ranks own known.now × IsInOrder owner.now.ranks owner.now.rank own }
+    ensures piece { (own : View) → IsKnownOf owner.now.ranks own known.now → IsPiece owner.now.ranks owner.now.rank own start got.now result }
     ensures ints { result.ints ≡ ints_of_got got.now }
 {
     match got {
@@ -79,7 +78,7 @@ fn piece_of(owner: &Owner<'_>, own: &[(Call, Reply)], start: u32, got: &Got) -> 
             ints: ints.as_slice().len() as u64,
         },
         Got::Joined { ints } => {
-            let span = span_of(owner, own, start);
+            let span = span_of(owner, known, start);
             Piece {
                 least: span.least,
                 greatest: span.greatest,
@@ -104,85 +103,56 @@ fn listed_start(starts: &[u32], index: u32) -> u32
 /// Adds the pieces of completed starts.
 fn add_items(
     pieces: &mut Pieces,
-    owner: &Owner<'_>,
-    own: &[(Call, Reply)],
+    owner: &Owner,
+    known: &Known<'_>,
     starts: &[u32],
     items: &[Item],
 ) -> Result<(), AllocError>
-    requires world { owner.now.world.now ≡ world owner.now.ranks 0 }
-    requires order { IsInOrder owner.now.ranks owner.now.rank own.now }
-    ensures grown { OnOk result (AreGrown owner.now.ranks owner.now.rank own.now starts.now items.now pieces.old pieces.new) }
+    requires { (own : View) × IsKnownOf owner.now.ranks own known.now × IsInOrder owner.now.ranks owner.now.rank own }
+    ensures grown { OnOk result ((own : View) → IsKnownOf owner.now.ranks own known.now → AreGrown owner.now.ranks owner.now.rank own starts.now items.now pieces.old pieces.new) }
     ensures ints { OnOk result (ints_in_pieces pieces.new ≡ ints_in_pieces pieces.old + ints_of_items items.now) }
 {
     let mut rest = items;
     while let [item, after @ ..] = rest {
         let start = listed_start(starts, item.index);
-        let piece = piece_of(owner, own, start, &item.got);
+        let piece = piece_of(owner, known, start, &item.got);
         pieces.push(piece)?;
         rest = after;
     }
     Ok(())
 }
 
-/// The starts that a Take lists.
-fn listed_by(call: &Call) -> &[u32]
-    ensures { result.now ≡ listed_by call.now }
-{
-    match call {
-        Call::Take { starts, .. } => starts.as_slice(),
-        _ => &[],
-    }
-}
-
 /// Adds the pieces of a reply to the rank's call, after what it has seen.
 fn add_reply(
     pieces: &mut Pieces,
-    owner: &Owner<'_>,
-    own: &[(Call, Reply)],
+    owner: &Owner,
+    known: &Known<'_>,
     call: &Call,
     reply: &Reply,
 ) -> Result<(), AllocError>
-    requires world { owner.now.world.now ≡ world owner.now.ranks 0 }
-    requires order { IsInOrder owner.now.ranks owner.now.rank own.now }
-    ensures grown { OnOk result (IsGrown owner.now.ranks owner.now.rank own.now call.now reply.now pieces.old pieces.new) }
+    requires { (own : View) × IsKnownOf owner.now.ranks own known.now × IsInOrder owner.now.ranks owner.now.rank own }
+    ensures grown { OnOk result ((own : View) → IsKnownOf owner.now.ranks own known.now → IsGrown owner.now.ranks owner.now.rank own call.now reply.now pieces.old pieces.new) }
     ensures ints { OnOk result (ints_in_pieces pieces.new ≡ ints_in_pieces pieces.old + ints_of_reply reply.now) }
 {
     match reply {
-        Reply::Took(items) => add_items(pieces, owner, own, listed_by(call), items.as_slice()),
+        Reply::Took(items) => add_items(pieces, owner, known, listed_by(call), items.as_slice()),
         _ => Ok(()),
     }
 }
 
-/// Adds a copy of an event's call and reply.
-fn add_seen(own: &mut View, event: &Event) -> Result<(), AllocError>
-    ensures { OnOk result (own.new ≡ own.old ++ (event.now.call, event.now.reply) ∷ []) }
-{
-    let call = call::copy_of(&event.call)?;
-    let reply = reply::copy_of(&event.reply)?;
-    own.push((call, reply))?;
-    Ok(())
-}
-
 /// The pieces of all that a rank has seen.
-pub fn pieces_of(alloc: Global, owner: &Owner<'_>, events: &[Event]) -> Result<Pieces, AllocError>
-    requires world { owner.now.world.now ≡ world owner.now.ranks 0 }
-    requires view { IsRanksView owner.now.ranks owner.now.rank (view_of events.now owner.now.rank) }
+pub fn pieces_of(alloc: Global, owner: &Owner, events: &[Event]) -> Result<Pieces, AllocError>
+    requires { IsRanksView owner.now.ranks owner.now.rank (view_of events.now owner.now.rank) }
     ensures pieces { IfOk result (λ pieces. ArePieces owner.now.ranks owner.now.rank (view_of events.now owner.now.rank) pieces) }
     ensures few { IfOk result (λ pieces. ints_in_pieces pieces ≤ ints_given events.now) }
 {
-    let mut own = View::new(alloc);
+    let mut known = Known::new(alloc, owner.ranks)?;
     let mut pieces = Pieces::new(alloc);
     let mut rest = events;
     while let [event, after @ ..] = rest {
         if event.rank == owner.rank {
-            add_reply(
-                &mut pieces,
-                owner,
-                own.as_slice(),
-                &event.call,
-                &event.reply,
-            )?;
-            add_seen(&mut own, event)?;
+            add_reply(&mut pieces, owner, &known, &event.call, &event.reply)?;
+            known.note(&event.call, &event.reply)?;
         }
         rest = after;
     }

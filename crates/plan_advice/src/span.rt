@@ -1,28 +1,23 @@
 //! How far the ranks reach that a collective's result came from.
-ghost use Rattle.std.specs.Prelude.{◌≡◌, ◌&&◌, ℕ, IsTrue, if◌then◌else◌, max, min, option_map, true};
+ghost use Rattle.std.specs.Prelude.{◌≡◌, ◌&&◌, ℕ, IsTrue, if◌then◌else◌, max, min, true};
 ghost use Rattle.mpi_call.specs.Members.{is_member};
 ghost use Rattle.mpi_call.specs.Needs.{IsEnterOf, needs};
-ghost use Rattle.run_model.specs.Communicators.{known_in};
 ghost use Rattle.run_model.specs.Forms.{IsInOrder};
-ghost use Rattle.run_model.specs.Lists.{world};
-ghost use Rattle.run_model.specs.Views.{start_at};
+ghost use Rattle.run_model.specs.Views.{View, start_at};
 ghost use Rattle.srr_entry.specs.Entries.{all_within, is_inner};
+ghost use Rattle.srr_entry.specs.Known.{IsKnownOf};
 ghost use Rattle.plan_advice.specs.Pieces.{HasRank, block_ranks, is_within};
 
-use mpi_call::call::{Call, Comm};
+use mpi_call::call::Call;
 use mpi_call::lists::Ranks;
 use mpi_call::needs::needs;
-use mpi_call::reply::Reply;
-use run_model::communicators::find_made;
-use run_model::starts::find_start;
+use srr_entry::known::Known;
 
 /// A rank of a run on so many ranks.
 #[derive(Clone, Copy)]
-pub struct Owner<'a> {
+pub struct Owner {
     pub ranks: u8,
     pub rank: u8,
-    /// All ranks.
-    pub world: &'a Ranks,
 }
 
 /// The least and the greatest of some ranks.
@@ -82,35 +77,19 @@ fn needed_span(call: &Call, members: &Ranks, rank: u8) -> Span
     span
 }
 
-/// The members of a communicator that the rank knows.
-fn known_members<'a>(
-    owner: &'a Owner<'_>,
-    own: &'a [(Call, Reply)],
-    comm: Comm,
-) -> Option<&'a Ranks>
-    requires { owner.now.world.now ≡ world owner.now.ranks 0 }
-    ensures { option_map (λ members. members.now) result ≡ known_in owner.now.ranks own.now comm }
-{
-    if comm == 0 {
-        return Some(owner.world);
-    }
-    find_made(own, comm)
-}
-
 /// The span of the rank and of those that its start's result came from. A start that was never made has the span of no block.
-pub fn span_of(owner: &Owner<'_>, own: &[(Call, Reply)], start: u32) -> Span
-    requires world { owner.now.world.now ≡ world owner.now.ranks 0 }
-    requires order { IsInOrder owner.now.ranks owner.now.rank own.now }
-    ensures { (begin end : ℕ) → HasRank owner.now.rank begin end
-        → is_inner owner.now.ranks (block_ranks begin end) owner.now.rank own.now (start_at own.now start) ≡ is_within begin end result.least result.greatest }
+pub fn span_of(owner: &Owner, known: &Known<'_>, start: u32) -> Span
+    requires { (own : View) × IsKnownOf owner.now.ranks own known.now × IsInOrder owner.now.ranks owner.now.rank own }
+    ensures { (own : View) (begin end : ℕ) → IsKnownOf owner.now.ranks own known.now → HasRank owner.now.rank begin end
+        → is_inner owner.now.ranks (block_ranks begin end) owner.now.rank own (start_at own start) ≡ is_within begin end result.least result.greatest }
 {
     let alone = Span {
         least: owner.rank,
         greatest: owner.rank,
     };
-    match find_start(own, start) {
+    match known.start(start) {
         Some(call) => match call {
-            Call::Enter { comm, .. } => match known_members(owner, own, *comm) {
+            Call::Enter { comm, .. } => match known.members(*comm) {
                 Some(members) => needed_span(call, members, owner.rank),
                 None => alone,
             },

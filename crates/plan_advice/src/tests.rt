@@ -2,7 +2,7 @@
 ghost use Rattle.std.specs.Prelude.{◌<◌, ◌≤◌, ℕ};
 ghost use Rattle.plan_advice.specs.Costs.{IsRunOfAProgram};
 
-use crate::{advise, every_cutting_costs, holds, plan_cost};
+use crate::{advise, every_cutting_costs, holds, one_advice, plan_cost};
 use group_plan::read_plan;
 use run_model::history::History;
 use std::alloc::Global;
@@ -20,6 +20,7 @@ fn nothing(alloc: Global) -> History
 #[test]
 fn ranks_that_did_nothing_cost_nothing(rt: HostRuntime) -> Result<(), Fail> {
     every_cutting_costs();
+    one_advice();
     let history = nothing(rt.alloc());
     let alone = advise(rt.alloc(), 2, &history, 1)?;
     assert!(&rt; alone.ends.as_slice() == [1, 2].as_slice());

@@ -11,10 +11,10 @@ ghost use Rattle.run_model.specs.Communicators.{known_in};
 ghost use Rattle.run_model.specs.Pairs.{Name, name_at};
 ghost use Rattle.run_model.specs.Program.{IsInForm};
 ghost use Rattle.run_model.specs.Views.{items_taken, view_of};
-ghost use Rattle.match_core.specs.Starts.{is_message, is_peek, left_by, start_of, AreBelow, IsEarliest};
+ghost use Rattle.match_core.specs.Starts.{is_message, is_peek, AreBelow, IsEarliest};
 ghost use Rattle.collectives.specs.Boards.{entered_by};
 ghost use Rattle.collectives.specs.declared.instances.Entered.TheVariants.{Disagrees as DisagreesWith};
-ghost use Rattle.match_core.specs.Histories.{event_of, KnowsMore, Knows as MatcherKnows};
+ghost use Rattle.match_core.specs.Histories.{IsAdded};
 ghost use Rattle.requests.specs.declared.requests.TakeAnswer.TheVariants.{Took};
 ghost use Rattle.requests.specs.Starts.{all_marked, found_in, name_in, row_of, with_row};
 ghost use Rattle.requests.specs.States.{at_first, with_rows, IsAbove, IsEntered, IsPaired, IsStarted, MayEnter, State};
@@ -282,10 +282,8 @@ fn empty_rows(alloc: Global, ranks: u8) -> Result<Vec<Row>, AllocError>
 fn matched(matcher: &mut Matcher, at: u32, rank: u8, call: &Call) -> Result<Option<u32>, AllocError>
     requires kind { IsTrue (is_message call.now) }
     requires position { AreBelow at matcher.old }
-    ensures mate { IfOk result (λ mate. IsEarliest rank call.now matcher.old mate) }
-    ensures ok { IfOk result (λ mate. matcher.new ≡ left_by matcher.old (start_of at rank call.now) mate) }
+    ensures added { IfOk result (λ mate. IsAdded at rank call.now matcher.old matcher.new mate) }
     ensures err { OnErr result (matcher.new ≡ matcher.old) }
-    ensures knows { IfOk result (λ mate. (events : List Event) → MatcherKnows events matcher.old → at ≡ length events → KnowsMore events (event_of rank call.now mate) matcher.new) }
 {
     match call {
         Call::Send { .. } => matcher.send(at, rank, call),

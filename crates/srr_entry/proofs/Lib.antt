@@ -1,3 +1,5 @@
 pub mod EntryPlaces
+pub mod KnownLemmas
 pub mod MemberLemmas
 pub mod Making
+pub mod Rising

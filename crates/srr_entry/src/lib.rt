@@ -4,6 +4,7 @@
 
 pub mod entry;
 mod inner;
+pub mod known;
 pub mod log;
 pub mod members;
 pub mod place;

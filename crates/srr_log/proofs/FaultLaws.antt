@@ -23,7 +23,7 @@ use Rattle.std.proofs.lemmas.Option.{some_pair_parts}
 use Rattle.srr_log.proofs.StateLaws.{IsLineState, IsSmallState, line_in, line_read, no_newline, AreRead, after_lists, after_append, runs_split}
 use Rattle.srr_log.proofs.LogLaws.{RunsTo, log_text-is, log_runs, some_log_runs, runs_some_log, IsReached, reached_next, reached_after, reached_small, expected_ok, goes_on, went_on}
 
--- pieces of one length, and lines, are told from what stands behind them
+-- pieces of one length, and lines, are told apart from what follows them
 same_length : (xs ys rest rest' : List ℕ) → length xs ≡ length ys → xs ++ rest ≡ ys ++ rest' → (xs ≡ ys) × (rest ≡ rest')
 same_length [] [] rest rest' many e = (refl, e)
 same_length [] (y ∷ ys) rest rest' many e = absurd (omega arith)
@@ -116,7 +116,7 @@ part_whole state part ok = absurd ok
 part_before : (part : Part) (behind : List ℕ) → part_text part ++ behind ≡ line (part_line part) behind
 part_before part behind = append_assoc (part_line part) (10 ∷ []) behind
 
--- one part stands first
+-- one part is first
 same_by_line : (state : State) (part other : Part) → IsSmallState state → IsLineState state → Allows state part → Allows state other → part_text part ≡ part_text other → part ≡ other
 same_by_line state part other small is ok ok' e =
     let lines = append_cancel_right (part_line part) (part_line other) (10 ∷ []) e in
@@ -159,7 +159,7 @@ compare state (part ∷ parts) (other ∷ others) rest rest' reached (ok, run) (
       | inr (more, is, left) ↦ inr (more, ap (λ ps. part ∷ ps) is ∙ ap (λ p. p ∷ (others ++ more)) first.0, left)
     ]
 
--- where there is a fault, no part that may come stands
+-- where there is a fault, no part that may come is there
 fault_no_part : (state : State) (part : Part) (rest behind : List ℕ) (why : LogWhy) (left : ℕ) → FaultAt state rest why left → Allows state part → rest ≡ line (part_line part) behind → ⊥
 fault_no_part state part rest behind why left (inl (short, end, open', none)) ok is =
     no_end_whole part rest (part_text part) behind ((alike state part ok).ends' rest none) (part_whole state part ok) (is ∙ sym (part_before part behind))

@@ -168,7 +168,7 @@ outside_said n group text source start tag e =
     let P : ℕ × ℕ × ℕ → Type 0 = λ name. IsSender n group false name.0 × IsSmallNumber name.1 × IsTag name.2 × (text ≡ tagged_text name.0 name.1 name.2) in
     subst P g.1 ((rank.0, g.0), number.0, last.0, is)
 
--- no colon stands in a name
+-- no colon is in a name
 no_colon : (n : ℕ) → NoByte 58 (decimal_text n)
 no_colon n = decimal_text-excludes n 58 (λ digit. omega (arith, digit.1))
 
@@ -180,7 +180,7 @@ pub no_colon_tagged : (source start tag : ℕ) → NoByte 58 (tagged_text source
 no_colon_tagged source start tag =
     no_byte_append 58 (name_text source start) (46 ∷ decimal_text tag) (no_colon_name source start) (no_byte_cons 58 46 (decimal_text tag) (λ e. omega (arith, e)) (no_colon tag))
 
--- what stands for a short name or a long one
+-- what a short name or a long one is
 pub short_name : (source start : ℕ) → split_once 58 (name_text source start) ≡ None
 short_name source start = split_once_none 58 (name_text source start) (no_colon_name source start)
 

@@ -27,7 +27,7 @@ no_byte_cons byte b text apart none = All-cons (λ b. b ≢ byte) b text apart n
 pub no_byte_append : (byte : ℕ) (xs ys : List ℕ) → NoByte byte xs → NoByte byte ys → NoByte byte (xs ++ ys)
 no_byte_append byte xs ys none none' = All-append (λ b. b ≢ byte) xs ys none none'
 
--- a byte below 44 stands in no number
+-- a byte below 44 is in no number
 pub no_byte_decimal : (byte n : ℕ) → byte < 48 → NoByte byte (decimal_text n)
 no_byte_decimal byte n low = decimal_text-excludes n byte (λ digit. omega (arith, digit.0))
 
@@ -48,7 +48,7 @@ pub no_byte_map : {A : Type 0} (byte : ℕ) (spelled : A → List ℕ) → ((val
 no_byte_map byte spelled none [] = tt
 no_byte_map byte spelled none (value ∷ values) = (none value, no_byte_map byte spelled none values)
 
--- no blank and no newline stands in a mark
+-- no blank and no newline is in a mark
 no_byte_name : (byte source start : ℕ) → byte < 44 → NoByte byte (name_text source start)
 no_byte_name byte source start low =
     no_byte_append byte (decimal_text source) (46 ∷ decimal_text start) (no_byte_decimal byte source (omega arith))
@@ -82,7 +82,7 @@ no_byte_item byte item low =
     no_byte_append byte (decimal_text item.index) (61 ∷ mark_text item.mark) (no_byte_decimal byte item.index (omega arith))
     (no_byte_cons byte 61 (mark_text item.mark) (λ e. omega arith) (no_byte_mark byte item.mark low))
 
--- no newline stands in an entry's line
+-- no newline is in an entry's line
 no_line_behind : (n : ℕ) → NoByte 10 (32 ∷ decimal_text n)
 no_line_behind n = no_byte_cons 10 32 (decimal_text n) (λ e. omega (arith, e)) (no_byte_decimal 10 n (omega arith))
 

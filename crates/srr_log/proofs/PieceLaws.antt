@@ -109,7 +109,7 @@ split_once_some mark (byte ∷ text) front rest e =
           rw (w.2, ← split_once_some mark text w.0 rest w.1) refl
     ]
 
--- a place cuts where the first mark stands
+-- a place cuts at the first mark
 pub gives_cut_none : (mark : ℕ) (text : List ℕ) → All (λ byte. byte ≢ mark) text → GivesSplit None (split_once mark text)
 gives_cut_none mark text none = split_once_none mark text none
 

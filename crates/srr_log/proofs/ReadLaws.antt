@@ -1,4 +1,4 @@
--- A log's parts, read one behind the other.
+-- A log's parts, read one after the other.
 use Rattle.std.proofs.Common.{◌≡◌, ℕ, ◌<◌, inl, inr, List, [], ◌∷◌, ◌++◌, map, length, drop, refl, sym, ◌∙◌, ap, subst, arith, append_assoc}
 use Rattle.std.specs.Prelude.{Err}
 use Rattle.std.proofs.Math.Seq.{drop-length}
@@ -34,7 +34,7 @@ lists_before (rank ∷ group) [] parts = refl
 lists_before (rank ∷ group) (entries ∷ lists) parts =
     ap (λ ps. rank_line rank (length entries) ∷ ps) (append_assoc (map entry_part entries) (lists_parts group lists []) parts ∙ ap (λ ps. map entry_part entries ++ ps) (lists_before group lists parts))
 
--- the lists, and the last line behind them
+-- the lists, and the last line after them
 module _ (n : ℕ) (group text first : List ℕ) where
   pub lists_stopped : (rest : List ℕ) (stop : ReadError) → Reads {A = List (List Entry)} (at_list n group group) (λ lists. lists_parts group lists []) text (Err stop) rest
       → Reads (at_list n group group) (λ lists. lists_parts group lists (end_line ∷ [])) text (Err stop) []

@@ -103,7 +103,7 @@ line_said (at_entry n group others ranks) line part e =
     subst (IsLineOfPart (at_entry n group others ranks) line) same ((said.0, said.1), said.2)
 line_said at_end line part e = absurd (cc)
 
--- no newline stands in a line
+-- no newline is in a line
 abbrev plain : List ℕ → Bool
 plain [] = true
 plain (byte ∷ bytes) = nat_lt 10 byte && plain bytes
@@ -131,7 +131,7 @@ no_newline (at_program n group size) part is ok = absurd is
 no_newline at_end part is ok = absurd is
 no_newline state part is ok = absurd ok
 
--- an end of a line is where its newline stands
+-- an end of a line is the place of its newline
 pub open_line : (state : State) → IsLineState state → IsOpen state
 open_line at_head is = tt
 open_line at_ranks is = tt
@@ -190,7 +190,7 @@ bad_line state text bytes rest why is small none plain whole reason =
       },
     ))
 
--- parts, and parts behind them
+-- parts, and parts after them
 pub runs_append : (state : State) (parts others : List Part) → Runs state parts → Runs (after state parts) others → Runs state (parts ++ others)
 runs_append state [] others run run' = run'
 runs_append state (part ∷ parts) others (ok, run) run' = (ok, runs_append (next state part) parts others run run')
@@ -207,7 +207,7 @@ pub parts_text-append : (parts others : List Part) (behind : List ℕ) → parts
 parts_text-append [] others behind = refl
 parts_text-append (part ∷ parts) others behind = ap (line (part_line part)) (parts_text-append parts others behind)
 
--- a fault behind parts that were read is the whole's
+-- a fault after parts that were read is the whole's
 pub fault_behind : (state : State) (parts : List Part) (text rest : List ℕ) (why : LogWhy) (left : ℕ) → Runs state parts → text ≡ parts_text parts rest
     → FaultFrom (after state parts) rest why left → FaultFrom state text why left
 fault_behind state parts text rest why left run is (others, last, run', is', fault) = (
@@ -235,7 +235,7 @@ module _ {A : Type 0} (state : State) (spelled : A → List Part) where
   reads_bad text bytes rest rest' why left is small none plain whole reason all =
       subst (FaultFrom state text why) (sym all) (bad_line state text bytes rest why is small none plain whole reason)
 
--- what was read behind other parts
+-- what was read after other parts
 module _ {A B : Type 0} (state : State) (parts : List Part) (spelled : A → List Part) (spelled' : B → List Part) where
   pub reads_behind : (text middle rest rest' : List ℕ) (stop : ReadError) → Runs state parts → text ≡ parts_text parts middle → Reads (after state parts) spelled middle (Err stop) rest → Reads state spelled' text (Err stop) rest'
   reads_behind text middle rest rest' NoMemory run is fault = tt
@@ -250,7 +250,7 @@ module _ {A B : Type 0} (state : State) (spelled : A → List Part) where
       reads_bad state spelled text bytes rest rest' why left is small (says ∙ rw none refl) plain whole reason all
   reads_unread text bytes rest rest' why left UnreadMemory said part_of is small says none plain whole reason all = tt
 
--- parts that were read one behind the other
+-- parts that were read one after the other
 abbrev pub AreRead : State → List Part → List ℕ → List ℕ → Type 0
 AreRead state parts text rest = Runs state parts × (text ≡ parts_text parts rest)
 

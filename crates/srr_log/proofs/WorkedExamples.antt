@@ -45,7 +45,7 @@ small_in_bounds = record {
 some_small : SomeLog (head_line ∷ ranks_line 1 ∷ group_line (0 ∷ []) ∷ size_line 0 ∷ program_bytes [] ∷ rank_line 0 1 ∷ entry_part Ended ∷ end_line ∷ [])
 some_small = (small, small_in_bounds, refl)
 
--- a byte behind it
+-- a byte after it
 extra : IsFirstFault (codes "srr 1\nranks 1\ngroup 0\nprogram 0\n\nrank 0 1\nz\nend\n\n") (record { at = 48; why = Extra })
 unfolding decimal_text
 extra = (log_parts small, codes "\n", refl, inr (refl, inl (refl, some_small, λ e. absurd (cc (e)))))

@@ -22,7 +22,7 @@ abbrev pub IsWhole : Part → List ℕ → Type 0
 IsWhole (program_bytes program) found = length found ≡ length program + 1
 IsWhole part found = (line : List ℕ) × HasNoNewline line × (found ≡ line ++ 10 ∷ [])
 
--- no such end stands in the rest of the text
+-- no such end is in the rest of the text
 abbrev pub HasNoEnd : Part → List ℕ → Type 0
 HasNoEnd (program_bytes program) rest = length rest ≤ length program
 HasNoEnd part rest = HasNoNewline rest
@@ -65,7 +65,7 @@ pub record IsBad (front : List Part) (rest : List ℕ) (why : LogWhy) : Type 0 w
 abbrev pub IsExtra : List Part → List ℕ → LogWhy → Type 0
 IsExtra front rest why = (why ≡ Extra) × SomeLog front × (rest ≢ [])
 
--- the text is some parts without fault and the rest. The fault is Short, at the text's end; or it stands where the rest
+-- the text is some parts without fault and the rest. The fault is Short, at the text's end; or it is where the rest
 -- begins: Extra after a whole log, or at a part that no log has there
 abbrev pub IsFirstFault : List ℕ → LogFault → Type 0
 IsFirstFault text fault = (front : List Part) × (rest : List ℕ) × (text ≡ parts_text front rest)

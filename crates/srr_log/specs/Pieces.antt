@@ -1,4 +1,4 @@
--- The pieces of a line: what stands between marks, and the number that a piece spells.
+-- The pieces of a line: what is between marks, and the number that a piece spells.
 use Rattle.std.specs.Prelude.{◌≡◌, ℕ, ℤ, pos, negsuc, neg_ℤ, List, [], ◌∷◌, ◌++◌, Bool, ◌&&◌, ◌==◌, if◌then◌else◌, nat_le, nat_lt, Option, Some, None, Result, Ok, Err}
 use Rattle.std.specs.Borrow.{Bor}
 use Rattle.std.specs.List.{slice_split}
@@ -37,7 +37,7 @@ abbrev pub with_byte : ℕ → Option (List ℕ × List ℕ) → Option (List �
 with_byte byte (Some parts) = Some (byte ∷ parts.0, parts.1)
 with_byte byte None = None
 
--- what stands before the first such mark, and what comes after it
+-- what comes before the first such mark, and what comes after it
 unfoldable pub split_once : ℕ → List ℕ → Option (List ℕ × List ℕ)
 split_once mark [] = None
 split_once mark (byte ∷ text) = if byte == mark then Some ([], text) else with_byte byte (split_once mark text)

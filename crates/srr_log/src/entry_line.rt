@@ -3,13 +3,12 @@ ghost use Rattle.std.specs.Prelude.{◌≡◌, ◌++◌, ◌∷◌, []};
 ghost use Rattle.srr_log.specs.EntryReading.{all_items_in, detail_in, detailed_in, entry_in, fault_of, halt_in, item_in, items_in, long_entry_in, named_in, peek_in};
 ghost use Rattle.srr_log.specs.Pieces.{Adds, Gives};
 
-use crate::lists::indices_rise;
 use crate::mark::{inside, mark, outside};
 use crate::pieces::{behind, int, number, rank, split_once};
 use crate::read_error::Unread;
 use mpi_call::call::{Fault, Halt};
 use mpi_call::limits::MOST_INTS;
-use srr_entry::entry::{Entry, Marked, MarkedItems};
+use srr_entry::entry::{Entry, Marked, MarkedItems, do_indices_rise};
 use srr_text::limits::GREATEST_NUMBER;
 use std::alloc::Global;
 
@@ -55,7 +54,7 @@ fn items(alloc: Global, text: &[u8], ranks: u8, group: &[u8]) -> Result<MarkedIt
     ensures { Gives result (items_in ranks group.now text.now) }
 {
     let items = all_items(alloc, text, ranks, group)?;
-    if indices_rise(items.as_slice()) {
+    if do_indices_rise(items.as_slice()) {
         Ok(items)
     } else {
         Err(Unread::NotAllowed)

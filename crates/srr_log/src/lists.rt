@@ -1,13 +1,12 @@
 //! Lists within a line, a mark between each two elements.
 ghost use Rattle.std.specs.Prelude.{◌≡◌, ◌++◌, ◌∷◌, [], IsTrue, OnOk, length, map};
 ghost use Rattle.mpi_call.specs.Lists.{rises};
-ghost use Rattle.srr_log.specs.EntryReading.{few_ints_in, indices, ints_in, ranks_in};
+ghost use Rattle.srr_log.specs.EntryReading.{few_ints_in, ints_in, ranks_in};
 ghost use Rattle.srr_log.specs.Pieces.{Adds, Gives, int_in, rank_in};
 
 use crate::pieces::{int, rank, split_once};
 use crate::read_error::Unread;
 use mpi_call::lists::{Ints, Ranks};
-use srr_entry::entry::Marked;
 use std::alloc::{AllocError, Global};
 
 /// Ints with commas between, at most this many; none is no byte.
@@ -81,30 +80,5 @@ fn add_rank(found: &mut Ranks, piece: &[u8], ranks: u8) -> Result<(), Unread>
 pub fn rise(ranks: &[u8]) -> bool
     ensures { result ≡ rises 0 ranks.now }
 {
-    let mut least = 0;
-    let mut rest = ranks;
-    while let [rank, after @ ..] = rest {
-        if (*rank as u16) < least {
-            return false;
-        }
-        least = *rank as u16 + 1;
-        rest = after;
-    }
-    true
-}
-
-/// Whether each index is above the one before it.
-pub fn indices_rise(items: &[Marked]) -> bool
-    ensures { result ≡ rises 0 (indices items.now) }
-{
-    let mut least = 0;
-    let mut rest = items;
-    while let [item, after @ ..] = rest {
-        if (item.index as u64) < least {
-            return false;
-        }
-        least = item.index as u64 + 1;
-        rest = after;
-    }
-    true
+    ranks.is_sorted_by(|one, next| one < next)
 }

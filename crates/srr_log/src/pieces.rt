@@ -11,7 +11,7 @@ pub fn behind<'a>(text: &'a [u8], word: &[u8]) -> Option<&'a [u8]>
     text.strip_prefix(word)
 }
 
-/// What stands before the first such mark, and what comes after it.
+/// What comes before the first such mark, and what comes after it.
 pub fn split_once(text: &[u8], mark: u8) -> Option<(&[u8], &[u8])>
     ensures { GivesSplit result (split_once mark text.now) }
 {
@@ -19,7 +19,7 @@ pub fn split_once(text: &[u8], mark: u8) -> Option<(&[u8], &[u8])>
     Some((&text[..at], &text[at + 1..]))
 }
 
-/// Where the first such byte stands.
+/// The place of the first such byte.
 fn place_of(text: &[u8], mark: u8) -> Option<usize>
     ensures none { MatchOption result (All (λ byte. byte ≢ mark) text.now)
         (λ at. All (λ byte. byte ≢ mark) (take at text.now)) }

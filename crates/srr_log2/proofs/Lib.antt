@@ -16,3 +16,5 @@ pub mod GroupLaws
 pub mod GroupExact
 pub mod WholeLaws
 pub mod ReadLaws
+pub mod FormatLaws
+pub mod ByteLengths

@@ -5,3 +5,4 @@ pub mod Lengths
 pub mod Fields
 pub mod EntryReading
 pub mod Reading
+pub mod Formats

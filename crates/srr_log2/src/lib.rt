@@ -6,6 +6,7 @@ mod field;
 mod kind;
 mod list;
 mod mark;
+pub mod read_either;
 mod read_error;
 pub mod read_log2;
 mod record;

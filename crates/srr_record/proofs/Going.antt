@@ -1,8 +1,5 @@
 -- How a machine goes on by attempts and by rounds.
-use Rattle.std.proofs.Common.{◌≡◌, ◌<◌, ◌==◌, ◌+◌, ◌∙◌, ◌++◌, ◌∷◌, List, None, Option, Some, [], ap, arith, false, inl, inr, is_some, length, refl, subst, suc, sym, true, zero, ℕ}
-use Rattle.std.proofs.lemmas.Bool.{eq-eqb, eqb-true}
-use Rattle.mpi_call.specs.declared.call.Call.{Call}
-use Rattle.mpi_call.specs.Members.{is_member}
+use Rattle.std.proofs.Common.{◌≡◌, ◌<◌, ◌+◌, ◌∙◌, ◌++◌, ◌∷◌, List, [], ap, arith, false, is_some, length, refl, subst, suc, sym, true, zero, ℕ}
 use Rattle.run_model.specs.declared.event.Event.{Event}
 use Rattle.run_model.specs.Chosen.{IsChosen, order_of}
 use Rattle.run_model.specs.Lists.{IsPrefixOf, world}
@@ -10,8 +7,8 @@ use Rattle.run_model.specs.MachineLaws.{has_stuck, OrderBeginsSerial}
 use Rattle.run_model.specs.Serial.{IsSerial, Stage, at_first, attempt, attempts, call_after, rounds}
 use Rattle.run_model.specs.Views.{Next}
 use Rattle.run_model.proofs.Prefixes.{prefix_refl, prefix_trans}
-use Rattle.run_model.proofs.Views.{test_cases}
-use Rattle.mpi_machine.specs.Turns.{MachineState, StandsAt, kept_of}
+use Rattle.mpi_machine.specs.Turns.{MachineState, StandsAt, stage_of}
+use Rattle.mpi_machine.proofs.WaitingRanks.{kept_waits}
 use Rattle.srr_record.specs.Rounds.{AreRounds, GoesBy, GoesByRounds, HaveEnded}
 use Rattle.srr_record.proofs.Progress.{progress}
 
@@ -56,57 +53,17 @@ one_round next one two three a b =
           subst F (sym (rounds_last next one.ranks a.count stage)) (subst G a.ranks (b.stands (rounds next one.ranks a.count stage) (a.stands stage s)));
     }
 
--- the ranks that wait with a call, from a number on
-abbrev waiting_from : ℕ → List (Option Call) → List ℕ
-waiting_from low [] = []
-waiting_from low (None ∷ kept) = waiting_from (suc low) kept
-waiting_from low (Some call ∷ kept) = low ∷ waiting_from (suc low) kept
-
-none_below : (low rank : ℕ) (kept : List (Option Call)) → rank < low → is_member (waiting_from low kept) rank ≡ false
-none_below low rank [] below = refl
-none_below low rank (None ∷ kept) below = none_below (suc low) rank kept (omega (arith, below))
-none_below low rank (Some call ∷ kept) below =
-    elim (test_cases (low == rank)) [
-      | inl t ↦ (let e = eqb-true low rank t in absurd (omega (arith, e, below)))
-      | inr t ↦ rw t (none_below (suc low) rank kept (omega (arith, below)))
-    ]
-
-apart_next : (low rank : ℕ) → (low == low + suc rank) ≡ false
-apart_next low rank = elim (test_cases (low == low + suc rank)) [ inl t ↦ (let e = eqb-true low (low + suc rank) t in absurd (omega (arith, e))) | inr t ↦ t ]
-
-waits_at : (low rank : ℕ) (kept : List (Option Call)) → is_member (waiting_from low kept) (low + rank) ≡ is_some (kept_of kept rank)
-waits_at low rank [] = refl
-waits_at low zero (None ∷ kept) = none_below (suc low) (low + 0) kept (omega arith)
-waits_at low zero (Some call ∷ kept) = rw (eq-eqb low (low + 0) (omega arith)) refl
-waits_at low (suc rank) (None ∷ kept) =
-    let e : low + suc rank ≡ suc low + rank = omega arith in
-    rw e (waits_at (suc low) rank kept)
-waits_at low (suc rank) (Some call ∷ kept) =
-    let e : low + suc rank ≡ suc low + rank = omega arith in
-    let rest : is_member (waiting_from (suc low) kept) (low + suc rank) ≡ is_some (kept_of kept rank) = rw e (waits_at (suc low) rank kept) in
-    rw (apart_next low rank) rest
-
-abbrev stage_of : {P : Type 0} → MachineState P → Stage
-stage_of machine = record { events = machine.events; waiting = waiting_from 0 machine.kept }
-
 -- each machine stands somewhere
-stands_there : {P : Type 0} (machine : MachineState P) → StandsAt machine (stage_of machine)
-stands_there machine =
-    record {
-      events = refl;
-      waiting = λ rank.
-          let e : 0 + rank ≡ rank = omega arith in
-          let F : ℕ → Type 0 = λ r. is_member (waiting_from 0 machine.kept) r ≡ is_some (kept_of machine.kept rank) in
-          subst F e (waits_at 0 rank machine.kept);
-    }
+stands_there : {P : Type 0} (machine : MachineState P) → StandsAt machine (stage_of machine.events machine.kept)
+stands_there machine = record { events = refl; waiting = kept_waits machine.kept }
 
 -- a round with a live rank has an event
 pub round_moves : {P : Type 0} (next : Next) (one two : MachineState P) (n rank : ℕ) → n ≡ one.ranks → GoesBy next (world one.ranks 0) one two → rank < n
     → is_some (call_after next n one.events rank) ≡ true → length one.events < length two.events
 round_moves next one two n rank many goes below live =
     let F : ℕ → Type 0 = λ r. is_some (call_after next r one.events rank) ≡ true in
-    let after = goes.stands (stage_of one) (stands_there one) in
-    let more = progress next one.ranks (stage_of one) rank (omega (arith, many, below)) (subst F many live) in
+    let after = goes.stands (stage_of one.events one.kept) (stands_there one) in
+    let more = progress next one.ranks (stage_of one.events one.kept) rank (omega (arith, many, below)) (subst F many live) in
     let same = ap (λ (l : List Event). length l) after.events in
     omega (arith, more, same)
 

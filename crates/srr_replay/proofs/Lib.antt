@@ -4,10 +4,6 @@ pub mod FormLemmas
 pub mod LogLemmas
 pub mod MissingMarks
 pub mod ShapeLemmas
-pub mod StartTableLemmas
-pub mod EnterTableLemmas
-pub mod MemberTableLemmas
-pub mod InstanceLemmas
 pub mod ReplaysLemmas
 pub mod RoundsLemmas
 pub mod WholeReplays

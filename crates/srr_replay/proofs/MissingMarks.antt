@@ -25,7 +25,7 @@ pub missing_of-some : (index : ℕ) (first : Result Got Missing) (rest : Result 
 missing_of-some index (Ok got) rest missing some = absurd (cc)
 missing_of-some index (Err other) rest missing some = some
 
--- marks of collectives stand for Enters
+-- marks of collectives are of Enters
 pub enter_for-inner : (n : ℕ) (group : List ℕ) (me : ℕ) (own : View) (found : Option Call) (call : Call) → mark_fits n group me own found Inner ≡ true → found ≡ Some call → is_enter call ≡ true
 enter_for-inner n group me own None call fit is = absurd (cc)
 enter_for-inner n group me own (Some (Enter comm kind root op count ints)) call fit is = let same : Enter comm kind root op count ints ≡ call = cc in rw (← same) refl

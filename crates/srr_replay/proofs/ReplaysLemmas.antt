@@ -15,18 +15,18 @@ use Rattle.srr_entry.specs.declared.log.Log.{Log}
 use Rattle.replay_model.specs.declared.step.Step.TheVariants.{Replied}
 use Rattle.replay_model.specs.Replays.{Breakpoint, IsStep, Replays, answer_of, event_of}
 use Rattle.srr_replay.specs.Rounds.{AreCounts, IsReplayable}
-use Rattle.srr_replay.specs.EnterTable.{AreEntersKnown}
-use Rattle.srr_replay.specs.StartTable.{TakesMade}
+use Rattle.view_tables.specs.EnterTable.{AreEntersKnown}
+use Rattle.view_tables.specs.StartTable.{TakesMade}
 use Rattle.srr_replay.proofs.LogLemmas.{below_at}
 use Rattle.srr_replay.proofs.ShapeLemmas.{answer_shaped}
-use Rattle.srr_replay.proofs.StartTableLemmas.{takes_made}
+use Rattle.view_tables.proofs.StartTableLemmas.{takes_made}
 
 -- the event of a reply keeps it a replay
 pub Replays-after : (next : Next) (log : Log) (stop : Breakpoint) (events : List Event) (rank : ℕ) (call : Call) (reply : Reply) → Replays next log stop events → is_member log.group rank ≡ true → next log.ranks rank (replies_in (view_of events rank)) ≡ Some call → answer_of log stop (view_of events) (view_of events rank) rank call ≡ Replied reply → Replays next log stop (events ++ event_of rank call reply ∷ [])
 Replays-after next log stop events rank call reply all member asked answered =
     Along-snoc (IsStep next log stop) [] events _ all (record { member = member; call = asked; reply = answered; mate = refl })
 
--- each rank came to where it stands by replies in shape, and no rank outside the group has an event
+-- each rank has got replies in shape alone, and no rank outside the group has an event
 pub record Came (next : Next) (log : Log) (events : List Event) : Type 0 where
   pub views : (rank : ℕ) → IsViewOf next log.ranks rank (view_of events rank)
   pub alone : (rank : ℕ) → is_member log.group rank ≡ false → view_of events rank ≡ []

@@ -92,7 +92,7 @@ not_later x group k distinct lt same =
     let no = rw member at distinct in
     absurd (cc)
 
--- no rank stands at two places
+-- no rank has two places
 pub distinct_at : (group : List ℕ) (j k : ℕ) → is_distinct group ≡ true → j < length group → k < length group → slice_index group j ≡ slice_index group k → j ≡ k
 distinct_at [] j k distinct lt lt' same = absurd (omega (arith, lt))
 distinct_at (x ∷ group) zero zero distinct lt lt' same = refl
@@ -124,7 +124,7 @@ RunAll-set {P} {R} standing program log before after runs k run moved all distin
       ];
     }
 
--- a member stands somewhere
+-- a member has a place
 pub member_at : (group : List ℕ) (rank : ℕ) → is_member group rank ≡ true → (k : ℕ) × (k < length group) × (slice_index group k ≡ rank)
 member_at [] rank h = absurd (cc)
 member_at (x ∷ group) rank h =

@@ -1,4 +1,4 @@
--- A reply that stands for an entry has the shape of its call.
+-- A reply that an entry represents has the shape of its call.
 use Rattle.std.proofs.Common.{◌&&◌, ◌||◌, ◌<◌, ◌==◌, ◌∙◌, ◌∷◌, ◌≡◌, Bool, Err, List, None, Ok, Option, Result, Some, [], ap, false, get_or, inl, inr, length, map, nat_le, not, refl, slice_get, slice_index, sym, true, ℕ, ℤ}
 use Rattle.std.proofs.lemmas.Bool.{and_parts, eq-eqb}
 use Rattle.std.proofs.lemmas.List.{length-map}
@@ -236,7 +236,7 @@ outside_shape n group me own (Post on (From from) wanted room) comm members mine
 outside_shape n group me own (Post on Null wanted room) comm members mine fit = absurd (cc)
 outside_shape n group me own call comm members mine fit = absurd (cc)
 
--- marks whose content stands in the entry
+-- marks whose content is in the entry
 sent_mark : (n : ℕ) (group : List ℕ) (own : View) (me : ℕ) (start : Option Call) → mark_fits n group me own start MarkSent ≡ true → got_fits n own me start Sent ≡ true
 sent_mark n group own me None fit = absurd (cc)
 sent_mark n group own me (Some (Send comm dest tag ints sync)) fit = refl
@@ -331,7 +331,7 @@ mark_shaped n group events me k (MarkMade comm) got below order mine fit made wh
 mark_shaped n group events me k (MadeOutside comm members) got below order mine fit made whole =
     (let same : Made comm members ≡ got = cc in rw (← same) (made_outside_mark n group (view_of events me) me (start_at (view_of events me) k) comm members mine fit))
 
--- the items that marks stand for
+-- the items that marks represent
 pub record ItemsShaped (n : ℕ) (own : View) (me : ℕ) (starts : List ℕ) (marks : List Marked) (items : List Item) : Type 0 where
   pub gots : gots_fit n own me starts items ≡ true
   pub indices : map (λ (item : Item). item.index) items ≡ map (λ (marked : Marked). marked.index) marks

@@ -1,8 +1,8 @@
 -- Logs that can be replayed, and rounds over the ranks of a group.
-use Rattle.std.specs.Prelude.{◌≡◌, ◌<◌, ◌≤◌, ℕ, zero, suc, List, [], ◌∷◌, ◌++◌, Option, Some, None, Bool, true, false, All, length, slice_index}
+use Rattle.std.specs.Prelude.{◌≡◌, ◌<◌, ◌≤◌, ◌+◌, ℕ, zero, suc, List, [], ◌∷◌, ◌++◌, Option, Some, None, Bool, true, false, All, length, slice_index}
 use Rattle.std.specs.List.{slice_index_or}
 use Rattle.mpi_call.specs.declared.call.Call.{Call}
-use Rattle.mpi_call.specs.declared.limits.TheConstants.{MOST_RANKS}
+use Rattle.mpi_call.specs.declared.limits.TheConstants.{MOST_EVENTS, MOST_RANKS}
 use Rattle.mpi_call.specs.Collectives.{is_distinct}
 use Rattle.run_model.specs.declared.event.Event.{Event}
 use Rattle.run_model.specs.Lists.{are_below}
@@ -18,7 +18,7 @@ pub record IsReplayable (log : Log) : Type 0 where
   pub below : are_below log.ranks log.group ≡ true
   pub distinct : is_distinct log.group ≡ true
   pub as_many : length log.lists ≡ length log.group
-  pub short : All (λ entries. length entries ≤ 999064) log.lists
+  pub short : All (λ entries. length entries ≤ MOST_EVENTS + MOST_RANKS) log.lists
 
 -- the same program, log and breakpoint
 pub record SameReplay {P : Type 0} (old new : ReplayState P) : Type 0 where

@@ -1,4 +1,4 @@
-//! The reply that an entry stands for, where it fits, and all that it rests on is there and agrees.
+//! The reply that an entry represents, where it fits, and all that it rests on is there and agrees.
 ghost use Rattle.std.specs.Prelude.{◌≡◌, ◌<◌, ◌++◌, ◌∷◌, [], ℕ, List, None, Ok, Some, IfOk, OnOk, true, false};
 ghost use Rattle.mpi_call.specs.declared.call.Call.{Call};
 ghost use Rattle.mpi_call.specs.declared.reply.Got.TheVariants.{Joined, Made, Message};
@@ -84,7 +84,7 @@ fn probed(seen: &IndexedHistory, source: u8, start: u32) -> Reply
     }
 }
 
-/// What the marks of completed starts stand for. An index past the list reads start 0.
+/// What the marks of completed starts represent. An index past the list reads start 0.
 fn items(
     alloc: Global,
     seen: &IndexedHistory,
@@ -113,7 +113,7 @@ fn items(
     Ok(found)
 }
 
-/// What the mark of the rank's start stands for.
+/// What the mark of the rank's start represents.
 fn got(
     alloc: Global,
     seen: &IndexedHistory,

@@ -1,5 +1,5 @@
 //! Whether an entry fits a call, by what the rank itself has seen.
-ghost use Rattle.std.specs.Prelude.{◌≡◌, ℕ, ℤ, List, Some, true, false, length, map};
+ghost use Rattle.std.specs.Prelude.{◌≡◌, ℕ, ℤ, List, Some, true, false, length, map, nat_lt};
 ghost use Rattle.std.specs.List.{list_all};
 ghost use Rattle.mpi_call.specs.Calls.{comm_of, is_enter, makes};
 ghost use Rattle.mpi_call.specs.Collectives.{is_uncoloured};
@@ -20,7 +20,7 @@ use mpi_call::lists::Ranks;
 use mpi_call::needs::{UNDEFINED, colour_in};
 use run_model::communicators::are_same;
 use run_model::shape;
-use srr_entry::entry::{Entry, Mark, Marked};
+use srr_entry::entry::{Entry, Mark, Marked, do_indices_rise};
 use srr_entry::members::all_within;
 
 /// Whether an entry and the rank's call agree, as far as the rank's own earlier calls and replies tell.
@@ -71,17 +71,14 @@ pub fn fits(group: &[u8], seen: &IndexedHistory, asked: &NextCall<'_>, entry: &E
 fn do_rise(len: usize, marks: &[Marked]) -> bool
     ensures { result ≡ rise_within 0 len (map (λ (marked : Marked). marked.index) marks.now) }
 {
-    let mut low = 0;
-    let mut rest = marks;
-    while let [marked, after @ ..] = rest {
-        let index = marked.index as usize;
-        if index < low || index >= len {
-            return false;
-        }
-        low = index + 1;
-        rest = after;
-    }
-    true
+    do_indices_rise(marks) && are_below(len, marks)
+}
+
+/// Whether all indices are below a length.
+fn are_below(len: usize, marks: &[Marked]) -> bool
+    ensures { result ≡ list_all (λ (marked : Marked). nat_lt marked.index len) marks.now }
+{
+    marks.iter().all(|marked| (marked.index as usize) < len)
 }
 
 /// Whether each of these starts was made and not taken.

@@ -4,15 +4,12 @@ ghost use Rattle.mpi_call.specs.Calls.{is_enter};
 ghost use Rattle.mpi_call.specs.Collectives.{is_member};
 ghost use Rattle.run_model.specs.Communicators.{enter_at, instance_of, is_on, known_in, members_in};
 ghost use Rattle.run_model.specs.Views.{start_at, taken_of, view_of};
-ghost use Rattle.srr_replay.specs.EnterTable.{AreEntersKnown};
+ghost use Rattle.view_tables.specs.EnterTable.{AreEntersKnown};
 ghost use Rattle.srr_replay.specs.IndexedHistory.{entered_of};
-ghost use Rattle.srr_replay.specs.StartTable.{TakesMade};
+ghost use Rattle.view_tables.specs.StartTable.{TakesMade};
 
 use crate::counts::Counts;
-use crate::enter_table::{EnterTable, count_below};
-use crate::member_table::MemberTable;
 use crate::note::prepare;
-use crate::start_table::StartTable;
 use mpi_call::call::{Call, Comm};
 use mpi_call::lists::Ranks;
 use run_model::event::Event;
@@ -20,6 +17,9 @@ use run_model::history::History;
 use srr_entry::members::all_ranks;
 use std::alloc::{AllocError, Global};
 use std::marker::Model;
+use view_tables::enter_table::{EnterTable, count_below};
+use view_tables::member_table::MemberTable;
+use view_tables::start_table::StartTable;
 
 /// An Enter of a rank: its start number, and the communicator's members for the rank when it entered.
 #[derive(Clone, Copy)]
@@ -52,10 +52,10 @@ impl Model for IndexedHistory {
     ghost use Rattle.std.specs.Prelude.{◌≡◌, []};
     ghost use Rattle.run_model.specs.Lists.{world as all_of};
     ghost use Rattle.srr_replay.specs.Rounds.{AreCounts};
-    ghost use Rattle.srr_replay.specs.EnterTable.{AreEntersKnown, IsEnterTable};
-    ghost use Rattle.srr_replay.specs.MemberTable.{IsMemberTable};
+    ghost use Rattle.view_tables.specs.EnterTable.{AreEntersKnown, IsEnterTable};
+    ghost use Rattle.view_tables.specs.MemberTable.{IsMemberTable};
     ghost use Rattle.srr_replay.specs.IndexedHistory.{EventsSoFar};
-    ghost use Rattle.srr_replay.specs.StartTable.{IsStartTable};
+    ghost use Rattle.view_tables.specs.StartTable.{IsStartTable};
 
     ghost Value = { EventsSoFar };
 

@@ -1,18 +1,18 @@
 //! Noting an event in the tables.
 ghost use Rattle.std.specs.Prelude.{◌≡◌, ◌<◌, ◌+◌, ◌^◌, ◌++◌, ◌∷◌, [], OnErr, OnOk, length};
 ghost use Rattle.run_model.specs.Views.{view_of};
-ghost use Rattle.srr_replay.specs.EnterTable.{IsEnterTable, entered_by};
-ghost use Rattle.srr_replay.specs.MemberTable.{IsMemberTable};
-ghost use Rattle.srr_replay.specs.StartTable.{IsStartTable, TakesMade};
+ghost use Rattle.view_tables.specs.EnterTable.{IsEnterTable, entered_by};
+ghost use Rattle.view_tables.specs.MemberTable.{IsMemberTable};
+ghost use Rattle.view_tables.specs.StartTable.{IsStartTable, TakesMade};
 
-use crate::enter_table::EnterTable;
-use crate::member_table::MemberTable;
-use crate::start_table::StartTable;
 use mpi_call::call::{Call, Comm};
 use mpi_call::reply::Reply;
 use run_model::event::Event;
 use run_model::history::History;
 use std::alloc::AllocError;
+use view_tables::enter_table::EnterTable;
+use view_tables::member_table::MemberTable;
+use view_tables::start_table::StartTable;
 
 /// The communicator of a call that is an Enter, made.
 fn entered_by(call: &Call, reply: &Reply) -> Option<Comm>

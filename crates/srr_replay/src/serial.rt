@@ -1,4 +1,4 @@
-//! A whole replay on one thread, from its beginning or from where it stands.
+//! A whole replay on one thread, from its beginning or from any event of it.
 ghost use Rattle.std.specs.Prelude.{◌≡◌, ◌<◌, ◌≤◌, ◌++◌, ◌∷◌, [], OnOk, OnErr, IfOk, length, map, Some, true, false, ℕ, List};
 ghost use Rattle.mpi_call.specs.Collectives.{is_distinct, is_member};
 ghost use Rattle.run_model.specs.declared.event.Event.{Event};
@@ -117,8 +117,8 @@ pub fn replay_serial<P: Program, R: RankRun<Of = P>>(
     Ok(replayed)
 }
 
-/// Goes on with a replay, however it came to where it stands, until no rank of the group has a step: rounds over its ranks, rising.
-/// Run k is the k-th rank of the group where it stands.
+/// Goes on with a replay, whatever the order of its events so far, until no rank of the group has a step: rounds over its ranks, rising.
+/// Run k is that of the k-th rank of the group, after its events so far.
 pub fn finish_replay<P: Program, R: RankRun<Of = P>>(
     alloc: Global,
     replay: Replay<'_, P>,
@@ -206,7 +206,7 @@ fn replayed(
     })
 }
 
-/// What some ranks printed, and where they stand, in order.
+/// What some ranks printed, and the stand of each, in order.
 #[derive(Drop)]
 struct Ends {
     outputs: Outputs,
@@ -281,7 +281,7 @@ fn ends_of<P: Program, R: RankRun<Of = P>>(
     Ok(ends)
 }
 
-/// Adds what a rank printed, and where it stands.
+/// Adds what a rank printed, and its stand.
 fn add_end<P: Program, R: RankRun<Of = P>>(
     alloc: Global,
     ends: &mut Ends,

@@ -24,6 +24,16 @@ impl Spelled for u8 {
     }
 }
 
+impl Spelled for u32 {
+    ghost use Rattle.wiz_base.specs.Decimals.{decimal_text};
+
+    ghost text = { decimal_text };
+
+    fn push_text(&self, out: &mut Bytes) -> Result<(), AllocError> {
+        push_decimal(out, *self as u64)
+    }
+}
+
 impl Spelled for i32 {
     ghost use Rattle.wiz_base.specs.Decimals.{number_text};
 

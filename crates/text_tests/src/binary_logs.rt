@@ -1,10 +1,11 @@
-//! Logs in format 2, worked out by hand from the format; the digests are those of another program.
+//! Logs in format 2, worked out by hand from the format, and read in either; the digests are those of another program.
 ghost use Rattle.std.specs.Prelude.{IfOk};
 ghost use Rattle.srr_text.specs.Bounds.{IsInBounds};
 
 use crate::logs::{FIRST, read};
 use srr_entry::log::Log;
 use srr_log::fault::{LogFault, LogWhy};
+use srr_log2::read_either::{either_has_one_reading, read_either};
 use srr_log2::read_log2::{one_reading, read_log2};
 use srr_log2::write_log2::write_log2;
 use srr_text::write_log::write_log;
@@ -226,4 +227,30 @@ fn faults_have_their_places(rt: HostRuntime) -> Result<(), Fail> {
         check_change(&rt, TESTS_BYTES, *kept, other, *at, *why)?;
     }
     Ok(())
+}
+
+/// How many ranks and lists a log of either format has.
+fn size_in(alloc: Global, text: &[u8]) -> Result<(u8, usize), LogFault> {
+    let few = &text[..text.len().min(4_294_967_295)];
+    let log = read_either(alloc, few)?;
+    Ok((log.ranks, log.lists.as_slice().len()))
+}
+
+#[test]
+fn the_first_bytes_choose_the_format(rt: HostRuntime) {
+    assert_eq!(&rt; size_in(rt.alloc(), FIRST), Ok((2, 2)));
+    assert_eq!(&rt; size_in(rt.alloc(), FIRST_BYTES), Ok((2, 2)));
+    // A text, and the place and the reason of its fault.
+    let rows: [(&[u8], u32, LogWhy); 6] = [
+        (b"srr", 3, LogWhy::Short),
+        (b"srr 2", 5, LogWhy::Short),
+        (b"srr 2 \x02", 0, LogWhy::BadHead),
+        (b"srr 2\nranks 2\n", 6, LogWhy::BadNumber),
+        (b"srr 3\n", 0, LogWhy::BadVersion),
+        (b"srr 22\n", 0, LogWhy::BadHead),
+    ];
+    for (text, at, why) in rows {
+        assert_eq!(&rt; size_in(rt.alloc(), text), Err(LogFault { at, why }));
+    }
+    either_has_one_reading();
 }

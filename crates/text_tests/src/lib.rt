@@ -2,6 +2,8 @@
 #![tactic(auto)]
 
 #[cfg(test)]
+mod advice;
+#[cfg(test)]
 mod binary_logs;
 #[cfg(test)]
 mod bounds;
@@ -19,6 +21,8 @@ mod logs;
 mod memory;
 #[cfg(test)]
 mod plans;
+#[cfg(test)]
+mod races;
 #[cfg(test)]
 mod run_entries;
 #[cfg(test)]

@@ -6,6 +6,8 @@ mod gates;
 #[cfg(test)]
 mod recordings;
 #[cfg(test)]
+mod regroup;
+#[cfg(test)]
 mod replays;
 #[cfg(test)]
 mod starting;

@@ -8,8 +8,8 @@ use Rattle.group_plan.specs.OrderText.{IsOrderText}
 use Rattle.group_plan.specs.Plans.{number_of_ranks}
 use Rattle.group_plan.specs.PlanText.{IsPlanText}
 use Rattle.srr_entry.specs.declared.log.Log.{Log}
-use Rattle.srr_log.proofs.FaultLaws.{fault_or_log, one_log}
-use Rattle.srr_text.specs.LogText.{IsLogText}
+use Rattle.srr_log2.proofs.FormatLaws.{never_both as log_or_fault, one_log}
+use Rattle.srr_log2.specs.Formats.{IsTextOfLog}
 use Rattle.wiz_cli.specs.declared.refusal.Refusal.{Refusal}
 use Rattle.wiz_cli.specs.declared.refusal.Refusal.TheVariants.{Words, Missing, ReadFault, Program as BadProgram, Plan as BadPlan, Order as BadOrder, Log as BadLog, TooLong}
 use Rattle.wiz_cli.specs.Requirements.{AreMet, IsFirstUnmet, IsLogRefusal, IsMet, IsOrderRefusal, IsPlanRefusal, IsProgramRefusal, IsUnmetBy, Requirement, a_log, a_plan, a_program, an_order, its_program}
@@ -44,14 +44,14 @@ order_apart n orders text turns (BadOrder fault) is unmet = orders.never_both te
 order_apart n orders text turns (BadLog fault) is unmet = unmet
 order_apart n orders text turns TooLong is unmet = unmet
 
-log_apart : (bytes : List ℕ) (log : Log) (refusal : Refusal) → IsLogText bytes log → IsLogRefusal bytes refusal → ⊥
+log_apart : (bytes : List ℕ) (log : Log) (refusal : Refusal) → IsTextOfLog bytes log → IsLogRefusal bytes refusal → ⊥
 log_apart bytes log Words is unmet = unmet
 log_apart bytes log Missing is unmet = unmet
 log_apart bytes log ReadFault is unmet = unmet
 log_apart bytes log (BadProgram fault) is unmet = unmet
 log_apart bytes log (BadPlan fault) is unmet = unmet
 log_apart bytes log (BadOrder fault) is unmet = unmet
-log_apart bytes log (BadLog fault) is unmet = fault_or_log bytes log fault is unmet
+log_apart bytes log (BadLog fault) is unmet = log_or_fault bytes log fault is unmet
 log_apart bytes log TooLong is unmet = unmet
 
 met_or_unmet : PlansHaveOneReading → ((n : ℕ) → OrdersHaveOneReading n) → (requirement : Requirement) (refusal : Refusal) → IsMet requirement → IsUnmetBy requirement refusal → ⊥

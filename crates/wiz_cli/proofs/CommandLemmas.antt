@@ -1,11 +1,22 @@
 -- What each command does.
-use Rattle.std.proofs.Common.{refl, ℕ, List, [], Bool, false, inr}
+use Rattle.std.proofs.Common.{◌≡◌, ◌≤◌, ◌<◌, refl, ℕ, List, [], Bool, false, inr, min}
+use Rattle.std.proofs.lemmas.Bool.{le-leb, lt-leb}
 use Rattle.c_program.specs.declared.program.CProgram.{CProgram}
+use Rattle.group_plan.specs.Plans.{number_of_ranks}
+use Rattle.msg_races.specs.declared.fault.TheConstants.{MOST_OTHERS}
+use Rattle.msg_races.specs.declared.receives.Receive.{Receive}
+use Rattle.msg_races.specs.Names.{count_others}
+use Rattle.msg_races.specs.Races.{AreRaces}
+use Rattle.plan_advice.specs.declared.advice.Advice.{Advice}
+use Rattle.plan_advice.specs.Advices.{IsAdvice}
+use Rattle.plan_advice.specs.Costs.{plan_cost}
 use Rattle.replay_model.specs.declared.replayed.Replayed.{Replayed}
 use Rattle.srr_record.specs.declared.recording.Recording.{Recording}
+use Rattle.wiz_trace.specs.AdviceTexts.{advice_text}
 use Rattle.wiz_trace.specs.CheckTexts.{check_text}
 use Rattle.wiz_trace.specs.DemoTexts.{demo_text}
-use Rattle.wiz_words.specs.declared.command.Command.TheVariants.{Record, Check, Demo, Replay}
+use Rattle.wiz_trace.specs.RacesTexts.{races_text}
+use Rattle.wiz_words.specs.declared.command.Command.TheVariants.{Record, Check, Races, Advise, Demo, Replay}
 use Rattle.wiz_words.specs.declared.command.ReplayWords.{ReplayWords}
 use Rattle.wiz_words.specs.declared.command.RunWords.{RunWords}
 use Rattle.wiz_words.specs.Words.{is_threaded_run}
@@ -13,11 +24,15 @@ use Rattle.wiz_cli.specs.declared.commands.check.CheckedRun.{CheckedRun}
 use Rattle.wiz_cli.specs.declared.failure.Failure.{Failure}
 use Rattle.wiz_cli.specs.declared.recording.ready.Ready.{Ready}
 use Rattle.wiz_cli.specs.declared.replaying.subject.Subject.{Subject}
-use Rattle.wiz_cli.specs.Commands.{IsDoneFor, IsRefusedFor, check_outcome, checked, demo_texts, demonstrated, record_outcome, replay_inputs, replay_outcome, run_inputs, run_requirements, run_texts, TellsCheck, TellsRecord}
+use Rattle.wiz_cli.specs.declared.status.Status.{Status}
+use Rattle.wiz_cli.specs.declared.status.Status.TheVariants.{TooManyRaces}
+use Rattle.wiz_cli.specs.Commands.{IsDoneFor, IsRefusedFor, check_outcome, checked, demo_texts, demonstrated, record_outcome, replay_inputs, replay_outcome, run_inputs, run_outcome, run_requirements, run_texts, TellsAdvice, TellsCheck, TellsRaces, TellsRecord}
 use Rattle.wiz_cli.specs.Inputs.{AreHeld}
+use Rattle.wiz_cli.specs.Messages.{races_over_text}
 use Rattle.wiz_cli.specs.Outcomes.{Outcome}
 use Rattle.wiz_cli.specs.Recordings.{Records, RunTexts}
 use Rattle.wiz_cli.specs.Replayings.{IsReplayOf}
+use Rattle.wiz_cli.specs.Statuses.{of_ending}
 use Rattle.wiz_cli.specs.Steps.{IsCheckedRun, IsFailureBy, IsMade, IsReady, IsSubjectOf, IsUnmetIn, used_text}
 use Rattle.wiz_cli.specs.World.{World}
 use Rattle.wiz_cli.proofs.InputLemmas.{weaken}
@@ -50,6 +65,40 @@ check_done run before texts ready of held is made = (
   records (is_threaded_run run) (run_texts texts) ready of.recording (TellsCheck checked)
       (check_outcome (check_text ready.plan of.replays of.recording.ending) of.recording of.replays) is made.made (of.replays, made.checks, refl),
 )
+
+-- the text of an advice is told
+pub advice_told : (most n block given : ℕ) (program : CProgram) (groups : List (List ℕ)) (recording : Recording) (advice : Advice) (text : List ℕ) (status : Status) (outcome : Outcome)
+    → n ≡ number_of_ranks groups → block ≡ min most n → IsAdvice n recording.history.events block advice
+    → given ≡ plan_cost (number_of_ranks groups) recording.history.events groups → text ≡ advice_text advice given recording.ending
+    → status ≡ of_ending recording.ending → outcome ≡ run_outcome status text recording [] → TellsAdvice most program groups recording outcome
+advice_told most n block given program groups recording advice text status outcome n_is block_is is given_is text_is status_is outcome_is =
+    (advice, rw (block_is, n_is) at is, rw (outcome_is, status_is, text_is, given_is) refl)
+
+-- the text of races is told, or that they are too many
+pub races_told : (n : ℕ) (program : CProgram) (groups : List (List ℕ)) (recording : Recording) (receives : List Receive) (text : List ℕ) (status : Status) (outcome : Outcome)
+    → n ≡ number_of_ranks groups → AreRaces n recording.history.events receives → count_others receives ≤ MOST_OTHERS
+    → text ≡ races_text receives recording.ending → status ≡ of_ending recording.ending → outcome ≡ run_outcome status text recording []
+    → TellsRaces program groups recording outcome
+races_told n program groups recording receives text status outcome n_is is few text_is status_is outcome_is =
+    (receives, rw n_is at is, rw (le-leb (count_others receives) MOST_OTHERS few, outcome_is, status_is, text_is) refl)
+
+pub too_many_told : (n : ℕ) (program : CProgram) (groups : List (List ℕ)) (recording : Recording) (text : List ℕ) (outcome : Outcome) → n ≡ number_of_ranks groups
+    → (receives : List Receive) × AreRaces n recording.history.events receives × (MOST_OTHERS < count_others receives)
+    → text ≡ races_over_text → outcome ≡ run_outcome TooManyRaces text recording [] → TellsRaces program groups recording outcome
+too_many_told n program groups recording text outcome n_is many text_is outcome_is =
+    (many.0, rw n_is at many.1, rw (lt-leb (count_others many.0) MOST_OTHERS many.2, outcome_is, text_is) refl)
+
+pub races_done : (run : RunWords (List ℕ)) (before : World) (texts : List (List ℕ)) (ready : Ready) (recording : Recording) (outcome : Outcome)
+    → AreHeld before.store.files (run_inputs run) texts → IsReady (run_texts texts) ready → IsMade (is_threaded_run run) ready recording
+    → TellsRaces ready.program ready.plan recording outcome → IsDoneFor (Races run) before outcome
+races_done run before texts ready recording outcome held is made tells =
+    (texts, held, records (is_threaded_run run) (run_texts texts) ready recording TellsRaces outcome is made tells)
+
+pub advise_done : (run : RunWords (List ℕ)) (most : ℕ) (before : World) (texts : List (List ℕ)) (ready : Ready) (recording : Recording) (outcome : Outcome)
+    → AreHeld before.store.files (run_inputs run) texts → IsReady (run_texts texts) ready → IsMade (is_threaded_run run) ready recording
+    → TellsAdvice most ready.program ready.plan recording outcome → IsDoneFor (Advise run most) before outcome
+advise_done run most before texts ready recording outcome held is made tells =
+    (texts, held, records (is_threaded_run run) (run_texts texts) ready recording (TellsAdvice most) outcome is made tells)
 
 pub demo_done : (seed rounds : ℕ) (before : World) (ready : Ready) (of : CheckedRun) → IsReady (run_texts (demo_texts seed rounds)) ready → IsCheckedRun false ready of
     → IsDoneFor (Demo seed rounds) before

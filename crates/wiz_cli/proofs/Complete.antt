@@ -1,17 +1,23 @@
 -- Nothing but the named causes keeps a command from its work: a law of each report.
-use Rattle.std.proofs.Common.{◌≡◌, ◌∙◌, ◌⊎◌, inl, inr, ap, sym, refl, subst, ℕ, List, [], ◌∷◌, Some, None, length, arith}
+use Rattle.std.proofs.Common.{◌≡◌, ◌∙◌, ◌⊎◌, inl, inr, ap, sym, refl, subst, ℕ, List, [], ◌∷◌, Bool, true, false, if◌then◌else◌, nat_le, Some, None, length, arith}
 use Rattle.group_plan.specs.OneReading.{OrdersHaveOneReading, PlansHaveOneReading}
+use Rattle.msg_races.specs.declared.fault.TheConstants.{MOST_OTHERS}
+use Rattle.msg_races.specs.declared.receives.Receive.{Receive}
+use Rattle.msg_races.specs.Names.{count_others}
 use Rattle.run_model.specs.declared.ending.Ending.{Ending}
 use Rattle.run_model.specs.declared.ending.Ending.TheVariants.{Finished, Halted as WasHalted}
+use Rattle.srr_record.specs.declared.recording.Recording.{Recording}
 use Rattle.wiz_io.specs.Files.{Files, HasRisen}
+use Rattle.wiz_trace.specs.RacesTexts.{races_text}
 use Rattle.wiz_words.specs.declared.command.Command.{Command}
-use Rattle.wiz_words.specs.declared.command.Command.TheVariants.{Record, Check, Demo, Replay, Show, Stats}
+use Rattle.wiz_words.specs.declared.command.Command.TheVariants.{Record, Check, Races, Advise, Demo, Replay, Show, Stats, Convert}
 use Rattle.wiz_cli.specs.declared.refusal.Refusal.{Refusal}
 use Rattle.wiz_cli.specs.declared.refusal.Refusal.TheVariants.{Words, Missing, ReadFault, Program, Plan, Order, Log as BadLog, TooLong}
 use Rattle.wiz_cli.specs.declared.report.Report.{Report}
-use Rattle.wiz_cli.specs.declared.status.Status.TheVariants.{Done, Halted}
-use Rattle.wiz_cli.specs.Commands.{ComesOf, Does, IsReport, inputs_of, requirements_of}
+use Rattle.wiz_cli.specs.declared.status.Status.TheVariants.{Done, Halted, TooManyRaces}
+use Rattle.wiz_cli.specs.Commands.{ComesOf, Does, IsReport, check_outcome, inputs_of, races_outcome, requirements_of, run_outcome}
 use Rattle.wiz_cli.specs.Inputs.{AreHeld, Holds, Input, IsFirstUnread, IsUnread, Refused}
+use Rattle.wiz_cli.specs.Messages.{races_over_text}
 use Rattle.wiz_cli.specs.Outcomes.{IsTold, Outcome, out_of_memory, report_of}
 use Rattle.wiz_cli.specs.Promises.{HasNoFault, IsComplete, IsExpected}
 use Rattle.wiz_cli.specs.Requirements.{AreMet}
@@ -93,14 +99,31 @@ ending_number : (ending : Ending) → (number_of (of_ending ending) ≡ number_o
 ending_number Finished = inl refl
 ending_number (WasHalted halt) = inr refl
 
+-- or there are too many races
+races_number : (receives : List Receive) (recording : Recording)
+    → (number_of (races_outcome receives recording).status ≡ number_of Done)
+    ⊎ ((number_of (races_outcome receives recording).status ≡ number_of Halted) ⊎ (number_of (races_outcome receives recording).status ≡ number_of TooManyRaces))
+races_number receives recording = go (nat_le (count_others receives) MOST_OTHERS)
+  where
+    status : Bool → ℕ
+    status few =
+        number_of (if few then check_outcome (races_text receives recording.ending) recording [] else run_outcome TooManyRaces races_over_text recording []).status
+
+    go : (few : Bool) → (status few ≡ number_of Done) ⊎ ((status few ≡ number_of Halted) ⊎ (status few ≡ number_of TooManyRaces))
+    go true = elim (ending_number recording.ending) [ inl done ↦ inl done | inr halted ↦ inr (inl halted) ]
+    go false = inr (inr refl)
+
 expected : (command : Command (List ℕ)) (texts : List (List ℕ)) (outcome : Outcome) → Does command texts outcome → IsExpected command texts (number_of outcome.status)
 expected (Record run prefix) texts outcome does = rw does.tells (ending_number does.recording.ending)
 expected (Check run) texts outcome does = rw does.tells.2 (ending_number does.recording.ending)
+expected (Races run) texts outcome does = rw does.tells.2 (races_number does.tells.0 does.recording)
+expected (Advise run most) texts outcome does = rw does.tells.2 (ending_number does.recording.ending)
 expected (Demo seed rounds) texts outcome does = rw does.tells.2 (ending_number does.recording.ending)
 expected (Replay replay) texts outcome does = λ log program run is_log is_program with.
     rw does.2.2 (replay_is_done replay.stop texts does.0 does.2.0 log program run does.1 is_log does.2.1 is_program with)
 expected (Show name) texts outcome does = rw does.2 refl
 expected (Stats name) texts outcome does = rw does.2 refl
+expected (Convert name file is_text) texts outcome does = rw does.2 refl
 
 pub complete : PlansHaveOneReading → ((n : ℕ) → OrdersHaveOneReading n) → (Ask : List (List ℕ) → Command (List ℕ) → Type 0)
     → ((words : List (List ℕ)) (one other : Command (List ℕ)) → Ask words one → Ask words other → one ≡ other)

@@ -3,6 +3,7 @@ use Rattle.std.proofs.Common.{◌≡◌, ◌∙◌, ap, inl, inr, subst, sym, �
 use Rattle.std.specs.declared.alloc.AllocError.{AllocError}
 use Rattle.wiz_io.specs.Output.{OutTold}
 use Rattle.wiz_words.specs.declared.command.Command.{Command}
+use Rattle.wiz_words.specs.declared.command.Command.TheVariants.{Record, Check, Races, Advise, Demo, Replay, Show, Stats, Convert}
 use Rattle.wiz_cli.specs.declared.failure.Failure.{Failure}
 use Rattle.wiz_cli.specs.declared.failure.Failure.TheVariants.{Refused as IsRefused, OutOfMemory}
 use Rattle.wiz_cli.specs.declared.report.Done.{Done}
@@ -11,7 +12,7 @@ use Rattle.wiz_cli.specs.Commands.{AskForSerially, IsDoneFor, IsRefusedFor}
 use Rattle.wiz_cli.specs.Inputs.{Refused}
 use Rattle.wiz_cli.specs.Outcomes.{IsPut, IsUntouched, Outcome}
 use Rattle.wiz_cli.specs.Output.{GrewByPart}
-use Rattle.wiz_cli.specs.Steps.{outcome_of, Ends, EndsBy, EndsWords, IsFailureBy, IsRefusedForWords, IsToldBy, refused_words}
+use Rattle.wiz_cli.specs.Steps.{AllowsBlocks, outcome_of, Ends, EndsBy, EndsWords, IsFailureBy, IsRefusedForWords, IsToldBy, refused_words}
 use Rattle.wiz_cli.specs.World.{World}
 use Rattle.wiz_words.specs.Words.{AskFor, is_threaded}
 use Rattle.wiz_words.proofs.OneCommand.{one_command}
@@ -67,7 +68,31 @@ pub put_short : (outcome : Outcome) (before after : World) (error : AllocError) 
     → GrewByPart before.out.bytes after.out.bytes outcome.text → IsToldBy outcome before after (Err error)
 put_short outcome before after error none same grew = inr (inl (rw none (none_written before.store.files after.store.files same), grew))
 
+-- a text that is told of a run, with no file to write
+pub text_told : (command : Command (List ℕ)) (before after : World) (outcome : Outcome) (report : Report) → outcome.files ≡ [] → after.store.files ≡ before.store.files
+    → IsDoneFor command before outcome → IsPut outcome before.out after.out report → Ends command before after (Ok report)
+text_told command before after outcome report none same does put =
+    done_told command before after outcome report does (put_told outcome before after report none same put)
+
+pub text_short : (command : Command (List ℕ)) (before after : World) (outcome : Outcome) (error : AllocError) (failure : Failure) → failure ≡ OutOfMemory → outcome.files ≡ []
+    → after.store.files ≡ before.store.files → IsDoneFor command before outcome → GrewByPart before.out.bytes after.out.bytes outcome.text
+    → Ends command before after (Err failure)
+text_short command before after outcome error failure is none same does grew =
+    done_short command before after outcome error failure is does (put_short outcome before after error none same grew)
+
 -- ---- arguments
+
+-- the arguments of an advice allow blocks
+pub allows_blocks : (words : List (List ℕ)) (command : Command (List ℕ)) → AskFor words command → AllowsBlocks command
+allows_blocks words (Record run prefix) asks = tt
+allows_blocks words (Check run) asks = tt
+allows_blocks words (Races run) asks = tt
+allows_blocks words (Advise run most) asks = asks.says.1.from
+allows_blocks words (Demo seed rounds) asks = tt
+allows_blocks words (Replay replay) asks = tt
+allows_blocks words (Show log) asks = tt
+allows_blocks words (Stats log) asks = tt
+allows_blocks words (Convert log file is_text) asks = tt
 
 -- what a command ends in, the arguments that ask for it end in
 pub words_end : (Ask : List (List ℕ) → Command (List ℕ) → Type 0) (words : List (List ℕ)) (command : Command (List ℕ)) (before after : World) (result : Result Report Failure)

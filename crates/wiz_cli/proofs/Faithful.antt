@@ -14,7 +14,7 @@ use Rattle.replay_model.specs.Replays.{Breakpoint}
 use Rattle.run_model.specs.declared.event.Event.{Event}
 use Rattle.run_model.specs.declared.lists.Variable.{Variable}
 use Rattle.srr_entry.specs.declared.log.Log.{Log}
-use Rattle.srr_log.proofs.FaultLaws.{one_log}
+use Rattle.srr_log2.proofs.FormatLaws.{one_log}
 use Rattle.wiz_io.specs.Files.{Files}
 use Rattle.wiz_words.specs.declared.command.Command.{Command}
 use Rattle.wiz_words.specs.declared.command.Command.TheVariants.{Replay}

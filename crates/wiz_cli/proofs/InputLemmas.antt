@@ -1,17 +1,14 @@
 -- Reading input files, and what they hold.
-use Rattle.std.proofs.Common.{◌≡◌, ◌<◌, ◌≤◌, ℕ, List, [], ◌∷◌, Option, Some, None, All, arith, inl, inr, refl, map}
+use Rattle.std.proofs.Common.{◌≡◌, ◌<◌, ◌≤◌, ℕ, List, [], ◌∷◌, Option, Some, None, All, arith, inl, inr, refl}
 use Rattle.std.specs.List.{AllZip}
-use Rattle.std.proofs.lemmas.List.{length-map}
 use Rattle.std.proofs.lemmas.List.Elements.{All-cons, All-nil}
 use Rattle.c_program.specs.declared.program.CProgram.{CProgram}
 use Rattle.c_types.specs.Checks.{IsProgramOf}
 use Rattle.group_plan.specs.OrderText.{IsRankLine}
 use Rattle.group_plan.specs.Plans.{number_of_ranks}
 use Rattle.group_plan.specs.PlanText.{IsPlanText}
-use Rattle.run_model.specs.declared.event.Event.{Event}
 use Rattle.srr_entry.specs.declared.log.Log.{Log}
-use Rattle.srr_entry.specs.Entries.{log_of}
-use Rattle.srr_text.specs.LogText.{IsLogText}
+use Rattle.srr_log2.specs.Formats.{IsTextOfLog}
 use Rattle.wiz_io.specs.Files.{Files}
 use Rattle.wiz_cli.specs.declared.failure.Failure.{Failure}
 use Rattle.wiz_cli.specs.declared.failure.Failure.TheVariants.{Refused as IsRefused, OutOfMemory}
@@ -21,7 +18,7 @@ use Rattle.wiz_cli.specs.Commands.{IsRefusedBy, replay_requirements, run_require
 use Rattle.wiz_cli.specs.Inputs.{AreHeld, Input, IsFirstUnread, IsThere, IsUnread, IsUnreadInput, Refused}
 use Rattle.wiz_cli.specs.Recordings.{AreTurns}
 use Rattle.wiz_cli.specs.Requirements.{Requirement, a_log, a_plan, a_program}
-use Rattle.wiz_cli.specs.Steps.{AreRefusedTurns, HasLists, IsFailureBy, IsUnmetIn, listed, used_text}
+use Rattle.wiz_cli.specs.Steps.{AreRefusedTurns, IsFailureBy, IsUnmetIn, listed, used_text}
 
 -- what follows from what a failure is
 pub weaken : (P Q : Refused → Type 0) → ((refused : Refused) → P refused → Q refused) → (failure : Failure) → IsFailureBy P failure → IsFailureBy Q failure
@@ -134,14 +131,14 @@ pub log_unmet : (bytes : List ℕ) (text : Option (List ℕ)) (failure : Failure
     → IsFailureBy (IsUnmetIn (replay_requirements (bytes ∷ listed text))) failure
 log_unmet bytes text = weaken (IsUnmetIn (a_log bytes ∷ [])) (IsUnmetIn (replay_requirements (bytes ∷ listed text))) (log_first bytes text)
 
-used_first : (bytes : List ℕ) (log : Log) (text : Option (List ℕ)) → IsLogText bytes log → (refused : Refused) → IsUnmetIn (a_program (used_text log text) ∷ []) refused
+used_first : (bytes : List ℕ) (log : Log) (text : Option (List ℕ)) → IsTextOfLog bytes log → (refused : Refused) → IsUnmetIn (a_program (used_text log text) ∷ []) refused
     → IsUnmetIn (replay_requirements (bytes ∷ listed text)) refused
 used_first bytes log None is refused (inl here, none) = (inr ((log, is), inl (log, is, here)), none)
 used_first bytes log None is refused (inr later, none) = absurd later.1
 used_first bytes log (Some text) is refused (inl here, none) = (inr ((log, is), inl here), none)
 used_first bytes log (Some text) is refused (inr later, none) = absurd later.1
 
-pub used_unmet : (bytes : List ℕ) (log : Log) (text : Option (List ℕ)) (failure : Failure) → IsLogText bytes log → IsFailureBy (IsUnmetIn (a_program (used_text log text) ∷ [])) failure
+pub used_unmet : (bytes : List ℕ) (log : Log) (text : Option (List ℕ)) (failure : Failure) → IsTextOfLog bytes log → IsFailureBy (IsUnmetIn (a_program (used_text log text) ∷ [])) failure
     → IsFailureBy (IsUnmetIn (replay_requirements (bytes ∷ listed text))) failure
 used_unmet bytes log text failure is =
     weaken (IsUnmetIn (a_program (used_text log text) ∷ [])) (IsUnmetIn (replay_requirements (bytes ∷ listed text))) (used_first bytes log text is) failure
@@ -157,8 +154,3 @@ zip_below n (line ∷ lines) (rank ∷ ranks) all = All-cons (λ rank. rank < n)
 pub turns_below : (n : ℕ) (order : Option (List ℕ)) (turns : List ℕ) → AreTurns n order turns → All (λ rank. rank < n) turns
 turns_below n None turns are = rw are (All-nil (λ rank. rank < n))
 turns_below n (Some text) turns are = zip_below n _ turns are
-
--- the logs of a run have their lists
-pub HasLists-logs : (text : List ℕ) (n : ℕ) (events : List Event) (groups : List (List ℕ)) → HasLists (map (log_of text n events) groups)
-HasLists-logs text n events [] = tt
-HasLists-logs text n events (group ∷ groups) = (length-map group _, HasLists-logs text n events groups)

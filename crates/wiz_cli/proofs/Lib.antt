@@ -12,6 +12,7 @@ pub mod LogFiles
 pub mod LogLemmas
 pub mod ReadableLogs
 pub mod RecordLemmas
+pub mod ConvertLemmas
 pub mod RecordingLemmas
 pub mod ResultLemmas
 pub mod RunLemmas

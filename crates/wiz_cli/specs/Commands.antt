@@ -1,31 +1,44 @@
 -- The commands: their input files, what is required of these, and what is done. The report of any arguments.
-use Rattle.std.specs.Prelude.{◌≡◌, ◌⊎◌, ℕ, List, [], ◌∷◌, false, Option, Some, None}
+use Rattle.std.specs.Prelude.{◌≡◌, ◌⊎◌, ℕ, List, [], ◌∷◌, false, if◌then◌else◌, min, nat_le, Option, Some, None, Bool, true}
 use Rattle.c_program.specs.declared.program.CProgram.{CProgram}
+use Rattle.group_plan.specs.Plans.{number_of_ranks}
 use Rattle.log_bounds.specs.RunBounds.{log_limit}
+use Rattle.msg_races.specs.declared.fault.TheConstants.{MOST_OTHERS}
+use Rattle.msg_races.specs.declared.receives.Receive.{Receive}
+use Rattle.msg_races.specs.Names.{count_others}
+use Rattle.msg_races.specs.Races.{AreRaces}
+use Rattle.plan_advice.specs.declared.advice.Advice.{Advice}
+use Rattle.plan_advice.specs.Advices.{IsAdvice}
+use Rattle.plan_advice.specs.Costs.{plan_cost}
 use Rattle.replay_model.specs.declared.replayed.Replayed.{Replayed}
 use Rattle.replay_model.specs.Replays.{Breakpoint}
 use Rattle.srr_entry.specs.declared.log.Log.{Log}
+use Rattle.srr_log2.specs.Formats.{IsTextOfLog}
+use Rattle.srr_log2.specs.LogBytes.{log_bytes}
 use Rattle.srr_record.specs.declared.recording.Recording.{Recording}
-use Rattle.srr_text.specs.LogText.{IsLogText}
+use Rattle.srr_text.specs.LogText.{IsLogText, log_text}
+use Rattle.wiz_trace.specs.AdviceTexts.{advice_text}
 use Rattle.wiz_trace.specs.CheckTexts.{check_text}
 use Rattle.wiz_trace.specs.DemoProgram.{demo_program}
 use Rattle.wiz_trace.specs.DemoTexts.{demo_text}
+use Rattle.wiz_trace.specs.RacesTexts.{races_text}
 use Rattle.wiz_trace.specs.RecordTexts.{record_text}
 use Rattle.wiz_trace.specs.ShowTexts.{show_text}
 use Rattle.wiz_trace.specs.StatsTexts.{stats_text}
 use Rattle.wiz_trace.specs.TraceTexts.{trace_text}
 use Rattle.wiz_words.specs.Words.{AskFor, is_threaded, is_threaded_run}
 use Rattle.wiz_words.specs.declared.command.Command.{Command}
-use Rattle.wiz_words.specs.declared.command.Command.TheVariants.{Record, Check, Demo, Replay, Show, Stats}
+use Rattle.wiz_words.specs.declared.command.Command.TheVariants.{Record, Check, Races, Advise, Demo, Replay, Show, Stats, Convert}
 use Rattle.wiz_words.specs.declared.command.ReplayWords.{ReplayWords}
 use Rattle.wiz_words.specs.declared.command.RunWords.{RunWords}
 use Rattle.wiz_io.specs.Files.{Files}
 use Rattle.wiz_cli.specs.declared.refusal.Refusal.TheVariants.{Words}
 use Rattle.wiz_cli.specs.declared.report.Report.{Report}
-use Rattle.wiz_cli.specs.declared.status.Status.TheVariants.{Done}
+use Rattle.wiz_cli.specs.declared.status.Status.{Status}
+use Rattle.wiz_cli.specs.declared.status.Status.TheVariants.{Done, TooManyRaces}
 use Rattle.wiz_cli.specs.Demos.{demo_plan}
 use Rattle.wiz_cli.specs.Inputs.{AreHeld, Input, IsFirstUnread, Refused, input, option_input, order_limit, text_limit}
-use Rattle.wiz_cli.specs.Messages.{message_text}
+use Rattle.wiz_cli.specs.Messages.{message_text, races_over_text}
 use Rattle.wiz_cli.specs.Outcomes.{IsTold, IsUntouched, Outcome, out_of_memory}
 use Rattle.wiz_cli.specs.RecordFiles.{files_of}
 use Rattle.wiz_cli.specs.Recordings.{Records, RunTexts}
@@ -45,10 +58,13 @@ replay_inputs replay = input log_limit replay.log ∷ option_input text_limit re
 abbrev pub inputs_of : Command (List ℕ) → List Input
 inputs_of (Record run prefix) = run_inputs run
 inputs_of (Check run) = run_inputs run
+inputs_of (Races run) = run_inputs run
+inputs_of (Advise run most) = run_inputs run
 inputs_of (Demo seed rounds) = []
 inputs_of (Replay replay) = replay_inputs replay
 inputs_of (Show log) = input log_limit log ∷ []
 inputs_of (Stats log) = input log_limit log ∷ []
+inputs_of (Convert log file is_text) = input log_limit log ∷ []
 
 -- ---- what is required of their texts, in this order
 
@@ -73,10 +89,13 @@ demo_texts seed rounds = demo_program seed rounds ∷ demo_plan ∷ []
 abbrev pub requirements_of : Command (List ℕ) → List (List ℕ) → List Requirement
 requirements_of (Record run prefix) texts = run_requirements texts
 requirements_of (Check run) texts = run_requirements texts
+requirements_of (Races run) texts = run_requirements texts
+requirements_of (Advise run most) texts = run_requirements texts
 requirements_of (Demo seed rounds) texts = run_requirements (demo_texts seed rounds)
 requirements_of (Replay replay) texts = replay_requirements texts
 requirements_of (Show log) texts = log_requirements texts
 requirements_of (Stats log) texts = log_requirements texts
+requirements_of (Convert log file is_text) texts = log_requirements texts
 
 -- ---- what is done
 
@@ -96,14 +115,17 @@ record_outcome prefix recording = record {
 }
 
 -- no file is written, and a text of a run and its replays is put out
-abbrev pub check_outcome : List ℕ → Recording → List Replayed → Outcome
-check_outcome text recording replays = record {
+abbrev pub run_outcome : Status → List ℕ → Recording → List Replayed → Outcome
+run_outcome status text recording replays = record {
   files = [];
   text = text;
-  status = of_ending recording.ending;
+  status = status;
   run = Some recording.history;
   replays = replays;
 }
+
+abbrev pub check_outcome : List ℕ → Recording → List Replayed → Outcome
+check_outcome text recording replays = run_outcome (of_ending recording.ending) text recording replays
 
 abbrev pub replay_outcome : Replayed → Outcome
 replay_outcome replayed = record {
@@ -116,6 +138,22 @@ replay_outcome replayed = record {
 
 abbrev pub text_outcome : List ℕ → Outcome
 text_outcome text = record { files = []; text = text; status = Done; run = None; replays = [] }
+
+-- one file is written, and nothing is put out
+abbrev pub convert_outcome : List ℕ → List ℕ → Outcome
+convert_outcome file bytes = record {
+  files = (record { name = file; bytes = bytes }) ∷ [];
+  text = [];
+  status = Done;
+  run = None;
+  replays = [];
+}
+
+-- the receives of a run are listed; a message is put out where they have too many others, also where the run was halted
+abbrev pub races_outcome : List Receive → Recording → Outcome
+races_outcome receives recording =
+    if nat_le (count_others receives) MOST_OTHERS then check_outcome (races_text receives recording.ending) recording []
+    else run_outcome TooManyRaces races_over_text recording []
 
 -- how a recording is told: as it is, or when the log of each group is replayed
 abbrev pub TellsRecord : List ℕ → CProgram → List (List ℕ) → Recording → Outcome → Type 0
@@ -132,15 +170,34 @@ checked groups recording replays = check_text groups replays recording.ending
 abbrev pub demonstrated : ℕ → ℕ → List (List ℕ) → Recording → List Replayed → List ℕ
 demonstrated seed rounds groups recording replays = demo_text seed rounds recording.history.events groups replays recording.ending
 
+-- its message races are told
+abbrev pub TellsRaces : CProgram → List (List ℕ) → Recording → Outcome → Type 0
+TellsRaces program groups recording outcome =
+    (receives : List Receive) × AreRaces (number_of_ranks groups) recording.history.events receives
+    × (outcome ≡ races_outcome receives recording)
+
+-- the advice on its groups is told, with blocks of at most so many ranks, or of all where these are fewer
+abbrev pub TellsAdvice : ℕ → CProgram → List (List ℕ) → Recording → Outcome → Type 0
+TellsAdvice most program groups recording outcome =
+    let n = number_of_ranks groups in
+    let events = recording.history.events in
+    (advice : Advice) × IsAdvice n events (min most n) advice
+    × (outcome ≡ check_outcome (advice_text advice (plan_cost n events groups) recording.ending) recording [])
+
 -- a log is replayed with the program of a text
 abbrev pub TellsReplay : List ℕ → Log → Breakpoint → Outcome → Type 0
 TellsReplay text log stop outcome =
     (replayed : Replayed) × IsReplayOf text log stop replayed × (outcome ≡ replay_outcome replayed)
 
--- the log that the first file holds, and the program with which it is replayed: that of the second file, or its own
+-- the text of a log in format 1, or in format 2
+abbrev pub converted : Bool → Log → List ℕ
+converted true log = log_text log
+converted false log = log_bytes log
+
+-- the log that the first file holds, in either format, and the program with which it is replayed: that of the second file, or its own
 abbrev pub IsLogOf : List (List ℕ) → Log → Type 0
 IsLogOf [] log = ⊥
-IsLogOf (bytes ∷ more) log = IsLogText bytes log
+IsLogOf (bytes ∷ more) log = IsTextOfLog bytes log
 
 abbrev pub program_text : List (List ℕ) → Log → List ℕ
 program_text (bytes ∷ text ∷ more) log = text
@@ -150,10 +207,13 @@ program_text texts log = log.program
 abbrev pub Does : Command (List ℕ) → List (List ℕ) → Outcome → Type 0
 Does (Record run prefix) texts outcome = Records (is_threaded_run run) (run_texts texts) (TellsRecord prefix) outcome
 Does (Check run) texts outcome = Records (is_threaded_run run) (run_texts texts) (TellsCheck checked) outcome
+Does (Races run) texts outcome = Records (is_threaded_run run) (run_texts texts) TellsRaces outcome
+Does (Advise run most) texts outcome = Records (is_threaded_run run) (run_texts texts) (TellsAdvice most) outcome
 Does (Demo seed rounds) texts outcome = Records false (run_texts (demo_texts seed rounds)) (TellsCheck (demonstrated seed rounds)) outcome
 Does (Replay replay) texts outcome = (log : Log) × IsLogOf texts log × TellsReplay (program_text texts log) log replay.stop outcome
 Does (Show name) texts outcome = (log : Log) × IsLogOf texts log × (outcome ≡ text_outcome (show_text log))
 Does (Stats name) texts outcome = (log : Log) × IsLogOf texts log × (outcome ≡ text_outcome (stats_text log))
+Does (Convert name file is_text) texts outcome = (log : Log) × IsLogOf texts log × (outcome ≡ convert_outcome file (converted is_text log))
 
 -- ---- the report
 

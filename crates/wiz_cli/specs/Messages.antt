@@ -66,6 +66,10 @@ message_text (Order fault) name = order_message fault
 message_text (LogRefused fault) name = codes "log " ++ decimal_text fault.at ++ (32 ∷ why_text fault.why) ++ codes "\n"
 message_text TooLong name = codes "too long " ++ name ++ codes "\n"
 
+-- the message of a run with too many races
+abbrev pub races_over_text : List ℕ
+races_over_text = codes "races over 1000000\n"
+
 -- the message of a file that was not written
 abbrev pub unwritten_text : List ℕ → List ℕ
 unwritten_text name = codes "cannot write " ++ name ++ codes "\n"

@@ -15,10 +15,10 @@ use Rattle.run_model.specs.Views.{view_of}
 use Rattle.srr_entry.specs.declared.log.Log.{Log}
 use Rattle.wiz_io.specs.Files.{Files, HasRisen}
 use Rattle.wiz_words.specs.declared.command.Command.{Command}
-use Rattle.wiz_words.specs.declared.command.Command.TheVariants.{Record, Check, Demo, Replay, Show, Stats}
+use Rattle.wiz_words.specs.declared.command.Command.TheVariants.{Record, Check, Races, Advise, Demo, Replay, Show, Stats, Convert}
 use Rattle.wiz_words.specs.declared.command.ReplayWords.{ReplayWords}
 use Rattle.wiz_cli.specs.declared.report.Report.{Report}
-use Rattle.wiz_cli.specs.declared.status.Status.TheVariants.{Diverged, Done, Halted, Starved}
+use Rattle.wiz_cli.specs.declared.status.Status.TheVariants.{Diverged, Done, Halted, Starved, TooManyRaces}
 use Rattle.wiz_cli.specs.Commands.{Does, IsLogOf, inputs_of, program_text, requirements_of}
 use Rattle.wiz_cli.specs.Inputs.{AreHeld}
 use Rattle.wiz_cli.specs.Outcomes.{Outcome, out_of_memory, report_of}
@@ -72,12 +72,16 @@ pub record HasNoFault (before after : World) : Type 0 where
 abbrev pub IsExpected : Command (List ℕ) → List (List ℕ) → ℕ → Type 0
 IsExpected (Record run prefix) texts status = (status ≡ number_of Done) ⊎ (status ≡ number_of Halted)
 IsExpected (Check run) texts status = (status ≡ number_of Done) ⊎ (status ≡ number_of Halted)
+IsExpected (Races run) texts status =
+    (status ≡ number_of Done) ⊎ ((status ≡ number_of Halted) ⊎ (status ≡ number_of TooManyRaces))
+IsExpected (Advise run most) texts status = (status ≡ number_of Done) ⊎ (status ≡ number_of Halted)
 IsExpected (Demo seed rounds) texts status = (status ≡ number_of Done) ⊎ (status ≡ number_of Halted)
 IsExpected (Replay replay) texts status =
     (log : Log) (program : CProgram) (run : List Event) → IsLogOf texts log → IsProgramOf (program_text texts log) program
     → IsRunWith (next_of program) log run → status ≡ number_of Done
 IsExpected (Show name) texts status = status ≡ number_of Done
 IsExpected (Stats name) texts status = status ≡ number_of Done
+IsExpected (Convert name file is_text) texts status = status ≡ number_of Done
 
 pub record IsWhole (command : Command (List ℕ)) (texts : List (List ℕ)) (report : Report) : Type 0 where
   pub outcome : Outcome

@@ -6,12 +6,12 @@ use Rattle.group_plan.specs.OrderText.{IsOrderText, IsFault as IsOrderFault}
 use Rattle.group_plan.specs.Plans.{number_of_ranks}
 use Rattle.group_plan.specs.PlanText.{IsPlanText, IsFault as IsPlanFault}
 use Rattle.srr_entry.specs.declared.log.Log.{Log}
-use Rattle.srr_log.specs.Faults.{IsFirstFault}
-use Rattle.srr_text.specs.LogText.{IsLogText}
+use Rattle.srr_log2.specs.Formats.{IsFaultOfLog, IsTextOfLog}
 use Rattle.wiz_cli.specs.declared.refusal.Refusal.{Refusal}
 use Rattle.wiz_cli.specs.declared.refusal.Refusal.TheVariants.{Program, Plan as BadPlan, Order as BadOrder, Log as BadLog}
 
--- that a text is a program, or a plan; that it is an order of a plan's ranks; that bytes are a log, and the text in a log a program
+-- that a text is a program, or a plan; that it is an order of a plan's ranks; that bytes are a log in either format, and the text in a
+-- log a program
 pub data Requirement : Type 0 where
   a_program : List ℕ → Requirement
   a_plan : List ℕ → Requirement
@@ -24,10 +24,10 @@ IsMet (a_program text) = (program : CProgram) × IsProgramOf text program
 IsMet (a_plan text) = (groups : List (List ℕ)) × IsPlanText text groups
 IsMet (an_order plan text) =
     (groups : List (List ℕ)) × (turns : List ℕ) × IsPlanText plan groups × IsOrderText (number_of_ranks groups) text turns
-IsMet (a_log bytes) = (log : Log) × IsLogText bytes log
-IsMet (its_program bytes) = (log : Log) × (program : CProgram) × IsLogText bytes log × IsProgramOf log.program program
+IsMet (a_log bytes) = (log : Log) × IsTextOfLog bytes log
+IsMet (its_program bytes) = (log : Log) × (program : CProgram) × IsTextOfLog bytes log × IsProgramOf log.program program
 
--- the first fault of each text
+-- the first fault of each text; of a log in the format that its first five bytes choose
 abbrev pub IsProgramRefusal : List ℕ → Refusal → Type 0
 IsProgramRefusal text (Program fault) = IsFaultOf text fault
 IsProgramRefusal text refusal = ⊥
@@ -41,7 +41,7 @@ IsOrderRefusal n text (BadOrder fault) = IsOrderFault n text fault
 IsOrderRefusal n text refusal = ⊥
 
 abbrev pub IsLogRefusal : List ℕ → Refusal → Type 0
-IsLogRefusal bytes (BadLog fault) = IsFirstFault bytes fault
+IsLogRefusal bytes (BadLog fault) = IsFaultOfLog bytes fault
 IsLogRefusal bytes refusal = ⊥
 
 -- what a requirement is refused by
@@ -51,7 +51,7 @@ IsUnmetBy (a_plan text) refusal = IsPlanRefusal text refusal
 IsUnmetBy (an_order plan text) refusal =
     (groups : List (List ℕ)) × IsPlanText plan groups × IsOrderRefusal (number_of_ranks groups) text refusal
 IsUnmetBy (a_log bytes) refusal = IsLogRefusal bytes refusal
-IsUnmetBy (its_program bytes) refusal = (log : Log) × IsLogText bytes log × IsProgramRefusal log.program refusal
+IsUnmetBy (its_program bytes) refusal = (log : Log) × IsTextOfLog bytes log × IsProgramRefusal log.program refusal
 
 -- one is not met, and those before it are
 abbrev pub IsFirstUnmet : List Requirement → Refusal → Type 0

@@ -8,7 +8,7 @@ use Rattle.replay_model.specs.declared.replayed.Stand.TheVariants.{AtBreak, Dive
 use Rattle.wiz_cli.specs.declared.refusal.Refusal.{Refusal}
 use Rattle.wiz_cli.specs.declared.refusal.Refusal.TheVariants as refusal
 use Rattle.wiz_cli.specs.declared.status.Status.{Status}
-use Rattle.wiz_cli.specs.declared.status.Status.TheVariants.{Done, Words, NoFile, Unread, Unwritten, Program, Plan, Halted, Log, Diverged, Starved, OutOfMemory, TooLong}
+use Rattle.wiz_cli.specs.declared.status.Status.TheVariants.{Done, Words, NoFile, Unread, Unwritten, Program, Plan, Halted, Log, Diverged, Starved, OutOfMemory, TooLong, TooManyRaces}
 
 abbrev pub number_of : Status → ℕ
 number_of Done = 0
@@ -24,6 +24,7 @@ number_of Diverged = 9
 number_of Starved = 10
 number_of OutOfMemory = 11
 number_of TooLong = 12
+number_of TooManyRaces = 14
 
 -- where the text could not be put out, 0, 7, 9 and 10 become 4
 abbrev pub unput : Status → Status

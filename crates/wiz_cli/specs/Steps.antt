@@ -1,5 +1,5 @@
 -- What each step of a command answers.
-use Rattle.std.specs.Prelude.{◌≡◌, ◌≤◌, ◌⊎◌, ℕ, List, [], ◌∷◌, Option, Some, None, Result, Ok, Err, IfOk, Bool, length}
+use Rattle.std.specs.Prelude.{◌≡◌, ◌<◌, ◌≤◌, ◌⊎◌, ℕ, List, [], ◌∷◌, Option, Some, None, Result, Ok, Err, IfOk, Bool, length}
 use Rattle.std.specs.Borrow.{Bor}
 use Rattle.std.specs.List.{AllByRecursion}
 use Rattle.std.specs.String.{string_bytes}
@@ -14,9 +14,11 @@ use Rattle.replay_model.specs.Stands.{IsReplayed}
 use Rattle.srr_entry.specs.declared.log.Log.{Log}
 use Rattle.srr_record.specs.declared.recording.Recording.{Recording}
 use Rattle.srr_replay.specs.Rounds.{IsReplayable}
+use Rattle.srr_text.specs.Bounds.{IsInBounds}
 use Rattle.wiz_io.specs.Files.{Files, HasRisen}
 use Rattle.wiz_io.specs.Output.{OutTold}
 use Rattle.wiz_words.specs.declared.command.Command.{Command}
+use Rattle.wiz_words.specs.declared.command.Command.TheVariants.{Advise}
 use Rattle.wiz_cli.specs.declared.failure.Failure.{Failure}
 use Rattle.wiz_cli.specs.declared.failure.Failure.TheVariants.{Refused as IsRefused, OutOfMemory}
 use Rattle.wiz_cli.specs.declared.commands.check.CheckedRun.{CheckedRun}
@@ -109,9 +111,14 @@ IsSettled (Err OutOfMemory) before after report = (report ≡ out_of_memory) × 
 
 -- ---- recording
 
--- each log has a list for each rank of its group
-abbrev pub HasLists : List Log → Type 0
-HasLists logs = AllByRecursion (λ (log : Log). length log.lists ≡ length log.group) logs
+-- each log has a text
+abbrev pub AreInBounds : List Log → Type 0
+AreInBounds logs = AllByRecursion IsInBounds logs
+
+-- a block of an advice may have a rank
+abbrev pub AllowsBlocks : Command (List ℕ) → Type 0
+AllowsBlocks (Advise run most) = 0 < most
+AllowsBlocks command = Unit {0}
 
 -- the files are written up to one that is not, or memory was out
 abbrev pub IsStopped : Option Files → Option Files → ℕ → ℕ → List NamedFile → Unwritten → Type 0
@@ -130,12 +137,11 @@ CanRun ready = (texts : RunTexts) × IsReady texts ready
 -- a recording of it, with a log for each of at most 64 groups
 pub record IsMade (is_threaded : Bool) (ready : Ready) (recording : Recording) : Type 0 where
   pub is_recording : IsRecordingOf is_threaded ready.text ready.program ready.plan ready.turns recording
-  pub lists : HasLists recording.logs
+  pub in_bounds : AreInBounds recording.logs
   pub few : length recording.logs ≤ 64
 
 -- a log with the text of a program, which can be read back from its own text
 pub record IsKeptLog (program : CProgram) (log : Log) : Type 0 where
-  pub lists : length log.lists ≡ length log.group
   pub readable : IsReadable log
   pub is_program : IsProgramOf log.program program
 

@@ -3,7 +3,7 @@ ghost use Rattle.std.specs.Prelude.{◌≡◌, ◌∷◌, ◌≤◌, [], IfErr, 
 ghost use Rattle.c_types.specs.Checks.{IsProgramOf};
 ghost use Rattle.group_plan.specs.PlanText.{IsPlanText};
 ghost use Rattle.log_bounds.specs.RunBounds.{log_limit};
-ghost use Rattle.srr_text.specs.LogText.{IsLogText};
+ghost use Rattle.srr_log2.specs.Formats.{IsTextOfLog};
 ghost use Rattle.wiz_cli.specs.Inputs.{text_limit};
 ghost use Rattle.wiz_cli.specs.Recordings.{AreTurns};
 ghost use Rattle.wiz_cli.specs.Requirements.{a_log, a_plan, a_program};
@@ -17,7 +17,7 @@ use c_types::read_program;
 use group_plan::{OrderFault, Plan, PlanFault, read_order, read_plan};
 use srr_entry::log::Log;
 use srr_log::fault::LogWhy;
-use srr_log::read_log::read_log;
+use srr_log2::read_either::read_either;
 use std::alloc::Global;
 use wiz_base::Bytes;
 
@@ -70,14 +70,14 @@ pub fn turns_in(alloc: Global, text: &Option<Bytes>, n: u8) -> Result<Bytes, Fai
     }
 }
 
-/// The log with these bytes.
+/// The log with these bytes, in either format.
 pub fn log_in(alloc: Global, bytes: &[u8]) -> Result<Log, Failure<'static>>
     requires { length bytes.now ≤ log_limit }
-    ensures log { IfOk result (λ log. IsLogText bytes.now log) }
+    ensures log { IfOk result (λ log. IsTextOfLog bytes.now log) }
     ensures short { IfOk result (λ log. length log.program ≤ text_limit) }
     ensures refused { IfErr result (IsFailureBy (IsUnmetIn (a_log bytes.now ∷ []))) }
 {
-    match read_log(alloc, bytes) {
+    match read_either(alloc, bytes) {
         Ok(log) => Ok(log),
         Err(fault) => match fault.why {
             LogWhy::NoMemory => Err(Failure::OutOfMemory),

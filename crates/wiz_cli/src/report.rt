@@ -1,18 +1,21 @@
 //! What the top call answers, and how it is told.
 ghost use Rattle.std.specs.Prelude.{◌≡◌, [], List, IfOk, None, OnErr, OnOk};
-ghost use Rattle.wiz_cli.specs.Commands.{text_outcome};
+ghost use Rattle.wiz_cli.specs.Commands.{run_outcome, text_outcome};
 ghost use Rattle.wiz_cli.specs.Files.{NamedFile};
+ghost use Rattle.wiz_cli.specs.Messages.{unwritten_text};
 ghost use Rattle.wiz_cli.specs.Outcomes.{IsPut, out_of_memory};
 ghost use Rattle.wiz_cli.specs.Output.{GrewByPart, HasSaid};
 ghost use Rattle.wiz_cli.specs.Statuses.{number_of};
 ghost use Rattle.wiz_cli.specs.Steps.{IsRefusalTold, IsSettled, outcome_of};
+ghost use Rattle.wiz_cli.specs.declared.status.Status.TheVariants.{Unwritten};
 
 use crate::failure::Failure;
-use crate::message::message;
+use crate::message::{message, push_about_file};
 use crate::refusal::Refusal;
 use crate::status::{Status, of_refusal};
 use replay_model::replayed::Replays;
 use run_model::history::History;
+use srr_record::Recording;
 use std::alloc::{AllocError, Global};
 use wiz_base::Bytes;
 use wiz_io::{PutFault, Sink};
@@ -22,7 +25,7 @@ use wiz_io::{PutFault, Sink};
 pub struct Report {
     /// The exit status, by its number.
     pub status: u8,
-    /// The run that was recorded: of `record`, `check` and `demo` where the status is 0, 4 or 7.
+    /// The run that was recorded: of `record`, `check`, `advise` and `demo` where the status is 0, 4 or 7, of `races` also where it is 14.
     pub run: Option<History>,
     /// The replays that were made: of `replay` one where the status is 0, 4, 9 or 10; of `check` and `demo` one for each group
     /// where it is 0, 4 or 7.
@@ -63,6 +66,18 @@ pub fn text_alone(alloc: Global, text: Bytes) -> Done
     }
 }
 
+/// A text of a run, told with a status. There are no replays.
+pub fn text_of_run(alloc: Global, text: Bytes, status: Status, recording: Recording) -> Done
+    ensures { outcome_of [] result ≡ run_outcome status text recording [] }
+{
+    Done {
+        text,
+        status,
+        run: Some(recording.history),
+        replays: Replays::new(alloc),
+    }
+}
+
 /// Puts the text out, and reports the rest.
 pub fn tell<K: Sink>(done: Done, out: &mut K) -> Result<Report, AllocError>
     ensures put { IfOk result (λ report. (files : List NamedFile) → IsPut (outcome_of files done) (K.told out.old) (K.told out.new) report) }
@@ -85,6 +100,22 @@ pub fn put_message<K: Sink>(text: &[u8], out: &mut K) -> Result<(), AllocError>
         Ok(()) | Err(PutFault::Failed) => Ok(()),
         Err(PutFault::NoMemory) => Err(AllocError),
     }
+}
+
+/// Tells work of which a file was not written.
+pub fn tell_unwritten<K: Sink>(
+    alloc: Global,
+    name: &str,
+    run: Option<History>,
+    out: &mut K,
+) -> Result<Report, AllocError>
+    ensures said { IfOk result (λ report. HasSaid (K.told out.old).bytes (K.told out.new).bytes (K.told out.old).faults (K.told out.new).faults (unwritten_text name.now) × (report ≡ record { status = number_of Unwritten; run = run; replayed = [] })) }
+    ensures short { OnErr result (GrewByPart (K.told out.old).bytes (K.told out.new).bytes (unwritten_text name.now)) }
+{
+    let mut text = Bytes::new(alloc);
+    push_about_file(&mut text, b"cannot write ", name)?;
+    put_message(text.as_slice(), out)?;
+    Ok(Report::new(Status::Unwritten, run, Replays::new(alloc)))
 }
 
 /// The report of a command that came to its end, or else what it failed by, told.

@@ -36,6 +36,8 @@ pub enum Status {
     OutOfMemory,
     /// An input file is too long.
     TooLong,
+    /// The run has too many races to be listed.
+    TooManyRaces,
 }
 
 /// The status of a refusal.
@@ -116,6 +118,7 @@ impl Status {
             Status::Starved => 10,
             Status::OutOfMemory => 11,
             Status::TooLong => 12,
+            Status::TooManyRaces => 14,
         }
     }
 

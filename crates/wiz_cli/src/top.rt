@@ -3,13 +3,16 @@ ghost use Rattle.std.specs.Prelude.{◌≡◌, false};
 ghost use Rattle.srr_replay.specs.Rounds.{IsReplayable};
 ghost use Rattle.wiz_cli.specs.Commands.{AskForSerially, IsReport};
 ghost use Rattle.wiz_cli.specs.Promises.{IsComplete, NeverDiverges, ShowsEveryRun};
-ghost use Rattle.wiz_cli.specs.Steps.{CanRun, Ends, EndsWords, IsFailureBy, MakesRecordings, MakesReplays, TakesLogs, TakesReady, refused_words};
+ghost use Rattle.wiz_cli.specs.Steps.{AllowsBlocks, CanRun, Ends, EndsWords, IsFailureBy, MakesRecordings, MakesReplays, TakesLogs, TakesReady, refused_words};
 ghost use Rattle.wiz_cli.specs.World.{world};
 ghost use Rattle.wiz_words.specs.Texts.{texts, with_texts};
 ghost use Rattle.wiz_words.specs.Words.{AskFor, is_threaded};
 
+use crate::commands::advise::advise;
 use crate::commands::check::check;
+use crate::commands::convert::convert;
 use crate::commands::demo::demo;
+use crate::commands::races::races;
 use crate::commands::record::record;
 use crate::commands::replay::replay;
 use crate::commands::show::show;
@@ -142,7 +145,8 @@ fn answer_serially<'a, S: Store, K: Sink>(
     store: &mut S,
     out: &mut K,
 ) -> Result<Report, Failure<'a>>
-    requires { is_threaded (with_texts command) ≡ false }
+    requires serial { is_threaded (with_texts command) ≡ false }
+    requires blocks { AllowsBlocks (with_texts command) }
     ensures serial { is_threaded (with_texts command.entry) ≡ false }
     ensures ends { Ends (with_texts command.entry) (world (S.told store.old) (K.told out.old)) (world (S.told store.new) (K.told out.new)) result }
 {
@@ -173,6 +177,7 @@ fn answer<
     recorder: &F,
     replayer: &G,
 ) -> Result<Report, Failure<'a>>
+    requires blocks { AllowsBlocks (with_texts command) }
     requires takes { TakesReady (F.pre recorder.now) }
     requires makes { MakesRecordings (is_threaded (with_texts command)) (F.post recorder.now) }
     requires takes_logs { TakesLogs (G.pre replayer.now) }
@@ -182,9 +187,12 @@ fn answer<
     match command {
         Command::Record { run, prefix } => record(alloc, &run, prefix, store, out, recorder),
         Command::Check(run) => check(alloc, &run, store, out, recorder, replayer),
+        Command::Races(run) => races(alloc, &run, store, out, recorder),
+        Command::Advise { run, most } => advise(alloc, &run, most, store, out, recorder),
         Command::Demo { seed, rounds } => demo(alloc, seed, rounds, store, out, recorder, replayer),
         Command::Replay(words) => replay(alloc, &words, store, out, replayer),
         Command::Show(log) => show(alloc, log, store, out),
         Command::Stats(log) => stats(alloc, log, store, out),
+        Command::Convert { log, file, is_text } => convert(alloc, log, file, is_text, store, out),
     }
 }

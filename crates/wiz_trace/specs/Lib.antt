@@ -1,3 +1,4 @@
+pub mod AdviceTexts
 pub mod CallCounts
 pub mod CallTexts
 pub mod CheckTexts
@@ -5,6 +6,7 @@ pub mod Counting
 pub mod DemoProgram
 pub mod DemoTexts
 pub mod OrderTexts
+pub mod RacesTexts
 pub mod RecordTexts
 pub mod ShowTexts
 pub mod StatsTexts

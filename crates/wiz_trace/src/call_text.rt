@@ -5,9 +5,9 @@ ghost use Rattle.mpi_call.specs.declared.call.Call.TheVariants.{Post, Send};
 ghost use Rattle.wiz_base.specs.Decimals.{number_text};
 ghost use Rattle.wiz_trace.specs.CallTexts.{aborter_text, at_start_text, call_text, envelope_text, fault_text, got_text, halt_text, item_text, joined, kind_text, mode_text, name_text, op_text, probe_text, reply_text, root_text, send_text, source_text, tag_text};
 
-use crate::joined::{HasText, push_joined};
 use mpi_call::call::{Call, Fault, Halt, Kind, Op, Source, Tag, TakeMode};
 use mpi_call::reply::{Got, Item, Reply};
+use srr_text::spelled::{Spelled, push_by_commas};
 use std::alloc::AllocError;
 use wiz_base::{Bytes, push_decimal, push_number, push_text};
 
@@ -17,11 +17,11 @@ fn push_int(out: &mut Bytes, int: i32) -> Result<(), AllocError>
     push_number(out, int as i64)
 }
 
-/// Some things with commas between them.
-pub fn push_list<T: HasText>(out: &mut Bytes, things: &[T]) -> Result<(), AllocError>
-    ensures { OnOk result (out.new ≡ out.old ++ joined (codes ",") T.text_of things.now) }
+/// Some numbers with commas between them.
+pub fn push_list<T: Spelled>(out: &mut Bytes, numbers: &[T]) -> Result<(), AllocError>
+    ensures { OnOk result (out.new ≡ out.old ++ joined (codes ",") T.text numbers.now) }
 {
-    push_joined(out, b",", things)
+    push_by_commas(out, numbers)
 }
 
 /// A message's name.
@@ -360,14 +360,29 @@ fn push_got(out: &mut Bytes, got: &Got) -> Result<(), AllocError>
     }
 }
 
-impl HasText for Item {
-    ghost text_of = { item_text };
+fn push_item(out: &mut Bytes, item: &Item) -> Result<(), AllocError>
+    ensures { OnOk result (out.new ≡ out.old ++ item_text item.now) }
+{
+    push_decimal(out, item.index as u64)?;
+    push_text(out, b"=")?;
+    push_got(out, &item.got)
+}
 
-    fn push_to(&self, out: &mut Bytes) -> Result<(), AllocError> {
-        push_decimal(out, self.index as u64)?;
-        push_text(out, b"=")?;
-        push_got(out, &self.got)
+/// Completed starts with semicolons between them.
+fn push_items(out: &mut Bytes, items: &[Item]) -> Result<(), AllocError>
+    ensures { OnOk result (out.new ≡ out.old ++ joined (codes "; ") item_text items.now) }
+{
+    let [first, others @ ..] = items else {
+        return Ok(());
+    };
+    push_item(out, first)?;
+    let mut rest = others;
+    while let [item, after @ ..] = rest {
+        push_text(out, b"; ")?;
+        push_item(out, item)?;
+        rest = after;
     }
+    Ok(())
 }
 
 /// The text of a reply.
@@ -378,7 +393,7 @@ pub fn push_reply(out: &mut Bytes, reply: &Reply) -> Result<(), AllocError>
         Reply::Done => push_text(out, b"done"),
         Reply::Took(items) => {
             push_text(out, b"took ")?;
-            push_joined(out, b"; ", items.as_slice())
+            push_items(out, items.as_slice())
         }
         Reply::NotYet => push_text(out, b"notyet"),
         Reply::Peeked {

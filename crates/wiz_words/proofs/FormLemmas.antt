@@ -8,7 +8,7 @@ use Rattle.clap.specs.Words.{App, Row, Text, fault_of, is_simple_and_free, match
 use Rattle.clap.proofs.OnLiterals.{clap_on_literals}
 use Rattle.wiz_words.specs.declared.command.Command.{Command}
 use Rattle.wiz_words.specs.declared.command.Verb.{Verb}
-use Rattle.wiz_words.specs.declared.command.Verb.TheVariants.{Record, Check, Demo, Replay, Show, Stats}
+use Rattle.wiz_words.specs.declared.command.Verb.TheVariants.{Record, Check, Races, Advise, Demo, Replay, Show, Stats, Convert}
 use Rattle.wiz_words.specs.Forms.{form_of, name_of, verb_named, verbs}
 use Rattle.wiz_words.specs.Texts.{texts, with_texts}
 use Rattle.wiz_words.specs.Words.{AreWordsOf, AskFor, AskForNothing, verb_of}
@@ -18,19 +18,25 @@ pub form_is_simple : (verb : Verb) → is_simple_and_free (form_of verb) ≡ tru
 unfolding clap_on_literals
 form_is_simple Record = refl
 form_is_simple Check = refl
+form_is_simple Races = refl
+form_is_simple Advise = refl
 form_is_simple Demo = refl
 form_is_simple Replay = refl
 form_is_simple Show = refl
 form_is_simple Stats = refl
+form_is_simple Convert = refl
 
 -- each command is that of its name
 verb_of_name : (verb : Verb) → verb_named (name_of verb) ≡ Some verb
 verb_of_name Record = refl
 verb_of_name Check = refl
+verb_of_name Races = refl
+verb_of_name Advise = refl
 verb_of_name Demo = refl
 verb_of_name Replay = refl
 verb_of_name Show = refl
 verb_of_name Stats = refl
+verb_of_name Convert = refl
 
 pub some_is : {A : Type 0} (a b : A) → Some a ≡ Some b → a ≡ b
 some_is a b h = cc

@@ -4,7 +4,7 @@ use Rattle.wiz_base.specs.Decimals.{decimal_text}
 use Rattle.wiz_base.proofs.DecimalLaws.{decimal_text-and_rest, decimal_text_injective}
 use Rattle.clap.specs.Words.{Row, Text, matches_of}
 use Rattle.wiz_words.specs.declared.command.Command.{Command}
-use Rattle.wiz_words.specs.declared.command.Command.TheVariants.{Record, Check, Demo, Replay, Show, Stats}
+use Rattle.wiz_words.specs.declared.command.Command.TheVariants.{Record, Check, Races, Advise, Demo, Replay, Show, Stats, Convert}
 use Rattle.wiz_words.specs.declared.command.ReplayWords.{ReplayWords}
 use Rattle.wiz_words.specs.declared.command.RunWords.{RunWords}
 use Rattle.wiz_words.specs.declared.command.Verb.{Verb}
@@ -56,13 +56,20 @@ one_replay given r s a b =
     build : (l l' : Text) (p p' : Option Text) (s s' : Option (ℕ × ℕ)) (b b' : Bool) → l ≡ l' → p ≡ p' → s ≡ s' → b ≡ b' → replay_of l p s b ≡ replay_of l' p' s' b'
     build l l' p p' s s' b b' ll pp ss bb = rw (ll, pp, ss, bb) refl
 
+convert_is : (l l' f f' : Text) (b b' : Bool) → l ≡ l' → f ≡ f' → b ≡ b' → Convert l f b ≡ Convert l' f' b'
+convert_is l l' f f' b b' ll ff bb = rw (ll, ff, bb) refl
+
 one_said : (given : List Row) (a b : Command Text) → verb_of a ≡ verb_of b → AreWordsOf given a → AreWordsOf given b → a ≡ b
 one_said given (Record r prefix) (Record s other) same a b = ap₂ Record (one_run given _ r s a.0 b.0) (one_text _ _ _ a.1 b.1)
 one_said given (Check r) (Check s) same a b = ap Check (one_run given None r s a b)
+one_said given (Races r) (Races s) same a b = ap Races (one_run given _ r s a b)
+one_said given (Advise r most) (Advise s other) same a b = ap₂ Advise (one_run given _ r s a.0 b.0) (one_number _ _ _ _ _ _ a.1 b.1)
 one_said given (Demo seed rounds) (Demo seed' rounds') same a b = ap₂ Demo (one_number _ _ _ _ _ _ a.0 b.0) (one_number _ _ _ _ _ _ a.1 b.1)
 one_said given (Replay r) (Replay s) same a b = ap Replay (one_replay given r s a b)
 one_said given (Show log) (Show other) same a b = ap Show (one_text _ _ _ a b)
 one_said given (Stats log) (Stats other) same a b = ap Stats (one_text _ _ _ a b)
+one_said given (Convert log file is_text) (Convert other name is_one) same a b =
+    convert_is _ _ _ _ _ _ (one_text _ _ _ a.0 b.0) (one_text _ _ _ a.1 b.1) (a.2 ∙ sym b.2)
 one_said given one other same a b = absurd (cc)
 
 pub one_command : AskForOneThing

@@ -3,7 +3,7 @@ use Rattle.std.proofs.Common.{◌≡◌, ap, refl, Option, Some, None, Bor, is_s
 use Rattle.std.specs.Prelude.{◌&&◌, Bool, not, option_map}
 use Rattle.clap.specs.Words.{Text}
 use Rattle.wiz_words.specs.declared.command.Command.{Command}
-use Rattle.wiz_words.specs.declared.command.Command.TheVariants.{Record, Check, Demo, Replay, Show, Stats}
+use Rattle.wiz_words.specs.declared.command.Command.TheVariants.{Record, Check, Races, Advise, Demo, Replay, Show, Stats, Convert}
 use Rattle.wiz_words.specs.declared.command.RunWords.{RunWords}
 use Rattle.wiz_words.specs.Texts.{run_with_texts, with_texts}
 use Rattle.wiz_words.specs.Words.{is_threaded, is_threaded_run}
@@ -18,7 +18,10 @@ run_is_threaded-texts run = ap (λ (ordered : Bool). not run.is_serial && not or
 pub is_threaded-with_texts : (command : Command (Bor Text)) → is_threaded (with_texts command) ≡ is_threaded command
 is_threaded-with_texts (Record run prefix) = run_is_threaded-texts run
 is_threaded-with_texts (Check run) = run_is_threaded-texts run
+is_threaded-with_texts (Races run) = run_is_threaded-texts run
+is_threaded-with_texts (Advise run most) = run_is_threaded-texts run
 is_threaded-with_texts (Demo seed rounds) = refl
 is_threaded-with_texts (Replay replay) = refl
 is_threaded-with_texts (Show log) = refl
 is_threaded-with_texts (Stats log) = refl
+is_threaded-with_texts (Convert log file is_text) = refl

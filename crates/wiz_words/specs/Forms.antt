@@ -4,19 +4,22 @@ use Rattle.std.specs.Str.{bytes_eq}
 use Rattle.clap.specs.Words.{App, Rule, Text, new_app, new_rule, with_rule}
 use Rattle.clap.specs.declared.builder.action.ArgAction.TheVariants.{SetTrue}
 use Rattle.wiz_words.specs.declared.command.Verb.{Verb}
-use Rattle.wiz_words.specs.declared.command.Verb.TheVariants.{Record, Check, Demo, Replay, Show, Stats}
+use Rattle.wiz_words.specs.declared.command.Verb.TheVariants.{Record, Check, Races, Advise, Demo, Replay, Show, Stats, Convert}
 
 -- the first word of each command
 abbrev pub name_of : Verb → Text
 name_of Record = codes "record"
 name_of Check = codes "check"
+name_of Races = codes "races"
+name_of Advise = codes "advise"
 name_of Demo = codes "demo"
 name_of Replay = codes "replay"
 name_of Show = codes "show"
 name_of Stats = codes "stats"
+name_of Convert = codes "convert"
 
 abbrev pub verbs : List Verb
-verbs = Record ∷ Check ∷ Demo ∷ Replay ∷ Show ∷ Stats ∷ []
+verbs = Record ∷ Check ∷ Races ∷ Advise ∷ Demo ∷ Replay ∷ Show ∷ Stats ∷ Convert ∷ []
 
 -- the command of a name
 abbrev pub verb_named : Text → Option Verb
@@ -39,10 +42,14 @@ abbrev pub arguments_of : Verb → List Rule
 arguments_of Record =
     positional (codes "PROGRAM") ∷ positional (codes "PLAN") ∷ positional (codes "PREFIX") ∷ option (codes "order") ∷ flag (codes "serial") ∷ []
 arguments_of Check = positional (codes "PROGRAM") ∷ positional (codes "PLAN") ∷ flag (codes "serial") ∷ []
+arguments_of Races = positional (codes "PROGRAM") ∷ positional (codes "PLAN") ∷ option (codes "order") ∷ flag (codes "serial") ∷ []
+arguments_of Advise =
+    positional (codes "PROGRAM") ∷ positional (codes "PLAN") ∷ positional (codes "K") ∷ option (codes "order") ∷ flag (codes "serial") ∷ []
 arguments_of Demo = positional (codes "SEED") ∷ positional (codes "ROUNDS") ∷ []
 arguments_of Replay = positional (codes "LOG") ∷ option (codes "program") ∷ option (codes "break") ∷ flag (codes "serial") ∷ []
 arguments_of Show = positional (codes "LOG") ∷ []
 arguments_of Stats = positional (codes "LOG") ∷ []
+arguments_of Convert = positional (codes "LOG") ∷ positional (codes "FILE") ∷ flag (codes "text") ∷ []
 
 -- the clap command that reads the arguments of a command: its name and its arguments, and no other setting
 abbrev pub form_of : Verb → App

@@ -8,6 +8,13 @@ greatest_rank = 63
 abbrev pub greatest_call : ℕ
 greatest_call = 999999
 
+-- the most ranks of a block of an advice
+abbrev pub fewest_ranks : ℕ
+fewest_ranks = 1
+
+abbrev pub most_ranks : ℕ
+most_ranks = 64
+
 -- the seed of a demo, and its rounds
 abbrev pub greatest_seed : ℕ
 greatest_seed = 2147483647

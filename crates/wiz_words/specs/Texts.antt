@@ -4,7 +4,7 @@ use Rattle.std.specs.Borrow.{Bor}
 use Rattle.std.specs.Option.{option_map}
 use Rattle.clap.specs.Words.{Text}
 use Rattle.wiz_words.specs.declared.command.Command.{Command}
-use Rattle.wiz_words.specs.declared.command.Command.TheVariants.{Record, Check, Demo, Replay, Show, Stats}
+use Rattle.wiz_words.specs.declared.command.Command.TheVariants.{Record, Check, Races, Advise, Demo, Replay, Show, Stats, Convert}
 use Rattle.wiz_words.specs.declared.command.ReplayWords.{ReplayWords}
 use Rattle.wiz_words.specs.declared.command.RunWords.{RunWords}
 
@@ -22,7 +22,10 @@ replay_with_texts replay = record { log = replay.log.now; program = option_map (
 abbrev pub with_texts : Command (Bor Text) → Command Text
 with_texts (Record run prefix) = Record (run_with_texts run) prefix.now
 with_texts (Check run) = Check (run_with_texts run)
+with_texts (Races run) = Races (run_with_texts run)
+with_texts (Advise run most) = Advise (run_with_texts run) most
 with_texts (Demo seed rounds) = Demo seed rounds
 with_texts (Replay replay) = Replay (replay_with_texts replay)
 with_texts (Show log) = Show log.now
 with_texts (Stats log) = Stats log.now
+with_texts (Convert log file is_text) = Convert log.now file.now is_text

@@ -2,23 +2,26 @@
 use Rattle.std.specs.Prelude.{◌≡◌, ◌&&◌, List, [], Bool, false, not, is_some, Option, Some, None, codes, slice_get}
 use Rattle.clap.specs.Words.{Row, Text, fault_of, matches_of}
 use Rattle.wiz_words.specs.declared.command.Command.{Command}
-use Rattle.wiz_words.specs.declared.command.Command.TheVariants.{Record, Check, Demo, Replay, Show, Stats}
+use Rattle.wiz_words.specs.declared.command.Command.TheVariants.{Record, Check, Races, Advise, Demo, Replay, Show, Stats, Convert}
 use Rattle.wiz_words.specs.declared.command.ReplayWords.{ReplayWords}
 use Rattle.wiz_words.specs.declared.command.RunWords.{RunWords}
 use Rattle.wiz_words.specs.declared.command.Verb.{Verb}
 use Rattle.wiz_words.specs.declared.command.Verb.TheVariants as verb
 use Rattle.wiz_words.specs.Forms.{form_of, name_of}
-use Rattle.wiz_words.specs.Limits.{fewest_rounds, greatest_seed, most_rounds}
+use Rattle.wiz_words.specs.Limits.{fewest_ranks, fewest_rounds, greatest_seed, most_ranks, most_rounds}
 use Rattle.wiz_words.specs.Values.{IsBreakpoint, IsNumberIn, flag_in, value_in}
 
 -- the name of a command
 abbrev pub verb_of : {T : Type 0} → Command T → Verb
 verb_of (Record run prefix) = verb.Record
 verb_of (Check run) = verb.Check
+verb_of (Races run) = verb.Races
+verb_of (Advise run most) = verb.Advise
 verb_of (Demo seed rounds) = verb.Demo
 verb_of (Replay replay) = verb.Replay
 verb_of (Show log) = verb.Show
 verb_of (Stats log) = verb.Stats
+verb_of (Convert log file is_text) = verb.Convert
 
 -- what is given are the arguments of a run with that file for its order; an order and `--serial` exclude each other
 pub record AreRunWords (given : List Row) (file : Option Text) (run : RunWords Text) : Type 0 where
@@ -39,11 +42,16 @@ pub record AreReplayWords (given : List Row) (replay : ReplayWords Text) : Type 
 abbrev pub AreWordsOf : List Row → Command Text → Type 0
 AreWordsOf given (Record run prefix) = AreRunWords given (value_in given (codes "order")) run × (value_in given (codes "PREFIX") ≡ Some prefix)
 AreWordsOf given (Check run) = AreRunWords given None run
+AreWordsOf given (Races run) = AreRunWords given (value_in given (codes "order")) run
+AreWordsOf given (Advise run most) =
+    AreRunWords given (value_in given (codes "order")) run × IsNumberIn given (codes "K") fewest_ranks most_ranks most
 AreWordsOf given (Demo seed rounds) =
     IsNumberIn given (codes "SEED") 0 greatest_seed seed × IsNumberIn given (codes "ROUNDS") fewest_rounds most_rounds rounds
 AreWordsOf given (Replay replay) = AreReplayWords given replay
 AreWordsOf given (Show log) = value_in given (codes "LOG") ≡ Some log
 AreWordsOf given (Stats log) = value_in given (codes "LOG") ≡ Some log
+AreWordsOf given (Convert log file is_text) =
+    (value_in given (codes "LOG") ≡ Some log) × (value_in given (codes "FILE") ≡ Some file) × (is_text ≡ flag_in given (codes "text"))
 
 -- the arguments ask for a command: the first is its name, clap takes the others by its form, and finds the arguments of this command
 pub record AskFor (words : List Text) (command : Command Text) : Type 0 where
@@ -67,7 +75,10 @@ is_threaded_run run = not run.is_serial && not (is_some run.order)
 abbrev pub is_threaded : {T : Type 0} → Command T → Bool
 is_threaded (Record run prefix) = is_threaded_run run
 is_threaded (Check run) = is_threaded_run run
+is_threaded (Races run) = is_threaded_run run
+is_threaded (Advise run most) = is_threaded_run run
 is_threaded (Demo seed rounds) = false
 is_threaded (Replay replay) = not replay.is_serial
 is_threaded (Show log) = false
 is_threaded (Stats log) = false
+is_threaded (Convert log file is_text) = false

@@ -6,10 +6,13 @@ ghost use Rattle.std.specs.Prelude.{◌≡◌};
 pub enum Verb {
     Record,
     Check,
+    Races,
+    Advise,
     Demo,
     Replay,
     Show,
     Stats,
+    Convert,
 }
 
 /// The program and the plan of a run, and how its ranks take their turns. With neither an order nor `is_serial` each rank
@@ -43,6 +46,10 @@ pub enum Command<T> {
     Record { run: RunWords<T>, prefix: T },
     /// Records a run and replays its groups. It has no order.
     Check(RunWords<T>),
+    /// Records a run and lists its message races.
+    Races(RunWords<T>),
+    /// Records a run and advises on its groups: blocks of at most `most` neighbouring ranks, 1 to 64.
+    Advise { run: RunWords<T>, most: u8 },
     /// Checks a program that is made from a seed, at most 2,147,483,647, and a number of rounds, 1 to 1,000.
     Demo { seed: u32, rounds: u32 },
     /// Replays the group of a log.
@@ -51,6 +58,8 @@ pub enum Command<T> {
     Show(T),
     /// Counts the log in this file.
     Stats(T),
+    /// Writes the log in one file to another: in format 1 where `is_text`, else in format 2.
+    Convert { log: T, file: T, is_text: bool },
 }
 
 impl<T> Command<T> {
@@ -61,11 +70,13 @@ impl<T> Command<T> {
         ensures { result ≡ is_threaded self.now }
     {
         match self {
-            Command::Record { run, .. } | Command::Check(run) => {
-                !run.is_serial && run.order.is_none()
-            }
+            Command::Record { run, .. }
+            | Command::Check(run)
+            | Command::Races(run)
+            | Command::Advise { run, .. } => { !run.is_serial && run.order.is_none() }
             Command::Replay(replay) => !replay.is_serial,
             Command::Demo { .. } | Command::Show(_) | Command::Stats(_) => false,
+            Command::Convert { .. } => false,
         }
     }
 }

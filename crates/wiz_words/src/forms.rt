@@ -14,10 +14,13 @@ pub fn verb_named(name: &str) -> Option<Verb>
     match name {
         "record" => Some(Verb::Record),
         "check" => Some(Verb::Check),
+        "races" => Some(Verb::Races),
+        "advise" => Some(Verb::Advise),
         "demo" => Some(Verb::Demo),
         "replay" => Some(Verb::Replay),
         "show" => Some(Verb::Show),
         "stats" => Some(Verb::Stats),
+        "convert" => Some(Verb::Convert),
         _ => None,
     }
 }
@@ -39,6 +42,19 @@ pub fn form_of<'a>(alloc: Global, verb: Verb) -> Result<Command<'a>, AllocError>
             let form = with_positional(alloc, form, "PLAN")?;
             with_flag(alloc, form, "serial")
         }
+        Verb::Races => {
+            let form = with_positional(alloc, Command::new(alloc, "races"), "PROGRAM")?;
+            let form = with_positional(alloc, form, "PLAN")?;
+            let form = with_option(alloc, form, "order")?;
+            with_flag(alloc, form, "serial")
+        }
+        Verb::Advise => {
+            let form = with_positional(alloc, Command::new(alloc, "advise"), "PROGRAM")?;
+            let form = with_positional(alloc, form, "PLAN")?;
+            let form = with_positional(alloc, form, "K")?;
+            let form = with_option(alloc, form, "order")?;
+            with_flag(alloc, form, "serial")
+        }
         Verb::Demo => {
             let form = with_positional(alloc, Command::new(alloc, "demo"), "SEED")?;
             with_positional(alloc, form, "ROUNDS")
@@ -51,6 +67,11 @@ pub fn form_of<'a>(alloc: Global, verb: Verb) -> Result<Command<'a>, AllocError>
         }
         Verb::Show => with_positional(alloc, Command::new(alloc, "show"), "LOG"),
         Verb::Stats => with_positional(alloc, Command::new(alloc, "stats"), "LOG"),
+        Verb::Convert => {
+            let form = with_positional(alloc, Command::new(alloc, "convert"), "LOG")?;
+            let form = with_positional(alloc, form, "FILE")?;
+            with_flag(alloc, form, "text")
+        }
     }
 }
 

@@ -15,6 +15,12 @@ use crate::values::{breakpoint, flag_in, matches_of, number_in, value_in};
 use clap::ArgMatches;
 use std::alloc::{AllocError, Global};
 
+/// The fewest ranks that a block of an advice may be limited to.
+const FEWEST_RANKS: u32 = 1;
+
+/// The most ranks that a block of an advice may be limited to.
+const MOST_RANKS: u32 = 64;
+
 /// The greatest seed of a demo.
 const GREATEST_SEED: u32 = 2_147_483_647;
 
@@ -62,6 +68,18 @@ fn command_from<'a>(verb: Verb, matches: &ArgMatches<'a>) -> Option<Command<&'a 
             Some(Command::Record { run, prefix })
         }
         Verb::Check => Some(Command::Check(run_words(matches, None)?)),
+        Verb::Races => {
+            let run = run_words(matches, value_in(matches, "order"))?;
+            Some(Command::Races(run))
+        }
+        Verb::Advise => {
+            let run = run_words(matches, value_in(matches, "order"))?;
+            let most = number_in(matches, "K", FEWEST_RANKS, MOST_RANKS)?;
+            Some(Command::Advise {
+                run,
+                most: most as u8,
+            })
+        }
         Verb::Demo => {
             let seed = number_in(matches, "SEED", 0, GREATEST_SEED)?;
             let rounds = number_in(matches, "ROUNDS", FEWEST_ROUNDS, MOST_ROUNDS)?;
@@ -70,6 +88,12 @@ fn command_from<'a>(verb: Verb, matches: &ArgMatches<'a>) -> Option<Command<&'a 
         Verb::Replay => Some(Command::Replay(replay_words(matches)?)),
         Verb::Show => Some(Command::Show(value_in(matches, "LOG")?)),
         Verb::Stats => Some(Command::Stats(value_in(matches, "LOG")?)),
+        Verb::Convert => {
+            let log = value_in(matches, "LOG")?;
+            let file = value_in(matches, "FILE")?;
+            let is_text = flag_in(matches, "text");
+            Some(Command::Convert { log, file, is_text })
+        }
     }
 }
 

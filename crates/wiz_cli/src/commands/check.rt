@@ -19,9 +19,9 @@ use crate::status::of_ending;
 use c_program::CProgram;
 use replay_model::replayed::{Replayed, Replays};
 use srr_entry::log::Log;
-use srr_log::read_log::read_log;
+use srr_log2::read_either::read_either;
+use srr_log2::write_log2::write_log2;
 use srr_record::Recording;
-use srr_text::write_log::write_log;
 use std::alloc::{AllocError, Global};
 use wiz_base::Bytes;
 use wiz_io::{Sink, Store};
@@ -133,9 +133,9 @@ fn replay_kept<G: Fn(&CProgram, &Log, Option<(u8, u32)>) -> Result<Replayed, All
     requires makes { MakesReplays (G.post replayer.now) }
     ensures { IfOk result (IsReplayOf log.now.program log.now None) }
 {
-    let text = write_log(alloc, log)?;
+    let text = write_log2(alloc, log)?;
     // The text of a log is read back unless memory is out.
-    let Ok(read) = read_log(alloc, text.as_slice()) else {
+    let Ok(read) = read_either(alloc, text.as_slice()) else {
         return Err(AllocError);
     };
     replay_text(program, read.program.as_slice(), &read, None, replayer)

@@ -1,28 +1,23 @@
 //! `record PROGRAM PLAN PREFIX [--order FILE] [--serial]`: a run is recorded, and the log of each group and the order are written.
-ghost use Rattle.std.specs.Prelude.{◌≡◌, ◌≤◌, [], List, ℕ, IfOk, OnErr, Some, length};
+ghost use Rattle.std.specs.Prelude.{◌≡◌, ◌≤◌, List, ℕ, IfOk, OnErr, length};
 ghost use Rattle.wiz_cli.specs.Commands.{record_outcome};
-ghost use Rattle.wiz_cli.specs.Messages.{unwritten_text};
 ghost use Rattle.wiz_cli.specs.Outcomes.{IsPut};
-ghost use Rattle.wiz_cli.specs.Output.{GrewByPart, HasSaid};
-ghost use Rattle.wiz_cli.specs.Statuses.{number_of};
-ghost use Rattle.wiz_cli.specs.Steps.{Ends, HasLists, IsToldBy, MakesRecordings, TakesReady};
+ghost use Rattle.wiz_cli.specs.Output.{GrewByPart};
+ghost use Rattle.wiz_cli.specs.Steps.{AreInBounds, Ends, IsToldBy, MakesRecordings, TakesReady};
 ghost use Rattle.wiz_cli.specs.World.{world};
 ghost use Rattle.wiz_words.specs.Texts.{run_with_texts};
 ghost use Rattle.wiz_words.specs.Words.{is_threaded_run};
 ghost use Rattle.wiz_words.specs.declared.command.Command.TheVariants.{Record};
 ghost use Rattle.wiz_trace.specs.RecordTexts.{record_text};
-ghost use Rattle.wiz_cli.specs.declared.status.Status.TheVariants.{Unwritten as IsUnwritten};
 
 use crate::commands::record_files::{Unwritten, write_files};
 use crate::failure::Failure;
-use crate::message::push_about_file;
 use crate::recording::ready::{Ready, read_run};
-use crate::report::{Done, Report, put_message, tell};
-use crate::status::{Status, of_ending};
+use crate::report::{Done, Report, tell, tell_unwritten};
+use crate::status::of_ending;
 use replay_model::replayed::Replays;
 use srr_record::Recording;
 use std::alloc::{AllocError, Global};
-use wiz_base::Bytes;
 use wiz_io::{Sink, Store};
 use wiz_trace::recording::record_text;
 use wiz_words::command::RunWords;
@@ -54,14 +49,16 @@ fn write<S: Store, K: Sink>(
     store: &mut S,
     out: &mut K,
 ) -> Result<Report, AllocError>
-    requires lists { HasLists recording.logs }
+    requires in_bounds { AreInBounds recording.logs }
     requires few { length recording.logs ≤ 64 }
     ensures told { IsToldBy (record_outcome prefix.now recording) (world (S.told store.old) (K.told out.old)) (world (S.told store.new) (K.told out.new)) result }
     ensures reads { (S.told store.new).reads ≡ (S.told store.old).reads }
 {
     match write_files(alloc, prefix, &recording, store) {
         Ok(()) => tell_recording(alloc, recording, out),
-        Err(Unwritten::Failed(name)) => tell_unwritten(alloc, &name, recording, out),
+        Err(Unwritten::Failed(name)) => {
+            tell_unwritten(alloc, &name, Some(recording.history), out)
+        }
         Err(Unwritten::OutOfMemory) => Err(AllocError),
     }
 }
@@ -83,24 +80,4 @@ fn tell_recording<K: Sink>(
         replays: Replays::new(alloc),
     };
     tell(done, out)
-}
-
-/// Tells a run of which a file was not written.
-fn tell_unwritten<K: Sink>(
-    alloc: Global,
-    name: &str,
-    recording: Recording,
-    out: &mut K,
-) -> Result<Report, AllocError>
-    ensures said { IfOk result (λ report. HasSaid (K.told out.old).bytes (K.told out.new).bytes (K.told out.old).faults (K.told out.new).faults (unwritten_text name.now) × (report ≡ record { status = number_of IsUnwritten; run = Some recording.history; replayed = [] })) }
-    ensures short { OnErr result (GrewByPart (K.told out.old).bytes (K.told out.new).bytes (unwritten_text name.now)) }
-{
-    let mut text = Bytes::new(alloc);
-    push_about_file(&mut text, b"cannot write ", name)?;
-    put_message(text.as_slice(), out)?;
-    Ok(Report::new(
-        Status::Unwritten,
-        Some(recording.history),
-        Replays::new(alloc),
-    ))
 }

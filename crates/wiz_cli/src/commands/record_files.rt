@@ -2,16 +2,17 @@
 ghost use Rattle.std.specs.Prelude.{◌≡◌, ◌+◌, ◌<◌, ◌≤◌, ◌^◌, ◌∷◌, [], IfErr, IfOk, OnOk, length};
 ghost use Rattle.std.specs.String.{string_bytes};
 ghost use Rattle.std.specs.List.{AllByRecursion};
-ghost use Rattle.srr_text.specs.LogText.{log_text};
+ghost use Rattle.srr_log2.specs.LogBytes.{log_bytes};
+ghost use Rattle.srr_text.specs.Bounds.{IsInBounds};
 ghost use Rattle.wiz_cli.specs.Files.{AreWritten};
 ghost use Rattle.wiz_cli.specs.RecordFiles.{files_of, log_files, log_name, order_name};
-ghost use Rattle.wiz_cli.specs.Steps.{HasLists, IsStopped};
+ghost use Rattle.wiz_cli.specs.Steps.{AreInBounds, IsStopped};
 ghost use Rattle.wiz_trace.specs.OrderTexts.{order_text};
 
 use run_model::history::History;
 use srr_entry::log::Log;
+use srr_log2::write_log2::write_log2;
 use srr_record::Recording;
-use srr_text::write_log::write_log;
 use std::alloc::{AllocError, Global};
 use wiz_io::{Store, WriteFault};
 use wiz_trace::order::order_text;
@@ -35,14 +36,14 @@ impl From<AllocError> for Unwritten {
     }
 }
 
-/// Writes the log of each group, and then the order of the run.
+/// Writes the log of each group, in format 2, and then the order of the run.
 pub fn write_files<S: Store>(
     alloc: Global,
     prefix: &str,
     recording: &Recording,
     store: &mut S,
 ) -> Result<(), Unwritten>
-    requires lists { HasLists recording.now.logs }
+    requires in_bounds { AreInBounds recording.now.logs }
     requires few { length recording.now.logs < 2 ^ 32 }
     ensures ok { OnOk result (AreWritten (S.told store.old).files (S.told store.new).files (files_of prefix.now recording.now) []) }
     ensures stopped { IfErr result (λ why. IsStopped (S.told store.old).files (S.told store.new).files (S.told store.old).writes (S.told store.new).writes (files_of prefix.now recording.now) why) }
@@ -60,7 +61,7 @@ fn write_logs<S: Store>(
     logs: &[Log],
     store: &mut S,
 ) -> Result<(), Unwritten>
-    requires lists { HasLists logs.now }
+    requires in_bounds { AreInBounds logs.now }
     requires few { group + length logs.now < 2 ^ 32 }
     ensures ok { OnOk result (AreWritten (S.told store.old).files (S.told store.new).files (log_files prefix.now group logs.now) []) }
     ensures stopped { IfErr result (λ why. IsStopped (S.told store.old).files (S.told store.new).files (S.told store.old).writes (S.told store.new).writes (log_files prefix.now group logs.now) why) }
@@ -83,14 +84,14 @@ fn write_log_file<S: Store>(
     log: &Log,
     store: &mut S,
 ) -> Result<(), Unwritten>
-    requires { length log.now.lists ≡ length log.now.group }
+    requires { IsInBounds log.now }
     ensures ok { OnOk result (AreWritten (S.told store.old).files (S.told store.new).files (log_files prefix.now group (log.now ∷ [])) []) }
     ensures stopped { IfErr result (λ why. IsStopped (S.told store.old).files (S.told store.new).files (S.told store.old).writes (S.told store.new).writes (log_files prefix.now group (log.now ∷ [])) why) }
     ensures reads { (S.told store.new).reads ≡ (S.told store.old).reads }
     ensures later { (S.told store.old).writes ≤ (S.told store.new).writes }
 {
     let name = log_name(alloc, prefix, group)?;
-    let text = write_log(alloc, log)?;
+    let text = write_log2(alloc, log)?;
     write_file(name, text.as_slice(), store)
 }
 

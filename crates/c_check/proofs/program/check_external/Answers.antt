@@ -1,30 +1,28 @@
-use Rattle.std.proofs.Common.{◌∙◌, sym, ap, map}
+use Rattle.std.proofs.Common.{◌∙◌, sym, ap}
 use Rattle.c_grammar.specs.Tree as t
 use Rattle.c_grammar.specs.StmtView.{head_view, parts_view, external_view, value_view}
-use Rattle.c_check_expr.specs.Least.{least_from}
-use Rattle.c_check.specs.Programs.{external_twice_faults}
 use Rattle.c_check.proofs.Externals.{define_external, function_external, prototype_external}
 use Rattle.c_check.proofs.Walks.{on_ok, on_ok_map}
 use Rattle.c_check.proofs.program.check_external.Goals as goal
 
-pub returns-in_ok-see-in-Define-clause-faults : goal.returns-in_ok-see-in-Define-clause-faults
-returns-in_ok-see-in-Define-clause-faults c =
+pub returns-in_ok-add-in-Define-clause-faults : goal.returns-in_ok-add-in-Define-clause-faults
+returns-in_ok-add-in-Define-clause-faults c =
     on_ok c.declare.result
-    (define_external c.args.scope.now c.text-text.result.now (map (λ other. other.now) c.args.seen.now.items) c.in-Define.directive c.in-Define.name (value_view c.in-Define.value) c.in-Define.end
+    (define_external c.args.scope.now c.text-text.result.now c.args.seen.now c.in-Define.directive c.in-Define.name (value_view c.in-Define.value) c.in-Define.end
     (external_view c.args.external.now) c.args.best.now c.want_new.new.best (ap external_view c.in-Define.is) c.text-text.ensures
-    (c.want_new.ensures ∙ ap (λ names. least_from c.args.best.now (external_twice_faults c.text-text.result.now (map (λ other. other.now) names) c.in-Define.name)) c.deref.ensures.value))
+    c.want_new.ensures)
 
-pub returns-in_ok-see-in-Function-clause-faults : goal.returns-in_ok-see-in-Function-clause-faults
-returns-in_ok-see-in-Function-clause-faults c =
+pub returns-in_ok-add-in-Function-clause-faults : goal.returns-in_ok-add-in-Function-clause-faults
+returns-in_ok-add-in-Function-clause-faults c =
     on_ok_map c.check_function.result
-    (function_external c.args.scope.now c.text-text.result.now (map (λ other. other.now) c.args.seen.now.items) (head_view c.in-Function.head) c.in-Function.opening (parts_view c.deref-in-Function-2.result.now)
+    (function_external c.args.scope.now c.text-text.result.now c.args.seen.now (head_view c.in-Function.head) c.in-Function.opening (parts_view c.deref.result.now)
     c.in-Function.closing (external_view c.args.external.now) c.args.best.now c.want_new-in-Function.new.best c.check_function.new.best
-    (ap external_view c.in-Function.is ∙ ap (λ items. t.function (head_view c.in-Function.head) c.in-Function.opening (parts_view items) c.in-Function.closing) (sym c.deref-in-Function-2.ensures.value))
+    (ap external_view c.in-Function.is ∙ ap (λ items. t.function (head_view c.in-Function.head) c.in-Function.opening (parts_view items) c.in-Function.closing) (sym c.deref.ensures.value))
     c.text-text.ensures
-    (c.want_new-in-Function.ensures ∙ ap (λ names. least_from c.args.best.now (external_twice_faults c.text-text.result.now (map (λ other. other.now) names) c.in-Function.head.name)) c.deref-in-Function.ensures.value))
+    c.want_new-in-Function.ensures)
     c.check_function.ensures.faults
 
 pub returns-in-Prototype-clause-faults : goal.returns-in-Prototype-clause-faults
 returns-in-Prototype-clause-faults c =
-    prototype_external c.args.scope.now c.text-text.result.now (map (λ other. other.now) c.args.seen.now.items) (head_view c.in-Prototype.head) c.in-Prototype.end c.is_main.result
+    prototype_external c.args.scope.now c.text-text.result.now c.args.seen.now (head_view c.in-Prototype.head) c.in-Prototype.end c.is_main.result
     (external_view c.args.external.now) c.args.best.now c.check_prototype.new.best (ap external_view c.in-Prototype.is) c.text-text.ensures c.is_main.ensures c.check_prototype.ensures

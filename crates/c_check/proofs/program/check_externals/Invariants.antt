@@ -6,5 +6,5 @@ use Rattle.c_check.proofs.program.check_externals.Given as goal
 
 abbrev pub invariant-loop-external : goal.invariant-loop-external
 invariant-loop-external l =
-    least_from l.best (externals_faults l.scope (map (λ other. other.now) l.seen.items) (map external_view (drop l.external-index l.externals)))
+    least_from l.best (externals_faults l.scope l.seen (map external_view (drop l.external-index l.externals)))
     ≡ least_from l.initial.best (externals_faults l.initial.scope [] (map external_view l.externals))

@@ -1,4 +1,4 @@
-use Rattle.srr_replay.proofs.MemberTableLemmas.{IsMemberTable-after, IsMemberTable-back}
+use Rattle.view_tables.proofs.MemberTableLemmas.{IsMemberTable-after, IsMemberTable-back}
 use Rattle.srr_replay.proofs.note.note.Goals as goal
 
 pub returns-in-Err-clause-err : goal.returns-in-Err-clause-err

@@ -1,10 +1,10 @@
 use Rattle.std.proofs.Common.{◌<◌, ◌∙◌, ℕ, List, [], ◌∷◌, ◌++◌, arith, rules, subst, sym}
 use Rattle.std.proofs.lemmas.Result.{on_ok_weaker}
-use Rattle.srr_replay.specs.declared.start_table.Start.{Start}
-use Rattle.srr_replay.specs.EnterTable.{IsNotedFor}
-use Rattle.srr_replay.specs.StartTable.{IsStartTable}
-use Rattle.srr_replay.proofs.EnterTableLemmas.{IsEnterTable-after, IsEnterTable-kept}
-use Rattle.srr_replay.proofs.StartTableLemmas.{IsStartTable-after, few_starts}
+use Rattle.view_tables.specs.declared.start_table.Start.{Start}
+use Rattle.view_tables.specs.EnterTable.{IsNotedFor}
+use Rattle.view_tables.specs.StartTable.{IsStartTable}
+use Rattle.view_tables.proofs.EnterTableLemmas.{IsEnterTable-after, IsEnterTable-kept}
+use Rattle.view_tables.proofs.StartTableLemmas.{IsStartTable-after, few_starts}
 use Rattle.srr_replay.proofs.note.note_start.Goals as goal
 
 pub returns-in_default-clause-ok : goal.returns-in_default-clause-ok

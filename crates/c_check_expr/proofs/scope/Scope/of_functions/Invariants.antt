@@ -1,12 +1,11 @@
 use Rattle.std.proofs.Common.{◌≡◌, ◌≤◌, drop, length, map}
 use Rattle.c_grammar.specs.StmtView.{head_view}
-use Rattle.c_check_expr.specs.ScopeView.{entries_view}
 use Rattle.c_check_expr.specs.Signatures.{function_entries}
 use Rattle.c_check_expr.proofs.scope.Scope.of_functions.Given as goal
 
 abbrev pub invariant-loop-number : goal.invariant-loop-number
 invariant-loop-number l = record {
-  entries : entries_view l.placed.items ≡ function_entries l.text l.number (map (λ head. head_view head.now) (drop l.number l.heads.items));
+  entries : l.declared ≡ function_entries l.text l.number (map (λ head. head_view head.now) (drop l.number l.heads.items));
   within : l.number ≤ length l.heads.items;
 }
 

@@ -1,26 +1,17 @@
-use Rattle.std.proofs.Common.{◌≡◌, ◌<◌, arith, length, set, subst, sym, ℕ}
-use Rattle.collectives.proofs.BoardLemmas.{at_place, board_left, seen_count, trimmed, within}
-use Rattle.collectives.specs.Boards.{instances_on}
+use Rattle.std.proofs.Common.{◌<◌, subst, sym, ℕ}
+use Rattle.collectives.proofs.BoardLemmas.{board_left, instances_listed, seen_count, trimmed}
+use Rattle.collectives.specs.InstanceTable.{instances_in, listed}
 use Rattle.collectives.proofs.board.Board.leave.Goals as goal
-
-pub index_mut-requires : goal.index_mut-requires
-index_mut-requires c =
-    let there : c.args.comm < length c.self.inside.stages.items = within c.self.inside.stages.items c.args.self.now c.args.comm c.args.rank c.self.view_is c.requires in
-    let counted : c.self.inside.stages.len ≡ length c.self.inside.stages.items = c.self.inside.stages.ok.0 in
-    omega (arith, there, counted)
 
 pub leave-requires : goal.leave-requires
 leave-requires c =
-    let there : c.args.comm < length c.self.inside.stages.items = within c.self.inside.stages.items c.args.self.now c.args.comm c.args.rank c.self.view_is c.requires in
-    let is : c.index_mut.result.now ≡ instances_on c.self.inside.stages.items c.args.comm = at_place c.self.inside.stages.items c.args.comm c.index_mut.result.now there c.index_mut.ensures.value in
     let P : ℕ → Type 0 = λ k. 0 < k in
-    subst P (sym (seen_count c.self.inside.stages.items c.args.self.now c.args.comm c.args.rank c.index_mut.result.now c.self.view_is is)) c.requires
+    subst P (sym (seen_count (listed c.self.inside.table) c.args.self.now c.args.comm c.args.rank (instances_in c.self.inside.table c.args.comm) c.self.view_is
+    (sym (instances_listed c.self.inside.table c.args.comm)))) c.requires
 
 pub returns-clause-loses : goal.returns-clause-loses
 returns-clause-loses c =
-    let there : c.args.comm < length c.self.inside.stages.items = within c.self.inside.stages.items c.args.self.now c.args.comm c.args.rank c.self.view_is c.requires in
-    let is : c.index_mut.result.now ≡ instances_on c.self.inside.stages.items c.args.comm = at_place c.self.inside.stages.items c.args.comm c.index_mut.result.now there c.index_mut.ensures.value in
-    board_left c.self.inside.stages.items c.args.self.now c.args.comm c.args.rank c.index_mut.result.now c.leave.new.self c.self.view_is there is c.leave.ensures
+    board_left c.self.inside.table c.leave.new.self c.args.self.now c.args.comm c.args.rank c.self.view_is c.leave.ensures.others c.leave.ensures.loses
 
 pub returns-clause-trimmed : goal.returns-clause-trimmed
-returns-clause-trimmed c = trimmed (set c.self.inside.stages.items c.args.comm c.leave.new.self)
+returns-clause-trimmed c = trimmed (listed c.leave.new.self)

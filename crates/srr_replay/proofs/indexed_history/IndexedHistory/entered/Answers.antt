@@ -1,5 +1,5 @@
 use Rattle.std.proofs.Common.{◌≡◌, ◌∙◌, Some, ap, option_map, slice_get, sym}
-use Rattle.srr_replay.proofs.EnterTableLemmas.{enter_found, entered_same, number_there}
+use Rattle.view_tables.proofs.EnterTableLemmas.{enter_found, entered_same, number_there}
 use Rattle.srr_replay.proofs.indexed_history.IndexedHistory.entered.Goals as goal
 
 pub returns-in-Some-clause-enter : goal.returns-in-Some-clause-enter

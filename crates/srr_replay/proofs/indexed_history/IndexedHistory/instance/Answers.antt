@@ -1,5 +1,5 @@
 use Rattle.std.proofs.Common.{◌∙◌, arith}
-use Rattle.srr_replay.proofs.InstanceLemmas.{instance_short, instance_there, numbers_rise}
+use Rattle.view_tables.proofs.InstanceLemmas.{instance_short, instance_there, numbers_rise}
 use Rattle.srr_replay.proofs.indexed_history.IndexedHistory.instance.Goals as goal
 
 pub count_below-count-requires : goal.count_below-count-requires

@@ -1,6 +1,6 @@
 use Rattle.std.proofs.Common.{◌∙◌, get_or, [], sym}
 use Rattle.run_model.specs.Views.{view_of}
-use Rattle.srr_replay.proofs.StartTableLemmas.{taken_absent, taken_there}
+use Rattle.view_tables.proofs.StartTableLemmas.{taken_absent, taken_there}
 use Rattle.srr_replay.proofs.indexed_history.IndexedHistory.is_taken.Goals as goal
 
 pub returns-in-Some : goal.returns-in-Some

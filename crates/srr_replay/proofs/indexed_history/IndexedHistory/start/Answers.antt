@@ -1,6 +1,6 @@
 use Rattle.std.proofs.Common.{◌∙◌, get_or, [], sym}
 use Rattle.run_model.specs.Views.{view_of}
-use Rattle.srr_replay.proofs.StartTableLemmas.{start_absent, start_there, start_within}
+use Rattle.view_tables.proofs.StartTableLemmas.{start_absent, start_there, start_within}
 use Rattle.srr_replay.proofs.indexed_history.IndexedHistory.start.Goals as goal
 
 pub get-requires-in-Some : goal.get-requires-in-Some

@@ -2,7 +2,7 @@ use Rattle.std.proofs.Common.{◌≡◌, subst, sym, true}
 use Rattle.mpi_call.specs.Collectives.{is_member}
 use Rattle.run_model.specs.declared.event.Event.{Event}
 use Rattle.run_model.specs.Views.{view_of}
-use Rattle.srr_replay.specs.StartTable.{TakesMade}
+use Rattle.view_tables.specs.StartTable.{TakesMade}
 use Rattle.srr_replay.proofs.LogLemmas.{below_at}
 use Rattle.srr_replay.proofs.ReplaysLemmas.{EntersKnown-Replays, Replays-after, TakesMade-Replays}
 use Rattle.srr_replay.proofs.replay.Replay.append.Goals as goal

@@ -1,0 +1,125 @@
+#!/usr/bin/env bash
+# Runs at the limits of a run, each at a quarter, at half and whole: recorded on one thread, and its first group replayed from
+# its log on one thread. Then three runs of messages alone, recorded. Needs `rt` and GNU time (`apt-get install time`). A row gives
+# wall-clock seconds from start to end (the least of three runs), the growth against the row above, peak memory in MB, and the
+# bytes of all logs, without the program's text in them, for each event. `bench/limits.sh NAME` does the rows of one name alone.
+set -euo pipefail
+export LC_ALL=C
+top=$(cd "$(dirname "$0")/.." && pwd)
+work=$(mktemp -d)
+trap 'rm -rf "$work"' EXIT
+cd "$work"
+"$top/wiz" replay "$top/examples/first/first.srr" --serial >/dev/null
+wiz=$top/crates/wiz/out/wiz
+only=${1:-}
+
+# A program of these variables and this body, and a plan.
+program() {
+  printf '%s' "int main(void){int r,n,i,x=0,y=0;$2 MPI_Comm_rank(MPI_COMM_WORLD,&r);MPI_Comm_size(MPI_COMM_WORLD,&n);$3 printf(\"%d\\n\",x);return 0;}" >program
+  printf '%b' "$1" >plan
+}
+
+# Two ranks that send an int to and fro: three events a message.
+events() {
+  program '0 1\n' '' "for(i=0;i<$(($1 / 6 - 1));i++){if(r==0){MPI_Send(&x,1,MPI_INT,1,1,MPI_COMM_WORLD);MPI_Recv(&x,1,MPI_INT,1,1,MPI_COMM_WORLD,MPI_STATUS_IGNORE);}else{MPI_Recv(&x,1,MPI_INT,0,1,MPI_COMM_WORLD,MPI_STATUS_IGNORE);x=x+1;MPI_Send(&x,1,MPI_INT,0,1,MPI_COMM_WORLD);}}"
+}
+
+# Messages of 65,536 ints, which count when they are sent and when they are received; one less than would be too many.
+ints() {
+  program '0\n1\n' 'int a[65536];' "for(i=0;i<$(($1 / 131072 - 1));i++){if(r==0)MPI_Send(a,65536,MPI_INT,1,1,MPI_COMM_WORLD);else MPI_Recv(a,65536,MPI_INT,0,1,MPI_COMM_WORLD,MPI_STATUS_IGNORE);}"
+}
+
+# Each rank of 64 sends to the next and receives from the one before, again and again.
+ranks() {
+  program '0-63\n' '' "for(i=0;i<$(($1 / 192 - 1));i++){MPI_Send(&r,1,MPI_INT,(r+1)%n,1,MPI_COMM_WORLD);MPI_Recv(&x,1,MPI_INT,(r+n-1)%n,1,MPI_COMM_WORLD,MPI_STATUS_IGNORE);}"
+}
+
+# The same, and each rank is a group of its own.
+groups() {
+  ranks "$1"
+  seq 0 63 >plan
+}
+
+# Messages with rising tags, received in the reverse order of the tags.
+tags() {
+  program '0 1\n' '' "if(r==1)for(i=0;i<$1;i++)MPI_Send(&i,1,MPI_INT,0,i,MPI_COMM_WORLD);if(r==0){for(i=$1-1;i>=0;i--){MPI_Recv(&y,1,MPI_INT,1,i,MPI_COMM_WORLD,MPI_STATUS_IGNORE);x+=y;}}"
+}
+
+# Barriers of two ranks, half as many as there are calls.
+barriers() {
+  program '0 1\n' '' "for(i=0;i<$(($1 / 2));i++)MPI_Barrier(MPI_COMM_WORLD);"
+}
+
+# Receives that one MPI_Waitall completes.
+waitall() {
+  program '0 1\n' "MPI_Request q[$1];" "if(r==1){for(i=0;i<$1;i++)MPI_Send(&i,1,MPI_INT,0,1,MPI_COMM_WORLD);}else{for(i=0;i<$1;i++)MPI_Irecv(&x,1,MPI_INT,1,1,MPI_COMM_WORLD,&q[i]);MPI_Waitall($1,q,MPI_STATUSES_IGNORE);}"
+}
+
+ring() {
+  program '0-15\n' '' "for(i=0;i<$(($1 / 16));i++){if(r==0){MPI_Send(&x,1,MPI_INT,1,1,MPI_COMM_WORLD);MPI_Recv(&x,1,MPI_INT,n-1,1,MPI_COMM_WORLD,MPI_STATUS_IGNORE);}else{MPI_Recv(&x,1,MPI_INT,r-1,1,MPI_COMM_WORLD,MPI_STATUS_IGNORE);x=x+1;MPI_Send(&x,1,MPI_INT,(r+1)%n,1,MPI_COMM_WORLD);}}"
+}
+
+all_to_one() {
+  program '0-63\n' '' "if(r==0){for(i=0;i<$(($1 / 63))*(n-1);i++){MPI_Recv(&y,1,MPI_INT,MPI_ANY_SOURCE,1,MPI_COMM_WORLD,MPI_STATUS_IGNORE);x=x+y;}}else for(i=0;i<$(($1 / 63));i++)MPI_Send(&r,1,MPI_INT,0,1,MPI_COMM_WORLD);"
+}
+
+# The least of three wall-clock times of a command in seconds, and its peak memory in MB; its last line is to be this one.
+measure() {
+  local want=$1
+  shift
+  for _ in 1 2 3; do
+    /usr/bin/time -o took -f '%e %M' "$wiz" "$@" >printed || { tail -n 1 printed >&2; exit 1; }
+    [ "$(tail -n 1 printed)" = "$want" ] || { echo "$*: $(tail -n 1 printed)" >&2; exit 1; }
+    cat took
+  done | sort -n | awk 'NR == 1 { seconds = $1 } $2 > most { most = $2 } END { printf "%s %.0f\n", seconds, most / 1024 }'
+}
+
+# How many times the second is of the first.
+growth() {
+  awk -v above="$1" -v now="$2" 'BEGIN { if (above > 0) printf "%.2f", now / above; else printf "-" }'
+}
+
+# The rows of a name, up to its whole size.
+rows() {
+  local name=$1 whole=$2 size recorded replayed above=0 above_replay=0 events bytes text
+  [ -z "$only" ] || [ "$only" = "$name" ] || return 0
+  for size in $((whole / 4)) $((whole / 2)) "$whole"; do
+    "$name" "$size"
+    rm -f run.*
+    recorded=$(measure finished record program plan run --serial)
+    replayed=$(measure ended replay run.0.srr --serial)
+    events=$(wc -l <run.order)
+    text=$(wc -c <program)
+    bytes=$(cat run.*.srr | wc -c)
+    read -r seconds memory <<<"$recorded"
+    read -r seconds_replay memory_replay <<<"$replayed"
+    printf '%-10s %8d %8d %8s %7s %6d %9s %7s %6d %9.1f\n' "$name" "$size" "$events" "$seconds" "$(growth "$above" "$seconds")" "$memory" \
+      "$seconds_replay" "$(growth "$above_replay" "$seconds_replay")" "$memory_replay" \
+      "$(awk -v bytes="$bytes" -v text="$text" -v logs="$(ls run.*.srr | wc -l)" -v events="$events" 'BEGIN { print (bytes - text * logs) / events }')"
+    above=$seconds
+    above_replay=$seconds_replay
+  done
+}
+
+# A run of messages, recorded.
+recording() {
+  local name=$1 size=$2 seconds memory
+  [ -z "$only" ] || [ "$only" = "$name" ] || return 0
+  "$name" "$3"
+  read -r seconds memory <<<"$(measure finished record program plan run --serial)"
+  printf '%-10s %8d messages %8s s %6d MB\n' "$name" "$size" "$seconds" "$memory"
+}
+
+echo "$(nproc) processors, load $(cut -d' ' -f1 /proc/loadavg) before the run"
+printf '%-10s %8s %8s %8s %7s %6s %9s %7s %6s %9s\n' what size events 'record s' growth MB 'replay s' growth MB 'bytes/ev'
+rows events 999000
+rows ints 4194304
+rows ranks 999000
+rows groups 999000
+rows tags 200000
+rows barriers 400000
+rows waitall 100000
+echo 'recorded on one thread'
+recording events 100000 300000
+recording ring 80000 80000
+recording all_to_one 94000 94000

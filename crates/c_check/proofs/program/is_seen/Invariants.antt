@@ -1,8 +1,0 @@
-use Rattle.std.proofs.Common.{◌≡◌, drop, map}
-use Rattle.std.specs.List.{list_any}
-use Rattle.std.specs.Str.{bytes_eq}
-use Rattle.c_check.proofs.program.is_seen.Given as goal
-
-abbrev pub invariant-loop-other : goal.invariant-loop-other
-invariant-loop-other l =
-    list_any (bytes_eq l.name) (map (λ other. other.now) (drop l.other-index l.seen)) ≡ list_any (bytes_eq l.name) (map (λ other. other.now) l.seen)

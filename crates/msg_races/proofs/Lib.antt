@@ -1,0 +1,10 @@
+pub mod Counting
+pub mod Counted
+pub mod Tables
+pub mod SortedLists
+pub mod StartNames
+pub mod Others
+pub mod Completed
+pub mod Received
+pub mod Early
+pub mod Ranks

@@ -1,0 +1,45 @@
+-- Where Sends go, and the positions of the Sends that go a way.
+use Rattle.std.specs.Prelude.{◌≡◌, ◌&&◌, ◌==◌, ℕ, Bool, List, Option, Some, None, nat_eq}
+use Rattle.std.specs.Map.{lookup}
+use Rattle.std.specs.Option.{option_eq}
+use Rattle.std.specs.Ordering.{eq_of_both, on}
+use Rattle.mpi_call.specs.declared.call.Source.TheVariants.{Any}
+use Rattle.mpi_call.specs.declared.call.Tag.{Tag}
+use Rattle.mpi_call.specs.declared.call.Tag.TheVariants.{Any as AnyTag, Is}
+use Rattle.mpi_call.specs.Acceptance.{accepts}
+use Rattle.run_model.specs.declared.event.Event.{Event}
+use Rattle.run_model.specs.Views.{is_start}
+use Rattle.causes.specs.Positions.{positions}
+use Rattle.causes.specs.Tables.{or_no_positions}
+use Rattle.msg_races.specs.declared.sends.Way.{Way}
+
+-- all parts of two ways are equal
+abbrev pub same_way : Way → Way → Bool
+same_way =
+    eq_of_both (on (λ (w : Way). w.sender) ◌==◌)
+    (eq_of_both (on (λ (w : Way). w.comm) ◌==◌)
+    (eq_of_both (on (λ (w : Way). w.receiver) ◌==◌)
+    (on (λ (w : Way). w.tag) (option_eq nat_eq))))
+
+-- the tag that a receive names, None for any
+abbrev pub tag_named : Tag → Option ℕ
+tag_named AnyTag = None
+tag_named (Is tag) = Some tag
+
+-- the receive's tag that names this
+abbrev pub tag_of : Option ℕ → Tag
+tag_of None = AnyTag
+tag_of (Some tag) = Is tag
+
+-- the event is a Send that goes the way: a receive there from any sender accepts it
+abbrev pub goes : Way → Event → Bool
+goes way event =
+    is_start (event.call, event.reply) && ((event.rank == way.sender) && accepts way.receiver way.comm Any (tag_of way.tag) event.rank event.call)
+
+-- the positions that a table has for a way
+abbrev pub sent_at : List (Way × List ℕ) → Way → List ℕ
+sent_at table way = or_no_positions (lookup (same_way way) table)
+
+-- the positions of the Sends of these events, by their ways
+pub record AreSends (events : List Event) (table : List (Way × List ℕ)) : Type 0 where
+  pub each : (way : Way) → sent_at table way ≡ positions (goes way) 0 events

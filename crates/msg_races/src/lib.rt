@@ -1,0 +1,12 @@
+//! Message races of a run: for each wildcard receive the other messages that could have reached it.
+#![tactic(auto)]
+
+mod arrival;
+mod completions;
+pub mod fault;
+mod listing;
+pub mod names;
+pub mod races;
+pub mod receives;
+mod seen;
+mod sends;

@@ -1,6 +1,0 @@
-use Rattle.std.proofs.Common.{arith}
-use Rattle.srr_replay.proofs.StartTableLemmas.{replicate_more}
-use Rattle.srr_replay.proofs.enter_table.EnterTable.new.Goals as goal
-
-pub loop-preserved : goal.loop-preserved
-loop-preserved c = grind (arith, replicate_more)

@@ -1,0 +1,59 @@
+//! `advise PROGRAM PLAN K [--order FILE] [--serial]`: a run is recorded, and the blocks of ranks are told whose logs keep the fewest ints.
+ghost use Rattle.std.specs.Prelude.{◌<◌, [], IfOk, true};
+ghost use Rattle.wiz_cli.specs.Commands.{TellsAdvice};
+ghost use Rattle.wiz_cli.specs.Steps.{Ends, IsMade, MakesRecordings, TakesReady, outcome_of};
+ghost use Rattle.wiz_cli.specs.World.{world};
+ghost use Rattle.wiz_words.specs.Texts.{run_with_texts};
+ghost use Rattle.wiz_words.specs.Words.{is_threaded_run};
+ghost use Rattle.wiz_words.specs.declared.command.Command.TheVariants.{Advise};
+
+use crate::failure::Failure;
+use crate::recording::ready::{Ready, read_run};
+use crate::report::{Done, Report, tell, text_of_run};
+use crate::status::of_ending;
+use plan_advice::plan_cost;
+use srr_record::Recording;
+use std::alloc::{AllocError, Global};
+use wiz_io::{Sink, Store};
+use wiz_trace::advice::advice_text;
+use wiz_words::command::RunWords;
+
+/// Records what the arguments name, and advises on blocks of at most `most` ranks: `recorder` makes the recording.
+pub fn advise<'a, S: Store, K: Sink, F: Fn(&Ready) -> Result<Recording, AllocError>>(
+    alloc: Global,
+    run: &RunWords<&'a str>,
+    most: u8,
+    store: &mut S,
+    out: &mut K,
+    recorder: &F,
+) -> Result<Report, Failure<'a>>
+    requires some { 0 < most }
+    requires takes { TakesReady (F.pre recorder.now) }
+    requires makes { MakesRecordings (is_threaded_run (run_with_texts run.now)) (F.post recorder.now) }
+    ensures { Ends (Advise (run_with_texts run.now) most) (world (S.told store.old) (K.told out.old)) (world (S.told store.new) (K.told out.new)) result }
+{
+    let ready = read_run(alloc, run, store)?;
+    let recording = recorder(&ready)?;
+    let done = advise_on(alloc, most, &ready, recording)?;
+    let report = tell(done, out)?;
+    Ok(report)
+}
+
+/// The advice on a recorded run, and what its plan costs.
+fn advise_on(
+    alloc: Global,
+    most: u8,
+    ready: &Ready,
+    recording: Recording,
+) -> Result<Done, AllocError>
+    requires some { 0 < most }
+    requires made { IsMade true ready.now recording }
+    ensures { IfOk result (λ done. TellsAdvice most ready.now.program ready.now.plan recording (outcome_of [] done)) }
+{
+    let ranks = ready.plan.n();
+    let advice = plan_advice::advise(alloc, ranks, &recording.history, most.min(ranks))?;
+    let given = plan_cost(alloc, &recording.history, &ready.plan)?;
+    let text = advice_text(alloc, &advice, given, &recording.ending)?;
+    let status = of_ending(&recording.ending);
+    Ok(text_of_run(alloc, text, status, recording))
+}

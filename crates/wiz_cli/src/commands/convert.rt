@@ -1,0 +1,66 @@
+//! `convert LOG FILE [--text]`: a log is written in another format.
+ghost use Rattle.std.specs.Prelude.{◌≡◌, IfOk};
+ghost use Rattle.srr_text.specs.Bounds.{IsInBounds};
+ghost use Rattle.wiz_cli.specs.Commands.{convert_outcome, converted};
+ghost use Rattle.wiz_cli.specs.Steps.{Ends, IsToldBy};
+ghost use Rattle.wiz_cli.specs.World.{world};
+ghost use Rattle.wiz_words.specs.declared.command.Command.TheVariants.{Convert};
+
+use crate::failure::Failure;
+use crate::replaying::subject::read_log_file;
+use crate::report::{Report, tell_unwritten};
+use crate::status::Status;
+use replay_model::replayed::Replays;
+use srr_entry::log::Log;
+use srr_log2::write_log2::write_log2;
+use srr_text::write_log::write_log;
+use std::alloc::{AllocError, Global};
+use wiz_base::Bytes;
+use wiz_io::{Sink, Store, WriteFault};
+
+/// Writes the log of one file to another: in format 1 where `is_text`, else in format 2.
+pub fn convert<'a, S: Store, K: Sink>(
+    alloc: Global,
+    name: &'a str,
+    file: &str,
+    is_text: bool,
+    store: &mut S,
+    out: &mut K,
+) -> Result<Report, Failure<'a>>
+    ensures { Ends (Convert name.now file.now is_text) (world (S.told store.old) (K.told out.old)) (world (S.told store.new) (K.told out.new)) result }
+{
+    let log = read_log_file(alloc, name, store)?;
+    let bytes = converted(alloc, &log, is_text)?;
+    let report = write(alloc, file, bytes.as_slice(), store, out)?;
+    Ok(report)
+}
+
+/// The text of a log, in format 1 where `is_text`, else in format 2.
+fn converted(alloc: Global, log: &Log, is_text: bool) -> Result<Bytes, AllocError>
+    requires { IsInBounds log.now }
+    ensures { IfOk result (λ text. text ≡ converted is_text log.now) }
+{
+    if is_text {
+        write_log(alloc, log)
+    } else {
+        write_log2(alloc, log)
+    }
+}
+
+/// Writes the file. Nothing is put out but that it could not be written.
+fn write<S: Store, K: Sink>(
+    alloc: Global,
+    file: &str,
+    bytes: &[u8],
+    store: &mut S,
+    out: &mut K,
+) -> Result<Report, AllocError>
+    ensures told { IsToldBy (convert_outcome file.now bytes.now) (world (S.told store.old) (K.told out.old)) (world (S.told store.new) (K.told out.new)) result }
+    ensures reads { (S.told store.new).reads ≡ (S.told store.old).reads }
+{
+    match store.write(file, bytes) {
+        Ok(()) => Ok(Report::new(Status::Done, None, Replays::new(alloc))),
+        Err(WriteFault::Failed) => tell_unwritten(alloc, file, None, out),
+        Err(WriteFault::NoMemory) => Err(AllocError),
+    }
+}

@@ -1,0 +1,69 @@
+//! `races PROGRAM PLAN [--order FILE] [--serial]`: a run is recorded, and for each wildcard receive the messages are told that it could have
+//! taken.
+ghost use Rattle.std.specs.Prelude.{◌≡◌, [], IfOk, true};
+ghost use Rattle.wiz_cli.specs.Commands.{TellsRaces};
+ghost use Rattle.wiz_cli.specs.Messages.{races_over_text};
+ghost use Rattle.wiz_cli.specs.Steps.{Ends, IsMade, MakesRecordings, TakesReady, outcome_of};
+ghost use Rattle.wiz_cli.specs.World.{world};
+ghost use Rattle.wiz_words.specs.Texts.{run_with_texts};
+ghost use Rattle.wiz_words.specs.Words.{is_threaded_run};
+ghost use Rattle.wiz_words.specs.declared.command.Command.TheVariants.{Races};
+
+use crate::failure::Failure;
+use crate::recording::ready::{Ready, read_run};
+use crate::report::{Done, Report, tell, text_of_run};
+use crate::status::{Status, of_ending};
+use msg_races::fault::RaceFault;
+use srr_record::Recording;
+use std::alloc::{AllocError, Global};
+use wiz_base::{Bytes, push_text};
+use wiz_io::{Sink, Store};
+use wiz_trace::races::races_text;
+use wiz_words::command::RunWords;
+
+/// Records what the arguments name, and lists the message races of the run: `recorder` makes the recording.
+pub fn races<'a, S: Store, K: Sink, F: Fn(&Ready) -> Result<Recording, AllocError>>(
+    alloc: Global,
+    run: &RunWords<&'a str>,
+    store: &mut S,
+    out: &mut K,
+    recorder: &F,
+) -> Result<Report, Failure<'a>>
+    requires takes { TakesReady (F.pre recorder.now) }
+    requires makes { MakesRecordings (is_threaded_run (run_with_texts run.now)) (F.post recorder.now) }
+    ensures { Ends (Races (run_with_texts run.now)) (world (S.told store.old) (K.told out.old)) (world (S.told store.new) (K.told out.new)) result }
+{
+    let ready = read_run(alloc, run, store)?;
+    let recording = recorder(&ready)?;
+    let done = races_of(alloc, &ready, recording)?;
+    let report = tell(done, out)?;
+    Ok(report)
+}
+
+/// The message races of a recorded run, or that there are too many.
+fn races_of(alloc: Global, ready: &Ready, recording: Recording) -> Result<Done, AllocError>
+    requires { IsMade true ready.now recording }
+    ensures { IfOk result (λ done. TellsRaces ready.now.program ready.now.plan recording (outcome_of [] done)) }
+{
+    match msg_races::races::races(alloc, ready.plan.n(), &recording.history) {
+        Ok(receives) => {
+            let text = races_text(alloc, &receives, &recording.ending)?;
+            let status = of_ending(&recording.ending);
+            Ok(text_of_run(alloc, text, status, recording))
+        }
+        Err(RaceFault::TooMany) => {
+            let text = races_over(alloc)?;
+            Ok(text_of_run(alloc, text, Status::TooManyRaces, recording))
+        }
+        Err(RaceFault::NoMemory) => Err(AllocError),
+    }
+}
+
+/// The message of a run with too many races.
+fn races_over(alloc: Global) -> Result<Bytes, AllocError>
+    ensures { IfOk result (λ text. text ≡ races_over_text) }
+{
+    let mut text = Bytes::new(alloc);
+    push_text(&mut text, b"races over 1000000\n")?;
+    Ok(text)
+}
