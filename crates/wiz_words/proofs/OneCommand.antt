@@ -4,7 +4,7 @@ use Rattle.wiz_base.specs.Decimals.{decimal_text}
 use Rattle.wiz_base.proofs.DecimalLaws.{decimal_text-and_rest, decimal_text_injective}
 use Rattle.clap.specs.Words.{Row, Text, matches_of}
 use Rattle.wiz_words.specs.declared.command.Command.{Command}
-use Rattle.wiz_words.specs.declared.command.Command.TheVariants.{Record, Check, Races, Advise, Demo, Replay, Show, Stats, Convert}
+use Rattle.wiz_words.specs.declared.command.Command.TheVariants.{Record, Check, Races, Advise, Demo, Replay, Show, Stats, Convert, Refine, Join}
 use Rattle.wiz_words.specs.declared.command.ReplayWords.{ReplayWords}
 use Rattle.wiz_words.specs.declared.command.RunWords.{RunWords}
 use Rattle.wiz_words.specs.declared.command.Verb.{Verb}
@@ -59,6 +59,12 @@ one_replay given r s a b =
 convert_is : (l l' f f' : Text) (b b' : Bool) → l ≡ l' → f ≡ f' → b ≡ b' → Convert l f b ≡ Convert l' f' b'
 convert_is l l' f f' b b' ll ff bb = rw (ll, ff, bb) refl
 
+refine_is : (l l' p p' f f' : Text) → l ≡ l' → p ≡ p' → f ≡ f' → Refine l p f ≡ Refine l' p' f'
+refine_is l l' p p' f f' ll pp ff = rw (ll, pp, ff) refl
+
+join_is : (l l' o o' f f' : Text) → l ≡ l' → o ≡ o' → f ≡ f' → Join l o f ≡ Join l' o' f'
+join_is l l' o o' f f' ll oo ff = rw (ll, oo, ff) refl
+
 one_said : (given : List Row) (a b : Command Text) → verb_of a ≡ verb_of b → AreWordsOf given a → AreWordsOf given b → a ≡ b
 one_said given (Record r prefix) (Record s other) same a b = ap₂ Record (one_run given _ r s a.0 b.0) (one_text _ _ _ a.1 b.1)
 one_said given (Check r) (Check s) same a b = ap Check (one_run given None r s a b)
@@ -70,6 +76,10 @@ one_said given (Show log) (Show other) same a b = ap Show (one_text _ _ _ a b)
 one_said given (Stats log) (Stats other) same a b = ap Stats (one_text _ _ _ a b)
 one_said given (Convert log file is_text) (Convert other name is_one) same a b =
     convert_is _ _ _ _ _ _ (one_text _ _ _ a.0 b.0) (one_text _ _ _ a.1 b.1) (a.2 ∙ sym b.2)
+one_said given (Refine log plan prefix) (Refine other groups front) same a b =
+    refine_is _ _ _ _ _ _ (one_text _ _ _ a.0 b.0) (one_text _ _ _ a.1 b.1) (one_text _ _ _ a.2 b.2)
+one_said given (Join one other file) (Join first second name) same a b =
+    join_is _ _ _ _ _ _ (one_text _ _ _ a.0 b.0) (one_text _ _ _ a.1 b.1) (one_text _ _ _ a.2 b.2)
 one_said given one other same a b = absurd (cc)
 
 pub one_command : AskForOneThing

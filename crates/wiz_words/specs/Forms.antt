@@ -4,7 +4,7 @@ use Rattle.std.specs.Str.{bytes_eq}
 use Rattle.clap.specs.Words.{App, Rule, Text, new_app, new_rule, with_rule}
 use Rattle.clap.specs.declared.builder.action.ArgAction.TheVariants.{SetTrue}
 use Rattle.wiz_words.specs.declared.command.Verb.{Verb}
-use Rattle.wiz_words.specs.declared.command.Verb.TheVariants.{Record, Check, Races, Advise, Demo, Replay, Show, Stats, Convert}
+use Rattle.wiz_words.specs.declared.command.Verb.TheVariants.{Record, Check, Races, Advise, Demo, Replay, Show, Stats, Convert, Refine, Join}
 
 -- the first word of each command
 abbrev pub name_of : Verb → Text
@@ -17,9 +17,11 @@ name_of Replay = codes "replay"
 name_of Show = codes "show"
 name_of Stats = codes "stats"
 name_of Convert = codes "convert"
+name_of Refine = codes "refine"
+name_of Join = codes "join"
 
 abbrev pub verbs : List Verb
-verbs = Record ∷ Check ∷ Races ∷ Advise ∷ Demo ∷ Replay ∷ Show ∷ Stats ∷ Convert ∷ []
+verbs = Record ∷ Check ∷ Races ∷ Advise ∷ Demo ∷ Replay ∷ Show ∷ Stats ∷ Convert ∷ Refine ∷ Join ∷ []
 
 -- the command of a name
 abbrev pub verb_named : Text → Option Verb
@@ -50,6 +52,8 @@ arguments_of Replay = positional (codes "LOG") ∷ option (codes "program") ∷ 
 arguments_of Show = positional (codes "LOG") ∷ []
 arguments_of Stats = positional (codes "LOG") ∷ []
 arguments_of Convert = positional (codes "LOG") ∷ positional (codes "FILE") ∷ flag (codes "text") ∷ []
+arguments_of Refine = positional (codes "LOG") ∷ positional (codes "PLAN") ∷ positional (codes "PREFIX") ∷ []
+arguments_of Join = positional (codes "LOG") ∷ positional (codes "OTHER") ∷ positional (codes "FILE") ∷ []
 
 -- the clap command that reads the arguments of a command: its name and its arguments, and no other setting
 abbrev pub form_of : Verb → App

@@ -4,7 +4,7 @@ use Rattle.std.specs.Borrow.{Bor}
 use Rattle.std.specs.Option.{option_map}
 use Rattle.clap.specs.Words.{Text}
 use Rattle.wiz_words.specs.declared.command.Command.{Command}
-use Rattle.wiz_words.specs.declared.command.Command.TheVariants.{Record, Check, Races, Advise, Demo, Replay, Show, Stats, Convert}
+use Rattle.wiz_words.specs.declared.command.Command.TheVariants.{Record, Check, Races, Advise, Demo, Replay, Show, Stats, Convert, Refine, Join}
 use Rattle.wiz_words.specs.declared.command.ReplayWords.{ReplayWords}
 use Rattle.wiz_words.specs.declared.command.RunWords.{RunWords}
 
@@ -29,3 +29,5 @@ with_texts (Replay replay) = Replay (replay_with_texts replay)
 with_texts (Show log) = Show log.now
 with_texts (Stats log) = Stats log.now
 with_texts (Convert log file is_text) = Convert log.now file.now is_text
+with_texts (Refine log plan prefix) = Refine log.now plan.now prefix.now
+with_texts (Join one other file) = Join one.now other.now file.now

@@ -2,7 +2,7 @@
 use Rattle.std.specs.Prelude.{◌≡◌, ◌&&◌, List, [], Bool, false, not, is_some, Option, Some, None, codes, slice_get}
 use Rattle.clap.specs.Words.{Row, Text, fault_of, matches_of}
 use Rattle.wiz_words.specs.declared.command.Command.{Command}
-use Rattle.wiz_words.specs.declared.command.Command.TheVariants.{Record, Check, Races, Advise, Demo, Replay, Show, Stats, Convert}
+use Rattle.wiz_words.specs.declared.command.Command.TheVariants.{Record, Check, Races, Advise, Demo, Replay, Show, Stats, Convert, Refine, Join}
 use Rattle.wiz_words.specs.declared.command.ReplayWords.{ReplayWords}
 use Rattle.wiz_words.specs.declared.command.RunWords.{RunWords}
 use Rattle.wiz_words.specs.declared.command.Verb.{Verb}
@@ -22,6 +22,8 @@ verb_of (Replay replay) = verb.Replay
 verb_of (Show log) = verb.Show
 verb_of (Stats log) = verb.Stats
 verb_of (Convert log file is_text) = verb.Convert
+verb_of (Refine log plan prefix) = verb.Refine
+verb_of (Join one other file) = verb.Join
 
 -- what is given are the arguments of a run with that file for its order; an order and `--serial` exclude each other
 pub record AreRunWords (given : List Row) (file : Option Text) (run : RunWords Text) : Type 0 where
@@ -52,6 +54,10 @@ AreWordsOf given (Show log) = value_in given (codes "LOG") ≡ Some log
 AreWordsOf given (Stats log) = value_in given (codes "LOG") ≡ Some log
 AreWordsOf given (Convert log file is_text) =
     (value_in given (codes "LOG") ≡ Some log) × (value_in given (codes "FILE") ≡ Some file) × (is_text ≡ flag_in given (codes "text"))
+AreWordsOf given (Refine log plan prefix) =
+    (value_in given (codes "LOG") ≡ Some log) × (value_in given (codes "PLAN") ≡ Some plan) × (value_in given (codes "PREFIX") ≡ Some prefix)
+AreWordsOf given (Join one other file) =
+    (value_in given (codes "LOG") ≡ Some one) × (value_in given (codes "OTHER") ≡ Some other) × (value_in given (codes "FILE") ≡ Some file)
 
 -- the arguments ask for a command: the first is its name, clap takes the others by its form, and finds the arguments of this command
 pub record AskFor (words : List Text) (command : Command Text) : Type 0 where
@@ -82,3 +88,5 @@ is_threaded (Replay replay) = not replay.is_serial
 is_threaded (Show log) = false
 is_threaded (Stats log) = false
 is_threaded (Convert log file is_text) = false
+is_threaded (Refine log plan prefix) = false
+is_threaded (Join one other file) = false

@@ -13,6 +13,8 @@ pub enum Verb {
     Show,
     Stats,
     Convert,
+    Refine,
+    Join,
 }
 
 /// The program and the plan of a run, and how its ranks take their turns. With neither an order nor `is_serial` each rank
@@ -60,6 +62,10 @@ pub enum Command<T> {
     Stats(T),
     /// Writes the log in one file to another: in format 1 where `is_text`, else in format 2.
     Convert { log: T, file: T, is_text: bool },
+    /// Writes the logs of the groups of a plan that lie in the group of a log; `prefix` is the front of their files' names.
+    Refine { log: T, plan: T, prefix: T },
+    /// Writes the log of the groups of two logs together.
+    Join { one: T, other: T, file: T },
 }
 
 impl<T> Command<T> {
@@ -76,7 +82,7 @@ impl<T> Command<T> {
             | Command::Advise { run, .. } => { !run.is_serial && run.order.is_none() }
             Command::Replay(replay) => !replay.is_serial,
             Command::Demo { .. } | Command::Show(_) | Command::Stats(_) => false,
-            Command::Convert { .. } => false,
+            Command::Convert { .. } | Command::Refine { .. } | Command::Join { .. } => false,
         }
     }
 }

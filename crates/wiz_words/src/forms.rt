@@ -1,7 +1,8 @@
 //! The commands by name, and one clap command for each.
-ghost use Rattle.std.specs.Prelude.{◌≡◌, IfOk};
+ghost use Rattle.std.specs.Prelude.{◌≡◌, IfOk, fold, map};
 ghost use Rattle.clap.specs.Words.{app_of, with_rule};
 ghost use Rattle.wiz_words.specs.Forms.{flag, form_of, option, positional, verb_named};
+ghost use Rattle.wiz_words.specs.Texts.{texts};
 
 use crate::command::Verb;
 use clap::{Arg, ArgAction, Command};
@@ -21,6 +22,8 @@ pub fn verb_named(name: &str) -> Option<Verb>
         "show" => Some(Verb::Show),
         "stats" => Some(Verb::Stats),
         "convert" => Some(Verb::Convert),
+        "refine" => Some(Verb::Refine),
+        "join" => Some(Verb::Join),
         _ => None,
     }
 }
@@ -31,48 +34,73 @@ pub fn form_of<'a>(alloc: Global, verb: Verb) -> Result<Command<'a>, AllocError>
 {
     match verb {
         Verb::Record => {
-            let form = with_positional(alloc, Command::new(alloc, "record"), "PROGRAM")?;
-            let form = with_positional(alloc, form, "PLAN")?;
-            let form = with_positional(alloc, form, "PREFIX")?;
+            let form = with_positionals(
+                alloc,
+                Command::new(alloc, "record"),
+                &["PROGRAM", "PLAN", "PREFIX"],
+            )?;
             let form = with_option(alloc, form, "order")?;
             with_flag(alloc, form, "serial")
         }
         Verb::Check => {
-            let form = with_positional(alloc, Command::new(alloc, "check"), "PROGRAM")?;
-            let form = with_positional(alloc, form, "PLAN")?;
+            let form = with_positionals(alloc, Command::new(alloc, "check"), &["PROGRAM", "PLAN"])?;
             with_flag(alloc, form, "serial")
         }
         Verb::Races => {
-            let form = with_positional(alloc, Command::new(alloc, "races"), "PROGRAM")?;
-            let form = with_positional(alloc, form, "PLAN")?;
+            let form = with_positionals(alloc, Command::new(alloc, "races"), &["PROGRAM", "PLAN"])?;
             let form = with_option(alloc, form, "order")?;
             with_flag(alloc, form, "serial")
         }
         Verb::Advise => {
-            let form = with_positional(alloc, Command::new(alloc, "advise"), "PROGRAM")?;
-            let form = with_positional(alloc, form, "PLAN")?;
-            let form = with_positional(alloc, form, "K")?;
+            let form = with_positionals(
+                alloc,
+                Command::new(alloc, "advise"),
+                &["PROGRAM", "PLAN", "K"],
+            )?;
             let form = with_option(alloc, form, "order")?;
             with_flag(alloc, form, "serial")
         }
-        Verb::Demo => {
-            let form = with_positional(alloc, Command::new(alloc, "demo"), "SEED")?;
-            with_positional(alloc, form, "ROUNDS")
-        }
+        Verb::Demo => with_positionals(alloc, Command::new(alloc, "demo"), &["SEED", "ROUNDS"]),
         Verb::Replay => {
-            let form = with_positional(alloc, Command::new(alloc, "replay"), "LOG")?;
+            let form = with_positionals(alloc, Command::new(alloc, "replay"), &["LOG"])?;
             let form = with_option(alloc, form, "program")?;
             let form = with_option(alloc, form, "break")?;
             with_flag(alloc, form, "serial")
         }
-        Verb::Show => with_positional(alloc, Command::new(alloc, "show"), "LOG"),
-        Verb::Stats => with_positional(alloc, Command::new(alloc, "stats"), "LOG"),
+        Verb::Show => with_positionals(alloc, Command::new(alloc, "show"), &["LOG"]),
+        Verb::Stats => with_positionals(alloc, Command::new(alloc, "stats"), &["LOG"]),
         Verb::Convert => {
-            let form = with_positional(alloc, Command::new(alloc, "convert"), "LOG")?;
-            let form = with_positional(alloc, form, "FILE")?;
+            let form = with_positionals(alloc, Command::new(alloc, "convert"), &["LOG", "FILE"])?;
             with_flag(alloc, form, "text")
         }
+        Verb::Refine => with_positionals(
+            alloc,
+            Command::new(alloc, "refine"),
+            &["LOG", "PLAN", "PREFIX"],
+        ),
+        Verb::Join => with_positionals(
+            alloc,
+            Command::new(alloc, "join"),
+            &["LOG", "OTHER", "FILE"],
+        ),
     }
+}
+
+/// A form with more values that have to be there, each by its place.
+fn with_positionals<'a>(
+    alloc: Global,
+    form: Command<'a>,
+    names: &[&'a str],
+) -> Result<Command<'a>, AllocError>
+    ensures { IfOk result (λ more. app_of more ≡ fold with_rule (app_of form.entry) (map positional (texts names.now))) }
+{
+    let mut form = form;
+    let mut rest = names;
+    while let [name, after @ ..] = rest {
+        form = with_positional(alloc, form, *name)?;
+        rest = after;
+    }
+    Ok(form)
 }
 
 /// A form with one more value that has to be there, by its place.

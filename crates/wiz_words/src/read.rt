@@ -94,6 +94,18 @@ fn command_from<'a>(verb: Verb, matches: &ArgMatches<'a>) -> Option<Command<&'a 
             let is_text = flag_in(matches, "text");
             Some(Command::Convert { log, file, is_text })
         }
+        Verb::Refine => {
+            let log = value_in(matches, "LOG")?;
+            let plan = value_in(matches, "PLAN")?;
+            let prefix = value_in(matches, "PREFIX")?;
+            Some(Command::Refine { log, plan, prefix })
+        }
+        Verb::Join => {
+            let one = value_in(matches, "LOG")?;
+            let other = value_in(matches, "OTHER")?;
+            let file = value_in(matches, "FILE")?;
+            Some(Command::Join { one, other, file })
+        }
     }
 }
 
