@@ -1,10 +1,10 @@
 //! The trace text of a replay.
 ghost use Rattle.std.specs.Prelude.{◌≡◌, ◌++◌, ◌∷◌, [], OnOk, IfOk, flat_map};
 ghost use Rattle.run_model.specs.Views.{view_of};
-ghost use Rattle.wiz_trace.specs.TraceTexts.{calls_text, divergence_text, found_text, missing_text, output_text, rank_text, ranks_text, stand_text, trace_text, variable_text};
+ghost use Rattle.wiz_trace.specs.TraceTexts.{calls_text, divergence_text, found_text, missing_text, output_text, rank_text, ranks_text, stand_text, trace_text, traces_text, variable_text};
 
 use crate::call_text::{push_call, push_list, push_name, push_reply};
-use replay_model::replayed::{Replayed, Stand};
+use replay_model::replayed::{Replayed, Replays, Stand};
 use replay_model::step::{Divergence, Found, Missing};
 use run_model::event::Event;
 use run_model::lists::Variable;
@@ -17,15 +17,41 @@ pub fn trace_text(alloc: Global, replayed: &Replayed) -> Result<Bytes, AllocErro
     ensures { IfOk result (λ text. text ≡ trace_text replayed.now) }
 {
     let mut out = Bytes::new(alloc);
+    push_trace(alloc, &mut out, replayed)?;
+    Ok(out)
+}
+
+/// The trace texts of some replays, one after the other.
+pub fn traces_text(alloc: Global, replays: &Replays) -> Result<Bytes, AllocError>
+    ensures { IfOk result (λ text. text ≡ traces_text replays.now) }
+{
+    let mut out = Bytes::new(alloc);
+    push_traces(alloc, &mut out, replays.as_slice())?;
+    Ok(out)
+}
+
+fn push_traces(alloc: Global, out: &mut Bytes, replays: &[Replayed]) -> Result<(), AllocError>
+    ensures { OnOk result (out.new ≡ out.old ++ traces_text replays.now) }
+{
+    let mut rest = replays;
+    while let [replayed, after @ ..] = rest {
+        push_trace(alloc, out, replayed)?;
+        rest = after;
+    }
+    Ok(())
+}
+
+fn push_trace(alloc: Global, out: &mut Bytes, replayed: &Replayed) -> Result<(), AllocError>
+    ensures { OnOk result (out.new ≡ out.old ++ trace_text replayed.now) }
+{
     push_all_ranks(
         alloc,
-        &mut out,
+        out,
         replayed.events.as_slice(),
         replayed.group.as_slice(),
         replayed.outputs.as_slice(),
         replayed.ends.as_slice(),
-    )?;
-    Ok(out)
+    )
 }
 
 /// The parts of the ranks of a group, at most 64.
