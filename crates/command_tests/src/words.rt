@@ -42,7 +42,7 @@ fn words_in_form_ask_for_a_command(rt: HostRuntime) {
         stop: Some((63, 999_999)),
         ..serial_replay
     };
-    let table: [(&[&str], bool, Command<&str>); 28] = [
+    let table: [(&[&str], bool, Command<&str>); 33] = [
         (
             &["record", "P", "Q", "A"],
             true,
@@ -190,6 +190,51 @@ fn words_in_form_ask_for_a_command(rt: HostRuntime) {
                 is_text: true,
             },
         ),
+        (
+            &["refine", "L", "Q", "A"],
+            false,
+            Command::Refine {
+                log: "L",
+                plan: "Q",
+                prefix: "A",
+            },
+        ),
+        (
+            &["refine", "--", "-", "--serial", ""],
+            false,
+            Command::Refine {
+                log: "-",
+                plan: "--serial",
+                prefix: "",
+            },
+        ),
+        (
+            &["join", "L", "M", "F"],
+            false,
+            Command::Join {
+                one: "L",
+                other: "M",
+                file: "F",
+            },
+        ),
+        (
+            &["join", "L", "L", "L"],
+            false,
+            Command::Join {
+                one: "L",
+                other: "L",
+                file: "L",
+            },
+        ),
+        (
+            &["join", "L", "--", "--text", "F"],
+            false,
+            Command::Join {
+                one: "L",
+                other: "--text",
+                file: "F",
+            },
+        ),
     ];
     for (words, threads, wanted) in table {
         let found = read_command(rt.alloc(), words).expect(&rt, "memory");
@@ -208,7 +253,7 @@ fn ask_for_nothing(alloc: Global, words: &[&str]) -> bool {
 
 #[test]
 fn words_out_of_form_ask_for_nothing(rt: HostRuntime) {
-    let table: [&[&str]; 42] = [
+    let table: [&[&str]; 54] = [
         &[],
         &[""],
         &["play"],
@@ -251,6 +296,18 @@ fn words_out_of_form_ask_for_nothing(rt: HostRuntime) {
         &["convert", "L"],
         &["convert", "L", "M", "N"],
         &["convert", "L", "M", "--text", "--text"],
+        &["refine"],
+        &["refine", "L", "Q"],
+        &["refine", "L", "Q", "A", "B"],
+        &["refine", "L", "Q", "A", "--serial"],
+        &["refine", "L", "Q", "A", "--help"],
+        &["Refine", "L", "Q", "A"],
+        &["join", "L"],
+        &["join", "L", "M"],
+        &["join", "L", "M", "F", "G"],
+        &["join", "L", "M", "F", "--text"],
+        &["join", "L", "M", "F", "--serial"],
+        &["joined", "L", "M", "F"],
     ];
     for words in table {
         assert!(&rt; ask_for_nothing(rt.alloc(), words), "{words:?}");

@@ -24,6 +24,8 @@ mod plans;
 #[cfg(test)]
 mod races;
 #[cfg(test)]
+mod regroup;
+#[cfg(test)]
 mod run_entries;
 #[cfg(test)]
 mod stores;

@@ -4,7 +4,7 @@ use group_plan::read_order;
 use mpi_call::call::{Call, Fault, Halt, Source, Tag, TakeMode};
 use mpi_call::lists::{Ints, Ranks, Starts};
 use mpi_call::reply::{Got, Item, Items, Reply};
-use replay_model::replayed::{Replayed, Stand, Stands};
+use replay_model::replayed::{Replayed, Replays, Stand, Stands};
 use replay_model::step::{Divergence, Found, Missing};
 use run_model::ending::Ending;
 use run_model::event::Event;
@@ -18,7 +18,7 @@ use std::test::Fail;
 use wiz_base::Bytes;
 use wiz_trace::order::order_text;
 use wiz_trace::recording::record_text;
-use wiz_trace::trace::trace_text;
+use wiz_trace::trace::{trace_text, traces_text};
 
 /// One event more.
 pub fn add(history: &mut History, rank: u8, call: Call, reply: Reply) -> Result<(), Fail> {
@@ -259,4 +259,18 @@ fn stands_are_told(rt: HostRuntime) -> Result<(), Fail> {
         Stand::Starved(member),
         b"rank 1\noutput 0\n\nstarved rank 2 comm 0 instance 1\n",
     )
+}
+
+#[test]
+fn replays_are_traced_in_order(rt: HostRuntime) -> Result<(), Fail> {
+    let alloc = rt.alloc();
+    let mut replays = Replays::new(alloc);
+    assert!(&rt; traces_text(alloc, &replays)?.is_empty());
+    pushed(replays.push(standing(alloc, Stand::LogEnded)?))?;
+    pushed(replays.push(standing(alloc, Stand::Ended)?))?;
+    assert!(&rt;
+        traces_text(alloc, &replays)?.as_slice()
+            == b"rank 1\noutput 0\n\nlog ended\nrank 1\noutput 0\n\nended\n".as_slice()
+    );
+    Ok(())
 }
