@@ -1,14 +1,37 @@
 //! The log of a part of a group.
-ghost use Rattle.std.specs.Prelude.{◌≡◌, IfOk};
+ghost use Rattle.std.specs.Prelude.{◌≡◌, ◌<◌, ℕ, [], IfErr, IfOk, OnOk, None, Some, length, true, false};
+ghost use Rattle.std.specs.List.{list_any, slice_index_or};
+ghost use Rattle.mpi_call.specs.Collectives.{is_member};
 ghost use Rattle.srr_replay.specs.Rounds.{IsReplayable};
+ghost use Rattle.srr_regroup.specs.Refining.{CanRefine, IsLeastCrossing, IsRefineFault, crosses};
 ghost use Rattle.srr_regroup.specs.Regrouping.{IsPartOf, IsReplayOfAProgram, are_within, refined};
 
+use crate::refine_fault::RefineFault;
+use group_plan::plan::Plan;
 use mpi_call::lists::Ranks;
 use mpi_call::members::is_member;
 use replay_model::replayed::Replayed;
 use srr_entry::log::Log;
 use srr_entry::run_log::log_of;
 use std::alloc::{AllocError, Global};
+
+/// Whether a plan is for as many ranks as the log, and each of its groups lies in the log's group or outside it. Takes no memory.
+pub fn can_refine(log: &Log, plan: &Plan) -> Result<(), RefineFault>
+    ensures refines { OnOk result (CanRefine log.now plan.now) }
+    ensures fault { IfErr result (IsRefineFault log.now plan.now) }
+{
+    let ranks = plan.n();
+    if ranks != log.ranks {
+        return Err(RefineFault::Ranks {
+            plan: ranks,
+            log: log.ranks,
+        });
+    }
+    match least_crossing(log.group.as_slice(), plan) {
+        Some(group) => Err(RefineFault::Crosses { group }),
+        None => Ok(()),
+    }
+}
 
 /// The log of a part of a log's group, from a replay of the log. If the log is of a run, then so is the part's
 /// (`laws::refined_log_is_of_the_run`).
@@ -37,4 +60,30 @@ pub fn are_within(group: &[u8], ranks: &[u8]) -> bool
     ensures { result ≡ are_within group.now ranks.now }
 {
     ranks.iter().all(|rank| is_member(group, *rank))
+}
+
+/// The least group of a plan that has ranks inside and outside a group.
+fn least_crossing(group: &[u8], plan: &Plan) -> Option<u8>
+    ensures some { (number : ℕ) → result ≡ Some number → IsLeastCrossing group.now plan.now number }
+    ensures none { result ≡ None → (number : ℕ) → number < length plan.now → crosses group.now (slice_index_or plan.now number []) ≡ false }
+{
+    for number in 0..plan.groups() {
+        if crosses(group, plan.ranks(number).as_slice()) {
+            return Some(number);
+        }
+    }
+    None
+}
+
+/// Whether some of these ranks are in a group, and not all of them.
+fn crosses(group: &[u8], ranks: &[u8]) -> bool
+    ensures { result ≡ crosses group.now ranks.now }
+{
+    is_any_within(group, ranks) && !are_within(group, ranks)
+}
+
+fn is_any_within(group: &[u8], ranks: &[u8]) -> bool
+    ensures { result ≡ list_any (λ rank. is_member group.now rank) ranks.now }
+{
+    ranks.iter().any(|rank| is_member(group, *rank))
 }
