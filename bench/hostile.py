@@ -1,10 +1,11 @@
 #!/usr/bin/env python3
-"""Hostile input: mutations of logs and programs, files of odd bytes, memory that is refused, and a full disk.
+"""Hostile input: mutations of logs and programs, files of odd bytes, programs and logs at their limits, little memory, a full disk.
 
 Each run of `wiz` has to end within a bounded time and memory, with a status of its command, without a word on its error output,
 and without touching a file that its arguments do not name. The mutations are drawn from a seed, so a failure can be
-repeated; the bytes of a failing input are kept. Needs `rt`, and root for the full disk. Arguments: how many mutations (10000) and
-the seed (1)."""
+repeated; the bytes of a failing input are kept. Needs `rt`, and root for the full disk. Arguments: how many mutations (10000), the
+seed (1), and the parts to be done (all: mutations odd limits memory disk)."""
+import hashlib
 import os
 import random
 import resource
@@ -12,6 +13,7 @@ import shutil
 import subprocess
 import sys
 import tempfile
+import time
 
 TOP = os.path.dirname(os.path.dirname(os.path.abspath(__file__)))
 WIZ = os.path.join(TOP, "crates/wiz/out/wiz")
@@ -23,6 +25,7 @@ STATUSES = {
     "show": READ,
     "stats": READ,
     "convert": READ,
+    "demo": {0, 1, 4, 11},
     "record": {0, 1, 2, 3, 4, 5, 6, 7, 11, 12},
     "check": {0, 1, 2, 3, 4, 5, 6, 7, 11, 12},
     "races": {0, 1, 2, 3, 4, 5, 6, 7, 11, 12, 14},
@@ -39,20 +42,20 @@ def contents(folder):
     return found
 
 
-def run(words, folder, made=(), memory=MEMORY):
+def run(words, folder, made=(), memory=MEMORY, seconds=SECONDS):
     """Runs a command in a folder; answers its status and what is wrong, if anything. Files that begin with one of `made` may come."""
     before = contents(folder)
     limit = lambda: resource.setrlimit(resource.RLIMIT_AS, (memory, memory))
     try:
-        done = subprocess.run([WIZ] + words, cwd=folder, capture_output=True, timeout=SECONDS, preexec_fn=limit)
+        done = subprocess.run([WIZ] + words, cwd=folder, capture_output=True, timeout=seconds, preexec_fn=limit)
     except subprocess.TimeoutExpired:
-        return None, f"more than {SECONDS} seconds"
+        return None, f"more than {seconds} seconds"
     after = contents(folder)
     touched = [name for name in set(before) | set(after) if before.get(name) != after.get(name) and not name.startswith(tuple(made))]
     for name in after:
         if name not in before:
             os.remove(os.path.join(folder, name))
-    if done.returncode not in STATUSES[words[0]]:
+    if done.returncode not in STATUSES.get(words[0] if words else "", {1}):
         return done.returncode, f"status {done.returncode}"
     if touched:
         return done.returncode, f"touched {touched}"
@@ -92,14 +95,14 @@ class Table:
         self.failures = 0
 
     def add(self, words, data, status, wrong):
-        key = (words[0], status)
+        key = (words[0] if words else "", status)
         self.statuses[key] = self.statuses.get(key, 0) + 1
         if wrong:
             self.failures += 1
             kept = os.path.join(tempfile.gettempdir(), f"hostile.{self.failures}")
             with open(kept, "wb") as file:
                 file.write(data)
-            print(f"{' '.join(words)}: {wrong}; the input is in {kept}")
+            print(f"{str(words)[:80]}: {wrong}; the input is in {kept}")
 
     def show(self, title):
         rows = ", ".join(f"{name} {status}: {count}" for (name, status), count in sorted(self.statuses.items(), key=str))
@@ -127,15 +130,32 @@ def recorded(work, source, plan, order=None):
     return {name: data for name, data in contents(folder).items() if name.endswith(".srr")}
 
 
+def converted(work, log):
+    """A log in format 1."""
+    folder = tempfile.mkdtemp(dir=work)
+    write(folder, "log", log)
+    subprocess.run([WIZ, "convert", "log", "lines", "--text"], cwd=folder, check=True)
+    return contents(folder)["lines"]
+
+
+def sealed(data):
+    """A text in format 2 with the digest of what stands before its last 32 bytes."""
+    return data[:-32] + hashlib.sha256(data[:-32]).digest()
+
+
 def log_mutations(draw, work, count, table):
+    """Mutations of three logs in both formats. A digest refuses most of those in format 2, so half of them get a new one."""
     logs = [
         open(os.path.join(TOP, "examples/first/first.srr"), "rb").read(),
         recorded(work, "race/race.c", b"0 1\n2\n")["run.0.srr"],
         recorded(work, "split/split.c", b"0 1\n2\n3\n")["run.0.srr"],
     ]
+    logs += [converted(work, log) for log in logs]
     folder = tempfile.mkdtemp(dir=work)
     for _ in range(count):
         data = mutated(draw, draw.choice(logs))
+        if data.startswith(b"srr 2") and draw.random() < 0.5:
+            data = sealed(data)
         write(folder, "log", data)
         words = draw.choice([["replay", "log", "--serial"], ["replay", "log"], ["show", "log"], ["stats", "log"], ["convert", "log", "new"]])
         table.add(words, data, *run(words, folder, made=("new",)))
@@ -162,21 +182,188 @@ def program_mutations(draw, work, count, table):
 
 
 def odd_files(draw, work, table):
-    """Files of no bytes, of random bytes, of the greatest length and of one byte more."""
+    """Files of no bytes, of random bytes, of the greatest length and of one byte more, in the place of each input file."""
     folder = tempfile.mkdtemp(dir=work)
-    write(folder, "plan", b"0 1\n")
+    good = {"p.c": b"int main(void) { return 0; }\n", "plan": b"0 1\n", "turns": b"0\n1\n"}
+    good["log"] = open(os.path.join(TOP, "examples/first/first.srr"), "rb").read()
+    for name, data in good.items():
+        write(folder, name, data)
+    text, order, log = 65536, 8388608, 134217728
     for limit, name, words in [
-        (134217728, "log", ["show", "log"]),
-        (134217728, "log", ["replay", "log", "--serial"]),
-        (65536, "p.c", ["record", "p.c", "plan", "run", "--serial"]),
-        (65536, "plan", ["record", "p.c", "plan", "run", "--serial"]),
+        (log, "log", ["show", "log"]),
+        (log, "log", ["stats", "log"]),
+        (log, "log", ["convert", "log", "run.new"]),
+        (log, "log", ["replay", "log", "--serial"]),
+        (log, "log", ["replay", "log"]),
+        (text, "p.c", ["replay", "log", "--program", "p.c", "--serial"]),
+        (text, "p.c", ["record", "p.c", "plan", "run", "--serial"]),
+        (text, "p.c", ["check", "p.c", "plan"]),
+        (text, "p.c", ["races", "p.c", "plan", "--serial"]),
+        (text, "p.c", ["advise", "p.c", "plan", "1", "--serial"]),
+        (text, "plan", ["record", "p.c", "plan", "run", "--serial"]),
+        (text, "plan", ["check", "p.c", "plan"]),
+        (order, "turns", ["record", "p.c", "plan", "run", "--order", "turns"]),
+        (order, "turns", ["races", "p.c", "plan", "--order", "turns"]),
+        (order, "turns", ["advise", "p.c", "plan", "1", "--order", "turns"]),
     ]:
-        write(folder, "p.c", b"int main(void) { return 0; }\n")
-        for data in [b"", bytes(limit), bytes(limit + 1), draw.randbytes(min(limit, 1 << 20)), b"srr 1\n" + bytes(limit - 6), b"srr 2\n" + bytes(limit - 6)]:
+        odd = [b"", bytes(1), bytes(limit), bytes(limit + 1), draw.randbytes(min(limit, 1 << 20)), b"\n" * limit, b"(" * limit, b"0\n" * (limit // 2)]
+        if name == "log":
+            odd += [b"srr 1\n" + bytes(limit - 6), b"srr 2\n" + bytes(limit - 6), b"srr 2\n" + draw.randbytes(1 << 20)]
+        for data in odd:
             write(folder, name, data)
             table.add(words, data[:64], *run(words, folder, made=("run.",)))
-        write(folder, "plan", b"0 1\n")
+        write(folder, name, good[name])
     table.show("odd files")
+
+
+def odd_words(work, table):
+    """Arguments that are no command's, and names of what is no ordinary file."""
+    folder = tempfile.mkdtemp(dir=work)
+    write(folder, "p.c", b"int main(void) { return 0; }\n")
+    write(folder, "plan", b"0 1\n")
+    long = "x" * 5000
+    for words, wanted in [
+        ([], {1}),
+        ([""], {1}),
+        (["show"] * 1000, {1}),
+        (["show", b"\xff"], {1}),
+        (["show", ""], {2, 3}),
+        (["show", long], {2, 3}),
+        (["show", "."], {2, 3}),
+        (["show", "p.c/log"], {2, 3}),
+        (["show", "/dev/null"], {8}),
+        (["show", "/dev/zero"], {3, 12}),
+        (["replay", "/dev/zero"], {3, 12}),
+        (["record", "/dev/zero", "plan", "run"], {3, 12}),
+        (["record", "p.c", "/dev/zero", "run"], {3, 12}),
+        (["record", "p.c", "plan", "run", "--order", "/dev/zero"], {3, 12}),
+        (["record", "p.c", "plan", "no/run"], {4}),
+        (["record", "p.c", "plan", long], {4}),
+        (["record", "p.c", "plan", "run", "--order", "plan", "--serial"], {1}),
+        (["replay", "plan", "--break", "64:0"], {1}),
+        (["replay", "plan", "--break", "99999999999999999999:0"], {1}),
+        (["advise", "p.c", "plan", "0"], {1}),
+        (["demo", "0", "1001"], {1}),
+        (["demo", "2147483648", "1"], {1}),
+    ]:
+        status, wrong = run(words, folder, made=("run.",))
+        if status is not None and status not in wanted:
+            wrong = wrong or f"status {status}"
+        table.add(words, b"", status, wrong)
+    table.show("odd arguments")
+
+
+def body(declarations, statements):
+    return f"int main(void){{int r,n,i,x=0;{declarations} MPI_Comm_rank(MPI_COMM_WORLD,&r);MPI_Comm_size(MPI_COMM_WORLD,&n);{statements} return 0;}}"
+
+
+def parentheses(count):
+    return "x=" + "(" * count + "x" + ")" * count + ";"
+
+
+def limit_programs():
+    """Programs at a limit and, where there is one more, behind it: name, text, plan, the statuses that may come."""
+    one, two, every = b"0\n", b"0 1\n", b"0-63\n"
+    alone = "".join(f"{rank}\n" for rank in range(64)).encode()
+    recursive = "int f(int n){int x;if(n>1)x=f(n-1);return n;}int main(void){int x;x=f(%d);return 0;}"
+    printing = body("", 'for(i=0;i<%d;i++)printf("0123456789abcde\\n");')
+    sending = body("int a[70000];", "if(r==0)MPI_Send(a,%d,MPI_INT,1,1,MPI_COMM_WORLD);if(r==1)MPI_Recv(a,65536,MPI_INT,0,1,MPI_COMM_WORLD,MPI_STATUS_IGNORE);")
+    padded = b"int main(void){return 0;}"
+    passing = body("", "MPI_Send(&r,1,MPI_INT,(r+1)%n,1,MPI_COMM_WORLD);MPI_Recv(&x,1,MPI_INT,(r+n-1)%n,1,MPI_COMM_WORLD,MPI_STATUS_IGNORE);")
+    return [
+        ("parentheses", body("", parentheses(63)), one, {0}),
+        ("one more", body("", parentheses(64)), one, {5}),
+        ("30,000 parentheses", body("", parentheses(30000)), one, {5}),
+        ("blocks", body("", "{" * 64 + "}" * 64), one, {0}),
+        ("one more", body("", "{" * 65 + "}" * 65), one, {5}),
+        ("30,000 blocks", body("", "{" * 30000 + "}" * 30000), one, {5}),
+        ("30,000 signs", body("", "x=" + "-!" * 15000 + "x;"), one, {5}),
+        ("else if", body("", "if(x==1);" + "else if(x==1);" * 4000), one, {5}),
+        ("30,000 operators", body("", "x=x" + "+1" * 30000 + ";"), one, {0}),
+        ("30,000 operators of two kinds", body("", "x=x" + "+1*x" * 15000 + ";"), one, {0}),
+        ("16,000 statements", body("", "x++;" * 16000), one, {0}),
+        ("values in braces", body("int a[32000]={" + "1," * 31999 + "1};", ""), one, {0}),
+        ("names", body("".join(f"int v{number};" for number in range(5500)), ""), one, {0}),
+        ("functions", "".join(f"int f{number}(void){{return 0;}}" for number in range(2200)) + "int main(void){return 0;}", one, {0}),
+        ("parameters", "int f(" + ",".join(f"int p{number}" for number in range(5500)) + "){return 0;}int main(void){return 0;}", one, {0}),
+        ("values of printf", body("", 'printf("' + "%d" * 15000 + '"' + ",x" * 15000 + ");"), one, {0, 7}),
+        ("a text of the greatest length", padded + b" " * (65536 - len(padded)), one, {0}),
+        ("one byte more", padded + b" " * (65537 - len(padded)), one, {12}),
+        ("cells", "int main(void){int a[262144];return 0;}", one, {0}),
+        ("one more", "int main(void){int a[262144];int b;return 0;}", one, {7}),
+        ("cells of 64 ranks", "int main(void){int a[262144];a[262143]=1;return 0;}", every, {0}),
+        ("too long an array", "int main(void){int a[262145];return 0;}", one, {5}),
+        ("calls deep", recursive % 99, one, {0}),
+        ("one more", recursive % 100, one, {7}),
+        ("steps", body("", "while(1);"), two, {7}),
+        ("output", printing % 4096, one, {0}),
+        ("one more", printing % 4097, one, {7}),
+        ("output of 64 ranks", printing % 4096, every, {0}),
+        ("ints of a message", sending % 65536, two, {0}),
+        ("one more", sending % 65537, two, {7}),
+        ("events", body("", "while(1)MPI_Iprobe(0,1,MPI_COMM_WORLD,&x,MPI_STATUS_IGNORE);"), one, {7}),
+        ("communicators", body("MPI_Comm c;", "for(i=0;i<200000;i++)MPI_Comm_dup(MPI_COMM_WORLD,&c);"), two, {0}),
+        ("splits of 64 ranks", body("MPI_Comm c;", "for(i=0;i<500;i++)MPI_Comm_split(MPI_COMM_WORLD,r%(i%64+1),0-r,&c);"), every, {0, 7}),
+        ("a gather of the greatest size", body("int a[262100];", "MPI_Gather(a,4095,MPI_INT,a,4095,MPI_INT,0,MPI_COMM_WORLD);"), every, {0}),
+        ("requests", body("MPI_Request q[200000];", "for(i=0;i<200000;i++)MPI_Irecv(&x,0,MPI_INT,MPI_PROC_NULL,1,MPI_COMM_WORLD,&q[i]);MPI_Waitall(200000,q,MPI_STATUSES_IGNORE);"), one, {0}),
+        ("64 ranks", passing, every, {0}),
+        ("64 groups", passing, alone, {0}),
+        ("65 ranks", passing, b"0-64\n", {6}),
+        ("a plan of the greatest length", passing, every + b"#" + b" " * (65536 - len(every) - 2) + b"\n", {0}),
+        ("an abort of 64 ranks", body("", "MPI_Abort(MPI_COMM_WORLD,r);"), every, {7}),
+        ("64 ranks that wait", body("", "MPI_Recv(&x,1,MPI_INT,MPI_ANY_SOURCE,1,MPI_COMM_WORLD,MPI_STATUS_IGNORE);"), every, {7}),
+    ]
+
+
+def at_limits(work, table):
+    """Programs at the limits of the language and of a run, recorded and checked, on one thread and on threads."""
+    folder = tempfile.mkdtemp(dir=work)
+    longest = 0.0
+    for name, text, plan, wanted in limit_programs():
+        data = text if isinstance(text, bytes) else text.encode()
+        write(folder, "p.c", data)
+        write(folder, "plan", plan)
+        for words in [["record", "p.c", "plan", "run", "--serial"], ["record", "p.c", "plan", "run"], ["check", "p.c", "plan", "--serial"], ["check", "p.c", "plan"]]:
+            begun = time.monotonic()
+            status, wrong = run(words, folder, made=("run.",))
+            longest = max(longest, time.monotonic() - begun)
+            if status is not None and status not in wanted:
+                wrong = wrong or f"status {status}"
+            table.add(words, data, status, wrong and f"{name}: {wrong}")
+    for words in [["demo", "2147483647", "1000"], ["demo", "0", "1000"]]:
+        begun = time.monotonic()
+        table.add(words, b"", *run(words, folder))
+        longest = max(longest, time.monotonic() - begun)
+    table.show(f"programs at the limits, at most {longest:.1f} s")
+
+
+def log_of_many(count):
+    """The log in format 1 of 64 ranks that tested in vain so often: with the greatest count nearly of the greatest length."""
+    ranks = b"".join(b"rank %d %d\n" % (rank, count) + b"n\n" * count for rank in range(64))
+    program = b"int main(void){return 0;}"
+    return b"srr 1\nranks 64\ngroup " + b" ".join(b"%d" % rank for rank in range(64)) + b"\nprogram %d\n" % len(program) + program + b"\n" + ranks + b"end\n"
+
+
+def bytes_of_many(count):
+    """The same in format 2: a file of some hundred bytes."""
+    program = b"int main(void){return 0;}"
+    ranks = (count.to_bytes(4, "big") + b"\6" + count.to_bytes(4, "big")) * 64
+    return sealed(b"srr 2\n" + b"\x40" + b"\xff" * 8 + len(program).to_bytes(4, "big") + program + ranks + bytes(32))
+
+
+def long_logs(work, table):
+    """Logs of as many entries as there may be, in both formats, with 2 GB and with 4 GB of address space."""
+    folder = tempfile.mkdtemp(dir=work)
+    longest = 0.0
+    for data in [log_of_many(999064), bytes_of_many(999064), log_of_many(999065), bytes_of_many(999065)]:
+        write(folder, "log", data)
+        for words in [["stats", "log"], ["show", "log"], ["replay", "log", "--serial"], ["replay", "log"], ["convert", "log", "run.new"], ["convert", "log", "run.new", "--text"]]:
+            for memory in [MEMORY, 2 * MEMORY]:
+                begun = time.monotonic()
+                status, wrong = run(words, folder, made=("run.",), memory=memory, seconds=6 * SECONDS)
+                longest = max(longest, time.monotonic() - begun)
+                table.add(words, data[:64], status, wrong)
+    table.show(f"logs at the limits, at most {longest:.1f} s")
 
 
 def refused_memory(work, table):
@@ -221,14 +408,23 @@ def full_disk(work, table):
 def main():
     count = int(sys.argv[1]) if len(sys.argv) > 1 else 10000
     draw = random.Random(int(sys.argv[2]) if len(sys.argv) > 2 else 1)
+    parts = sys.argv[3:] or ["mutations", "odd", "limits", "memory", "disk"]
     subprocess.run([os.path.join(TOP, "wiz"), "show", os.path.join(TOP, "examples/first/first.srr")], check=True, stdout=subprocess.DEVNULL)
     table = Table()
     with tempfile.TemporaryDirectory() as work:
-        log_mutations(draw, work, count // 2, table)
-        program_mutations(draw, work, count - count // 2, table)
-        odd_files(draw, work, table)
-        refused_memory(work, table)
-        full_disk(work, table)
+        if "mutations" in parts:
+            log_mutations(draw, work, count // 2, table)
+            program_mutations(draw, work, count - count // 2, table)
+        if "odd" in parts:
+            odd_files(draw, work, table)
+            odd_words(work, table)
+        if "limits" in parts:
+            at_limits(work, table)
+            long_logs(work, table)
+        if "memory" in parts:
+            refused_memory(work, table)
+        if "disk" in parts:
+            full_disk(work, table)
     print(f"{table.failures} failures")
     return 1 if table.failures else 0
 

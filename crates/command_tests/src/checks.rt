@@ -1,5 +1,5 @@
 //! Runs that are recorded and replayed at once: `check` and `demo`.
-use crate::programs::{BAD_RANK, CHAIN, CYCLE, FIRST};
+use crate::programs::{BAD_RANK, CHAIN, CYCLE, DEMO, FIRST};
 use crate::serial::{answers, files};
 use run_model::history::History;
 use std::alloc::Global;
@@ -142,12 +142,7 @@ fn demos_are_checked(rt: HostRuntime) {
             b"rank 0 total 120\n",
             b"demo 7 1\nevents 61\nrank 0 group 0 calls 31 output 17 same\nrank 1 group 0 calls 2 output 15 same\nrank 2 group 0 calls 2 output 15 same\nrank 3 group 0 calls 2 output 15 same\nrank 4 group 1 calls 2 output 15 same\nrank 5 group 1 calls 2 output 15 same\nrank 6 group 1 calls 2 output 15 same\nrank 7 group 1 calls 2 output 15 same\nrank 8 group 2 calls 2 output 15 same\nrank 9 group 2 calls 2 output 15 same\nrank 10 group 2 calls 2 output 16 same\nrank 11 group 2 calls 2 output 16 same\nrank 12 group 3 calls 2 output 16 same\nrank 13 group 3 calls 2 output 16 same\nrank 14 group 3 calls 2 output 16 same\nrank 15 group 3 calls 2 output 16 same\nfinished\n",
         ),
-        (
-            &["demo", "0", "1"],
-            64,
-            b"rank 0 total 15\n",
-            b"demo 0 1\nevents 64\nrank 0 group 0 calls 4 output 16 same\nrank 1 group 0 calls 4 output 15 same\nrank 2 group 0 calls 4 output 15 same\nrank 3 group 0 calls 4 output 15 same\nrank 4 group 1 calls 4 output 15 same\nrank 5 group 1 calls 4 output 15 same\nrank 6 group 1 calls 4 output 15 same\nrank 7 group 1 calls 4 output 15 same\nrank 8 group 2 calls 4 output 15 same\nrank 9 group 2 calls 4 output 15 same\nrank 10 group 2 calls 4 output 16 same\nrank 11 group 2 calls 4 output 17 same\nrank 12 group 3 calls 4 output 17 same\nrank 13 group 3 calls 4 output 17 same\nrank 14 group 3 calls 4 output 17 same\nrank 15 group 3 calls 4 output 17 same\nfinished\n",
-        ),
+        (&["demo", "0", "1"], 64, b"rank 0 total 15\n", DEMO),
         (
             &["demo", "2147483647", "1"],
             80,

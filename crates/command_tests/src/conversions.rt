@@ -13,10 +13,12 @@ use wiz_io::{MemorySink, MemoryStore};
 const FIRST_BYTES: &[u8] =
     b"srr 2\n\x02\0\0\0\0\0\0\0\x03\0\0\0\xd1int main(void){int r,x=7;MPI_Comm_rank(MPI_COMM_WORLD,&r);if(r==0)MPI_Send(&x,1,MPI_INT,1,5,MPI_COMM_WORLD);if(r==1){x=0;MPI_Recv(&x,1,MPI_INT,0,5,MPI_COMM_WORLD,MPI_STATUS_IGNORE);printf(\"%d\\n\",x);}return 0;}\0\0\0\x02\x01\x04\0\0\0\x03\x02\x05\0\0\0\x01\0\0\0\0\x03\0\0\0\0\0\x04\xf2\xd6\x07\xef\x28\x87\x3c\x3e\xe1\xd7\xe0\x6e\xa7\x6a\xbe\x2e\x44\x84\xba\xda\xb3\xa3\x09\x65\x57\x16\xb6\x83\xf5\x98\x27\x08";
 
-const SHOWN: &[u8] =
+/// What is shown of the first log.
+pub const SHOWN: &[u8] =
     b"ranks 2\ngroup 0 1\nprogram 209\nrank 0 2\n0 s\n1 z\nrank 1 3\n0 p\n1 t 0=0.0\n2 z\n";
 
-const COUNTED: &[u8] =
+/// What is counted in it.
+pub const COUNTED: &[u8] =
     b"rank 0 entries 2 inner 0 outer 0 ints 0 notyet 0\nrank 1 entries 3 inner 1 outer 0 ints 0 notyet 0\ntotal entries 5 inner 1 outer 0 ints 0 notyet 0\n";
 
 /// Whether a file has these bytes.
@@ -100,24 +102,4 @@ fn what_is_no_log_is_not_converted(rt: HostRuntime) {
     }
     let mut store = MemoryStore::new(alloc);
     assert!(&rt; answers(alloc, &mut store, &["convert", "L", "M"], 2, b"no file L\n"));
-}
-
-#[test]
-fn faults_of_a_conversion_are_told(rt: HostRuntime) {
-    let alloc = rt.alloc();
-    let words: &[&str] = &["convert", "L", "M"];
-    // The call that fails, over reads and writes.
-    let rows: [(u32, u8, &[u8]); 2] = [(0, 3, b"cannot read L\n"), (1, 4, b"cannot write M\n")];
-    for (call, status, message) in rows {
-        let mut store = files(alloc, &[("L", FIRST_LOG)]).expect(&rt, "files");
-        store.fail(call).expect(&rt, "a call");
-        assert!(&rt; answers(alloc, &mut store, words, status, message));
-        assert!(&rt; store.file("M").is_none());
-    }
-    // Nothing is put out, so that an output that fails is no fault.
-    let mut store = files(alloc, &[("L", FIRST_LOG)]).expect(&rt, "files");
-    let mut full = MemorySink::new(alloc);
-    full.fail(0).expect(&rt, "a put");
-    let report = wiz_serial(alloc, words, &mut store, &mut full);
-    assert!(&rt; report.status == 0 && has(&store, "M", FIRST_BYTES));
 }

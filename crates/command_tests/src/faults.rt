@@ -1,15 +1,86 @@
-//! Commands whose files cannot be read, are too long, or whose output cannot be written.
-use crate::programs::{FIRST, FIRST_ADVISED, FIRST_CHECKED, FIRST_LOG, SENT_TO_SELF};
+//! Each read, write and put of each command failing in turn, and texts that are too long.
+use crate::conversions::{COUNTED, SHOWN};
+use crate::programs::{
+    DEMO, FIRST, FIRST_ADVISED, FIRST_CHECKED, FIRST_LOG, FIRST_RECORDED, SENT_TO_SELF,
+};
+use crate::replays::FIRST_TRACE;
+use crate::rows::joined;
 use crate::serial::{answers, files};
+use crate::tool;
 use std::alloc::Global;
+use std::sync::Wait;
+use std::thread::Threads;
 use wiz_cli::top::wiz_serial;
 use wiz_io::{MemorySink, MemoryStore};
 
-const CHECK: &[&str] = &["check", "P", "Q", "--serial"];
+/// A command: its arguments, the files that it reads, those that it then writes, and what it prints.
+type Row<'a> = (&'a [&'a str], &'a [&'a str], &'a [&'a str], &'a [u8]);
 
-const ORDERED: &[&str] = &["advise", "P", "Q", "1", "--order", "F"];
+const NONE: &[&str] = &[];
 
-const REPLAY: &[&str] = &["replay", "L", "--program", "P", "--serial"];
+/// What a run is read from, without an order and with one.
+const RUN: &[&str] = &["P", "Q"];
+
+const ORDERED: &[&str] = &["P", "Q", "F"];
+
+/// The files of a recording of two groups.
+const RECORDING: &[&str] = &["A.0.srr", "A.1.srr", "A.order"];
+
+const RACES: &[u8] = b"receives 0 raced 0\nfinished\n";
+
+/// Each command that reads, writes or prints, on threads and on one thread.
+static COMMANDS: [Row<'static>; 20] = [
+    (&["record", "P", "Q", "A"], RUN, RECORDING, FIRST_RECORDED),
+    (
+        &["record", "P", "Q", "A", "--serial"],
+        RUN,
+        RECORDING,
+        FIRST_RECORDED,
+    ),
+    (
+        &["record", "P", "Q", "A", "--order", "F"],
+        ORDERED,
+        RECORDING,
+        FIRST_RECORDED,
+    ),
+    (&["check", "P", "Q"], RUN, NONE, FIRST_CHECKED),
+    (&["check", "P", "Q", "--serial"], RUN, NONE, FIRST_CHECKED),
+    (&["races", "P", "Q"], RUN, NONE, RACES),
+    (&["races", "P", "Q", "--serial"], RUN, NONE, RACES),
+    (&["races", "P", "Q", "--order", "F"], ORDERED, NONE, RACES),
+    (&["advise", "P", "Q", "1"], RUN, NONE, FIRST_ADVISED),
+    (
+        &["advise", "P", "Q", "1", "--serial"],
+        RUN,
+        NONE,
+        FIRST_ADVISED,
+    ),
+    (
+        &["advise", "P", "Q", "1", "--order", "F"],
+        ORDERED,
+        NONE,
+        FIRST_ADVISED,
+    ),
+    (&["demo", "0", "1"], NONE, NONE, DEMO),
+    (&["replay", "L"], &["L"], NONE, FIRST_TRACE),
+    (&["replay", "L", "--serial"], &["L"], NONE, FIRST_TRACE),
+    (
+        &["replay", "L", "--program", "P"],
+        &["L", "P"],
+        NONE,
+        FIRST_TRACE,
+    ),
+    (
+        &["replay", "L", "--program", "P", "--serial"],
+        &["L", "P"],
+        NONE,
+        FIRST_TRACE,
+    ),
+    (&["show", "L"], &["L"], NONE, SHOWN),
+    (&["stats", "L"], &["L"], NONE, COUNTED),
+    (&["convert", "L", "M"], &["L"], &["M"], b""),
+    (&["convert", "L", "M", "--text"], &["L"], &["M"], b""),
+];
 
 /// The files `P`, `Q`, `L` and `F`: a program, a plan of two groups, a log and an order.
 fn inputs(alloc: Global, program: &[u8]) -> Option<MemoryStore> {
@@ -22,60 +93,113 @@ fn inputs(alloc: Global, program: &[u8]) -> Option<MemoryStore> {
     files(alloc, &named)
 }
 
-#[test]
-fn each_read_of_a_command_fails_in_turn(rt: HostRuntime) {
-    let alloc = rt.alloc();
-    // The call that fails, over reads and writes, the arguments, the status, and what is printed. A command that ends with status 0 does
-    // not come to that call.
-    let rows: [(u32, &[&str], u8, &[u8]); 11] = [
-        (0, CHECK, 3, b"cannot read P\n"),
-        (1, CHECK, 3, b"cannot read Q\n"),
-        (2, CHECK, 0, FIRST_CHECKED),
-        (2, ORDERED, 3, b"cannot read F\n"),
-        (3, ORDERED, 0, FIRST_ADVISED),
-        (0, &["show", "L"], 3, b"cannot read L\n"),
-        (
-            1,
-            &["show", "L"],
-            0,
-            b"ranks 2\ngroup 0 1\nprogram 209\nrank 0 2\n0 s\n1 z\nrank 1 3\n0 p\n1 t 0=0.0\n2 z\n",
-        ),
-        (0, &["stats", "L"], 3, b"cannot read L\n"),
-        (
-            1,
-            &["stats", "L"],
-            0,
-            b"rank 0 entries 2 inner 0 outer 0 ints 0 notyet 0\nrank 1 entries 3 inner 1 outer 0 ints 0 notyet 0\ntotal entries 5 inner 1 outer 0 ints 0 notyet 0\n",
-        ),
-        (0, REPLAY, 3, b"cannot read L\n"),
-        (1, REPLAY, 3, b"cannot read P\n"),
-    ];
-    for (call, words, status, printed) in rows {
-        let mut store = inputs(alloc, FIRST).expect(&rt, "files");
-        store.fail(call).expect(&rt, "a call");
-        assert!(&rt;
-            answers(alloc, &mut store, words, status, printed),
-            "{call} {words:?}"
-        );
+/// The same of the first program, where the read or write of this number fails.
+fn failing_at(alloc: Global, call: usize) -> Option<MemoryStore> {
+    let mut store = inputs(alloc, FIRST)?;
+    store.fail(u32::try_from(call).ok()?).ok()?;
+    Some(store)
+}
+
+/// Whether of these files the first so many are there, and no other.
+fn are_first(store: &MemoryStore, names: &[&str], count: usize) -> bool {
+    for (at, name) in names.iter().enumerate() {
+        if store.file(name).is_some() != (at < count) {
+            return false;
+        }
     }
+    true
 }
 
 #[test]
-fn a_first_put_that_fails_leaves_no_output(rt: HostRuntime) {
+fn each_read_and_write_of_a_command_fails_in_turn(rt: HostRuntime) {
+    for row in &COMMANDS {
+        let words = row.0;
+        assert!(&rt; tells_each_fault(&rt, row).unwrap_or(false), "{words:?}");
+        assert!(&rt; makes_no_more_calls(&rt, row).unwrap_or(false), "{words:?}");
+    }
+}
+
+/// Whether a command tells each of its reads and writes that fails, with the files written before it.
+fn tells_each_fault<R: Threads + Wait + Sync + AllocGlobal>(rt: &R, row: &Row<'_>) -> Option<bool> {
+    let (words, read, written, _) = row;
+    for (call, name) in read.iter().chain(written.iter()).enumerate() {
+        let (status, front): (u8, &[u8]) = if call < read.len() {
+            (3, b"cannot read ")
+        } else {
+            (4, b"cannot write ")
+        };
+        let message = joined(rt.alloc(), &[front, name.as_bytes(), b"\n"])?;
+        let mut store = failing_at(rt.alloc(), call)?;
+        if !tool::answers(rt, &mut store, words, status, message.as_slice()) {
+            return Some(false);
+        }
+        if !are_first(&store, written, call.saturating_sub(read.len())) {
+            return Some(false);
+        }
+    }
+    Some(true)
+}
+
+/// Whether a command makes no other reads and writes: one that is to fail after them does not matter.
+fn makes_no_more_calls<R: Threads + Wait + Sync + AllocGlobal>(
+    rt: &R,
+    row: &Row<'_>,
+) -> Option<bool> {
+    let (words, read, written, printed) = row;
+    let mut store = failing_at(rt.alloc(), read.len().checked_add(written.len())?)?;
+    let so = tool::answers(rt, &mut store, words, 0, printed);
+    Some(so && are_first(&store, written, written.len()))
+}
+
+#[test]
+fn each_put_of_a_command_fails_in_turn(rt: HostRuntime) {
+    for row in &COMMANDS {
+        let words = row.0;
+        // One put has all that is printed.
+        assert!(&rt; ends_at_put(&rt, row, 0).unwrap_or(false), "{words:?}");
+        assert!(&rt; ends_at_put(&rt, row, 1).unwrap_or(false), "{words:?}");
+    }
+}
+
+/// Whether a command whose put of this number fails writes its files, puts nothing more out, and tells the fault by its status.
+fn ends_at_put<R: Threads + Wait + Sync + AllocGlobal>(
+    rt: &R,
+    row: &Row<'_>,
+    put: u32,
+) -> Option<bool> {
+    let (words, _, written, printed) = row;
+    let (status, front): (u8, &[u8]) = if put == 0 && !printed.is_empty() {
+        (4, b"")
+    } else {
+        (0, printed)
+    };
+    let mut store = inputs(rt.alloc(), FIRST)?;
+    let mut full = MemorySink::new(rt.alloc());
+    full.fail(put).ok()?;
+    let found = tool::run(rt, &mut store, words, &mut full);
+    let so = found == status && full.bytes() == front;
+    Some(so && are_first(&store, written, written.len()))
+}
+
+#[test]
+fn a_put_that_fails_leaves_a_message_out(rt: HostRuntime) {
     let alloc = rt.alloc();
-    // The arguments, and the status: a failed put of a message changes none.
-    let rows: [(&[&str], u8); 11] = [
-        (CHECK, 4),
+    // The arguments, and the status: that of a text that is not put out, or that of a message, which stays as it is.
+    let rows: [(&[&str], u8); 14] = [
+        (&["check", "P", "Q", "--serial"], 4),
         (&["races", "P", "Q", "--serial"], 4),
-        (ORDERED, 4),
-        (REPLAY, 4),
-        (&["replay", "L", "--serial"], 4),
-        (&["show", "L"], 4),
-        (&["stats", "L"], 4),
-        (&["demo", "0", "1"], 4),
-        (&["show", "M"], 2),
-        (&["stats", "Q"], 8),
+        (&["advise", "P", "Q", "1", "--order", "F"], 4),
+        (&["record", "P", "Q", "A", "--serial"], 4),
+        (&["replay", "L", "--program", "P", "--serial"], 4),
         (&["play"], 1),
+        (&["show", "N"], 2),
+        (&["convert", "N", "M"], 2),
+        (&["record", "Q", "Q", "A", "--serial"], 5),
+        (&["replay", "L", "--program", "Q", "--serial"], 5),
+        (&["check", "P", "L", "--serial"], 6),
+        (&["record", "P", "Q", "A", "--order", "P"], 6),
+        (&["stats", "Q"], 8),
+        (&["convert", "Q", "M"], 8),
     ];
     for (words, status) in rows {
         // The run of this program is stuck, and the log's replay with it diverges.
@@ -87,6 +211,7 @@ fn a_first_put_that_fails_leaves_no_output(rt: HostRuntime) {
             report.status == status && full.bytes().is_empty(),
             "{words:?}"
         );
+        assert!(&rt; store.file("M").is_none());
     }
 }
 

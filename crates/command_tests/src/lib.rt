@@ -10,6 +10,8 @@ mod conversions;
 #[cfg(test)]
 mod faults;
 #[cfg(test)]
+mod forged;
+#[cfg(test)]
 mod logs;
 #[cfg(test)]
 mod programs;
@@ -27,5 +29,7 @@ mod serial;
 mod synchronous;
 #[cfg(test)]
 mod threads;
+#[cfg(test)]
+mod tool;
 #[cfg(test)]
 mod words;

@@ -4,6 +4,9 @@
 pub const FIRST: &[u8] =
     b"int main(void){int r,x=7;MPI_Comm_rank(MPI_COMM_WORLD,&r);if(r==0)MPI_Send(&x,1,MPI_INT,1,5,MPI_COMM_WORLD);if(r==1){x=0;MPI_Recv(&x,1,MPI_INT,0,5,MPI_COMM_WORLD,MPI_STATUS_IGNORE);printf(\"%d\\n\",x);}return 0;}";
 
+/// What a recording of it prints.
+pub const FIRST_RECORDED: &[u8] = b"rank 0 output 0\n\nrank 1 output 2\n7\n\nfinished\n";
+
 /// What a check of it prints, where each rank is a group.
 pub const FIRST_CHECKED: &[u8] =
     b"rank 0 group 0 calls 2 output 0 same\nrank 1 group 1 calls 3 output 2 same\nfinished\n";
@@ -62,3 +65,11 @@ pub const TWO_SENDERS: &[u8] =
 /// The log of the first program, both ranks in one group.
 pub const FIRST_LOG: &[u8] =
     b"srr 1\nranks 2\ngroup 0 1\nprogram 209\nint main(void){int r,x=7;MPI_Comm_rank(MPI_COMM_WORLD,&r);if(r==0)MPI_Send(&x,1,MPI_INT,1,5,MPI_COMM_WORLD);if(r==1){x=0;MPI_Recv(&x,1,MPI_INT,0,5,MPI_COMM_WORLD,MPI_STATUS_IGNORE);printf(\"%d\\n\",x);}return 0;}\nrank 0 2\ns\nz\nrank 1 3\np\nt 0=0.0\nz\nend\n";
+
+/// Three ranks whose messages, probes, collectives and communicators are partly inside the group of ranks 0 and 1.
+pub const MIXED: &[u8] =
+    b"int main(void){int r,x=0,y=0;MPI_Status s;MPI_Comm c,d;MPI_Comm_rank(MPI_COMM_WORLD,&r);if(r==0)MPI_Send(&r,1,MPI_INT,1,3,MPI_COMM_WORLD);if(r==2)MPI_Send(&r,1,MPI_INT,1,4,MPI_COMM_WORLD);if(r==1){MPI_Probe(0,3,MPI_COMM_WORLD,&s);MPI_Recv(&x,1,MPI_INT,0,3,MPI_COMM_WORLD,&s);MPI_Probe(2,MPI_ANY_TAG,MPI_COMM_WORLD,&s);MPI_Recv(&x,1,MPI_INT,2,4,MPI_COMM_WORLD,&s);MPI_Iprobe(0,9,MPI_COMM_WORLD,&y,&s);}x=r+1;MPI_Allreduce(&x,&y,1,MPI_INT,MPI_SUM,MPI_COMM_WORLD);MPI_Bcast(&x,1,MPI_INT,0,MPI_COMM_WORLD);MPI_Comm_split(MPI_COMM_WORLD,r<2,0,&c);if(r<2){MPI_Comm_dup(c,&d);MPI_Barrier(d);}printf(\"%d %d\\n\",y,x);return 0;}";
+
+/// What one round of the demo from the seed 0 prints.
+pub const DEMO: &[u8] =
+    b"demo 0 1\nevents 64\nrank 0 group 0 calls 4 output 16 same\nrank 1 group 0 calls 4 output 15 same\nrank 2 group 0 calls 4 output 15 same\nrank 3 group 0 calls 4 output 15 same\nrank 4 group 1 calls 4 output 15 same\nrank 5 group 1 calls 4 output 15 same\nrank 6 group 1 calls 4 output 15 same\nrank 7 group 1 calls 4 output 15 same\nrank 8 group 2 calls 4 output 15 same\nrank 9 group 2 calls 4 output 15 same\nrank 10 group 2 calls 4 output 16 same\nrank 11 group 2 calls 4 output 17 same\nrank 12 group 3 calls 4 output 17 same\nrank 13 group 3 calls 4 output 17 same\nrank 14 group 3 calls 4 output 17 same\nrank 15 group 3 calls 4 output 17 same\nfinished\n";

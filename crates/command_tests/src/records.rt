@@ -2,8 +2,7 @@
 use crate::programs::{BAD_RANK, CYCLE, FIRST};
 use crate::serial::{answers, files, lines_of};
 use std::alloc::Global;
-use wiz_cli::top::wiz_serial;
-use wiz_io::{MemorySink, MemoryStore};
+use wiz_io::MemoryStore;
 
 const SERIAL: &[&str] = &["record", "P", "Q", "A", "--serial"];
 
@@ -107,31 +106,8 @@ fn inputs_are_refused(rt: HostRuntime) {
 }
 
 #[test]
-fn faults_of_files_are_told(rt: HostRuntime) {
+fn a_missing_program_and_arguments_against_each_other_are_told(rt: HostRuntime) {
     let alloc = rt.alloc();
-    // The call that fails, over reads and writes.
-    let rows: [(u32, &[&str], u8, &[u8]); 6] = [
-        (0, ORDERED, 3, b"cannot read P\n"),
-        (1, ORDERED, 3, b"cannot read Q\n"),
-        (2, ORDERED, 3, b"cannot read F\n"),
-        (2, SERIAL, 4, b"cannot write A.0.srr\n"),
-        (3, SERIAL, 4, b"cannot write A.1.srr\n"),
-        (4, SERIAL, 4, b"cannot write A.order\n"),
-    ];
-    for (call, words, status, message) in rows {
-        let mut store = inputs(alloc, FIRST, b"0\n1\n", b"1").expect(&rt, "files");
-        store.fail(call).expect(&rt, "a call");
-        assert!(&rt; answers(alloc, &mut store, words, status, message));
-        assert!(&rt; store.file("A.0.srr").is_some() == (call > 2));
-        assert!(&rt; store.file("A.order").is_none());
-    }
-    // The output fails at its first put, and all files are written.
-    let mut store = inputs(alloc, FIRST, b"0\n1\n", b"1").expect(&rt, "files");
-    let mut full = MemorySink::new(alloc);
-    full.fail(0).expect(&rt, "a put");
-    let report = wiz_serial(alloc, SERIAL, &mut store, &mut full);
-    assert!(&rt; report.status == 4 && full.bytes().is_empty());
-    assert!(&rt; ends_with(&store, "A.order", b"0\n1\n0\n1\n1\n"));
     let mut store = MemoryStore::new(alloc);
     assert!(&rt; answers(alloc, &mut store, SERIAL, 2, b"no file P\n"));
     let both: &[&str] = &["record", "P", "Q", "A", "--order", "F", "--serial"];

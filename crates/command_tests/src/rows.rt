@@ -29,7 +29,8 @@ type Row<'a> = (
     &'a [LogFile<'a>],
 );
 
-fn joined(alloc: Global, parts: &[&[u8]]) -> Option<Bytes> {
+/// The parts one after the other.
+pub fn joined(alloc: Global, parts: &[&[u8]]) -> Option<Bytes> {
     let mut text = Bytes::new(alloc);
     for part in parts {
         push_text(&mut text, part).ok()?;
