@@ -27,7 +27,7 @@ replay_view log events rank fine is member =
     let below : rank < log.ranks = below_at log.ranks log.group rank fine.below member in
     view_is is.next log.ranks rank (view_of events rank) is.enters (omega (arith, below), fine.few, below) (came.views rank)
 
-within_member : (group part : List ℕ) (rank : ℕ) → are_within group part ≡ true → is_member part rank ≡ true → is_member group rank ≡ true
+pub within_member : (group part : List ℕ) (rank : ℕ) → are_within group part ≡ true → is_member part rank ≡ true → is_member group rank ≡ true
 within_member group [] rank within member = (let t : false ≡ true = member in absurd (cc))
 within_member group (x ∷ part) rank within member =
     let parts = and_parts (is_member group x) (are_within group part) within in

@@ -3,10 +3,12 @@ ghost use Rattle.std.specs.Prelude.{◌≡◌, ◌++◌, ◌||◌, [], ℕ, IfEr
 ghost use Rattle.mpi_call.specs.Collectives.{is_member};
 ghost use Rattle.run_model.specs.Views.{view_of};
 ghost use Rattle.srr_entry.specs.Entries.{entries_from};
+ghost use Rattle.srr_text.specs.Bounds.{IsInBounds};
 ghost use Rattle.srr_regroup.specs.Joining.{CanJoin, IsJoinFault, IsLeastShared, lesser_shared};
 ghost use Rattle.srr_regroup.specs.Regrouping.{CanBeJoined, both_groups, joined};
 
 use crate::join_fault::JoinFault;
+use log_bounds::ints32::replies_fit;
 use mpi_call::lists::Ranks;
 use mpi_call::members::is_member;
 use replay_model::replayed::Replayed;
@@ -36,7 +38,7 @@ pub fn can_join(one: &Log, two: &Log) -> Result<(), JoinFault>
 }
 
 /// The log of both groups together, from a replay of each log. If the logs are of one run, then so is the new one
-/// (`laws::joined_log_is_of_the_run`).
+/// (`laws::joined_log_is_of_the_run`); if both have a text, then so has it.
 pub fn join(
     alloc: Global,
     one: &Log,
@@ -45,8 +47,11 @@ pub fn join(
     second: &Replayed,
 ) -> Result<Log, AllocError>
     requires { CanBeJoined one.now first.now.events.events two.now second.now.events.events }
-    ensures { IfOk result (λ made. made ≡ joined one.now first.now.events.events two.now second.now.events.events) }
+    ensures log { IfOk result (λ made. made ≡ joined one.now first.now.events.events two.now second.now.events.events) }
+    ensures in_bounds { IsInBounds one.now → IsInBounds two.now → IfOk result (λ made. IsInBounds made) }
 {
+    replies_fit(first.events.as_slice());
+    replies_fit(second.events.as_slice());
     let group = both_groups(alloc, one, two)?;
     let mut lists = Lists::new(alloc);
     let mut rest = group.as_slice();

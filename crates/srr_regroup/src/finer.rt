@@ -3,11 +3,13 @@ ghost use Rattle.std.specs.Prelude.{◌≡◌, ◌<◌, ℕ, [], IfErr, IfOk, On
 ghost use Rattle.std.specs.List.{list_any, slice_index_or};
 ghost use Rattle.mpi_call.specs.Collectives.{is_member};
 ghost use Rattle.srr_replay.specs.Rounds.{IsReplayable};
+ghost use Rattle.srr_text.specs.Bounds.{IsInBounds};
 ghost use Rattle.srr_regroup.specs.Refining.{CanRefine, IsLeastCrossing, IsRefineFault, crosses};
 ghost use Rattle.srr_regroup.specs.Regrouping.{IsPartOf, IsReplayOfAProgram, are_within, refined};
 
 use crate::refine_fault::RefineFault;
 use group_plan::plan::Plan;
+use log_bounds::ints32::replies_fit;
 use mpi_call::lists::Ranks;
 use mpi_call::members::is_member;
 use replay_model::replayed::Replayed;
@@ -34,7 +36,7 @@ pub fn can_refine(log: &Log, plan: &Plan) -> Result<(), RefineFault>
 }
 
 /// The log of a part of a log's group, from a replay of the log. If the log is of a run, then so is the part's
-/// (`laws::refined_log_is_of_the_run`).
+/// (`laws::refined_log_is_of_the_run`); if it has a text, then so has the part's.
 pub fn refine(
     alloc: Global,
     log: &Log,
@@ -44,8 +46,10 @@ pub fn refine(
     requires log { IsReplayable log.now }
     requires replay { IsReplayOfAProgram log.now replayed.now.events.events }
     requires part { IsPartOf log.now.group part.now }
-    ensures { IfOk result (λ made. made ≡ refined log.now replayed.now.events.events part.now) }
+    ensures log { IfOk result (λ made. made ≡ refined log.now replayed.now.events.events part.now) }
+    ensures in_bounds { IsInBounds log.now → IfOk result (λ made. IsInBounds made) }
 {
+    replies_fit(replayed.events.as_slice());
     log_of(
         alloc,
         log.ranks,
