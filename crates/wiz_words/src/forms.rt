@@ -1,6 +1,6 @@
 //! The commands by name, and one clap command for each.
-ghost use Rattle.std.specs.Prelude.{◌≡◌, IfOk, fold, map};
-ghost use Rattle.clap.specs.Words.{app_of, with_rule};
+ghost use Rattle.std.specs.Prelude.{◌≡◌, IfOk, codes, fold, map};
+ghost use Rattle.clap.specs.Words.{app_of, new_app, with_rule};
 ghost use Rattle.wiz_words.specs.Forms.{flag, form_of, option, positional, verb_named};
 ghost use Rattle.wiz_words.specs.Texts.{texts};
 
@@ -34,73 +34,63 @@ pub fn form_of<'a>(alloc: Global, verb: Verb) -> Result<Command<'a>, AllocError>
 {
     match verb {
         Verb::Record => {
-            let form = with_positionals(
-                alloc,
-                Command::new(alloc, "record"),
-                &["PROGRAM", "PLAN", "PREFIX"],
-            )?;
-            let form = with_option(alloc, form, "order")?;
-            with_flag(alloc, form, "serial")
+            let form = form_named(alloc, "record", &["PROGRAM", "PLAN", "PREFIX"])?;
+            with_turns(alloc, form)
         }
         Verb::Check => {
-            let form = with_positionals(alloc, Command::new(alloc, "check"), &["PROGRAM", "PLAN"])?;
+            let form = form_named(alloc, "check", &["PROGRAM", "PLAN"])?;
             with_flag(alloc, form, "serial")
         }
         Verb::Races => {
-            let form = with_positionals(alloc, Command::new(alloc, "races"), &["PROGRAM", "PLAN"])?;
-            let form = with_option(alloc, form, "order")?;
-            with_flag(alloc, form, "serial")
+            let form = form_named(alloc, "races", &["PROGRAM", "PLAN"])?;
+            with_turns(alloc, form)
         }
         Verb::Advise => {
-            let form = with_positionals(
-                alloc,
-                Command::new(alloc, "advise"),
-                &["PROGRAM", "PLAN", "K"],
-            )?;
-            let form = with_option(alloc, form, "order")?;
-            with_flag(alloc, form, "serial")
+            let form = form_named(alloc, "advise", &["PROGRAM", "PLAN", "K"])?;
+            with_turns(alloc, form)
         }
-        Verb::Demo => with_positionals(alloc, Command::new(alloc, "demo"), &["SEED", "ROUNDS"]),
+        Verb::Demo => form_named(alloc, "demo", &["SEED", "ROUNDS"]),
         Verb::Replay => {
-            let form = with_positionals(alloc, Command::new(alloc, "replay"), &["LOG"])?;
+            let form = form_named(alloc, "replay", &["LOG"])?;
             let form = with_option(alloc, form, "program")?;
             let form = with_option(alloc, form, "break")?;
             with_flag(alloc, form, "serial")
         }
-        Verb::Show => with_positionals(alloc, Command::new(alloc, "show"), &["LOG"]),
-        Verb::Stats => with_positionals(alloc, Command::new(alloc, "stats"), &["LOG"]),
+        Verb::Show => form_named(alloc, "show", &["LOG"]),
+        Verb::Stats => form_named(alloc, "stats", &["LOG"]),
         Verb::Convert => {
-            let form = with_positionals(alloc, Command::new(alloc, "convert"), &["LOG", "FILE"])?;
+            let form = form_named(alloc, "convert", &["LOG", "FILE"])?;
             with_flag(alloc, form, "text")
         }
-        Verb::Refine => with_positionals(
-            alloc,
-            Command::new(alloc, "refine"),
-            &["LOG", "PLAN", "PREFIX"],
-        ),
-        Verb::Join => with_positionals(
-            alloc,
-            Command::new(alloc, "join"),
-            &["LOG", "OTHER", "FILE"],
-        ),
+        Verb::Refine => form_named(alloc, "refine", &["LOG", "PLAN", "PREFIX"]),
+        Verb::Join => form_named(alloc, "join", &["LOG", "OTHER", "FILE"]),
     }
 }
 
-/// A form with more values that have to be there, each by its place.
-fn with_positionals<'a>(
+/// The form of this name with these values that have to be there, each by its place.
+fn form_named<'a>(
     alloc: Global,
-    form: Command<'a>,
-    names: &[&'a str],
+    name: &'a str,
+    values: &[&'a str],
 ) -> Result<Command<'a>, AllocError>
-    ensures { IfOk result (λ more. app_of more ≡ fold with_rule (app_of form.entry) (map positional (texts names.now))) }
+    ensures { IfOk result (λ form. app_of form ≡ fold with_rule (new_app name.entry.now) (map positional (texts values.now))) }
 {
-    let mut form = form;
-    let mut rest = names;
-    while let [name, after @ ..] = rest {
-        form = with_positional(alloc, form, *name)?;
+    let mut form = Command::new(alloc, name);
+    let mut rest = values;
+    while let [value, after @ ..] = rest {
+        form = with_positional(alloc, form, *value)?;
         rest = after;
     }
     Ok(form)
+}
+
+/// A form with what says how the ranks of a run take their turns.
+fn with_turns<'a>(alloc: Global, form: Command<'a>) -> Result<Command<'a>, AllocError>
+    ensures { IfOk result (λ more. app_of more
+        ≡ with_rule (with_rule (app_of form.entry) (option (codes "order"))) (flag (codes "serial"))) }
+{
+    let form = with_option(alloc, form, "order")?;
+    with_flag(alloc, form, "serial")
 }
 
 /// A form with one more value that has to be there, by its place.
