@@ -325,7 +325,8 @@ def at_limits(work, table):
         write(folder, "plan", plan)
         for words in [["record", "p.c", "plan", "run", "--serial"], ["record", "p.c", "plan", "run"], ["check", "p.c", "plan", "--serial"], ["check", "p.c", "plan"]]:
             begun = time.monotonic()
-            status, wrong = run(words, folder, made=("run.",))
+            # On threads each rank has an arena of its own, of which most is address space alone.
+            status, wrong = run(words, folder, made=("run.",), memory=4 * MEMORY)
             longest = max(longest, time.monotonic() - begun)
             if status is not None and status not in wanted:
                 wrong = wrong or f"status {status}"

@@ -29,58 +29,60 @@ const RECORDING: &[&str] = &["A.0.srr", "A.1.srr", "A.order"];
 const RACES: &[u8] = b"receives 0 raced 0\nfinished\n";
 
 /// Each command that reads, writes or prints, on threads and on one thread.
-static COMMANDS: [Row<'static>; 20] = [
-    (&["record", "P", "Q", "A"], RUN, RECORDING, FIRST_RECORDED),
-    (
-        &["record", "P", "Q", "A", "--serial"],
-        RUN,
-        RECORDING,
-        FIRST_RECORDED,
-    ),
-    (
-        &["record", "P", "Q", "A", "--order", "F"],
-        ORDERED,
-        RECORDING,
-        FIRST_RECORDED,
-    ),
-    (&["check", "P", "Q"], RUN, NONE, FIRST_CHECKED),
-    (&["check", "P", "Q", "--serial"], RUN, NONE, FIRST_CHECKED),
-    (&["races", "P", "Q"], RUN, NONE, RACES),
-    (&["races", "P", "Q", "--serial"], RUN, NONE, RACES),
-    (&["races", "P", "Q", "--order", "F"], ORDERED, NONE, RACES),
-    (&["advise", "P", "Q", "1"], RUN, NONE, FIRST_ADVISED),
-    (
-        &["advise", "P", "Q", "1", "--serial"],
-        RUN,
-        NONE,
-        FIRST_ADVISED,
-    ),
-    (
-        &["advise", "P", "Q", "1", "--order", "F"],
-        ORDERED,
-        NONE,
-        FIRST_ADVISED,
-    ),
-    (&["demo", "0", "1"], NONE, NONE, DEMO),
-    (&["replay", "L"], &["L"], NONE, FIRST_TRACE),
-    (&["replay", "L", "--serial"], &["L"], NONE, FIRST_TRACE),
-    (
-        &["replay", "L", "--program", "P"],
-        &["L", "P"],
-        NONE,
-        FIRST_TRACE,
-    ),
-    (
-        &["replay", "L", "--program", "P", "--serial"],
-        &["L", "P"],
-        NONE,
-        FIRST_TRACE,
-    ),
-    (&["show", "L"], &["L"], NONE, SHOWN),
-    (&["stats", "L"], &["L"], NONE, COUNTED),
-    (&["convert", "L", "M"], &["L"], &["M"], b""),
-    (&["convert", "L", "M", "--text"], &["L"], &["M"], b""),
-];
+fn commands() -> [Row<'static>; 20] {
+    [
+        (&["record", "P", "Q", "A"], RUN, RECORDING, FIRST_RECORDED),
+        (
+            &["record", "P", "Q", "A", "--serial"],
+            RUN,
+            RECORDING,
+            FIRST_RECORDED,
+        ),
+        (
+            &["record", "P", "Q", "A", "--order", "F"],
+            ORDERED,
+            RECORDING,
+            FIRST_RECORDED,
+        ),
+        (&["check", "P", "Q"], RUN, NONE, FIRST_CHECKED),
+        (&["check", "P", "Q", "--serial"], RUN, NONE, FIRST_CHECKED),
+        (&["races", "P", "Q"], RUN, NONE, RACES),
+        (&["races", "P", "Q", "--serial"], RUN, NONE, RACES),
+        (&["races", "P", "Q", "--order", "F"], ORDERED, NONE, RACES),
+        (&["advise", "P", "Q", "1"], RUN, NONE, FIRST_ADVISED),
+        (
+            &["advise", "P", "Q", "1", "--serial"],
+            RUN,
+            NONE,
+            FIRST_ADVISED,
+        ),
+        (
+            &["advise", "P", "Q", "1", "--order", "F"],
+            ORDERED,
+            NONE,
+            FIRST_ADVISED,
+        ),
+        (&["demo", "0", "1"], NONE, NONE, DEMO),
+        (&["replay", "L"], &["L"], NONE, FIRST_TRACE),
+        (&["replay", "L", "--serial"], &["L"], NONE, FIRST_TRACE),
+        (
+            &["replay", "L", "--program", "P"],
+            &["L", "P"],
+            NONE,
+            FIRST_TRACE,
+        ),
+        (
+            &["replay", "L", "--program", "P", "--serial"],
+            &["L", "P"],
+            NONE,
+            FIRST_TRACE,
+        ),
+        (&["show", "L"], &["L"], NONE, SHOWN),
+        (&["stats", "L"], &["L"], NONE, COUNTED),
+        (&["convert", "L", "M"], &["L"], &["M"], b""),
+        (&["convert", "L", "M", "--text"], &["L"], &["M"], b""),
+    ]
+}
 
 /// The files `P`, `Q`, `L` and `F`: a program, a plan of two groups, a log and an order.
 fn inputs(alloc: Global, program: &[u8]) -> Option<MemoryStore> {
@@ -112,10 +114,13 @@ fn are_first(store: &MemoryStore, names: &[&str], count: usize) -> bool {
 
 #[test]
 fn each_read_and_write_of_a_command_fails_in_turn(rt: HostRuntime) {
-    for row in &COMMANDS {
+    for row in commands() {
         let words = row.0;
-        assert!(&rt; tells_each_fault(&rt, row).unwrap_or(false), "{words:?}");
-        assert!(&rt; makes_no_more_calls(&rt, row).unwrap_or(false), "{words:?}");
+        assert!(&rt; tells_each_fault(&rt, &row).unwrap_or(false), "{words:?}");
+        assert!(&rt;
+            makes_no_more_calls(&rt, &row).unwrap_or(false),
+            "{words:?}"
+        );
     }
 }
 
@@ -153,11 +158,11 @@ fn makes_no_more_calls<R: Threads + Wait + Sync + AllocGlobal>(
 
 #[test]
 fn each_put_of_a_command_fails_in_turn(rt: HostRuntime) {
-    for row in &COMMANDS {
+    for row in commands() {
         let words = row.0;
         // One put has all that is printed.
-        assert!(&rt; ends_at_put(&rt, row, 0).unwrap_or(false), "{words:?}");
-        assert!(&rt; ends_at_put(&rt, row, 1).unwrap_or(false), "{words:?}");
+        assert!(&rt; ends_at_put(&rt, &row, 0).unwrap_or(false), "{words:?}");
+        assert!(&rt; ends_at_put(&rt, &row, 1).unwrap_or(false), "{words:?}");
     }
 }
 

@@ -34,68 +34,71 @@ const MIXED_RECORDED: &[u8] =
 /// A log with a part replaced: where it begins, its length, what stands there instead, the status, and what is printed, in parts.
 type Row<'a> = (&'a [u8], usize, usize, &'a [u8], u8, &'a [&'a [u8]]);
 
-static FORGED: [Row<'static>; 10] = [
-    (FIRST_LOG, 0, 0, b"", 0, &[FIRST_TRACE]),
-    // The head, the number of ranks, and the group; a text that begins so is read as one in format 2.
-    (FIRST_LOG, 4, 1, b"2", 8, &[b"log 6 bad number\n"]),
-    (FIRST_LOG, 12, 1, b"0", 8, &[b"log 6 bad number\n"]),
-    (FIRST_LOG, 20, 3, b"1 0", 8, &[b"log 14 bad group\n"]),
-    // Rank 1's second entry: a sender that is none, a message that there is not, a start that was not asked for, and one more.
-    (FIRST_LOG, 270, 7, b"t 0=5.0", 8, &[b"log 270 bad entry\n"]),
-    (
-        FIRST_LOG,
-        270,
-        7,
-        b"t 0=0.999999",
-        10,
-        &[FIRST_TRACE_HEAD, b"output 0\n\nstarved 0.999999\n"],
-    ),
-    (
-        FIRST_LOG,
-        270,
-        7,
-        b"t 1=0.0",
-        9,
-        &[
-            FIRST_TRACE_HEAD,
-            b"output 0\n\ndiverged call 1 entry t 1=0.0 made take all 0\n",
-        ],
-    ),
-    (
-        FIRST_LOG,
-        270,
-        7,
-        b"t 0=0.0 1=0.0",
-        9,
-        &[
-            FIRST_TRACE_HEAD,
-            b"output 0\n\ndiverged call 1 entry t 0=0.0 1=0.0 made take all 0\n",
-        ],
-    ),
-    // Rank 1's last entry.
-    (
-        FIRST_LOG,
-        278,
-        1,
-        b"x 4 1",
-        9,
-        &[
-            FIRST_TRACE_HEAD,
-            b"1 take all 0 -> took 0=0.0 tag=5 data=7\noutput 2\n7\n\ndiverged call 2 entry x 4 1 made end\n",
-        ],
-    ),
-    // Each of two ranks rests on what the other sends later.
-    (
-        CYCLE_LOG,
-        0,
-        0,
-        b"",
-        10,
-        &[
-            b"rank 0\n0 post comm=0 from=1 tag=5 room=1 -> done\noutput 0\n\nstarved 1.1\nrank 1\n0 post comm=0 from=0 tag=5 room=1 -> done\noutput 0\n\nstarved 0.1\n",
-        ],
-    ),
-];
+/// Forged logs: the first log as it is, then with one change each, and a cycle.
+fn forged_logs() -> [Row<'static>; 10] {
+    [
+        (FIRST_LOG, 0, 0, b"", 0, &[FIRST_TRACE]),
+        // The head, the number of ranks, and the group; a text that begins so is read as one in format 2.
+        (FIRST_LOG, 4, 1, b"2", 8, &[b"log 6 bad number\n"]),
+        (FIRST_LOG, 12, 1, b"0", 8, &[b"log 6 bad number\n"]),
+        (FIRST_LOG, 20, 3, b"1 0", 8, &[b"log 14 bad group\n"]),
+        // Rank 1's second entry: a sender that is none, a message that there is not, a start that was not asked for, and one more.
+        (FIRST_LOG, 270, 7, b"t 0=5.0", 8, &[b"log 270 bad entry\n"]),
+        (
+            FIRST_LOG,
+            270,
+            7,
+            b"t 0=0.999999",
+            10,
+            &[FIRST_TRACE_HEAD, b"output 0\n\nstarved 0.999999\n"],
+        ),
+        (
+            FIRST_LOG,
+            270,
+            7,
+            b"t 1=0.0",
+            9,
+            &[
+                FIRST_TRACE_HEAD,
+                b"output 0\n\ndiverged call 1 entry t 1=0.0 made take all 0\n",
+            ],
+        ),
+        (
+            FIRST_LOG,
+            270,
+            7,
+            b"t 0=0.0 1=0.0",
+            9,
+            &[
+                FIRST_TRACE_HEAD,
+                b"output 0\n\ndiverged call 1 entry t 0=0.0 1=0.0 made take all 0\n",
+            ],
+        ),
+        // Rank 1's last entry.
+        (
+            FIRST_LOG,
+            278,
+            1,
+            b"x 4 1",
+            9,
+            &[
+                FIRST_TRACE_HEAD,
+                b"1 take all 0 -> took 0=0.0 tag=5 data=7\noutput 2\n7\n\ndiverged call 2 entry x 4 1 made end\n",
+            ],
+        ),
+        // Each of two ranks rests on what the other sends later.
+        (
+            CYCLE_LOG,
+            0,
+            0,
+            b"",
+            10,
+            &[
+                b"rank 0\n0 post comm=0 from=1 tag=5 room=1 -> done\noutput 0\n\nstarved 1.1\nrank 1\n0 post comm=0 from=0 tag=5 room=1 -> done\noutput 0\n\nstarved 0.1\n",
+            ],
+        ),
+    ]
+}
 
 /// A log with a part replaced.
 fn replaced(alloc: Global, log: &[u8], at: usize, length: usize, new: &[u8]) -> Option<Bytes> {
@@ -105,9 +108,9 @@ fn replaced(alloc: Global, log: &[u8], at: usize, length: usize, new: &[u8]) -> 
 
 #[test]
 fn a_forged_log_is_refused_starves_or_diverges(rt: HostRuntime) {
-    for row in &FORGED {
+    for row in forged_logs() {
         let new = row.3;
-        assert!(&rt; is_so(&rt, row).unwrap_or(false), "{new:?}");
+        assert!(&rt; is_so(&rt, &row).unwrap_or(false), "{new:?}");
     }
 }
 
