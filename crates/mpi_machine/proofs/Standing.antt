@@ -1,20 +1,24 @@
 -- When no rank can go on.
-use Rattle.std.proofs.Common.{◌≡◌, ◌||◌, ◌&&◌, ◌==◌, ◌∙◌, ◌<◌, Bool, List, None, Option, Some, ap, arith, false, inl, inr, is_some, not, refl, subst, sym, true, ℕ}
+use Rattle.std.proofs.Common.{◌≡◌, ◌||◌, ◌&&◌, ◌==◌, ◌∙◌, ◌<◌, Bool, List, None, Option, Some, [], ap, arith, false, inl, inr, is_some, not, refl, subst, sym, true, ℕ}
 use Rattle.std.proofs.lemmas.Bool.{and_parts, eqb-true, or_parts}
 use Rattle.mpi_call.specs.declared.call.Call.{Call}
+use Rattle.mpi_call.specs.declared.call.Call.TheVariants.{Take}
+use Rattle.mpi_call.specs.declared.call.TakeMode.{TakeMode}
 use Rattle.mpi_call.specs.Members.{is_member}
 use Rattle.run_model.specs.declared.event.Event.{Event}
-use Rattle.run_model.specs.Allowed.{can_go}
+use Rattle.run_model.specs.Allowed.{can_go, flags_of, holds}
 use Rattle.run_model.specs.Chosen.{IsChosen}
+use Rattle.run_model.specs.Due.{bad_request}
 use Rattle.run_model.specs.Serial.{call_after, goes, is_stuck, others_wait}
-use Rattle.run_model.specs.Views.{Next, view_of}
+use Rattle.run_model.specs.Shape.{is_test}
+use Rattle.run_model.specs.Views.{Next, View, view_of}
 use Rattle.run_model.proofs.RunLaws.{Lawful, kept_run}
-use Rattle.run_model.proofs.Views.{test_cases}
+use Rattle.run_model.proofs.Views.{option_cases, test_cases}
 use Rattle.mpi_machine.specs.Courses.{bound_of, has_ended}
-use Rattle.mpi_machine.specs.Turns.{IsAsked, kept_of, stage_of, stands, waiting_from}
-use Rattle.mpi_machine.specs.Waits.{AreKept, is_there}
-use Rattle.mpi_machine.proofs.Answering.{waits_go}
-use Rattle.mpi_machine.proofs.Growing.{ended_is, over, world_all, world_at}
+use Rattle.mpi_machine.specs.Turns.{IsAsked, IsHeldBack, kept_of, stage_of, stands, waiting_from}
+use Rattle.mpi_machine.specs.Waits.{AreKept, is_there, waits}
+use Rattle.mpi_machine.proofs.Answering.{take_held, waits_go}
+use Rattle.mpi_machine.proofs.Growing.{ended_is, not_true, over, world_all, world_at}
 use Rattle.mpi_machine.proofs.WaitingRanks.{kept_waits}
 
 -- whether a rank stands, by whether it has a call, whether it waits, and whether its call can go
@@ -115,3 +119,38 @@ kept_stands next n events kept rank call lawful chosen below are free here =
     let is = are.each rank call below here in
     let all = (kept_run next n events lawful chosen.run).below in
     rw (is.asked, here) (ap (λ b. not b) (waits_go n events rank call all free is.waiting))
+
+no_some : {A : Type 0} (o : Option A) → is_some o ≡ false → o ≡ None
+no_some None h = refl
+no_some (Some x) h = absurd (cc)
+
+-- a rank that waits with a call waits with its next one
+next_waits : (next : Next) (n : ℕ) (events : List Event) (kept : List (Option Call)) (rank : ℕ) (call : Call) → AreKept next n events kept
+    → IsAsked next n events rank call → is_some (kept_of kept rank) ≡ true → waits (view_of events rank) call ≡ true
+next_waits next n events kept rank call are asked there =
+    elim (option_cases (kept_of kept rank)) [
+      | inl some ↦ (
+          let is = are.each rank some.0 asked.below some.1 in
+          let one : Some call ≡ Some some.0 = sym asked.asked ∙ is.asked in
+          let same : some.0 ≡ call = cc in
+          let F : Call → Type 0 = λ c. waits (view_of events rank) c ≡ true in
+          subst F same is.waiting)
+      | inr none ↦ (let no : false ≡ true = rw none at there in absurd (cc))
+    ]
+
+-- a completion of a rank that waits with it and stands
+pub waiting_held : (next : Next) (n : ℕ) (events : List Event) (kept : List (Option Call)) (rank : ℕ) (starts : List ℕ) (mode : TakeMode) → Lawful next → IsChosen next n events
+    → AreKept next n events kept → bound_of events ≡ None → IsAsked next n events rank (Take starts mode) → stands next n events kept rank ≡ true
+    → IsHeldBack n events rank (Take starts mode) false
+waiting_held next n events kept rank starts mode lawful chosen are free asked stood =
+    let own : View = view_of events rank in
+    let F : Option Call → Type 0 = λ c. (not (is_some c) || (is_some (kept_of kept rank) && not (goes n events rank c))) ≡ true in
+    let parts = and_parts (is_some (kept_of kept rank)) (not (can_go n events own rank (Take starts mode))) (subst F asked.asked stood) in
+    let go : can_go n events own rank (Take starts mode) ≡ false = not_true (can_go n events own rank (Take starts mode)) parts.1 in
+    let waiting : waits own (Take starts mode) ≡ true = next_waits next n events kept rank (Take starts mode) are asked parts.0 in
+    let open_list = and_parts (not (is_test mode)) (not (is_some (bad_request own [] starts))) waiting in
+    let bad : bad_request own [] starts ≡ None = no_some (bad_request own [] starts) (not_true (is_some (bad_request own [] starts)) open_list.1) in
+    let all = (kept_run next n events lawful chosen.run).below in
+    let none : holds mode (flags_of n events own rank starts) ≡ false = sym (waits_go n events rank (Take starts mode) all free waiting) ∙ go in
+    let G : Bool → Type 0 = λ test. IsHeldBack n events rank (Take starts mode) test in
+    subst G (not_true (is_test mode) open_list.0) (take_held n events rank starts mode free bad none)

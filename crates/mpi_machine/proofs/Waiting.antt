@@ -1,6 +1,8 @@
 -- Which starts of a waiting call are ready.
-use Rattle.std.proofs.Common.{◌≡◌, ◌∙◌, List, None, Option, Some, [], ◌∷◌, false, is_some, not, refl, sym, true, ℕ}
-use Rattle.std.proofs.lemmas.Bool.{and_parts}
+use Rattle.std.proofs.Common.{◌≡◌, ◌≢◌, ◌<◌, ◌≤◌, ◌==◌, ◌∙◌, ◌&&◌, Bool, List, None, Option, Some, [], ◌∷◌, arith, drop, false, inl, inr, is_some, length, not, refl, sym, take, true, ℕ}
+use Rattle.std.proofs.lemmas.Bool.{and_parts, eqb-false, eqb-true}
+use Rattle.std.proofs.lemmas.List.{take-append-drop}
+use Rattle.std.proofs.lemmas.List.Folds.{list_all-append}
 use Rattle.std.specs.List.{list_all, list_any}
 use Rattle.mpi_call.specs.declared.call.Call.TheVariants.{Take}
 use Rattle.mpi_call.specs.declared.call.TakeMode.{TakeMode}
@@ -13,6 +15,7 @@ use Rattle.run_model.specs.Readiness.{is_ready}
 use Rattle.run_model.specs.Shape.{can_take, is_test}
 use Rattle.run_model.specs.Views.{View, start_at, taken_of, view_of}
 use Rattle.run_model.proofs.TakeShapes.{none_bad}
+use Rattle.run_model.proofs.Views.{test_cases}
 use Rattle.requests.specs.declared.requests.Readiness.{Readiness}
 use Rattle.requests.specs.declared.requests.Readiness.TheVariants.{Ready, NotReady, NoSuch, Taken}
 use Rattle.requests.specs.Starts.{found_in}
@@ -81,3 +84,33 @@ there_by n events state me starts Several knows h apart = any_there n events sta
 there_by n events state me starts TestAll knows h apart = absurd (cc)
 there_by n events state me starts TestAny knows h apart = absurd (cc)
 there_by n events state me starts TestSeveral knows h apart = absurd (cc)
+
+-- a list in two parts
+pub parts_all : (p : ℕ → Bool) (xs front back : List ℕ) (at : ℕ) → front ≡ take at xs → back ≡ drop at xs → (list_all p front && list_all p back) ≡ list_all p xs
+parts_all p xs front back at f b = rw (f, b, ← list_all-append p (take at xs) (drop at xs), take-append-drop at xs) refl
+
+and_no : (b : Bool) → (b && false) ≡ false
+and_no true = refl
+and_no false = refl
+
+and_yes : (b : Bool) → (b && true) ≡ b
+and_yes true = refl
+and_yes false = refl
+
+pub back_missing : (p : ℕ → Bool) (xs front back : List ℕ) (at : ℕ) → front ≡ take at xs → back ≡ drop at xs → list_all p back ≡ false → false ≡ list_all p xs
+back_missing p xs front back at f b h =
+    let none : (list_all p front && list_all p back) ≡ false = rw h (and_no (list_all p front)) in
+    sym none ∙ parts_all p xs front back at f b
+
+-- where all of the later part are ready, the number that are ready at the front of the earlier part decides
+pub front_decides : (p : ℕ → Bool) (xs front back : List ℕ) (at count : ℕ) → front ≡ take at xs → back ≡ drop at xs → list_all p back ≡ true → count ≤ length front
+    → (count ≡ length front → list_all p front ≡ true) → (count < length front → list_all p front ≡ false) → (count == length front) ≡ list_all p xs
+front_decides p xs front back at count f b h within all some =
+    let same : list_all p front ≡ list_all p xs =
+    (let yes : (list_all p front && list_all p back) ≡ list_all p front = rw h (and_yes (list_all p front)) in sym yes ∙ parts_all p xs front back at f b) in
+    elim (test_cases (count == length front)) [
+      | inl t ↦ t ∙ (sym (all (eqb-true count (length front) t)) ∙ same)
+      | inr t ↦ (
+          let apart : count ≢ length front = eqb-false count (length front) t in
+          t ∙ (sym (some (omega (arith, within, apart))) ∙ same))
+    ]

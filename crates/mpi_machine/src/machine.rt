@@ -20,7 +20,8 @@ ghost use Rattle.requests.specs.Taking.{answer_in, rows_after};
 ghost use Rattle.requests.specs.declared.requests.TakeAnswer.TheVariants.{Took as TookItems};
 ghost use Rattle.mpi_machine.specs.Courses.{bound_of, has_ended, HasRoom};
 ghost use Rattle.mpi_machine.specs.Turns.{after_turn, last_reply, stage_of, stands, takes_none, turn_of, HasReply, IsAsked, IsHeldBack, IsStartAt, StandsAt};
-ghost use Rattle.mpi_machine.specs.declared.turn.Turn.TheVariants.{Replied};
+ghost use Rattle.mpi_machine.specs.declared.turn.Turn.TheVariants.{Replied, Wait};
+ghost use Rattle.mpi_machine.specs.Waits.{waits, AreKept};
 
 use crate::course::Course;
 use crate::turn::Turn;
@@ -44,6 +45,8 @@ pub struct Machine<'a, P: Program> {
     program: &'a P,
     course: Course,
     requests: Requests,
+    /// For each rank, where in the list of its waiting completion a start was not ready when that was last asked.
+    places: [usize; 256],
 }
 
 impl<'a, P: Program> Model for Machine<'a, P> {
@@ -67,6 +70,7 @@ impl<'a, P: Program> Machine<'a, P> {
             program,
             course: Course::new(alloc, ranks)?,
             requests: Requests::new(alloc, ranks)?,
+            places: [0; 256],
         })
     }
 
@@ -93,11 +97,12 @@ impl<'a, P: Program> Machine<'a, P> {
         Ok(turn)
     }
 
-    /// The events so far are a run, each event of which is the machine's, and each rank has a place for its waiting call. The body
-    /// does nothing: the machine's invariant says so, and callers take it from these clauses.
+    /// The events so far are a run, each event of which is the machine's, and each rank has a place for its waiting call, which is
+    /// its next one. The body does nothing: the machine's invariant says so, and callers take it from these clauses.
     fn is_run(&self)
         ensures chosen { IsChosen (P.next self.now.program) self.now.ranks self.now.events }
         ensures kept { length self.now.kept ≡ self.now.ranks }
+        ensures waiting { AreKept (P.next self.now.program) self.now.ranks self.now.events self.now.kept }
     {
         let _ = &self.program;
     }
@@ -115,7 +120,7 @@ impl<'a, P: Program> Machine<'a, P> {
         }
         match call {
             Call::Send { .. } | Call::Post { .. } | Call::Enter { .. } => self.start(rank, call),
-            Call::Take { starts, mode } => self.take(rank, starts, mode),
+            Call::Take { starts, mode } => self.complete(rank, starts, mode),
             Call::Peek {
                 comm,
                 source,
@@ -201,7 +206,23 @@ impl<'a, P: Program> Machine<'a, P> {
         }
     }
 
-    /// A completion.
+    /// A completion. A rank that waits with it already is not asked for its list again where what it waits for is not there.
+    fn complete(&mut self, rank: u8, starts: Starts, mode: TakeMode) -> Result<Turn, AllocError>
+        requires asked { IsAsked (P.next self.old.program) self.old.ranks self.old.events rank (Take starts mode) }
+        requires bound { bound_of self.old.events ≡ None }
+        ensures turn { IfOk result (λ turn. turn ≡ turn_of (P.next self.old.program) self.old.ranks self.old.events self.old.kept rank (Take starts mode)) }
+        ensures after { IfOk result (λ turn. self.new ≡ after_turn self.old rank (Take starts mode) turn) }
+        ensures err { OnErr result (self.new ≡ self.old) }
+        ensures sure { takes_none self.old.events (Take starts mode) (chosen_reply self.old.ranks self.old.events rank (Take starts mode)) ≡ true → IsOk result }
+    {
+        self.is_run();
+        if self.stands(rank) {
+            return self.held(rank, Call::Take { starts, mode }, false);
+        }
+        self.take(rank, starts, mode)
+    }
+
+    /// A completion, by its list of starts.
     fn take(&mut self, rank: u8, starts: Starts, mode: TakeMode) -> Result<Turn, AllocError>
         requires asked { IsAsked (P.next self.old.program) self.old.ranks self.old.events rank (Take starts mode) }
         requires bound { bound_of self.old.events ≡ None }
@@ -301,14 +322,24 @@ impl<'a, P: Program> Machine<'a, P> {
         if self.others_stand(rank) {
             return Ok(self.last(rank, call, Some(Halt::Stuck)));
         }
-        self.course.keep(rank, call);
+        self.keep(rank, call);
         Ok(Turn::Wait)
     }
 
+    /// The rank waits with its call. Takes no memory.
+    fn keep(&mut self, rank: u8, call: Call)
+        requires asked { IsAsked (P.next self.old.program) self.old.ranks self.old.events rank call }
+        requires waiting { waits (view_of self.old.events rank) call ≡ true }
+        ensures { self.new ≡ after_turn self.old rank call Wait }
+    {
+        self.course.keep(rank, call);
+    }
+
     /// Whether no other rank can go on. Takes no memory.
-    fn others_stand(&self, rank: u8) -> bool
-        requires bound { bound_of self.now.events ≡ None }
-        ensures { (call : Call) → IsAsked (P.next self.now.program) self.now.ranks self.now.events rank call → can_go self.now.ranks self.now.events (view_of self.now.events rank) rank call ≡ false → result ≡ (is_stuck (P.next self.now.program) self.now.ranks self.now.events && others_wait (P.next self.now.program) self.now.ranks (stage_of self.now.events self.now.kept) rank) }
+    fn others_stand(&mut self, rank: u8) -> bool
+        requires bound { bound_of self.old.events ≡ None }
+        ensures value { (call : Call) → IsAsked (P.next self.old.program) self.old.ranks self.old.events rank call → can_go self.old.ranks self.old.events (view_of self.old.events rank) rank call ≡ false → result ≡ (is_stuck (P.next self.old.program) self.old.ranks self.old.events && others_wait (P.next self.old.program) self.old.ranks (stage_of self.old.events self.old.kept) rank) }
+        ensures same { self.new ≡ self.old }
     {
         for other in 0..self.course.ranks() {
             if !self.is_still(other, rank) {
@@ -319,25 +350,27 @@ impl<'a, P: Program> Machine<'a, P> {
     }
 
     /// Whether a rank is this one, or stands. Takes no memory.
-    fn is_still(&self, other: u8, rank: u8) -> bool
-        requires rank { other < self.now.ranks }
-        requires bound { bound_of self.now.events ≡ None }
-        ensures { result ≡ ((other == rank) || stands (P.next self.now.program) self.now.ranks self.now.events self.now.kept other) }
+    fn is_still(&mut self, other: u8, rank: u8) -> bool
+        requires rank { other < self.old.ranks }
+        requires bound { bound_of self.old.events ≡ None }
+        ensures value { result ≡ ((other == rank) || stands (P.next self.old.program) self.old.ranks self.old.events self.old.kept other) }
+        ensures same { self.new ≡ self.old }
     {
         other == rank || self.stands(other)
     }
 
     /// Whether a rank has ended, or waits for what is not there. Takes no memory.
-    fn stands(&self, rank: u8) -> bool
-        requires rank { rank < self.now.ranks }
-        requires bound { bound_of self.now.events ≡ None }
-        ensures { result ≡ stands (P.next self.now.program) self.now.ranks self.now.events self.now.kept rank }
+    fn stands(&mut self, rank: u8) -> bool
+        requires rank { rank < self.old.ranks }
+        requires bound { bound_of self.old.events ≡ None }
+        ensures value { result ≡ stands (P.next self.old.program) self.old.ranks self.old.events self.old.kept rank }
+        ensures same { self.new ≡ self.old }
     {
         if self.course.ended(rank) {
             return true;
         }
         match self.course.kept(rank) {
-            Some(call) => !is_there(&self.requests, rank, call),
+            Some(call) => !is_there(&self.requests, rank, call, &mut self.places[rank as usize]),
             None => false,
         }
     }

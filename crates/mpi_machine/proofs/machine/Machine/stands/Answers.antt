@@ -2,24 +2,24 @@ use Rattle.std.proofs.Common.{◌∙◌, ap, not, sym}
 use Rattle.mpi_machine.proofs.Standing.{ended_stands, free_moves, kept_stands}
 use Rattle.mpi_machine.proofs.machine.Machine.stands.Goals as goal
 
-pub returns-then-ended : goal.returns-then-ended
-returns-then-ended g c =
+pub returns-then-ended-clause-value : goal.returns-then-ended-clause-value
+returns-then-ended-clause-value g c =
     let below = rw (← c.self.view_is) at c.requires.rank in
     rw (← c.self.view_is) (sym (
     ended_stands (g.P.Program.next c.self.inside.program.now) c.self.inside.course.ranks c.self.inside.course.events c.self.inside.course.kept c.args.rank
     (record { ends = g.P.Program.ends_exactly c.self.inside.program.now; enters = g.P.Program.enters_in_form c.self.inside.program.now })
     c.self.invariant.chosen below (sym c.ended.ensures ∙ c.if-ended.true)))
 
-pub returns-in-None : goal.returns-in-None
-returns-in-None g c =
+pub returns-in-None-clause-value : goal.returns-in-None-clause-value
+returns-in-None-clause-value g c =
     let below = rw (← c.self.view_is) at c.requires.rank in
     rw (← c.self.view_is) (sym (
     free_moves (g.P.Program.next c.self.inside.program.now) c.self.inside.course.ranks c.self.inside.course.events c.self.inside.course.kept c.args.rank
     (record { ends = g.P.Program.ends_exactly c.self.inside.program.now; enters = g.P.Program.enters_in_form c.self.inside.program.now })
     c.self.invariant.chosen below (sym c.ended.ensures ∙ c.if-ended.false) (sym c.kept.ensures ∙ c.in-None.is)))
 
-pub returns-in-Some : goal.returns-in-Some
-returns-in-Some g c =
+pub returns-in-Some-clause-value : goal.returns-in-Some-clause-value
+returns-in-Some-clause-value g c =
     let below = rw (← c.self.view_is) at c.requires.rank in
     let free = rw (← c.self.view_is) at c.requires.bound in
     let here = sym c.kept.ensures ∙ c.in-Some.is in
