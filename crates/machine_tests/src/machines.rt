@@ -126,7 +126,7 @@ struct Row<'a> {
     want: &'a [Short],
 }
 
-static RUNS: [Row; 11] = [
+static RUNS: [Row; 12] = [
     // The results of a collective are there once both ranks have entered.
     Row {
         zeroth: &[Step::Enter(0, Kind::Barrier), Step::Take(ALL, 0)],
@@ -180,6 +180,39 @@ static RUNS: [Row; 11] = [
             Short::Both(1, 0, 1),
             Short::Done(0, None),
             Short::Done(1, None),
+        ],
+    },
+
+    // Two lists of receives, whose messages come one by one while the rank waits: in the order of the list, and against it.
+    Row {
+        zeroth: &[
+            Step::Send(1, 5),
+            Step::Send(1, 6),
+            Step::Send(1, 8),
+            Step::Send(1, 7),
+        ],
+        first: &[
+            Step::Post(Tag::Is(5), 1),
+            Step::Post(Tag::Is(6), 1),
+            Step::TakeTwo(ALL, 0, 1),
+            Step::Post(Tag::Is(7), 1),
+            Step::Post(Tag::Is(8), 1),
+            Step::TakeTwo(ALL, 2, 3),
+        ],
+        turns: &[
+            true, true, false, true, false, true, true, true, true, false, true, false, true,
+        ],
+        want: &[
+            Short::Done(1, None),
+            Short::Done(1, None),
+            Short::Done(0, Some(0)),
+            Short::Done(0, Some(1)),
+            Short::Both(1, 0, 1),
+            Short::Done(1, None),
+            Short::Done(1, None),
+            Short::Done(0, Some(6)),
+            Short::Done(0, Some(5)),
+            Short::Both(1, 3, 2),
         ],
     },
 
