@@ -368,19 +368,20 @@ def long_logs(work, table):
 
 
 def refused_memory(work, table):
-    """The address space in steps, up to where all goes well."""
+    """The address space in steps, from where the system does not start the program up to where all goes well. Messages take 20 MB."""
     folder = tempfile.mkdtemp(dir=work)
-    shutil.copy(os.path.join(TOP, "examples/race/race.c"), os.path.join(folder, "p.c"))
-    write(folder, "plan", b"0 1\n2\n")
-    for log, data in recorded(work, "race/race.c", b"0 1\n2\n").items():
-        write(folder, log.replace("run", "old"), data)
-    for words in [["record", "p.c", "plan", "run", "--serial"], ["replay", "old.0.srr", "--serial"], ["record", "p.c", "plan", "run"], ["replay", "old.0.srr"]]:
-        for megabytes in list(range(4, 64, 2)) + list(range(64, 513, 32)):
-            status, wrong = run(words, folder, made=("run.",), memory=megabytes << 20)
-            # Below some size the system does not even start the program.
-            if status is not None and (status < 0 or status == 127) and megabytes < 16:
-                continue
-            table.add(words, b"", status, wrong and f"{megabytes} MB: {wrong}")
+    receive = "MPI_Recv(a,65536,MPI_INT,0,1,MPI_COMM_WORLD,MPI_STATUS_IGNORE);"
+    text = body("int a[65536];", "for(i=0;i<20;i++){if(r==0)MPI_Send(a,65536,MPI_INT,1,1,MPI_COMM_WORLD);else " + receive + "}")
+    write(folder, "p.c", text.encode())
+    write(folder, "plan", b"0\n1\n")
+    subprocess.run([WIZ, "record", "p.c", "plan", "old", "--serial"], cwd=folder, check=True, capture_output=True)
+    for words in [["record", "p.c", "plan", "run"], ["check", "p.c", "plan"], ["replay", "old.1.srr"]]:
+        for words in [words + ["--serial"], words]:
+            for megabytes in list(range(4, 128, 2)) + list(range(128, 1025, 32)):
+                status, wrong = run(words, folder, made=("run.",), memory=megabytes << 20)
+                if status is not None and (status < 0 or status == 127) and megabytes < 16:
+                    continue
+                table.add(words, b"", status, wrong and f"{megabytes} MB: {wrong}")
     table.show("memory")
 
 

@@ -2,12 +2,11 @@
 """Memory that is refused: one allocation after another, and from one allocation on.
 
 A program of three ranks in two groups is recorded, and each of its logs replayed, on one thread and on threads. For N = 1, 2, 3 .. the
-N-th allocation of a run is refused, until a run makes fewer; then the same with all allocations from the N-th on. Each run has to end
-within a bounded time, either as it does without a refusal or with status 11, and then what it printed and wrote has to be a beginning
-of that. A library that is loaded before the C library counts and refuses calls of malloc, calloc, realloc, the aligned forms, and
-pthread_create, since a thread's stack is memory too. Needs `rt` and gcc. Arguments: the greatest N that is tried (all)."""
+N-th allocation of a run is refused, until a run makes fewer; then the same with all allocations from the N-th on; then once all threads.
+Each run has to end within a bounded time, either as it does without a refusal or with status 11, and then what it printed and wrote has
+to be a beginning of that. A library that is loaded before the C library counts and refuses calls of malloc, calloc, realloc, the aligned
+forms, and pthread_create, since a thread's stack is memory too. Needs `rt` and gcc. Arguments: the greatest N that is tried (all)."""
 import os
-import shutil
 import subprocess
 import sys
 import tempfile
@@ -57,7 +56,7 @@ int posix_memalign(void **at, size_t to, size_t size) {
 typedef int (*create)(pthread_t *, const pthread_attr_t *, void *(*)(void *), void *);
 int pthread_create(pthread_t *thread, const pthread_attr_t *how, void *(*start)(void *), void *with) {
   static create real;
-  if (refused()) return EAGAIN;
+  if (number("NO_THREADS") || refused()) return EAGAIN;
   if (!real) real = (create)dlsym(RTLD_NEXT, "pthread_create");
   return real(thread, how, start, with);
 }
@@ -186,6 +185,21 @@ def refuse_in_turn(folder, shim, words, all_from, most):
     return number - made_fewer, eleven, failures
 
 
+def refuse_threads(folder, shim, words):
+    """Refuses all threads: the ranks then run one after the other, with the usual result."""
+    result = folder.run(words, {"LD_PRELOAD": shim, "NO_THREADS": "1"})
+    usual = [folder.run(words + ["--serial"])]
+    wrong = what_is_wrong(folder, words, result, False, usual)
+    return 1, int(result[0] == 11), [wrong] if wrong else []
+
+
+def show(words, refused, count, eleven, failures):
+    print(f"{' '.join(words):32} {refused:8} {count:6} {eleven:10} {len(failures):9}")
+    for failure in failures[:5]:
+        print(f"  {failure}")
+    return len(failures)
+
+
 def main():
     most = int(sys.argv[1]) if len(sys.argv) > 1 else 1 << 62
     subprocess.run([os.path.join(TOP, "wiz"), "show", os.path.join(TOP, "examples/first/first.srr")], check=True, stdout=subprocess.DEVNULL)
@@ -203,11 +217,9 @@ def main():
         print(f"{'command':32} {'refused':8} {'runs':>6} {'status 11':>10} {'failures':>9}")
         for words in [command + end for command in commands for end in [["--serial"], []]]:
             for all_from in [False, True]:
-                count, eleven, failures = refuse_in_turn(folder, shim, words, all_from, most)
-                print(f"{' '.join(words):32} {'all from' if all_from else 'one':8} {count:6} {eleven:10} {len(failures):9}")
-                for failure in failures[:5]:
-                    print(f"  {failure}")
-                failed += len(failures)
+                failed += show(words, "all from" if all_from else "one", *refuse_in_turn(folder, shim, words, all_from, most))
+            if "--serial" not in words:
+                failed += show(words, "threads", *refuse_threads(folder, shim, words))
     print(f"{failed} failures")
     return 1 if failed else 0
 
