@@ -97,9 +97,9 @@ fn flooded(
     Ok(wiz_serial(alloc, ORDERED, &mut store, out))
 }
 
-/// Whether the run is kept: an event for each send and two for each receive, and one more for each rank.
-fn keeps_its_run(report: &Report, count: u32) -> bool {
-    matches!(&report.run, Some(run) if run.len() == 3 * count + 2)
+/// Whether the run is kept: it has an event for each send and two for each receive, and one more for each rank.
+fn keeps_its_run(report: &Report, events: u32) -> bool {
+    matches!(&report.run, Some(run) if run.len() == events)
 }
 
 /// 1,000 receives with 999 others each.
@@ -108,7 +108,7 @@ fn a_million_races_are_listed(rt: HostRuntime) {
     let alloc = rt.alloc();
     let mut out = MemorySink::new(alloc);
     let report = flooded(alloc, 1000, b"", &mut out).expect(&rt, "memory");
-    assert!(&rt; report.status == 0 && keeps_its_run(&report, 1000));
+    assert!(&rt; report.status == 0 && keeps_its_run(&report, 3002));
     assert!(&rt;
         out.bytes()
             .starts_with(b"receive 0.0 took 1.0 others 1.1 1.2 1.3 ")
@@ -128,7 +128,7 @@ fn more_races_are_too_many(rt: HostRuntime) {
     let alloc = rt.alloc();
     let mut out = MemorySink::new(alloc);
     let report = flooded(alloc, 1001, b"", &mut out).expect(&rt, "memory");
-    assert!(&rt; report.status == 14 && keeps_its_run(&report, 1001));
+    assert!(&rt; report.status == 14 && keeps_its_run(&report, 3005));
     assert!(&rt;
         out.bytes()
             == b"races over 1000000
@@ -144,6 +144,6 @@ fn a_halted_run_with_too_many_races_is_told_as_such(rt: HostRuntime) {
     let mut full = MemorySink::new(alloc);
     full.fail(0).expect(&rt, "a put");
     let report = flooded(alloc, 1001, b"if(r==0)x=1/x;", &mut full).expect(&rt, "memory");
-    assert!(&rt; report.status == 14 && keeps_its_run(&report, 1001));
+    assert!(&rt; report.status == 14 && keeps_its_run(&report, 3005));
     assert!(&rt; full.bytes().is_empty());
 }

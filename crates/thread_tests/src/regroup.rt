@@ -6,7 +6,7 @@ ghost use Rattle.srr_replay.specs.Rounds.{IsReplayable};
 
 use crate::starting::{program_of, read_back};
 use c_program::CProgram;
-use group_plan::read_plan;
+use group_plan::{Plan, read_plan};
 use mpi_call::lists::Ranks;
 use replay_model::replayed::Replayed;
 use srr_entry::log::Log;
@@ -15,7 +15,7 @@ use srr_regroup::laws::whole_replay_is_of_a_program;
 use srr_regroup::{JoinFault, are_within, can_join, join, refine};
 use srr_replay::serial::replay_serial;
 use srr_text::write_log::write_log;
-use std::alloc::Global;
+use std::alloc::{AllocError, Global};
 use wiz_base::bytes::Bytes;
 use wiz_cli::ranks::{start_all, start_group};
 
@@ -40,10 +40,15 @@ const COARSE: &[u8] = b"0-2\n";
 const FINE: &[u8] = b"0 1\n2\n";
 
 /// The recording of the program on one thread, with the groups of a plan.
+fn record(alloc: Global, program: &CProgram, plan: &Plan) -> Result<Recording, AllocError> {
+    let runs = start_all(alloc, program, plan.n())?;
+    record_serial(alloc, program, PROGRAM, plan, runs, &[])
+}
+
+/// The recording with the groups of this plan's text.
 fn recorded(alloc: Global, program: &CProgram, plan: &[u8]) -> Option<Recording> {
     let plan = read_plan(alloc, plan).ok()?;
-    let runs = start_all(alloc, program, plan.n()).ok()?;
-    record_serial(alloc, program, PROGRAM, &plan, runs, &[]).ok()
+    record(alloc, program, &plan).ok()
 }
 
 /// The text of a log.
