@@ -40,14 +40,15 @@ const COARSE: &[u8] = b"0-2\n";
 const FINE: &[u8] = b"0 1\n2\n";
 
 /// The recording of the program on one thread, with the groups of a plan.
-fn recorded(alloc: Global, program: &CProgram, plan: &[u8]) -> Option<Recording> {
-    let plan = read_plan(alloc, plan).ok()?;
-    record(alloc, program, &plan).ok()
-}
-
 fn record(alloc: Global, program: &CProgram, plan: &Plan) -> Result<Recording, AllocError> {
     let runs = start_all(alloc, program, plan.n())?;
     record_serial(alloc, program, PROGRAM, plan, runs, &[])
+}
+
+/// The recording with the groups of this plan's text.
+fn recorded(alloc: Global, program: &CProgram, plan: &[u8]) -> Option<Recording> {
+    let plan = read_plan(alloc, plan).ok()?;
+    record(alloc, program, &plan).ok()
 }
 
 /// The text of a log.
