@@ -267,7 +267,9 @@ def limit_programs():
     alone = "".join(f"{rank}\n" for rank in range(64)).encode()
     recursive = "int f(int n){int x;if(n>1)x=f(n-1);return n;}int main(void){int x;x=f(%d);return 0;}"
     printing = body("", 'for(i=0;i<%d;i++)printf("0123456789abcde\\n");')
-    sending = body("int a[70000];", "if(r==0)MPI_Send(a,%d,MPI_INT,1,1,MPI_COMM_WORLD);if(r==1)MPI_Recv(a,65536,MPI_INT,0,1,MPI_COMM_WORLD,MPI_STATUS_IGNORE);")
+    receive = "if(r==1)MPI_Recv(a,65536,MPI_INT,0,1,MPI_COMM_WORLD,MPI_STATUS_IGNORE);"
+    sending = body("int a[70000];", "if(r==0)MPI_Send(a,%d,MPI_INT,1,1,MPI_COMM_WORLD);" + receive)
+    posting = "for(i=0;i<200000;i++)MPI_Irecv(&x,0,MPI_INT,MPI_PROC_NULL,1,MPI_COMM_WORLD,&q[i]);"
     padded = b"int main(void){return 0;}"
     passing = body("", "MPI_Send(&r,1,MPI_INT,(r+1)%n,1,MPI_COMM_WORLD);MPI_Recv(&x,1,MPI_INT,(r+n-1)%n,1,MPI_COMM_WORLD,MPI_STATUS_IGNORE);")
     return [
@@ -305,7 +307,7 @@ def limit_programs():
         ("communicators", body("MPI_Comm c;", "for(i=0;i<200000;i++)MPI_Comm_dup(MPI_COMM_WORLD,&c);"), two, {0}),
         ("splits of 64 ranks", body("MPI_Comm c;", "for(i=0;i<500;i++)MPI_Comm_split(MPI_COMM_WORLD,r%(i%64+1),0-r,&c);"), every, {0, 7}),
         ("a gather of the greatest size", body("int a[262100];", "MPI_Gather(a,4095,MPI_INT,a,4095,MPI_INT,0,MPI_COMM_WORLD);"), every, {0}),
-        ("requests", body("MPI_Request q[200000];", "for(i=0;i<200000;i++)MPI_Irecv(&x,0,MPI_INT,MPI_PROC_NULL,1,MPI_COMM_WORLD,&q[i]);MPI_Waitall(200000,q,MPI_STATUSES_IGNORE);"), one, {0}),
+        ("requests", body("MPI_Request q[200000];", posting + "MPI_Waitall(200000,q,MPI_STATUSES_IGNORE);"), one, {0}),
         ("64 ranks", passing, every, {0}),
         ("64 groups", passing, alone, {0}),
         ("65 ranks", passing, b"0-64\n", {6}),
@@ -323,7 +325,7 @@ def at_limits(work, table):
         data = text if isinstance(text, bytes) else text.encode()
         write(folder, "p.c", data)
         write(folder, "plan", plan)
-        for words in [["record", "p.c", "plan", "run", "--serial"], ["record", "p.c", "plan", "run"], ["check", "p.c", "plan", "--serial"], ["check", "p.c", "plan"]]:
+        for words in [command + end for command in [["record", "p.c", "plan", "run"], ["check", "p.c", "plan"]] for end in [["--serial"], []]]:
             begun = time.monotonic()
             # On threads each rank has an arena of its own, of which most is address space alone.
             status, wrong = run(words, folder, made=("run.",), memory=4 * MEMORY)
@@ -342,7 +344,8 @@ def log_of_many(count):
     """The log in format 1 of 64 ranks that tested in vain so often: with the greatest count nearly of the greatest length."""
     ranks = b"".join(b"rank %d %d\n" % (rank, count) + b"n\n" * count for rank in range(64))
     program = b"int main(void){return 0;}"
-    return b"srr 1\nranks 64\ngroup " + b" ".join(b"%d" % rank for rank in range(64)) + b"\nprogram %d\n" % len(program) + program + b"\n" + ranks + b"end\n"
+    group = b" ".join(b"%d" % rank for rank in range(64))
+    return b"srr 1\nranks 64\ngroup " + group + b"\nprogram %d\n" % len(program) + program + b"\n" + ranks + b"end\n"
 
 
 def bytes_of_many(count):
@@ -358,7 +361,8 @@ def long_logs(work, table):
     longest = 0.0
     for data in [log_of_many(999064), bytes_of_many(999064), log_of_many(999065), bytes_of_many(999065)]:
         write(folder, "log", data)
-        for words in [["stats", "log"], ["show", "log"], ["replay", "log", "--serial"], ["replay", "log"], ["convert", "log", "run.new"], ["convert", "log", "run.new", "--text"]]:
+        reading = [["stats", "log"], ["show", "log"], ["replay", "log", "--serial"], ["replay", "log"]]
+        for words in reading + [["convert", "log", "run.new"], ["convert", "log", "run.new", "--text"]]:
             for memory in [MEMORY, 2 * MEMORY]:
                 begun = time.monotonic()
                 status, wrong = run(words, folder, made=("run.",), memory=memory, seconds=6 * SECONDS)
