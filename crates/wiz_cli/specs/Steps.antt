@@ -22,8 +22,8 @@ use Rattle.wiz_words.specs.declared.command.Command.TheVariants.{Advise}
 use Rattle.wiz_cli.specs.declared.failure.Failure.{Failure}
 use Rattle.wiz_cli.specs.declared.failure.Failure.TheVariants.{Refused as IsRefused, OutOfMemory}
 use Rattle.wiz_cli.specs.declared.commands.check.CheckedRun.{CheckedRun}
-use Rattle.wiz_cli.specs.declared.commands.record_files.Unwritten.{Unwritten}
-use Rattle.wiz_cli.specs.declared.commands.record_files.Unwritten.TheVariants.{Failed, OutOfMemory as WriteMemory}
+use Rattle.wiz_cli.specs.declared.writing.Unwritten.{Unwritten}
+use Rattle.wiz_cli.specs.declared.writing.Unwritten.TheVariants.{Failed, OutOfMemory as WriteMemory}
 use Rattle.wiz_cli.specs.declared.recording.ready.Ready.{Ready}
 use Rattle.wiz_cli.specs.declared.replaying.subject.Subject.{Subject}
 use Rattle.wiz_cli.specs.declared.refusal.Refusal.TheVariants.{Words}
