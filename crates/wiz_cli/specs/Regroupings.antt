@@ -46,10 +46,18 @@ abbrev pub stands_of : List Replayed → List Stand
 stands_of [] = []
 stands_of (replayed ∷ replays) = replayed.ends ++ stands_of replays
 
--- where all is done, files are written and a text is put out; else nothing is written, and the traces of the replays are put out
+-- files are written and a text is put out
+abbrev pub done_outcome : List NamedFile → List ℕ → List Replayed → Outcome
+done_outcome files text replays = record { files = files; text = text; status = Done; run = None; replays = replays }
+
+-- nothing is written, and the traces of the replays are put out
+abbrev pub traces_outcome : Status → List Replayed → Outcome
+traces_outcome status replays = record { files = []; text = traces_text replays; status = status; run = None; replays = replays }
+
+-- the former where all is done, else the latter
 abbrev pub outcome_by : Status → List NamedFile → List ℕ → List Replayed → Outcome
-outcome_by Done files text replays = record { files = files; text = text; status = Done; run = None; replays = replays }
-outcome_by status files text replays = record { files = []; text = traces_text replays; status = status; run = None; replays = replays }
+outcome_by Done files text replays = done_outcome files text replays
+outcome_by status files text replays = traces_outcome status replays
 
 -- by the stands of all replays together
 abbrev pub regroup_outcome : List NamedFile → List ℕ → List Replayed → Outcome
