@@ -7,7 +7,6 @@ use Rattle.std.specs.declared.alloc.AllocError.{AllocError}
 use Rattle.c_program.specs.declared.program.CProgram.{CProgram}
 use Rattle.c_program.specs.Program.{next_of, output_of, variables_of}
 use Rattle.c_types.specs.Checks.{IsProgramOf}
-use Rattle.log_bounds.specs.RunBounds.{RepliesFit32}
 use Rattle.replay_model.specs.declared.replayed.Replayed.{Replayed}
 use Rattle.replay_model.specs.Laws.{IsReplayOfEveryRun}
 use Rattle.replay_model.specs.Replays.{Breakpoint}
@@ -220,7 +219,6 @@ pub record IsRegroupable (log : Log) (events : List Event) : Type 0 where
   pub in_bounds : IsInBounds log
   pub replayable : IsReplayable log
   pub replay : IsReplayOfAProgram log events
-  pub ints : RepliesFit32 events
 
 -- two such logs that can be joined
 pub record AreJoinable (one : Log) (first : List Event) (other : Log) (second : List Event) : Type 0 where

@@ -88,7 +88,7 @@ fn write_joined<S: Store, K: Sink>(
     ensures reads { (S.told store.new).reads ≡ (S.told store.old).reads }
 {
     let made = srr_regroup::join(alloc, &pair.one, &first, &pair.other, &second)?;
-    let text = joined_text(alloc, made.group.as_slice())?;
+    let text = joined_text(alloc, &made.group)?;
     let bytes = write_log2(alloc, &made)?;
     let name = format!(in alloc; "{file}")?;
     let replays = two_replays(alloc, first, second)?;

@@ -10,7 +10,7 @@ ghost use Rattle.wiz_trace.specs.RegroupTexts.{refined_text};
 ghost use Rattle.wiz_words.specs.declared.command.Command.TheVariants.{Refine};
 
 use crate::failure::Failure;
-use crate::regrouping::make::replay_own;
+use crate::regrouping::make::{groups_rise, replay_own};
 use crate::regrouping::subject::{Refinement, read_refinement};
 use crate::regrouping::tell::{tell_traces, tell_written};
 use crate::replaying::make::one_replay;
@@ -46,6 +46,7 @@ pub fn refine<
 {
     let refinement = read_refinement(alloc, name, plan, store)?;
     let replayed = replay_own(&refinement.program, &refinement.log, replayer)?;
+    groups_rise(&refinement.plan);
     let report = tell_replayed(alloc, prefix, &refinement, replayed, store, out)?;
     Ok(report)
 }
@@ -87,7 +88,7 @@ fn write_refined<S: Store, K: Sink>(
         IsToldBy (done_outcome files (refined_text log.group groups) (replayed ∷ [])) (world (S.told store.old) (K.told out.old)) (world (S.told store.new) (K.told out.new)) result }
     ensures reads { (S.told store.new).reads ≡ (S.told store.old).reads }
 {
-    let text = refined_text(alloc, refinement.log.group.as_slice(), &refinement.plan)?;
+    let text = refined_text(alloc, &refinement.log.group, &refinement.plan)?;
     let written = write_parts(alloc, prefix, 0, refinement, &replayed, store);
     let replays = one_replay(alloc, replayed)?;
     tell_written(alloc, written, text, replays, out)

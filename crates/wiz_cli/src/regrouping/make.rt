@@ -1,14 +1,15 @@
 //! The replays that logs are made from.
 ghost use Rattle.std.specs.Prelude.{◌≡◌, ◌∷◌, [], IfOk, None};
+ghost use Rattle.std.specs.List.{AllByRecursion};
 ghost use Rattle.c_types.specs.Checks.{IsProgramOf};
-ghost use Rattle.log_bounds.specs.RunBounds.{RepliesFit32};
+ghost use Rattle.group_plan.specs.Plans.{IsGroup};
 ghost use Rattle.srr_replay.specs.Rounds.{IsReplayable};
 ghost use Rattle.wiz_cli.specs.Replayings.{IsReplayOf};
 ghost use Rattle.wiz_cli.specs.Steps.{MakesReplays, TakesLogs};
 
 use crate::replaying::make::replay_text;
 use c_program::CProgram;
-use log_bounds::ints32::replies_fit;
+use group_plan::Plan;
 use replay_model::replayed::{Replayed, Replays};
 use srr_entry::log::Log;
 use std::alloc::{AllocError, Global};
@@ -23,12 +24,9 @@ pub fn replay_own<F: Fn(&CProgram, &Log, Option<(u8, u32)>) -> Result<Replayed, 
     requires log { IsReplayable log.now }
     requires takes { TakesLogs (F.pre replayer.now) }
     requires makes { MakesReplays (F.post replayer.now) }
-    ensures replay { IfOk result (IsReplayOf log.now.program log.now None) }
-    ensures ints { IfOk result (λ replayed. RepliesFit32 replayed.events.events) }
+    ensures { IfOk result (IsReplayOf log.now.program log.now None) }
 {
-    let replayed = replay_text(program, log.program.as_slice(), log, None, replayer)?;
-    replies_fit(replayed.events.as_slice());
-    Ok(replayed)
+    replay_text(program, log.program.as_slice(), log, None, replayer)
 }
 
 /// The list of two replays.
@@ -43,4 +41,11 @@ pub fn two_replays(
     replays.push(first)?;
     replays.push(second)?;
     Ok(replays)
+}
+
+/// Each group of a plan has ranks, rising: a fact of its type, which no empty body can show.
+pub fn groups_rise(plan: &Plan)
+    ensures { AllByRecursion IsGroup plan.now }
+{
+    plan.n();
 }
