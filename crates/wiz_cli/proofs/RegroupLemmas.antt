@@ -41,7 +41,7 @@ use Rattle.wiz_cli.proofs.LogLemmas.{IsReplayable-text, bounds_of}
 -- ---- stands
 
 not_done_stand : {X : Type 0} (stand : Stand) → IsDone stand → (stand ≡ Ended → ⊥) → (stand ≡ LogEnded → ⊥) → X
-not_done_stand stand is no never = elim is [ inl h ↦ absurd (no h) | inr h ↦ absurd (never h) ]
+not_done_stand stand is apart never = elim is [ inl h ↦ absurd (apart h) | inr h ↦ absurd (never h) ]
 
 none_left : (ends : List Stand) → All IsDone ends → (list_any is_diverged ends ≡ false) × (list_any is_starved ends ≡ false)
 none_left [] all = (refl, refl)
@@ -120,7 +120,7 @@ joins file one other first second can is too = record {
       let same : made ≡ log =
           joined_is (next_of program) one other first.events.events second.events.events run (lawful program) can shows.whole others.whole with_one with_other in
       done_with (of_stands (stands_of replays)) (log_file file log) (log_file file made) (joined_text (both_groups one other)) replays
-      (done_stands (stands_of replays) (all_done replays ((shows.runs run with_one).ends refl, (others.runs run with_other).ends refl, tt)))
+      (done_stands (stands_of replays) (all_done replays ((shows.runs run with_one).ends refl, ((others.runs run with_other).ends refl, tt))))
       (rw same refl);
 }
 

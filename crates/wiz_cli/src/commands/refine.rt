@@ -1,5 +1,5 @@
 //! `refine LOG PLAN PREFIX`: a log is replayed, and the log of each plan group that lies in its group is written.
-ghost use Rattle.std.specs.Prelude.{◌≡◌, ◌≤◌, ◌<◌, IfErr, IfOk, OnOk, [], drop, length};
+ghost use Rattle.std.specs.Prelude.{◌≡◌, ◌≤◌, ◌<◌, ◌∷◌, [], IfErr, OnOk, drop, length};
 ghost use Rattle.std.specs.List.{slice_index_or};
 ghost use Rattle.srr_regroup.specs.Regrouping.{refined};
 ghost use Rattle.wiz_cli.specs.Files.{AreWritten};

@@ -28,7 +28,7 @@ returns-in_err-are_joinable-clause-refused c =
     let others = c.args.others.now in
     rw (p.1, p.2)
     (unmet_after (a_log bytes ∷ a_log others ∷ []) (a_join bytes others) (its_program bytes ∷ []) c.in_err-are_joinable.field-0.0
-    ((c.in_ok-one.one, c.in_ok-one.ensures.log), (c.in_ok-other.other, c.in_ok-other.ensures.log), tt)
+    ((c.in_ok-one.one, c.in_ok-one.ensures.log), ((c.in_ok-other.other, c.in_ok-other.ensures.log), tt))
     (join_unmet bytes others c.in_ok-one.one c.in_ok-other.other c.in_err-are_joinable.field-0.0 c.in_ok-one.ensures.log c.in_ok-other.ensures.log
     c.in_err-are_joinable.ensures.refused))
 
@@ -41,6 +41,6 @@ returns-in_err-program-clause-refused c =
     let other = c.in_ok-other.other in
     rw (p.1, p.2)
     (unmet_after (a_log bytes ∷ a_log others ∷ a_join bytes others ∷ []) (its_program bytes) [] c.in_err-program.field-0.0
-    ((one, c.in_ok-one.ensures.log), (other, c.in_ok-other.ensures.log),
-    (one, other, c.in_ok-one.ensures.log, c.in_ok-other.ensures.log, c.in_ok-are_joinable.ensures.joinable), tt)
+    ((one, c.in_ok-one.ensures.log), ((other, c.in_ok-other.ensures.log),
+    ((one, other, c.in_ok-one.ensures.log, c.in_ok-other.ensures.log, c.in_ok-are_joinable.ensures.joinable), tt)))
     (own_unmet bytes one c.in_err-program.field-0.0 c.in_ok-one.ensures.log (rw c.as_slice.ensures at c.in_err-program.ensures.refused)))

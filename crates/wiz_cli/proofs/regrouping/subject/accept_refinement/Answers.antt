@@ -28,7 +28,7 @@ returns-in_err-is_refinable-clause-refused c =
     let text = c.args.text.now in
     rw (p.1, p.2)
     (unmet_after (a_log bytes ∷ a_plan text ∷ []) (a_refinement bytes text) (its_program bytes ∷ []) c.in_err-is_refinable.field-0.0
-    ((c.in_ok-log.log, c.in_ok-log.ensures.log), (c.in_ok-plan.plan, c.in_ok-plan.ensures.plan), tt)
+    ((c.in_ok-log.log, c.in_ok-log.ensures.log), ((c.in_ok-plan.plan, c.in_ok-plan.ensures.plan), tt))
     (refinement_unmet bytes text c.in_ok-log.log c.in_ok-plan.plan c.in_err-is_refinable.field-0.0 c.in_ok-log.ensures.log c.in_ok-plan.ensures.plan
     c.in_err-is_refinable.ensures.refused))
 
@@ -41,6 +41,6 @@ returns-in_err-program-clause-refused c =
     let groups = c.in_ok-plan.plan in
     rw (p.1, p.2)
     (unmet_after (a_log bytes ∷ a_plan text ∷ a_refinement bytes text ∷ []) (its_program bytes) [] c.in_err-program.field-0.0
-    ((log, c.in_ok-log.ensures.log), (groups, c.in_ok-plan.ensures.plan),
-    (log, groups, c.in_ok-log.ensures.log, c.in_ok-plan.ensures.plan, c.in_ok-is_refinable.ensures.refinable), tt)
+    ((log, c.in_ok-log.ensures.log), ((groups, c.in_ok-plan.ensures.plan),
+    ((log, groups, c.in_ok-log.ensures.log, c.in_ok-plan.ensures.plan, c.in_ok-is_refinable.ensures.refinable), tt)))
     (own_unmet bytes log c.in_err-program.field-0.0 c.in_ok-log.ensures.log (rw c.as_slice.ensures at c.in_err-program.ensures.refused)))
