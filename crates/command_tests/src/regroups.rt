@@ -97,13 +97,28 @@ fn a_log_is_refined_and_joined_again(rt: HostRuntime) {
 fn messages_between_the_parts_keep_their_ints(rt: HostRuntime) {
     let alloc = rt.alloc();
     let mut store = recorded(alloc).expect(&rt, "files");
-    assert!(&rt; answers(alloc, &mut store, &["refine", "A.0.srr", "R", "C"], 0, REFINED));
+    assert!(&rt;
+        answers(
+            alloc,
+            &mut store,
+            &["refine", "A.0.srr", "R", "C"],
+            0,
+            REFINED
+        )
+    );
     let parted = b"\nrank 0 2\ns\nz\nrank 2 5\np\nt 0=1.0.9:1\np\nt 0=0.0\nz\nend\n";
     let lines = lines_of(alloc, &mut store, "C.0.srr").expect(&rt, "a log");
     assert!(&rt; lines.ends_with(parted));
-    assert!(&rt; answers(alloc, &mut store, &["join", "C.0.srr", "C.1.srr", "D"], 0, JOINED));
-    let together =
-        b"\nrank 0 2\ns\nz\nrank 1 2\ns\nz\nrank 2 5\np\nt 0=1.0\np\nt 0=0.0\nz\nend\n";
+    assert!(&rt;
+        answers(
+            alloc,
+            &mut store,
+            &["join", "C.0.srr", "C.1.srr", "D"],
+            0,
+            JOINED
+        )
+    );
+    let together = b"\nrank 0 2\ns\nz\nrank 1 2\ns\nz\nrank 2 5\np\nt 0=1.0\np\nt 0=0.0\nz\nend\n";
     let lines = lines_of(alloc, &mut store, "D").expect(&rt, "a log");
     assert!(&rt; lines.ends_with(together));
 }
@@ -113,10 +128,26 @@ fn what_cannot_be_regrouped_is_refused(rt: HostRuntime) {
     let alloc = rt.alloc();
     // The arguments, the status and the message. What is wrong later in the order is wrong too in some rows.
     let rows: [(&[&str], u8, &[u8]); 18] = [
-        (&["refine", "B.0.srr", "S", "C"], 13, b"plan group 0 crosses\n"),
-        (&["refine", "B.1.srr", "S", "C"], 13, b"plan group 0 crosses\n"),
-        (&["refine", "A.0.srr", "U", "C"], 13, b"plan ranks 2 log ranks 3\n"),
-        (&["refine", "X", "U", "C"], 13, b"plan ranks 2 log ranks 1\n"),
+        (
+            &["refine", "B.0.srr", "S", "C"],
+            13,
+            b"plan group 0 crosses\n",
+        ),
+        (
+            &["refine", "B.1.srr", "S", "C"],
+            13,
+            b"plan group 0 crosses\n",
+        ),
+        (
+            &["refine", "A.0.srr", "U", "C"],
+            13,
+            b"plan ranks 2 log ranks 3\n",
+        ),
+        (
+            &["refine", "X", "U", "C"],
+            13,
+            b"plan ranks 2 log ranks 1\n",
+        ),
         (&["refine", "X", "V", "C"], 5, b"program 1:23 unknown\n"),
         (&["refine", "X", "P", "C"], 6, b"plan line 1\n"),
         (&["refine", "P", "P", "C"], 8, b"log 0 bad head\n"),
@@ -136,7 +167,10 @@ fn what_cannot_be_regrouped_is_refused(rt: HostRuntime) {
         let mut store = recorded(alloc).expect(&rt, "files");
         store.add("V", b"0\n").expect(&rt, "a file");
         store.add("W", crate::replays::SHORT).expect(&rt, "a file");
-        assert!(&rt; answers(alloc, &mut store, words, status, message), "{words:?}");
+        assert!(&rt;
+            answers(alloc, &mut store, words, status, message),
+            "{words:?}"
+        );
         assert!(&rt; store.file("C").is_none() && store.file("C.0.srr").is_none());
     }
 }
@@ -167,7 +201,10 @@ fn logs_of_no_run_are_told_by_their_traces(rt: HostRuntime) {
     for (words, status, printed, replays) in rows {
         let mut out = MemorySink::new(alloc);
         let report = wiz_serial(alloc, words, &mut store, &mut out);
-        assert!(&rt; report.status == status && out.bytes() == printed, "{words:?}");
+        assert!(&rt;
+            report.status == status && out.bytes() == printed,
+            "{words:?}"
+        );
         assert!(&rt; report.replayed.as_slice().len() == replays);
         assert!(&rt; store.file("C").is_none() && store.file("C.0.srr").is_none());
     }
@@ -196,9 +233,15 @@ fn faults_of_files_are_told(rt: HostRuntime) {
         store.fail(CALLS + call).expect(&rt, "a call");
         let mut out = MemorySink::new(alloc);
         let report = wiz_serial(alloc, words, &mut store, &mut out);
-        assert!(&rt; report.status == status && out.bytes() == printed, "{call} {words:?}");
+        assert!(&rt;
+            report.status == status && out.bytes() == printed,
+            "{call} {words:?}"
+        );
         assert!(&rt; report.replayed.as_slice().len() == replays);
-        assert!(&rt; store.file("C.0.srr").is_some() == is_written && store.file("C.1.srr").is_some() == (status == 0 && is_written));
+        assert!(&rt;
+            store.file("C.0.srr").is_some() == is_written
+                && store.file("C.1.srr").is_some() == (status == 0 && is_written)
+        );
     }
     // The output fails at its first put, and the files are written.
     for (words, file) in [(refine, "C.1.srr"), (join, "C")] {

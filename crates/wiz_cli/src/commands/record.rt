@@ -58,7 +58,13 @@ fn write<S: Store, K: Sink>(
     match write_files(alloc, prefix, &recording, store) {
         Ok(()) => tell_recording(alloc, recording, out),
         Err(Unwritten::Failed(name)) => {
-            tell_unwritten(alloc, &name, Some(recording.history), Replays::new(alloc), out)
+            tell_unwritten(
+                alloc,
+                &name,
+                Some(recording.history),
+                Replays::new(alloc),
+                out,
+            )
         }
         Err(Unwritten::OutOfMemory) => Err(AllocError),
     }

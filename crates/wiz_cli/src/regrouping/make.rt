@@ -30,11 +30,7 @@ pub fn replay_own<F: Fn(&CProgram, &Log, Option<(u8, u32)>) -> Result<Replayed, 
 }
 
 /// The list of two replays.
-pub fn two_replays(
-    alloc: Global,
-    first: Replayed,
-    second: Replayed,
-) -> Result<Replays, AllocError>
+pub fn two_replays(alloc: Global, first: Replayed, second: Replayed) -> Result<Replays, AllocError>
     ensures { IfOk result (λ replays. replays ≡ first ∷ second ∷ []) }
 {
     let mut replays = Replays::new(alloc);
