@@ -20,6 +20,8 @@ mod races;
 #[cfg(test)]
 mod records;
 #[cfg(test)]
+mod regroups;
+#[cfg(test)]
 mod replays;
 #[cfg(test)]
 mod rows;

@@ -10,9 +10,9 @@ use Rattle.srr_record.specs.declared.recording.Recording.{Recording}
 use Rattle.wiz_io.specs.Files.{Files, HasRisen}
 use Rattle.wiz_trace.specs.RacesTexts.{races_text}
 use Rattle.wiz_words.specs.declared.command.Command.{Command}
-use Rattle.wiz_words.specs.declared.command.Command.TheVariants.{Record, Check, Races, Advise, Demo, Replay, Show, Stats, Convert}
+use Rattle.wiz_words.specs.declared.command.Command.TheVariants.{Record, Check, Races, Advise, Demo, Replay, Show, Stats, Convert, Refine, Join}
 use Rattle.wiz_cli.specs.declared.refusal.Refusal.{Refusal}
-use Rattle.wiz_cli.specs.declared.refusal.Refusal.TheVariants.{Words, Missing, ReadFault, Program, Plan, Order, Log as BadLog, TooLong}
+use Rattle.wiz_cli.specs.declared.refusal.Refusal.TheVariants.{Words, Missing, ReadFault, Program, Plan, Order, Log as BadLog, TooLong, Refine as BadRefine, Join as BadJoin}
 use Rattle.wiz_cli.specs.declared.report.Report.{Report}
 use Rattle.wiz_cli.specs.declared.status.Status.TheVariants.{Done, Halted, TooManyRaces}
 use Rattle.wiz_cli.specs.Commands.{ComesOf, Does, IsReport, check_outcome, inputs_of, races_outcome, requirements_of, run_outcome}
@@ -24,7 +24,7 @@ use Rattle.wiz_cli.specs.Requirements.{AreMet}
 use Rattle.wiz_cli.specs.Statuses.{number_of, of_ending}
 use Rattle.wiz_cli.specs.World.{World}
 use Rattle.wiz_cli.proofs.Apart.{none_unmet}
-use Rattle.wiz_cli.proofs.Faithful.{replay_is_done}
+use Rattle.wiz_cli.proofs.Faithful.{one_log_of, replay_is_done, two_logs_of}
 
 -- a file that is there and within its limit is read, when no read fails
 some_is : {A : Type 0} (a b : A) → Some a ≡ Some b → a ≡ b
@@ -41,6 +41,8 @@ held_is_read files reads reads' input text (Program fault) quiet held unread = u
 held_is_read files reads reads' input text (Plan fault) quiet held unread = unread
 held_is_read files reads reads' input text (Order fault) quiet held unread = unread
 held_is_read files reads reads' input text (BadLog fault) quiet held unread = unread
+held_is_read files reads reads' input text (BadRefine fault) quiet held unread = unread
+held_is_read files reads reads' input text (BadJoin fault) quiet held unread = unread
 
 all_are_read : (files : Files) (reads reads' : ℕ) (inputs : List Input) (texts : List (List ℕ)) (refused : Refused) → (HasRisen reads reads' → ⊥)
     → AreHeld (Some files) inputs texts → IsFirstUnread (Some files) reads reads' inputs refused → ⊥
@@ -124,6 +126,12 @@ expected (Replay replay) texts outcome does = λ log program run is_log is_progr
 expected (Show name) texts outcome does = rw does.2 refl
 expected (Stats name) texts outcome does = rw does.2 refl
 expected (Convert name file is_text) texts outcome does = rw does.2 refl
+expected (Refine name plan prefix) texts outcome does = λ log program run is_log is_program with.
+    let same = one_log_of texts log does.0 is_log does.2 in
+    ap number_of (does.4.of_runs program run (rw same at is_program) (rw same at with)).0
+expected (Join name other file) texts outcome does = λ first second program run are is_program with too.
+    let same = two_logs_of texts first second does.0 does.1 are does.2 in
+    ap number_of (does.3.of_runs program run (rw same.0 at is_program) (rw same.0 at with) (rw same.1 at too)).0
 
 pub complete : PlansHaveOneReading → ((n : ℕ) → OrdersHaveOneReading n) → (Ask : List (List ℕ) → Command (List ℕ) → Type 0)
     → ((words : List (List ℕ)) (one other : Command (List ℕ)) → Ask words one → Ask words other → one ≡ other)

@@ -2,6 +2,7 @@
 use Rattle.std.specs.Prelude.{◌≡◌, ◌⊎◌, ℕ, List, [], ◌∷◌, false, if◌then◌else◌, min, nat_le, Option, Some, None, Bool, true}
 use Rattle.c_program.specs.declared.program.CProgram.{CProgram}
 use Rattle.group_plan.specs.Plans.{number_of_ranks}
+use Rattle.group_plan.specs.PlanText.{IsPlanText}
 use Rattle.log_bounds.specs.RunBounds.{log_limit}
 use Rattle.msg_races.specs.declared.fault.TheConstants.{MOST_OTHERS}
 use Rattle.msg_races.specs.declared.receives.Receive.{Receive}
@@ -28,7 +29,7 @@ use Rattle.wiz_trace.specs.StatsTexts.{stats_text}
 use Rattle.wiz_trace.specs.TraceTexts.{trace_text}
 use Rattle.wiz_words.specs.Words.{AskFor, is_threaded, is_threaded_run}
 use Rattle.wiz_words.specs.declared.command.Command.{Command}
-use Rattle.wiz_words.specs.declared.command.Command.TheVariants.{Record, Check, Races, Advise, Demo, Replay, Show, Stats, Convert}
+use Rattle.wiz_words.specs.declared.command.Command.TheVariants.{Record, Check, Races, Advise, Demo, Replay, Show, Stats, Convert, Refine, Join}
 use Rattle.wiz_words.specs.declared.command.ReplayWords.{ReplayWords}
 use Rattle.wiz_words.specs.declared.command.RunWords.{RunWords}
 use Rattle.wiz_io.specs.Files.{Files}
@@ -42,8 +43,9 @@ use Rattle.wiz_cli.specs.Messages.{message_text, races_over_text}
 use Rattle.wiz_cli.specs.Outcomes.{IsTold, IsUntouched, Outcome, out_of_memory}
 use Rattle.wiz_cli.specs.RecordFiles.{files_of}
 use Rattle.wiz_cli.specs.Recordings.{Records, RunTexts}
+use Rattle.wiz_cli.specs.Regroupings.{Joins, Refines}
 use Rattle.wiz_cli.specs.Replayings.{AreChecksOf, IsReplayOf}
-use Rattle.wiz_cli.specs.Requirements.{IsFirstUnmet, Requirement, a_log, a_plan, a_program, an_order, its_program}
+use Rattle.wiz_cli.specs.Requirements.{IsFirstUnmet, Requirement, a_join, a_log, a_plan, a_program, a_refinement, an_order, its_program}
 use Rattle.wiz_cli.specs.Statuses.{of_ending, of_refusal, of_stands}
 use Rattle.wiz_cli.specs.World.{World}
 
@@ -55,6 +57,12 @@ run_inputs run = input text_limit run.program ∷ input text_limit run.plan ∷ 
 abbrev pub replay_inputs : ReplayWords (List ℕ) → List Input
 replay_inputs replay = input log_limit replay.log ∷ option_input text_limit replay.program
 
+abbrev pub refine_inputs : List ℕ → List ℕ → List Input
+refine_inputs log plan = input log_limit log ∷ input text_limit plan ∷ []
+
+abbrev pub join_inputs : List ℕ → List ℕ → List Input
+join_inputs one other = input log_limit one ∷ input log_limit other ∷ []
+
 abbrev pub inputs_of : Command (List ℕ) → List Input
 inputs_of (Record run prefix) = run_inputs run
 inputs_of (Check run) = run_inputs run
@@ -65,6 +73,8 @@ inputs_of (Replay replay) = replay_inputs replay
 inputs_of (Show log) = input log_limit log ∷ []
 inputs_of (Stats log) = input log_limit log ∷ []
 inputs_of (Convert log file is_text) = input log_limit log ∷ []
+inputs_of (Refine log plan prefix) = refine_inputs log plan
+inputs_of (Join one other file) = join_inputs one other
 
 -- ---- what is required of their texts, in this order
 
@@ -82,6 +92,15 @@ abbrev pub log_requirements : List (List ℕ) → List Requirement
 log_requirements (bytes ∷ more) = a_log bytes ∷ []
 log_requirements texts = []
 
+abbrev pub refine_requirements : List (List ℕ) → List Requirement
+refine_requirements (bytes ∷ plan ∷ more) = a_log bytes ∷ a_plan plan ∷ a_refinement bytes plan ∷ its_program bytes ∷ []
+refine_requirements texts = []
+
+-- logs that can be joined have one program
+abbrev pub join_requirements : List (List ℕ) → List Requirement
+join_requirements (bytes ∷ others ∷ more) = a_log bytes ∷ a_log others ∷ a_join bytes others ∷ its_program bytes ∷ []
+join_requirements texts = []
+
 -- a demo has no input files: its program and its plan are its own
 abbrev pub demo_texts : ℕ → ℕ → List (List ℕ)
 demo_texts seed rounds = demo_program seed rounds ∷ demo_plan ∷ []
@@ -96,6 +115,8 @@ requirements_of (Replay replay) texts = replay_requirements texts
 requirements_of (Show log) texts = log_requirements texts
 requirements_of (Stats log) texts = log_requirements texts
 requirements_of (Convert log file is_text) texts = log_requirements texts
+requirements_of (Refine log plan prefix) texts = refine_requirements texts
+requirements_of (Join one other file) texts = join_requirements texts
 
 -- ---- what is done
 
@@ -203,6 +224,16 @@ abbrev pub program_text : List (List ℕ) → Log → List ℕ
 program_text (bytes ∷ text ∷ more) log = text
 program_text texts log = log.program
 
+-- the plan that the second file holds
+abbrev pub IsPlanOf : List (List ℕ) → List (List ℕ) → Type 0
+IsPlanOf (bytes ∷ plan ∷ more) groups = IsPlanText plan groups
+IsPlanOf texts groups = ⊥
+
+-- the logs that the first file and the second hold
+abbrev pub AreLogsOf : List (List ℕ) → Log → Log → Type 0
+AreLogsOf (bytes ∷ others ∷ more) one other = IsTextOfLog bytes one × IsTextOfLog others other
+AreLogsOf texts one other = ⊥
+
 -- a line for each command
 abbrev pub Does : Command (List ℕ) → List (List ℕ) → Outcome → Type 0
 Does (Record run prefix) texts outcome = Records (is_threaded_run run) (run_texts texts) (TellsRecord prefix) outcome
@@ -214,6 +245,9 @@ Does (Replay replay) texts outcome = (log : Log) × IsLogOf texts log × TellsRe
 Does (Show name) texts outcome = (log : Log) × IsLogOf texts log × (outcome ≡ text_outcome (show_text log))
 Does (Stats name) texts outcome = (log : Log) × IsLogOf texts log × (outcome ≡ text_outcome (stats_text log))
 Does (Convert name file is_text) texts outcome = (log : Log) × IsLogOf texts log × (outcome ≡ convert_outcome file (converted is_text log))
+Does (Refine name plan prefix) texts outcome =
+    (log : Log) × (groups : List (List ℕ)) × IsLogOf texts log × IsPlanOf texts groups × Refines prefix log groups outcome
+Does (Join name other file) texts outcome = (first : Log) × (second : Log) × AreLogsOf texts first second × Joins file first second outcome
 
 -- ---- the report
 

@@ -12,7 +12,11 @@ use Rattle.replay_model.specs.Laws.{IsReplayOfEveryRun}
 use Rattle.replay_model.specs.Replays.{Breakpoint}
 use Rattle.replay_model.specs.Stands.{IsReplayed}
 use Rattle.srr_entry.specs.declared.log.Log.{Log}
+use Rattle.run_model.specs.declared.event.Event.{Event}
 use Rattle.srr_record.specs.declared.recording.Recording.{Recording}
+use Rattle.srr_regroup.specs.Joining.{CanJoin}
+use Rattle.srr_regroup.specs.Refining.{CanRefine}
+use Rattle.srr_regroup.specs.Regrouping.{IsReplayOfAProgram}
 use Rattle.srr_replay.specs.Rounds.{IsReplayable}
 use Rattle.srr_text.specs.Bounds.{IsInBounds}
 use Rattle.wiz_io.specs.Files.{Files, HasRisen}
@@ -22,21 +26,23 @@ use Rattle.wiz_words.specs.declared.command.Command.TheVariants.{Advise}
 use Rattle.wiz_cli.specs.declared.failure.Failure.{Failure}
 use Rattle.wiz_cli.specs.declared.failure.Failure.TheVariants.{Refused as IsRefused, OutOfMemory}
 use Rattle.wiz_cli.specs.declared.commands.check.CheckedRun.{CheckedRun}
-use Rattle.wiz_cli.specs.declared.commands.record_files.Unwritten.{Unwritten}
-use Rattle.wiz_cli.specs.declared.commands.record_files.Unwritten.TheVariants.{Failed, OutOfMemory as WriteMemory}
+use Rattle.wiz_cli.specs.declared.writing.Unwritten.{Unwritten}
+use Rattle.wiz_cli.specs.declared.writing.Unwritten.TheVariants.{Failed, OutOfMemory as WriteMemory}
 use Rattle.wiz_cli.specs.declared.recording.ready.Ready.{Ready}
+use Rattle.wiz_cli.specs.declared.regrouping.subject.Pair.{Pair}
+use Rattle.wiz_cli.specs.declared.regrouping.subject.Refinement.{Refinement}
 use Rattle.wiz_cli.specs.declared.replaying.subject.Subject.{Subject}
 use Rattle.wiz_cli.specs.declared.refusal.Refusal.TheVariants.{Words}
 use Rattle.wiz_cli.specs.declared.report.Done.{Done}
 use Rattle.wiz_cli.specs.declared.report.Report.{Report}
-use Rattle.wiz_cli.specs.Commands.{IsDoneFor, IsLogOf, IsRefusedFor, program_text, refusal_outcome}
+use Rattle.wiz_cli.specs.Commands.{AreLogsOf, IsDoneFor, IsLogOf, IsPlanOf, IsRefusedFor, program_text, refusal_outcome}
 use Rattle.wiz_cli.specs.Files.{ArePartlyWritten, IsStoppedAt, NamedFile}
 use Rattle.wiz_cli.specs.Inputs.{Refused, text_limit}
 use Rattle.wiz_cli.specs.Outcomes.{IsDone, IsPartlyDone, IsPut, IsUntouched, IsUnwritten, Outcome, out_of_memory}
 use Rattle.wiz_cli.specs.Output.{GrewByPart}
 use Rattle.wiz_cli.specs.Recordings.{ArePrepared, IsReadable, IsRecordingOf, RunTexts}
 use Rattle.wiz_cli.specs.Replayings.{AreChecksOf}
-use Rattle.wiz_cli.specs.Requirements.{IsFirstUnmet, IsOrderRefusal, Requirement}
+use Rattle.wiz_cli.specs.Requirements.{IsFirstUnmet, IsJoinRefusal, IsOrderRefusal, IsRefineRefusal, Requirement}
 use Rattle.wiz_cli.specs.World.{World}
 
 -- ---- failures
@@ -54,6 +60,13 @@ IsUnmetIn requirements refused = IsFirstUnmet requirements refused.refusal × (r
 abbrev pub AreRefusedTurns : ℕ → Option (List ℕ) → Refused → Type 0
 AreRefusedTurns n None refused = ⊥
 AreRefusedTurns n (Some text) refused = IsOrderRefusal n text refused.refusal × (refused.name ≡ [])
+
+-- a log cannot be refined by the groups of a plan, or joined with another log
+abbrev pub IsRefusedRefinement : Log → List (List ℕ) → Refused → Type 0
+IsRefusedRefinement log groups refused = IsRefineRefusal log groups refused.refusal × (refused.name ≡ [])
+
+abbrev pub IsRefusedJoin : Log → Log → Refused → Type 0
+IsRefusedJoin one other refused = IsJoinRefusal one other refused.refusal × (refused.name ≡ [])
 
 -- an optional text as a list
 abbrev pub listed : Option (List ℕ) → List (List ℕ)
@@ -185,3 +198,30 @@ abbrev pub MakesReplays : (Bor CProgram → Bor Log → Breakpoint → Result Re
 MakesReplays Makes =
     (program : Bor CProgram) (log : Bor Log) (stop : Breakpoint) (made : Result Replayed AllocError) → Makes program log stop made
     → IfOk made (IsReplayBy program.now log.now stop)
+
+-- ---- regrouping
+
+-- it is the log and the plan that the texts of files hold, and the program of the log, which can be refined by the plan
+pub record IsRefinementOf (texts : List (List ℕ)) (refinement : Refinement) : Type 0 where
+  pub is_log : IsLogOf texts refinement.log
+  pub is_plan : IsPlanOf texts refinement.plan
+  pub can_refine : CanRefine refinement.log refinement.plan
+  pub is_program : IsProgramOf refinement.log.program refinement.program
+
+-- they are the logs that the texts of files hold, which can be joined, and their program
+pub record ArePairOf (texts : List (List ℕ)) (pair : Pair) : Type 0 where
+  pub are_logs : AreLogsOf texts pair.one pair.other
+  pub can_join : CanJoin pair.one pair.other
+  pub is_program : IsProgramOf pair.one.program pair.program
+
+-- a log within its bounds, and a whole replay of it from which logs of other groups are made
+pub record IsRegroupable (log : Log) (events : List Event) : Type 0 where
+  pub in_bounds : IsInBounds log
+  pub replayable : IsReplayable log
+  pub replay : IsReplayOfAProgram log events
+
+-- two such logs that can be joined
+pub record AreJoinable (one : Log) (first : List Event) (other : Log) (second : List Event) : Type 0 where
+  pub can_join : CanJoin one other
+  pub one_log : IsRegroupable one first
+  pub other_log : IsRegroupable other second

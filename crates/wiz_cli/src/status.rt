@@ -1,5 +1,5 @@
 //! The exit statuses.
-ghost use Rattle.std.specs.Prelude.{◌≡◌};
+ghost use Rattle.std.specs.Prelude.{◌≡◌, ◌++◌};
 ghost use Rattle.std.specs.List.{list_any};
 ghost use Rattle.wiz_cli.specs.Statuses.{is_at_break, is_diverged, is_starved, number_of, of_ending, of_refusal, of_stands, unput};
 
@@ -36,6 +36,8 @@ pub enum Status {
     OutOfMemory,
     /// An input file is too long.
     TooLong,
+    /// A log cannot be refined by a plan, or two logs cannot be joined.
+    Groups,
     /// The run has too many races to be listed.
     TooManyRaces,
 }
@@ -53,6 +55,8 @@ pub fn of_refusal(refusal: Refusal) -> Status
         Refusal::Order(_) => Status::Plan,
         Refusal::Log(_) => Status::Log,
         Refusal::TooLong => Status::TooLong,
+        Refusal::Refine(_) => Status::Groups,
+        Refusal::Join(_) => Status::Groups,
     }
 }
 
@@ -73,6 +77,21 @@ pub fn of_stands(ends: &[Stand]) -> Status
     if has_diverged(ends) {
         Status::Diverged
     } else if has_starved(ends) && !is_stopped(ends) {
+        Status::Starved
+    } else {
+        Status::Done
+    }
+}
+
+/// The status of two replays whose ranks stand so.
+pub fn of_both(first: &[Stand], second: &[Stand]) -> Status
+    ensures { result ≡ of_stands (first.now ++ second.now) }
+{
+    if has_diverged(first) || has_diverged(second) {
+        Status::Diverged
+    } else if (has_starved(first) || has_starved(second))
+        && !(is_stopped(first) || is_stopped(second))
+    {
         Status::Starved
     } else {
         Status::Done
@@ -118,6 +137,7 @@ impl Status {
             Status::Starved => 10,
             Status::OutOfMemory => 11,
             Status::TooLong => 12,
+            Status::Groups => 13,
             Status::TooManyRaces => 14,
         }
     }

@@ -12,8 +12,10 @@ use crate::commands::advise::advise;
 use crate::commands::check::check;
 use crate::commands::convert::convert;
 use crate::commands::demo::demo;
+use crate::commands::join::join;
 use crate::commands::races::races;
 use crate::commands::record::record;
+use crate::commands::refine::refine;
 use crate::commands::replay::replay;
 use crate::commands::show::show;
 use crate::commands::stats::stats;
@@ -194,5 +196,11 @@ fn answer<
         Command::Show(log) => show(alloc, log, store, out),
         Command::Stats(log) => stats(alloc, log, store, out),
         Command::Convert { log, file, is_text } => convert(alloc, log, file, is_text, store, out),
+        Command::Refine { log, plan, prefix } => {
+            refine(alloc, log, plan, prefix, store, out, replayer)
+        }
+        Command::Join { one, other, file } => {
+            join(alloc, one, other, file, store, out, replayer)
+        }
     }
 }

@@ -60,7 +60,7 @@ fn write<S: Store, K: Sink>(
 {
     match store.write(file, bytes) {
         Ok(()) => Ok(Report::new(Status::Done, None, Replays::new(alloc))),
-        Err(WriteFault::Failed) => tell_unwritten(alloc, file, None, out),
+        Err(WriteFault::Failed) => tell_unwritten(alloc, file, None, Replays::new(alloc), out),
         Err(WriteFault::NoMemory) => Err(AllocError),
     }
 }

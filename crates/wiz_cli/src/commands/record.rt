@@ -10,11 +10,12 @@ ghost use Rattle.wiz_words.specs.Words.{is_threaded_run};
 ghost use Rattle.wiz_words.specs.declared.command.Command.TheVariants.{Record};
 ghost use Rattle.wiz_trace.specs.RecordTexts.{record_text};
 
-use crate::commands::record_files::{Unwritten, write_files};
+use crate::commands::record_files::write_files;
 use crate::failure::Failure;
 use crate::recording::ready::{Ready, read_run};
 use crate::report::{Done, Report, tell, tell_unwritten};
 use crate::status::of_ending;
+use crate::writing::Unwritten;
 use replay_model::replayed::Replays;
 use srr_record::Recording;
 use std::alloc::{AllocError, Global};
@@ -57,7 +58,13 @@ fn write<S: Store, K: Sink>(
     match write_files(alloc, prefix, &recording, store) {
         Ok(()) => tell_recording(alloc, recording, out),
         Err(Unwritten::Failed(name)) => {
-            tell_unwritten(alloc, &name, Some(recording.history), out)
+            tell_unwritten(
+                alloc,
+                &name,
+                Some(recording.history),
+                Replays::new(alloc),
+                out,
+            )
         }
         Err(Unwritten::OutOfMemory) => Err(AllocError),
     }

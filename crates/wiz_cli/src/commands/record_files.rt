@@ -1,40 +1,18 @@
 //! The files that a recording writes.
 ghost use Rattle.std.specs.Prelude.{◌≡◌, ◌+◌, ◌<◌, ◌≤◌, ◌^◌, ◌∷◌, [], IfErr, IfOk, OnOk, length};
 ghost use Rattle.std.specs.String.{string_bytes};
-ghost use Rattle.std.specs.List.{AllByRecursion};
-ghost use Rattle.srr_log2.specs.LogBytes.{log_bytes};
-ghost use Rattle.srr_text.specs.Bounds.{IsInBounds};
 ghost use Rattle.wiz_cli.specs.Files.{AreWritten};
-ghost use Rattle.wiz_cli.specs.RecordFiles.{files_of, log_files, log_name, order_name};
+ghost use Rattle.wiz_cli.specs.RecordFiles.{files_of, log_files, order_name};
 ghost use Rattle.wiz_cli.specs.Steps.{AreInBounds, IsStopped};
 ghost use Rattle.wiz_trace.specs.OrderTexts.{order_text};
 
+use crate::writing::{Unwritten, write_file, write_log_file};
 use run_model::history::History;
 use srr_entry::log::Log;
-use srr_log2::write_log2::write_log2;
 use srr_record::Recording;
 use std::alloc::{AllocError, Global};
-use wiz_io::{Store, WriteFault};
+use wiz_io::Store;
 use wiz_trace::order::order_text;
-
-/// Why a file was not written.
-#[derive(Drop)]
-pub enum Unwritten {
-    /// The store failed at the file of this name.
-    Failed(String),
-    OutOfMemory,
-}
-
-impl From<AllocError> for Unwritten {
-    ghost use Rattle.std.specs.Prelude.{◌≡◌};
-    ghost use Rattle.wiz_cli.specs.declared.commands.record_files.Unwritten.TheVariants.{OutOfMemory};
-
-    ghost from_gives = { λ _ why. why ≡ OutOfMemory };
-
-    fn from(_error: AllocError) -> Self {
-        Unwritten::OutOfMemory
-    }
-}
 
 /// Writes the log of each group, in format 2, and then the order of the run.
 pub fn write_files<S: Store>(
@@ -77,24 +55,6 @@ fn write_logs<S: Store>(
     }
 }
 
-fn write_log_file<S: Store>(
-    alloc: Global,
-    prefix: &str,
-    group: u64,
-    log: &Log,
-    store: &mut S,
-) -> Result<(), Unwritten>
-    requires { IsInBounds log.now }
-    ensures ok { OnOk result (AreWritten (S.told store.old).files (S.told store.new).files (log_files prefix.now group (log.now ∷ [])) []) }
-    ensures stopped { IfErr result (λ why. IsStopped (S.told store.old).files (S.told store.new).files (S.told store.old).writes (S.told store.new).writes (log_files prefix.now group (log.now ∷ [])) why) }
-    ensures reads { (S.told store.new).reads ≡ (S.told store.old).reads }
-    ensures later { (S.told store.old).writes ≤ (S.told store.new).writes }
-{
-    let name = log_name(alloc, prefix, group)?;
-    let text = write_log2(alloc, log)?;
-    write_file(name, text.as_slice(), store)
-}
-
 fn write_order<S: Store>(
     alloc: Global,
     prefix: &str,
@@ -109,27 +69,6 @@ fn write_order<S: Store>(
     let name = order_name(alloc, prefix)?;
     let text = order_text(alloc, history)?;
     write_file(name, text.as_slice(), store)
-}
-
-/// Writes one file.
-fn write_file<S: Store>(name: String, bytes: &[u8], store: &mut S) -> Result<(), Unwritten>
-    ensures ok { OnOk result (AreWritten (S.told store.old).files (S.told store.new).files ((record { name = string_bytes name; bytes = bytes.now }) ∷ []) []) }
-    ensures stopped { IfErr result (λ why. IsStopped (S.told store.old).files (S.told store.new).files (S.told store.old).writes (S.told store.new).writes ((record { name = string_bytes name; bytes = bytes.now }) ∷ []) why) }
-    ensures reads { (S.told store.new).reads ≡ (S.told store.old).reads }
-    ensures later { (S.told store.old).writes ≤ (S.told store.new).writes }
-{
-    match store.write(&name, bytes) {
-        Ok(()) => Ok(()),
-        Err(WriteFault::Failed) => Err(Unwritten::Failed(name)),
-        Err(WriteFault::NoMemory) => Err(Unwritten::OutOfMemory),
-    }
-}
-
-/// The name of a group's log file.
-fn log_name(alloc: Global, prefix: &str, group: u64) -> Result<String, AllocError>
-    ensures { IfOk result (λ name. string_bytes name ≡ log_name prefix.now group) }
-{
-    format!(in alloc; "{prefix}.{group}.srr")
 }
 
 /// The name of the order file.

@@ -1,5 +1,5 @@
 //! `replay LOG [--program FILE] [--break R:C] [--serial]`: the group of a log is replayed.
-ghost use Rattle.std.specs.Prelude.{◌≡◌, ◌∷◌, [], IfOk, OnErr};
+ghost use Rattle.std.specs.Prelude.{IfOk, OnErr};
 ghost use Rattle.wiz_cli.specs.Commands.{replay_outcome};
 ghost use Rattle.wiz_cli.specs.Outcomes.{IsPut};
 ghost use Rattle.wiz_cli.specs.Output.{GrewByPart};
@@ -10,12 +10,12 @@ ghost use Rattle.wiz_words.specs.Texts.{replay_with_texts};
 ghost use Rattle.wiz_words.specs.declared.command.Command.TheVariants.{Replay};
 
 use crate::failure::Failure;
-use crate::replaying::make::replay_text;
+use crate::replaying::make::{one_replay, replay_text};
 use crate::replaying::subject::{read_subject, used_text};
 use crate::report::{Done, Report, tell};
 use crate::status::of_stands;
 use c_program::CProgram;
-use replay_model::replayed::{Replayed, Replays};
+use replay_model::replayed::Replayed;
 use srr_entry::log::Log;
 use std::alloc::{AllocError, Global};
 use wiz_io::{Sink, Store};
@@ -65,12 +65,4 @@ fn tell_replay<K: Sink>(
         replays,
     };
     tell(done, out)
-}
-
-fn one_replay(alloc: Global, replayed: Replayed) -> Result<Replays, AllocError>
-    ensures { IfOk result (λ replays. replays ≡ replayed ∷ []) }
-{
-    let mut replays = Replays::new(alloc);
-    replays.push(replayed)?;
-    Ok(replays)
 }

@@ -1,5 +1,5 @@
 //! The replay of a log.
-ghost use Rattle.std.specs.Prelude.{IfOk};
+ghost use Rattle.std.specs.Prelude.{◌≡◌, ◌∷◌, [], IfOk};
 ghost use Rattle.c_types.specs.Checks.{IsProgramOf};
 ghost use Rattle.srr_replay.specs.Rounds.{IsReplayable};
 ghost use Rattle.wiz_cli.specs.Replayings.{IsReplayOf};
@@ -10,7 +10,7 @@ use c_program::CProgram;
 use c_types::text_fixes_meaning;
 use rank_threads::{Gate, replay_threads};
 use replay_model::laws::every_order_shows_every_run;
-use replay_model::replayed::Replayed;
+use replay_model::replayed::{Replayed, Replays};
 use srr_entry::log::Log;
 use srr_replay::serial::replay_serial;
 use std::alloc::{AllocError, Global};
@@ -65,4 +65,13 @@ pub fn replay_text<F: Fn(&CProgram, &Log, Option<(u8, u32)>) -> Result<Replayed,
     text_fixes_meaning(program, text);
     every_order_shows_every_run(program, log);
     replayer(program, log, stop)
+}
+
+/// The list of one replay.
+pub fn one_replay(alloc: Global, replayed: Replayed) -> Result<Replays, AllocError>
+    ensures { IfOk result (λ replays. replays ≡ replayed ∷ []) }
+{
+    let mut replays = Replays::new(alloc);
+    replays.push(replayed)?;
+    Ok(replays)
 }

@@ -1,7 +1,7 @@
 use Rattle.std.proofs.Common.{ap, Err, inr}
 use Rattle.std.specs.String.{string_bytes}
 use Rattle.wiz_cli.proofs.FileLemmas.{IsStoppedAt-one}
-use Rattle.wiz_cli.proofs.commands.record_files.write_file.Goals as goal
+use Rattle.wiz_cli.proofs.writing.write_file.Goals as goal
 
 pub returns-in-Err-Failed-clause-stopped : goal.returns-in-Err-Failed-clause-stopped
 returns-in-Err-Failed-clause-stopped g c = (

@@ -1,0 +1,97 @@
+//! `join LOG OTHER FILE`: two logs are replayed, each alone, and the log of both groups together is written.
+ghost use Rattle.std.specs.Prelude.{◌≡◌, ◌∷◌, [], IfOk};
+ghost use Rattle.srr_regroup.specs.Joining.{CanJoin};
+ghost use Rattle.srr_regroup.specs.Regrouping.{both_groups, joined};
+ghost use Rattle.wiz_cli.specs.Regroupings.{done_outcome, join_outcome, log_file};
+ghost use Rattle.wiz_cli.specs.Steps.{AreJoinable, Ends, IsToldBy, MakesReplays, TakesLogs};
+ghost use Rattle.wiz_cli.specs.World.{world};
+ghost use Rattle.wiz_trace.specs.RegroupTexts.{joined_text};
+ghost use Rattle.wiz_words.specs.declared.command.Command.TheVariants.{Join};
+
+use crate::failure::Failure;
+use crate::regrouping::make::{replay_own, two_replays};
+use crate::regrouping::subject::{Pair, read_pair};
+use crate::regrouping::tell::{tell_traces, tell_written};
+use crate::report::Report;
+use crate::status::{Status, of_both};
+use crate::writing::write_file;
+use c_program::CProgram;
+use replay_model::replayed::Replayed;
+use srr_entry::log::Log;
+use srr_log2::write_log2::write_log2;
+use std::alloc::{AllocError, Global};
+use wiz_io::{Sink, Store};
+use wiz_trace::regroup::joined_text;
+
+/// Joins two logs: `replayer` makes the replays.
+pub fn join<
+    'a,
+    S: Store,
+    K: Sink,
+    G: Fn(&CProgram, &Log, Option<(u8, u32)>) -> Result<Replayed, AllocError>,
+>(
+    alloc: Global,
+    one: &'a str,
+    other: &'a str,
+    file: &str,
+    store: &mut S,
+    out: &mut K,
+    replayer: &G,
+) -> Result<Report, Failure<'a>>
+    requires takes { TakesLogs (G.pre replayer.now) }
+    requires makes { MakesReplays (G.post replayer.now) }
+    ensures { Ends (Join one.now other.now file.now) (world (S.told store.old) (K.told out.old)) (world (S.told store.new) (K.told out.new)) result }
+{
+    let pair = read_pair(alloc, one, other, store)?;
+    let first = replay_own(&pair.program, &pair.one, replayer)?;
+    let second = replay_own(&pair.program, &pair.other, replayer)?;
+    let report = tell_replayed(alloc, file, &pair, first, second, store, out)?;
+    Ok(report)
+}
+
+/// Writes the log of both groups where all is done, and tells it; else tells the replays by their traces.
+fn tell_replayed<S: Store, K: Sink>(
+    alloc: Global,
+    file: &str,
+    pair: &Pair,
+    first: Replayed,
+    second: Replayed,
+    store: &mut S,
+    out: &mut K,
+) -> Result<Report, AllocError>
+    requires { AreJoinable pair.now.one first.events.events pair.now.other second.events.events }
+    ensures told { IsToldBy (join_outcome file.now pair.now.one first pair.now.other second) (world (S.told store.old) (K.told out.old)) (world (S.told store.new) (K.told out.new)) result }
+    ensures reads { (S.told store.new).reads ≡ (S.told store.old).reads }
+{
+    match of_both(first.ends.as_slice(), second.ends.as_slice()) {
+        Status::Done => write_joined(alloc, file, pair, first, second, store, out),
+        status => {
+            let replays = two_replays(alloc, first, second)?;
+            tell_traces(alloc, status, replays, out)
+        }
+    }
+}
+
+/// Writes the log of both groups and tells it.
+fn write_joined<S: Store, K: Sink>(
+    alloc: Global,
+    file: &str,
+    pair: &Pair,
+    first: Replayed,
+    second: Replayed,
+    store: &mut S,
+    out: &mut K,
+) -> Result<Report, AllocError>
+    requires { AreJoinable pair.now.one first.events.events pair.now.other second.events.events }
+    ensures told { let files = log_file file.now (joined pair.now.one first.events.events pair.now.other second.events.events) in
+        IsToldBy (done_outcome files (joined_text (both_groups pair.now.one pair.now.other)) (first ∷ second ∷ [])) (world (S.told store.old) (K.told out.old)) (world (S.told store.new) (K.told out.new)) result }
+    ensures reads { (S.told store.new).reads ≡ (S.told store.old).reads }
+{
+    let made = srr_regroup::join(alloc, &pair.one, &first, &pair.other, &second)?;
+    let text = joined_text(alloc, &made.group)?;
+    let bytes = write_log2(alloc, &made)?;
+    let name = format!(in alloc; "{file}")?;
+    let replays = two_replays(alloc, first, second)?;
+    let written = write_file(name, bytes.as_slice(), store);
+    tell_written(alloc, written, text, replays, out)
+}
