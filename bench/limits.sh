@@ -55,6 +55,11 @@ waitall() {
   program '0 1\n' "MPI_Request q[$1];" "if(r==1){for(i=0;i<$1;i++)MPI_Send(&i,1,MPI_INT,0,1,MPI_COMM_WORLD);}else{for(i=0;i<$1;i++)MPI_Irecv(&x,1,MPI_INT,1,1,MPI_COMM_WORLD,&q[i]);MPI_Waitall($1,q,MPI_STATUSES_IGNORE);}"
 }
 
+# The same, but each message comes after a probe in vain, so that the receiver waits in vain once for each.
+waiting() {
+  program '0 1\n' "MPI_Request q[$1];" "if(r==1){for(i=0;i<$1;i++){MPI_Iprobe(0,9,MPI_COMM_WORLD,&y,MPI_STATUS_IGNORE);MPI_Send(&i,1,MPI_INT,0,1,MPI_COMM_WORLD);}}else{for(i=0;i<$1;i++)MPI_Irecv(&x,1,MPI_INT,1,1,MPI_COMM_WORLD,&q[i]);MPI_Waitall($1,q,MPI_STATUSES_IGNORE);}"
+}
+
 ring() {
   program '0-15\n' '' "for(i=0;i<$(($1 / 16));i++){if(r==0){MPI_Send(&x,1,MPI_INT,1,1,MPI_COMM_WORLD);MPI_Recv(&x,1,MPI_INT,n-1,1,MPI_COMM_WORLD,MPI_STATUS_IGNORE);}else{MPI_Recv(&x,1,MPI_INT,r-1,1,MPI_COMM_WORLD,MPI_STATUS_IGNORE);x=x+1;MPI_Send(&x,1,MPI_INT,(r+1)%n,1,MPI_COMM_WORLD);}}"
 }
@@ -119,6 +124,7 @@ rows groups 999000
 rows tags 200000
 rows barriers 400000
 rows waitall 100000
+rows waiting 100000
 echo 'recorded on one thread'
 recording events 100000 300000
 recording ring 80000 80000
