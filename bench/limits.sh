@@ -124,7 +124,7 @@ rows groups 999000
 rows tags 200000
 rows barriers 400000
 rows waitall 100000
-rows waiting 100000
+rows waiting 20000
 echo 'recorded on one thread'
 recording events 100000 300000
 recording ring 80000 80000

@@ -13,7 +13,7 @@ import tempfile
 
 TOP = os.path.dirname(os.path.dirname(os.path.abspath(__file__)))
 WIZ = os.path.join(TOP, "crates/wiz/out/wiz")
-RANKS = 6
+RANKS = 8
 WAYS = 32
 HALTED = 7
 
@@ -39,8 +39,8 @@ def plan_of(groups):
 
 def ranks_of(example, plan):
     """How many ranks a plan has: one more than its greatest number."""
-    text = contents(example, plan).decode()
-    return 1 + max(int(word) for word in text.replace("-", " ").split())
+    lines = contents(example, plan).decode().splitlines()
+    return 1 + max(int(word) for line in lines for word in line.partition("#")[0].replace("-", " ").split())
 
 
 def cuts(draw, ranks):
