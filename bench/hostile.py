@@ -25,6 +25,8 @@ STATUSES = {
     "show": READ,
     "stats": READ,
     "convert": READ,
+    "refine": READ | {5, 6, 9, 10, 13},
+    "join": READ | {5, 9, 10, 13},
     "demo": {0, 1, 4, 11},
     "record": {0, 1, 2, 3, 4, 5, 6, 7, 11, 12},
     "check": {0, 1, 2, 3, 4, 5, 6, 7, 11, 12},
@@ -145,19 +147,32 @@ def sealed(data):
 
 def log_mutations(draw, work, count, table):
     """Mutations of three logs in both formats. A digest refuses most of those in format 2, so half of them get a new one."""
+    race, split = recorded(work, "race/race.c", b"0 1\n2\n"), recorded(work, "split/split.c", b"0 1\n2\n3\n")
     logs = [
         open(os.path.join(TOP, "examples/first/first.srr"), "rb").read(),
-        recorded(work, "race/race.c", b"0 1\n2\n")["run.0.srr"],
-        recorded(work, "split/split.c", b"0 1\n2\n3\n")["run.0.srr"],
+        race["run.0.srr"],
+        split["run.0.srr"],
     ]
     logs += [converted(work, log) for log in logs]
     folder = tempfile.mkdtemp(dir=work)
+    for name, data in {"two": b"0\n1\n", "three": b"0\n1\n2\n", "four": b"0\n1\n2-3\n"}.items():
+        write(folder, name, data)
+    write(folder, "race", race["run.1.srr"])
+    write(folder, "split", split["run.1.srr"])
     for _ in range(count):
         data = mutated(draw, draw.choice(logs))
         if data.startswith(b"srr 2") and draw.random() < 0.5:
             data = sealed(data)
         write(folder, "log", data)
-        words = draw.choice([["replay", "log", "--serial"], ["replay", "log"], ["show", "log"], ["stats", "log"], ["convert", "log", "new"]])
+        words = draw.choice([
+            ["replay", "log", "--serial"],
+            ["replay", "log"],
+            ["show", "log"],
+            ["stats", "log"],
+            ["convert", "log", "new"],
+            ["refine", "log", draw.choice(["two", "three", "four"]), "new"],
+            ["join", "log", draw.choice(["race", "split"]), "new"],
+        ])
         table.add(words, data, *run(words, folder, made=("new",)))
     table.show("logs")
 
