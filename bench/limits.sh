@@ -3,14 +3,7 @@
 # its log on one thread. Then three runs of messages alone, recorded. Needs `rt` and GNU time (`apt-get install time`). A row gives
 # wall-clock seconds from start to end (the least of three runs), the growth against the row above, peak memory in MB, and the
 # bytes of all logs, without the program's text in them, for each event. `bench/limits.sh NAME` does the rows of one name alone.
-set -euo pipefail
-export LC_ALL=C
-top=$(cd "$(dirname "$0")/.." && pwd)
-work=$(mktemp -d)
-trap 'rm -rf "$work"' EXIT
-cd "$work"
-"$top/wiz" replay "$top/examples/first/first.srr" --serial >/dev/null
-wiz=$top/crates/wiz/out/wiz
+. "$(dirname "$0")/begin.sh"
 only=${1:-}
 
 # A program of these variables and this body, and a plan.

@@ -1,13 +1,7 @@
 #!/usr/bin/env bash
 # Counts the bytes of logs in both formats over the examples: makes their recordings, and converts each log to either format. Prints for
 # each log its entries, the bytes of its program, and in each format the bytes of all but the program, also by entry. Needs `rt`.
-set -euo pipefail
-export LC_ALL=C
-top=$(cd "$(dirname "$0")/.." && pwd)
-work=$(mktemp -d)
-trap 'rm -rf "$work"' EXIT
-"$top/wiz" replay "$top/examples/first/first.srr" --serial >/dev/null
-wiz=$top/crates/wiz/out/wiz
+. "$(dirname "$0")/begin.sh"
 
 # Runs a command in a copy of an example. A run that was halted, with status 7, is recorded too.
 record() {

@@ -3,15 +3,8 @@
 # ranks that send to rank 0, which takes whoever comes first. Then one that computes between its messages, on 1, 2 and 4 processors
 # (`taskset`). A row gives the wall-clock time of `wiz record` from start to end in milliseconds, the median of five runs, serial
 # and on threads, and the ratio of both. Needs `rt`. Takes the number of messages of the first table (10000 where none is given).
-set -euo pipefail
-export LC_ALL=C
+. "$(dirname "$0")/begin.sh"
 messages=${1:-10000}
-top=$(cd "$(dirname "$0")/.." && pwd)
-work=$(mktemp -d)
-trap 'rm -rf "$work"' EXIT
-cd "$work"
-"$top/wiz" replay "$top/examples/first/first.srr" --serial >/dev/null
-wiz=$top/crates/wiz/out/wiz
 
 # A program of this body, and a plan of this many ranks in one group.
 program() {
