@@ -117,11 +117,11 @@ few_items len low (item ∷ items) within h =
 
 -- a reply that is no halt comes where none is due
 nothing_due : (next : Next) (n : ℕ) (before : List Event) (me : ℕ) (call : Call) (reply : Reply) → IsAllowed next n before me call reply
-    → is_stopped reply ≡ false → due n before (view_of before me) me call ≡ None
+    → is_stopped reply ≡ false → due n before me (view_of before me) call ≡ None
 nothing_due next n before me call reply is going =
     let own : View = view_of before me in
-    let F : Option Halt → Type 0 = λ x. IsAllowedBy x (IsStuck next n before) n before own me call reply in
-    elim (option_cases (due n before own me call)) [
+    let F : Option Halt → Type 0 = λ x. IsAllowedBy x (IsStuck next n before) n before me own call reply in
+    elim (option_cases (due n before me own call)) [
       | inl some ↦ (
           let stopped : reply ≡ Stopped some.0 = subst F some.1 is in
           absurd (let no : true ≡ false = rw stopped at going in cc))
@@ -135,22 +135,22 @@ good_list n before own me starts (Some k) is h = absurd (cc)
 
 -- what a run says of the items of a reply
 pub record AreTaken (n : ℕ) (before : List Event) (me : ℕ) (starts : List ℕ) (items : List Item) : Type 0 where
-  pub gots : AreGots n before (view_of before me) me starts items
+  pub gots : AreGots n before me (view_of before me) starts items
   pub once : is_distinct (items_taken starts items) ≡ true
   pub few : length items ≤ length starts
 
-are_taken : (n : ℕ) (before : List Event) (me : ℕ) (call : Call) (items : List Item) → due n before (view_of before me) me call ≡ None
-    → has_shape n me (view_of before me) call (Took items) ≡ true → AreGots n before (view_of before me) me (listed_by call) items
+are_taken : (n : ℕ) (before : List Event) (me : ℕ) (call : Call) (items : List Item) → due n before me (view_of before me) call ≡ None
+    → has_shape n me (view_of before me) call (Took items) ≡ true → AreGots n before me (view_of before me) (listed_by call) items
     → AreTaken n before me (listed_by call) items
 are_taken n before me (Take starts mode) items free shape gots =
     let own : View = view_of before me in
-    let late = (none_parts (halted before) (if is_full before then Some Limit else halt_at n before own me (Take starts mode)) free).1 in
+    let late = (none_parts (halted before) (if is_full before then Some Limit else halt_at n before me own (Take starts mode)) free).1 in
     let good : bad_request own [] starts ≡ None = elim (test_cases (is_full before)) [
       | inl t ↦ absurd (let no : Some Limit ≡ None = rw t at late in cc)
       | inr t ↦ good_list n before own me starts (bad_request own [] starts) refl (rw t at late)
     ] in
-    let one = and_parts (has_count mode (length starts) (length items)) (rise_within 0 (length starts) (indices_of items) && (list_all (λ k. can_take own k) starts && gots_fit n own me starts items)) shape in
-    let two = and_parts (rise_within 0 (length starts) (indices_of items)) (list_all (λ k. can_take own k) starts && gots_fit n own me starts items) one.1 in
+    let one = and_parts (has_count mode (length starts) (length items)) (rise_within 0 (length starts) (indices_of items) && (list_all (λ k. can_take own k) starts && gots_fit n me own starts items)) shape in
+    let two = and_parts (rise_within 0 (length starts) (indices_of items)) (list_all (λ k. can_take own k) starts && gots_fit n me own starts items) one.1 in
     let many = few_items (length starts) 0 items (omega arith) two.0 in
     record { gots = gots; once = taken_once starts items 0 (listed_once own [] starts good).0 two.0; few = omega (arith, many) }
 are_taken n before me (Send comm dest tag ints sync) items free shape gots = absurd (let h : false ≡ true = shape in cc)
@@ -172,4 +172,4 @@ reply_taken next n before event items lawful run step took =
     let allowed : A (Took items) = subst A took step.reply in
     let shape : S (Took items) = subst S took (event_shaped next n before event lawful run.some run.few kept step) in
     are_taken n before me event.call items (nothing_due next n before me event.call (Took items) allowed refl) shape
-    (allowed_true (due n before own me event.call) (IsStuck next n before) n before own me event.call (Took items) allowed)
+    (allowed_true (due n before me own event.call) (IsStuck next n before) n before own me event.call (Took items) allowed)

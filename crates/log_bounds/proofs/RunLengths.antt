@@ -22,15 +22,15 @@ pub going_on : (next : Next) (n : ℕ) (before : List Event) (me : ℕ) (call : 
     → is_stopped reply ≡ false → (halted before ≡ None) × (is_full before ≡ false)
 going_on next n before me call reply is going =
     let own : View = view_of before me in
-    let F : Option Halt → Type 0 = λ x. IsAllowedBy x (IsStuck next n before) n before own me call reply in
+    let F : Option Halt → Type 0 = λ x. IsAllowedBy x (IsStuck next n before) n before me own call reply in
     elim (option_cases (halted before)) [
       | inl some ↦ (
-          let e : due n before own me call ≡ Some some.0 = rw some.1 in
+          let e : due n before me own call ≡ Some some.0 = rw some.1 in
           let stopped : reply ≡ Stopped some.0 = subst F e is in
           absurd (let no : true ≡ false = rw stopped at going in cc))
       | inr none ↦ elim (test_cases (is_full before)) [
         | inl t ↦ (
-            let e : due n before own me call ≡ Some Limit = rw (none, t) in
+            let e : due n before me own call ≡ Some Limit = rw (none, t) in
             let stopped : reply ≡ Stopped Limit = subst F e is in
             absurd (let no : true ≡ false = rw stopped at going in cc))
         | inr t ↦ (none, t)

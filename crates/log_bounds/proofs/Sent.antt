@@ -159,7 +159,7 @@ all_counted needed (m ∷ members) all = (let rest = all_counted needed members 
 
 -- what a rank gets of a collective, by its inputs and the members that it needs
 from_within : (makes_it uncoloured : Bool) (n : ℕ) (own : View) (me : ℕ) (enter : Call) (inputs : List (List ℤ)) (got : Got) (most : ℕ)
-    → IsFrom makes_it uncoloured n own me enter inputs got
+    → IsFrom makes_it uncoloured n me own enter inputs got
     → (makes_it ≡ true → uncoloured ≡ false → length (members_made enter (members_in n own (comm_of enter)) inputs me) ≤ most)
     → (makes_it ≡ false → length (result_of enter (members_in n own (comm_of enter)) inputs me) ≤ most)
     → size_of_got got ≤ most
@@ -174,7 +174,7 @@ from_within false uncoloured n own me enter inputs got most is made joined =
     omega (arith, size, short)
 
 collected_given : (n : ℕ) (before : List Event) (me k : ℕ) (enter : Call) (got : Got) → Before n before me → is_enter enter ≡ true
-    → start_at (view_of before me) k ≡ Some enter → IsCollected n before (view_of before me) me k enter got → size_of_got got ≤ given n before me k
+    → start_at (view_of before me) k ≡ Some enter → IsCollected n before me (view_of before me) k enter got → size_of_got got ≤ given n before me k
 collected_given n before me k enter got b is at got_is =
     let V : ℕ → View = view_of before in
     let C : ℕ = comm_of enter in
@@ -202,7 +202,7 @@ collected_given n before me k enter got b is at got_is =
     omega (arith, all, part, short)))
 
 got_given : (n : ℕ) (before : List Event) (me k : ℕ) (start : Option Call) (got : Got) → Before n before me → start_at (view_of before me) k ≡ start
-    → IsGot n before (view_of before me) me k start got → size_of_got got ≤ given n before me k
+    → IsGot n before me (view_of before me) k start got → size_of_got got ≤ given n before me k
 got_given n before me k None got b at is = absurd is
 got_given n before me k (Some (Send comm dest tag ints sync)) got b at is = (let size = ap size_of_got is in omega (arith, size))
 got_given n before me k (Some (Post comm Null tag room)) got b at is = (let size = ap size_of_got is in omega (arith, size))
@@ -215,7 +215,7 @@ got_given n before me k (Some (Abort code)) got b at is = absurd is
 got_given n before me k (Some (Trap fault)) got b at is = absurd is
 got_given n before me k (Some End) got b at is = absurd is
 
-gots_given : (n : ℕ) (before : List Event) (me : ℕ) (starts : List ℕ) (items : List Item) → Before n before me → AreGots n before (view_of before me) me starts items
+gots_given : (n : ℕ) (before : List Event) (me : ℕ) (starts : List ℕ) (items : List Item) → Before n before me → AreGots n before me (view_of before me) starts items
     → content_of items ≤ sum_over (items_taken starts items) (λ k. given n before me k)
 gots_given n before me starts [] b are = omega arith
 gots_given n before me starts (item ∷ items) b are =

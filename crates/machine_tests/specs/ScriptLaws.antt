@@ -263,9 +263,9 @@ known n comm view h =
     ]
 
 -- a script's collective: a root is a rank, and the Enter is in form
-abbrev IsFineEnter : ℕ → View → ℕ → Call → Type 0
-IsFineEnter n own me (Enter comm kind root op count ints) = IfSome root (λ rank. rank < n) × IsInForm n own me (Enter comm kind root op count ints)
-IsFineEnter n own me call = Unit {0}
+abbrev IsFineEnter : ℕ → ℕ → View → Call → Type 0
+IsFineEnter n me own (Enter comm kind root op count ints) = IfSome root (λ rank. rank < n) × IsInForm n me own (Enter comm kind root op count ints)
+IsFineEnter n me own call = Unit {0}
 
 no_some : {A : Type 0} (o : Option A) → not (is_some o) ≡ true → o ≡ None
 no_some None h = refl
@@ -276,7 +276,7 @@ fine_plain : (n me : ℕ) (own : View) (comm : ℕ) (kind : Kind) (root : Option
     → is_known comm (replies_in own) ≡ true → (not (is_some root) && (not (is_some op) && ((count == 0) && (length ints == many)))) ≡ true
     → ((members : List ℕ) → length ints ≡ many → IsEnterOf (Enter comm kind None None 0 ints) members me)
     → ((members : List ℕ) → result_length (Enter comm kind None None 0 ints) members me ≤ MOST_RESULT_INTS)
-    → IsFineEnter n own me (Enter comm kind root op count ints)
+    → IsFineEnter n me own (Enter comm kind root op count ints)
 fine_plain n me own comm kind root op count many ints is h form short =
     let members = known n comm own is in
     let one = and_parts (not (is_some root)) (not (is_some op) && ((count == 0) && (length ints == many))) h in
@@ -286,7 +286,7 @@ fine_plain n me own comm kind root op count many ints is h form short =
     (tt, (members.0, members.1, form members.0 (eqb-true (length ints) many three.1), short members.0))
 
 fine_reduce : (n me : ℕ) (own : View) (comm : ℕ) (root : Option ℕ) (op : Option Op) (count : ℕ) (ints : List ℤ)
-    → is_known comm (replies_in own) ≡ true → has_parts n me comm Allreduce root op count (length ints) ≡ true → IsFineEnter n own me (Enter comm Allreduce root op count ints)
+    → is_known comm (replies_in own) ≡ true → has_parts n me comm Allreduce root op count (length ints) ≡ true → IsFineEnter n me own (Enter comm Allreduce root op count ints)
 fine_reduce n me own comm (Some root) op count ints is h = absurd (cc)
 fine_reduce n me own comm None None count ints is h = absurd (cc)
 fine_reduce n me own comm None (Some op) count ints is h =
@@ -295,7 +295,7 @@ fine_reduce n me own comm None (Some op) count ints is h =
     (tt, (members.0, members.1, record { form = refl; ints = eqb-true (length ints) count both.0 }, leb-true count MOST_RESULT_INTS both.1))
 
 fine_cast : (n me : ℕ) (own : View) (comm : ℕ) (root : Option ℕ) (op : Option Op) (count : ℕ) (ints : List ℤ)
-    → has_parts n me comm Bcast root op count (length ints) ≡ true → IsFineEnter n own me (Enter comm Bcast root op count ints)
+    → has_parts n me comm Bcast root op count (length ints) ≡ true → IsFineEnter n me own (Enter comm Bcast root op count ints)
 fine_cast n me own comm root (Some op) count ints h = absurd (cc)
 fine_cast n me own comm None None count ints h = (let no = and_parts (comm == 0) false h in absurd (cc))
 fine_cast n me own comm (Some root) None count ints h =
@@ -308,7 +308,7 @@ fine_cast n me own comm (Some root) None count ints h =
     (below, (world n 0, members, record { form = rw (in_world n 0 root (omega arith) (omega (arith, below))) refl; ints = eqb-true (length ints) many three.0 }, leb-true count MOST_RESULT_INTS three.1))
 
 fine_enter : (n me : ℕ) (own : View) (comm : ℕ) (kind : Kind) (root : Option ℕ) (op : Option Op) (count : ℕ) (ints : List ℤ)
-    → is_known comm (replies_in own) ≡ true → has_parts n me comm kind root op count (length ints) ≡ true → IsFineEnter n own me (Enter comm kind root op count ints)
+    → is_known comm (replies_in own) ≡ true → has_parts n me comm kind root op count (length ints) ≡ true → IsFineEnter n me own (Enter comm kind root op count ints)
 fine_enter n me own comm Barrier root op count ints is h =
     fine_plain n me own comm Barrier root op count 0 ints is h (λ members none. record { form = refl; ints = none }) (λ members. omega arith)
 fine_enter n me own comm Dup root op count ints is h =
@@ -320,7 +320,7 @@ fine_enter n me own comm Bcast root op count ints is h = fine_cast n me own comm
 fine_enter n me own comm kind root op count ints is h = absurd (cc)
 
 fine_enter_of : (n me : ℕ) (own : View) (comm : ℕ) (kind : Kind) (root : Option ℕ) (op : Option Op) (count : ℕ) (ints : List ℤ)
-    → is_fine n me (replies_in own) (Enter comm kind root op count ints) ≡ true → IsFineEnter n own me (Enter comm kind root op count ints)
+    → is_fine n me (replies_in own) (Enter comm kind root op count ints) ≡ true → IsFineEnter n me own (Enter comm kind root op count ints)
 fine_enter_of n me own comm kind root op count ints h =
     let both = and_parts (is_known comm (replies_in own)) (has_parts n me comm kind root op count (length ints)) h in
     fine_enter n me own comm kind root op count ints both.0 both.1
@@ -346,7 +346,7 @@ in_bounds n me got own (Trap fault) h = tt
 in_bounds n me got own (Enter comm kind root op count ints) h = (fine_enter_of n me own comm kind root op count ints h).0
 in_bounds n me got own End h = tt
 
-in_form : (n me : ℕ) (own : View) (call : Call) → is_fine n me (replies_in own) call ≡ true → IsInForm n own me call
+in_form : (n me : ℕ) (own : View) (call : Call) → is_fine n me (replies_in own) call ≡ true → IsInForm n me own call
 in_form n me own (Enter comm kind root op count ints) h = (fine_enter_of n me own comm kind root op count ints h).1
 in_form n me own (Send comm dest tag ints sync) h = tt
 in_form n me own (Post comm source tag room) h = tt
@@ -381,5 +381,5 @@ asks_in_bounds calls n me view call rank came asked =
 
 pub enters_in_form : (calls : ℕ → List Call) → EntersInForm (next_of calls)
 enters_in_form calls n me view call rank came asked =
-    at_has (λ c. IsInForm n view me c) n me (replies_in view) (λ c h. in_form n me view c h) tt tt
+    at_has (λ c. IsInForm n me view c) n me (replies_in view) (λ c h. in_form n me view c h) tt tt
     (calls me) (length (replies_in view)) call (asked_at n me (calls me) (replies_in view) call asked)

@@ -40,7 +40,7 @@ pub unbound : (events : List Event) → bound_of events ≡ None → Unbound eve
 unbound events e = (let u = unbound_by (halted events) (is_full events) e in record { none = u.0; within = u.1 })
 
 pub due_free : (n : ℕ) (events : List Event) (own : View) (me : ℕ) (call : Call) → bound_of events ≡ None
-    → due n events own me call ≡ halt_at n events own me call
+    → due n events me own call ≡ halt_at n events me own call
 due_free n events own me call e = (let u = unbound events e in rw (u.none, u.within) refl)
 
 bound_due : (halt : Option Halt) (full : Bool) (rest : Option Halt) (found : Halt) → or_else halt (if full then Some Limit else None) ≡ Some found
@@ -51,24 +51,24 @@ bound_due None false rest found e = absurd (cc)
 
 -- a call that is answered at once, and its reply
 pub record Answered (n : ℕ) (events : List Event) (me : ℕ) (call : Call) (reply : Reply) : Type 0 where
-  pub go : can_go n events (view_of events me) me call ≡ true
+  pub go : can_go n events me (view_of events me) call ≡ true
   pub reply_is : chosen_reply n events me call ≡ reply
 
-pub due_answered : (n : ℕ) (events : List Event) (me : ℕ) (call : Call) (halt : Halt) → due n events (view_of events me) me call ≡ Some halt
+pub due_answered : (n : ℕ) (events : List Event) (me : ℕ) (call : Call) (halt : Halt) → due n events me (view_of events me) call ≡ Some halt
     → Answered n events me call (Stopped halt)
 due_answered n events me call halt e = record { go = rw e refl; reply_is = rw e refl }
 
 pub bound_answered : (n : ℕ) (events : List Event) (me : ℕ) (call : Call) (halt : Halt) → bound_of events ≡ Some halt
     → Answered n events me call (Stopped halt)
 bound_answered n events me call halt e =
-    due_answered n events me call halt (bound_due (halted events) (is_full events) (halt_at n events (view_of events me) me call) halt e)
+    due_answered n events me call halt (bound_due (halted events) (is_full events) (halt_at n events me (view_of events me) call) halt e)
 
 pub halt_answered : (n : ℕ) (events : List Event) (me : ℕ) (call : Call) (halt : Halt) → bound_of events ≡ None
-    → halt_at n events (view_of events me) me call ≡ Some halt → Answered n events me call (Stopped halt)
+    → halt_at n events me (view_of events me) call ≡ Some halt → Answered n events me call (Stopped halt)
 halt_answered n events me call halt free e = due_answered n events me call halt (due_free n events (view_of events me) me call free ∙ e)
 
-pub free_answered : (n : ℕ) (events : List Event) (me : ℕ) (call : Call) (reply : Reply) → due n events (view_of events me) me call ≡ None
-    → is_prompt n events (view_of events me) me call ≡ true → chosen_answer n events (view_of events me) me call ≡ reply
+pub free_answered : (n : ℕ) (events : List Event) (me : ℕ) (call : Call) (reply : Reply) → due n events me (view_of events me) call ≡ None
+    → is_prompt n events me (view_of events me) call ≡ true → chosen_answer n events me (view_of events me) call ≡ reply
     → Answered n events me call reply
 free_answered n events me call reply d p a = record { go = rw (d, p) refl; reply_is = rw d a }
 
@@ -115,15 +115,15 @@ pub bad_answered : (n : ℕ) (events : List Event) (me : ℕ) (starts : List ℕ
 bad_answered n events me starts mode k free e = halt_answered n events me (Take starts mode) (BadRequest me k) free (rw e refl)
 
 pub take_free : (n : ℕ) (events : List Event) (me : ℕ) (starts : List ℕ) (mode : TakeMode) → bound_of events ≡ None
-    → bad_request (view_of events me) [] starts ≡ None → due n events (view_of events me) me (Take starts mode) ≡ None
+    → bad_request (view_of events me) [] starts ≡ None → due n events me (view_of events me) (Take starts mode) ≡ None
 take_free n events me starts mode free e = due_free n events (view_of events me) me (Take starts mode) free ∙ rw e refl
 
 pub take_answered : (n : ℕ) (events : List Event) (me : ℕ) (starts : List ℕ) (mode : TakeMode) (reply : Reply) → bound_of events ≡ None
-    → bad_request (view_of events me) [] starts ≡ None → holds mode (flags_of n events (view_of events me) me starts) ≡ true
-    → chosen_answer n events (view_of events me) me (Take starts mode) ≡ reply → Answered n events me (Take starts mode) reply
+    → bad_request (view_of events me) [] starts ≡ None → holds mode (flags_of n events me (view_of events me) starts) ≡ true
+    → chosen_answer n events me (view_of events me) (Take starts mode) ≡ reply → Answered n events me (Take starts mode) reply
 take_answered n events me starts mode reply free e h a =
     free_answered n events me (Take starts mode) reply (take_free n events me starts mode free e)
-    (or_right (is_test mode) (holds mode (flags_of n events (view_of events me) me starts)) h) a
+    (or_right (is_test mode) (holds mode (flags_of n events me (view_of events me) starts)) h) a
 
 or_none : (x y : Bool) → y ≡ false → (x || y) ≡ x
 or_none true y e = refl
@@ -134,18 +134,18 @@ and_yes true = refl
 and_yes false = refl
 
 pub take_held : (n : ℕ) (events : List Event) (me : ℕ) (starts : List ℕ) (mode : TakeMode) → bound_of events ≡ None
-    → bad_request (view_of events me) [] starts ≡ None → holds mode (flags_of n events (view_of events me) me starts) ≡ false
+    → bad_request (view_of events me) [] starts ≡ None → holds mode (flags_of n events me (view_of events me) starts) ≡ false
     → IsHeldBack n events me (Take starts mode) (is_test mode)
 take_held n events me starts mode free e h =
     let d = take_free n events me starts mode free e in
     record {
-      go = rw d (or_none (is_test mode) (holds mode (flags_of n events (view_of events me) me starts)) h);
+      go = rw d (or_none (is_test mode) (holds mode (flags_of n events me (view_of events me) starts)) h);
       reply_is = rw (d, h) refl;
       waiting = rw e (and_yes (is_test mode));
     }
 
 pub peek_free : (n : ℕ) (events : List Event) (me comm : ℕ) (source : Source) (tag : Tag) (wait : Bool) → bound_of events ≡ None
-    → due n events (view_of events me) me (Peek comm source tag wait) ≡ None
+    → due n events me (view_of events me) (Peek comm source tag wait) ≡ None
 peek_free n events me comm source tag wait free = due_free n events (view_of events me) me (Peek comm source tag wait) free
 
 pub not_not : (b : Bool) → not (not b) ≡ b
@@ -164,7 +164,7 @@ peek_held n events me comm source tag wait free e =
 
 pub peek_answered : (n : ℕ) (events : List Event) (me comm : ℕ) (source : Source) (tag : Tag) (wait : Bool) (at : ℕ) (reply : Reply) → AllBelow n events
     → bound_of events ≡ None → choice events me (Peek comm source tag wait) ≡ Some at
-    → chosen_answer n events (view_of events me) me (Peek comm source tag wait) ≡ reply → Answered n events me (Peek comm source tag wait) reply
+    → chosen_answer n events me (view_of events me) (Peek comm source tag wait) ≡ reply → Answered n events me (Peek comm source tag wait) reply
 peek_answered n events me comm source tag wait at reply all free e a =
     free_answered n events me (Peek comm source tag wait) reply (peek_free n events me comm source tag wait free)
     (or_right (not wait) (has_open n events me comm source tag) (peek_there n events me comm source tag wait at all e)) a
@@ -174,7 +174,7 @@ pub has_reply : (next : Next) (n : ℕ) (events : List Event) (kept : List (Opti
 has_reply next n events kept rank call reply asked a =
     record {
       asked = asked;
-      answered = or_left (can_go n events (view_of events rank) rank call) (is_stuck next n events && others_wait next n (stage_of events kept) rank) a.go;
+      answered = or_left (can_go n events rank (view_of events rank) call) (is_stuck next n events && others_wait next n (stage_of events kept) rank) a.go;
       reply_is = a.reply_is;
     }
 
@@ -188,7 +188,7 @@ no_some None h = refl
 no_some (Some x) h = absurd (cc)
 
 pub waits_go : (n : ℕ) (events : List Event) (me : ℕ) (call : Call) → AllBelow n events → bound_of events ≡ None
-    → waits (view_of events me) call ≡ true → can_go n events (view_of events me) me call ≡ is_there n events me call
+    → waits (view_of events me) call ≡ true → can_go n events me (view_of events me) call ≡ is_there n events me call
 waits_go n events me (Take starts mode) all free h =
     let parts = and_parts (not (is_test mode)) (not (is_some (bad_request (view_of events me) [] starts))) h in
     let bad = no_some (bad_request (view_of events me) [] starts) (not_true (is_some (bad_request (view_of events me) [] starts)) parts.1) in

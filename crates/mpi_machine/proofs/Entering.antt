@@ -24,7 +24,7 @@ use Rattle.mpi_machine.proofs.Moving.{more_takes, starting_more}
 
 -- a rank's next call is in form
 pub asked_form : (next : Next) (n : ℕ) (events : List Event) (rank : ℕ) (call : Call) → Lawful next → IsChosen next n events → IsAsked next n events rank call
-    → IsInForm n (view_of events rank) rank call
+    → IsInForm n rank (view_of events rank) call
 asked_form next n events rank call lawful chosen asked =
     let kept = kept_run next n events lawful chosen.run in
     lawful.enters n rank (view_of events rank) call (chosen.run.some, chosen.run.few, asked.below) (kept.came rank asked.below) asked.asked
@@ -37,7 +37,7 @@ pub record MayJoin (n : ℕ) (view : View) (rank : ℕ) (call : Call) : Type 0 w
   pub form : IsEnterOf call members rank
 
 pub may_join : (next : Next) (n : ℕ) (events : List Event) (rank : ℕ) (call : Call) → Lawful next → IsChosen next n events → rank < n → is_enter call ≡ true
-    → IsInForm n (view_of events rank) rank call → MayJoin n (view_of events rank) rank call
+    → IsInForm n rank (view_of events rank) call → MayJoin n (view_of events rank) rank call
 may_join next n events rank (Enter comm kind root op count ints) lawful chosen below h form =
     let kept = kept_run next n events lawful chosen.run in
     record {

@@ -44,12 +44,12 @@ stuck_is next n events h rank call below asked =
     let one : not (goes n events rank (call_after next n events rank)) ≡ true =
     world_at (λ other. not (goes n events other (call_after next n events other))) n 0 rank h (omega arith) (omega arith) in
     let F : Option Call → Type 0 = λ c. not (goes n events rank c) ≡ true in
-    not_true (can_go n events (view_of events rank) rank call) (subst F asked one)
+    not_true (can_go n events rank (view_of events rank) call) (subst F asked one)
 
 answered_goes : (next : Next) (n : ℕ) (events : List Event) (kept : List (Option Call)) (rank : ℕ) (call : Call) → is_answered next n events kept rank call ≡ true
-    → (can_go n events (view_of events rank) rank call ≡ true) ⊎ IsStuck next n events
+    → (can_go n events rank (view_of events rank) call ≡ true) ⊎ IsStuck next n events
 answered_goes next n events kept rank call h =
-    elim (or_cases (can_go n events (view_of events rank) rank call) (is_stuck next n events && others_wait next n (stage_of events kept) rank) h) [
+    elim (or_cases (can_go n events rank (view_of events rank) call) (is_stuck next n events && others_wait next n (stage_of events kept) rank) h) [
       | inl t ↦ inl t
       | inr t ↦ inr (stuck_is next n events (and_parts (is_stuck next n events) (others_wait next n (stage_of events kept) rank) t).0)
     ]

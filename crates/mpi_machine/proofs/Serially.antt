@@ -87,7 +87,7 @@ attempted : {P : Type 0} (program : P) (next : Next) (n : ℕ) (events : List Ev
     → StandsAt (after_turn (machine_with program n events kept) rank call (turn_of next n events kept rank call))
     (attempt_with next n (stage_with events waiting) rank (Some call))
 attempted program next n events kept waiting rank call many below w =
-    let go : Bool = can_go n events (view_of events rank) rank call in
+    let go : Bool = can_go n events rank (view_of events rank) call in
     let stage : Stage = stage_with events waiting in
     let same : others_wait next n stage rank ≡ others_wait next n (stage_of events kept) rank =
     all_same (λ other. (other == rank) || (not (is_some (call_after next n events other)) || is_member waiting other))

@@ -50,7 +50,7 @@ abbrev Waits : Next → ℕ → List Event → ℕ → ℕ → Bool → Type 0
 Waits next n events rank m waiting = ((m == rank) || (not (is_some (call_after next n events m)) || waiting)) ≡ true
 
 all_held : (next : Next) (n : ℕ) (events : List Event) (kept : List (Option Call)) (rank : ℕ) (call : Call) → IsAsked next n events rank call
-    → can_go n events (view_of events rank) rank call ≡ false → ((m : ℕ) → m < n → Stands next n events kept rank m)
+    → can_go n events rank (view_of events rank) call ≡ false → ((m : ℕ) → m < n → Stands next n events kept rank m)
     → (is_stuck next n events && others_wait next n (stage_of events kept) rank) ≡ true
 all_held next n events kept rank call asked held all =
     let at : (m : ℕ) → m < n → (not (goes n events m (call_after next n events m)) ≡ true) × Waits next n events rank m (is_some (kept_of kept m)) =
@@ -89,7 +89,7 @@ some_moves next n events kept rank m below apart moves =
     ]
 
 pub all_stand : (next : Next) (n : ℕ) (events : List Event) (kept : List (Option Call)) (rank : ℕ) (call : Call) → IsAsked next n events rank call
-    → can_go n events (view_of events rank) rank call ≡ false → ((m : ℕ) → m < n → Stands next n events kept rank m)
+    → can_go n events rank (view_of events rank) call ≡ false → ((m : ℕ) → m < n → Stands next n events kept rank m)
     → true ≡ (is_stuck next n events && others_wait next n (stage_of events kept) rank)
 all_stand next n events kept rank call asked held all = sym (all_held next n events kept rank call asked held all)
 
@@ -145,12 +145,12 @@ pub waiting_held : (next : Next) (n : ℕ) (events : List Event) (kept : List (O
 waiting_held next n events kept rank starts mode lawful chosen are free asked stood =
     let own : View = view_of events rank in
     let F : Option Call → Type 0 = λ c. (not (is_some c) || (is_some (kept_of kept rank) && not (goes n events rank c))) ≡ true in
-    let parts = and_parts (is_some (kept_of kept rank)) (not (can_go n events own rank (Take starts mode))) (subst F asked.asked stood) in
-    let go : can_go n events own rank (Take starts mode) ≡ false = not_true (can_go n events own rank (Take starts mode)) parts.1 in
+    let parts = and_parts (is_some (kept_of kept rank)) (not (can_go n events rank own (Take starts mode))) (subst F asked.asked stood) in
+    let go : can_go n events rank own (Take starts mode) ≡ false = not_true (can_go n events rank own (Take starts mode)) parts.1 in
     let waiting : waits own (Take starts mode) ≡ true = next_waits next n events kept rank (Take starts mode) are asked parts.0 in
     let open_list = and_parts (not (is_test mode)) (not (is_some (bad_request own [] starts))) waiting in
     let bad : bad_request own [] starts ≡ None = no_some (bad_request own [] starts) (not_true (is_some (bad_request own [] starts)) open_list.1) in
     let all = (kept_run next n events lawful chosen.run).below in
-    let none : holds mode (flags_of n events own rank starts) ≡ false = sym (waits_go n events rank (Take starts mode) all free waiting) ∙ go in
+    let none : holds mode (flags_of n events rank own starts) ≡ false = sym (waits_go n events rank (Take starts mode) all free waiting) ∙ go in
     let G : Bool → Type 0 = λ test. IsHeldBack n events rank (Take starts mode) test in
     subst G (not_true (is_test mode) open_list.0) (take_held n events rank starts mode free bad none)

@@ -50,7 +50,7 @@ stands next n events kept rank =
 -- a call is answered where it can go, or where no call can and all other live ranks wait
 abbrev pub is_answered : Next → ℕ → List Event → List (Option Call) → ℕ → Call → Bool
 is_answered next n events kept rank call =
-    can_go n events (view_of events rank) rank call || (is_stuck next n events && others_wait next n (stage_of events kept) rank)
+    can_go n events rank (view_of events rank) call || (is_stuck next n events && others_wait next n (stage_of events kept) rank)
 
 -- by whether the call is answered
 abbrev pub turn_by : Bool → Reply → Turn
@@ -99,7 +99,7 @@ pub record HasReply (next : Next) (n : ℕ) (events : List Event) (kept : List (
 
 -- the condition of a completion or a probe fails: a test is answered, another call waits
 pub record IsHeldBack (n : ℕ) (events : List Event) (rank : ℕ) (call : Call) (test : Bool) : Type 0 where
-  pub go : can_go n events (view_of events rank) rank call ≡ test
+  pub go : can_go n events rank (view_of events rank) call ≡ test
   pub reply_is : chosen_reply n events rank call ≡ held_reply test
   pub waiting : waits (view_of events rank) call ≡ not test
 

@@ -27,7 +27,7 @@ waits own call = false
 
 -- what a waiting call of a rank waits for is there
 abbrev pub is_there : ℕ → List Event → ℕ → Call → Bool
-is_there n events me (Take starts mode) = holds mode (flags_of n events (view_of events me) me starts)
+is_there n events me (Take starts mode) = holds mode (flags_of n events me (view_of events me) starts)
 is_there n events me (Peek comm source tag wait) = is_some (choice events me (Peek comm source tag wait))
 is_there n events me call = true
 

@@ -338,7 +338,7 @@ impl<'a, P: Program> Machine<'a, P> {
     /// Whether no other rank can go on. Takes no memory.
     fn others_stand(&mut self, rank: u8) -> bool
         requires bound { bound_of self.old.events ≡ None }
-        ensures value { (call : Call) → IsAsked (P.next self.old.program) self.old.ranks self.old.events rank call → can_go self.old.ranks self.old.events (view_of self.old.events rank) rank call ≡ false → result ≡ (is_stuck (P.next self.old.program) self.old.ranks self.old.events && others_wait (P.next self.old.program) self.old.ranks (stage_of self.old.events self.old.kept) rank) }
+        ensures value { (call : Call) → IsAsked (P.next self.old.program) self.old.ranks self.old.events rank call → can_go self.old.ranks self.old.events rank (view_of self.old.events rank) call ≡ false → result ≡ (is_stuck (P.next self.old.program) self.old.ranks self.old.events && others_wait (P.next self.old.program) self.old.ranks (stage_of self.old.events self.old.kept) rank) }
         ensures same { self.new ≡ self.old }
     {
         for other in 0..self.course.ranks() {

@@ -46,7 +46,7 @@ idle_asks n rank (seen ∷ view) call is came asked = absurd (cc)
 idle_enters : EntersInForm idle
 idle_enters n rank [] call is came asked =
     let same : End ≡ call = cc in
-    let P : Call → Type 0 = λ c. IsInForm n [] rank c in
+    let P : Call → Type 0 = λ c. IsInForm n rank [] c in
     subst P same tt
 idle_enters n rank (seen ∷ view) call is came asked = absurd (cc)
 

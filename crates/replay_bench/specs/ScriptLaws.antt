@@ -170,7 +170,7 @@ ends_exactly messages n rank view ranks along =
 -- 2. calls are in bounds, and none is a collective
 
 abbrev IsProper : ℕ → ℕ → View → Call → Type 0
-IsProper n me own call = IsInBounds n (length own) call × IsInForm n own me call
+IsProper n me own call = IsInBounds n (length own) call × IsInForm n me own call
 
 two_ranks : (messages n rank k : ℕ) → k < calls_of messages n rank → 1 < n
 two_ranks messages n rank k more =

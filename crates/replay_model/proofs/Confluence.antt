@@ -23,14 +23,14 @@ use mathlib.Core.Path.{fun_ext}
 -- Any two replays that can go no further have the same views.
 step_at : (next : Next) (log : Log) (stop : Breakpoint) (before : List Event) (event : Event) (rank : ℕ) (view : View) (call : Call) (reply : Reply)
     → IsStep next log stop before event → event.rank ≡ rank → view_of before rank ≡ view → event.call ≡ call → event.reply ≡ reply
-    → (next log.ranks rank (replies_in view) ≡ Some call) × (answer_of log stop (view_of before) view rank call ≡ Replied reply) × (is_member log.group rank ≡ true)
+    → (next log.ranks rank (replies_in view) ≡ Some call) × (answer_of log stop (view_of before) rank view call ≡ Replied reply) × (is_member log.group rank ≡ true)
 step_at next log stop before event rank view call reply step rank_is view_is call_is reply_is =
     (rw (← view_is, ← call_is, ← rank_is) step.call, rw (← view_is, ← call_is, ← reply_is, ← rank_is) step.reply, rw (← rank_is) step.member)
 
 -- the event at this place of a replay, as a step over the views of all of it
 pub step_in : (next : Next) (log : Log) (stop : Breakpoint) (events : List Event) (rank : ℕ) (view : View) (call : Call) (reply : Reply) (rest : View)
     → Replays next log stop events → view_of events rank ≡ view ++ (call, reply) ∷ rest
-    → (next log.ranks rank (replies_in view) ≡ Some call) × (answer_of log stop (view_of events) view rank call ≡ Replied reply) × (is_member log.group rank ≡ true)
+    → (next log.ranks rank (replies_in view) ≡ Some call) × (answer_of log stop (view_of events) rank view call ≡ Replied reply) × (is_member log.group rank ≡ true)
 step_in next log stop events rank view call reply rest all e =
     let at = place events rank view call reply rest e in
     let whole : Replays next log stop (at.before ++ at.event ∷ at.after) = let P : List Event → Type 0 = λ l. Replays next log stop l in subst P at.whole all in
@@ -57,7 +57,7 @@ next_in next log stop before other event ((call, reply) ∷ rest) all done begin
     let calls : Some call ≡ Some event.call = sym found.0 ∙ step.call in
     let same_call : call ≡ event.call = cc in
     let answered = answer_of-replied log stop (view_of before) (view_of other) (view_of before event.rank) event.rank event.call event.reply begins step.reply in
-    let answered_other : answer_of log stop (view_of other) (view_of before event.rank) event.rank event.call ≡ Replied reply = rw same_call at found.1 in
+    let answered_other : answer_of log stop (view_of other) event.rank (view_of before event.rank) event.call ≡ Replied reply = rw same_call at found.1 in
     let replies : Replied reply ≡ Replied event.reply = sym answered_other ∙ answered in
     let same_reply : reply ≡ event.reply = cc in
     (rest, rw (append_assoc, ← same_call, ← same_reply) e)
@@ -103,5 +103,5 @@ pub same_stands : (next : Next) (variables : ℕ → ℕ → List Reply → List
     → IsWholeReplay next log stop events → IsWholeReplay next log stop other → (rank : ℕ)
     → stand_of next variables log stop events rank ≡ stand_of next variables log stop other rank
 same_stands next variables log stop events other all all_other rank =
-    ap (λ (V : ℕ → View). stand_where (next log.ranks rank (replies_in (V rank))) (variables log.ranks rank (replies_in (V rank))) (answer_of log stop V (V rank) rank))
+    ap (λ (V : ℕ → View). stand_where (next log.ranks rank (replies_in (V rank))) (variables log.ranks rank (replies_in (V rank))) (answer_of log stop V rank (V rank)))
     (same_views next log stop events other all all_other)

@@ -84,7 +84,7 @@ judged-waits me own call entry (Ok other) None missing h = absurd (cc)
 -- what stands at a place of a replay stands there in the run
 at_place : (next : Next) (log : Log) (stop : Breakpoint) (run events : List Event) (rank : ℕ) (view rest : View) (call : Call) (reply : Reply)
     → IsRunWith next log run → Replays next log stop events → view_of run rank ≡ view ++ (call, reply) ∷ rest
-    → length view < length (view_of events rank) → answer_of log stop (view_of events) view rank call ≡ Replied reply
+    → length view < length (view_of events rank) → answer_of log stop (view_of events) rank view call ≡ Replied reply
 at_place next log stop run events rank view rest call reply is all e below =
     let cut = split_at (view_of events rank) (length view) below in
     let prefix = begins_run next log stop run events is all rank in
@@ -114,8 +114,8 @@ cut_off_not next log stop run events _ _ is all (rests_on rank view rest call re
     let entry = entry_in_log log run rank view call reply rest is.same_log member e in
     let h = answer-replied log stop (view_of events) view rank call reply answered in
     let fill = entry-replied n group (view_of events) view rank call (entry_of n group rank view call reply) reply (rw entry at h) in
-    let none : first_missing n (view_of events) (rests n view rank call (entry_of n group rank view call reply)) ≡ None = filled-missing n (view_of events) view rank call (entry_of n group rank view call reply) ∙ ap missing_in fill in
-    let there = none_missing n (view_of events) (rests n view rank call (entry_of n group rank view call reply)) missing none among in
+    let none : first_missing n (view_of events) (rests n rank view call (entry_of n group rank view call reply)) ≡ None = filled-missing n (view_of events) view rank call (entry_of n group rank view call reply) ∙ ap missing_in fill in
+    let there = none_missing n (view_of events) (rests n rank view call (entry_of n group rank view call reply)) missing none among in
     let place = below_there n (view_of events) (view_of run) missing (begins_run next log stop run events is all) there in
     let numbers : Some place.0 ≡ Some number = sym place.1 ∙ number_is in
     let same : place.0 ≡ number = cc in
@@ -124,13 +124,13 @@ cut_off_not next log stop run events _ _ is all (rests_on rank view rest call re
 
 -- an answer to wait names what is missing
 waits_for : (log : Log) (stop : Breakpoint) (V : ℕ → View) (own : View) (me : ℕ) (call : Call) (entry : Entry) (missing : Missing)
-    → slice_get (entries_for log.group log.lists me) (length own) ≡ Some entry → answer_of log stop V own me call ≡ Wait missing
-    → filled log.ranks V own me call entry ≡ Err missing
+    → slice_get (entries_for log.group log.lists me) (length own) ≡ Some entry → answer_of log stop V me own call ≡ Wait missing
+    → filled log.ranks V me own call entry ≡ Err missing
 waits_for log stop V own me call entry missing e h =
     elim (test_cases (is_break stop me (length own))) [
       | inl t ↦ (let no : AtBreak ≡ Wait missing = rw t at h in absurd (cc))
       | inr t ↦ elim (test_cases (fits log.ranks log.group me own call entry)) [
-        | inl f ↦ judged-waits me own call entry (filled log.ranks V own me call entry) (broken log.ranks V own me call entry) missing (rw (t, e, f) at h)
+        | inl f ↦ judged-waits me own call entry (filled log.ranks V me own call entry) (broken log.ranks V me own call entry) missing (rw (t, e, f) at h)
         | inr f ↦ (let no : diverged me own call entry None ≡ Wait missing = rw (t, e, f) at h in absurd (cc))
       ]
     ]
@@ -152,7 +152,7 @@ missing_there : (n : ℕ) (group : List ℕ) (stop : Breakpoint) (run events bef
     → HasFree n group (view_of run) stop events before → Begins (view_of events) (view_of run)
     → Begins (view_of before) (view_of run) → is_member group rank ≡ true → view_of run rank ≡ view ++ (call, reply) ∷ rest
     → (IsCutOff n group (view_of run) stop rank (length view) → ⊥)
-    → IsIn missing (rests n view rank call (entry_of n group rank view call reply))
+    → IsIn missing (rests n rank view call (entry_of n group rank view call reply))
     → is_there n (within group (view_of before)) missing ≡ true → is_there n (view_of events) missing ≡ true
 missing_there n group stop run events before rank view rest call reply missing has begins begins_before member e free among there =
     let up : Begins (within group (view_of before)) (view_of run) = λ r. prefix_trans (within group (view_of before) r) (view_of before r) (view_of run r) (within_begins group (view_of before) r) (begins_before r) in
@@ -186,10 +186,10 @@ next_free next log stop run events before after event lawful is all e has member
     let free_break = not_break n group (view_of run) stop event.rank (length own) free in
     let whole = answer_whole next log stop run event.rank own event.call event.reply (view_of after event.rank) lawful is member place free_break in
     let entry : Entry = entry_of n group event.rank own event.call event.reply in
-    let needed : List Missing = rests n own event.rank event.call entry in
+    let needed : List Missing = rests n event.rank own event.call entry in
     elim (answer_of-same log stop (view_of events) (within group (view_of run)) own event.rank event.call up) [
       | goes e ↦ (
-          let answer : answer_of log stop (view_of events) own event.rank event.call ≡ Replied event.reply = sym e ∙ whole in
+          let answer : answer_of log stop (view_of events) event.rank own event.call ≡ Replied event.reply = sym e ∙ whole in
           let made : Event = record { rank = event.rank; call = event.call; reply = event.reply; mate = None } in
           all.exhausted made (record { member = member; call = rw (← same) step.call; reply = rw (← same) answer; mate = refl }))
       | waits missing w ↦ (
@@ -342,5 +342,5 @@ stands_done next variables log stop run events stopless lawful is all rank stand
     let own : View = view_of events rank in
     let past = entry_past log run rank own is.same_log member (sym (whole_views next log stop run events rank stopless lawful is all member)) in
     let free : is_break stop rank (length own) ≡ false = rw stopless in
-    stand_done (next log.ranks rank (replies_in own)) (variables log.ranks rank (replies_in own)) (answer_of log stop (view_of events) own rank) stand
+    stand_done (next log.ranks rank (replies_in own)) (variables log.ranks rank (replies_in own)) (answer_of log stop (view_of events) rank own) stand
     (λ call. rw (free, past)) h

@@ -49,49 +49,49 @@ break_members-same needed find later (m ∷ members) inputs enter all keeps h =
     ]
 
 joined-ok : (n : ℕ) (own : View) (me k : ℕ) (enter : Call) (inputs : Result (List (List ℤ)) ℕ) (got : Got)
-    → joined n own me k enter inputs ≡ Ok got → (all : List (List ℤ)) × (inputs ≡ Ok all)
+    → joined n me own k enter inputs ≡ Ok got → (all : List (List ℤ)) × (inputs ≡ Ok all)
 joined-ok n own me k enter (Ok all) got h = (all, refl)
 joined-ok n own me k enter (Err m) got h = absurd (cc)
 
 made_new-ok : (comm n : ℕ) (own : View) (me k : ℕ) (enter : Call) (inputs : Result (List (List ℤ)) ℕ) (got : Got)
-    → made_new comm n own me k enter inputs ≡ Ok got → (all : List (List ℤ)) × (inputs ≡ Ok all)
+    → made_new comm n me own k enter inputs ≡ Ok got → (all : List (List ℤ)) × (inputs ≡ Ok all)
 made_new-ok comm n own me k enter (Ok all) got h = (all, refl)
 made_new-ok comm n own me k enter (Err m) got h = absurd (cc)
 
 -- the same mark, over longer views
 record SameMark (n : ℕ) (V W : ℕ → View) (own : View) (me k : ℕ) (mark : Mark) : Type 0 where
-  filled : fill_mark n W own me k mark ≡ fill_mark n V own me k mark
-  breaks : break_mark n W own me k mark ≡ break_mark n V own me k mark
+  filled : fill_mark n W me own k mark ≡ fill_mark n V me own k mark
+  breaks : break_mark n W me own k mark ≡ break_mark n V me own k mark
 
 enters-kept : (n : ℕ) (V W : ℕ → View) (own : View) (k : ℕ) (enter : Call) → Begins V W → (m : ℕ)
     → Keeps (enter_at n (V m) (comm_of enter) (instance_of own k (comm_of enter))) (enter_at n (W m) (comm_of enter) (instance_of own k (comm_of enter)))
 enters-kept n V W own k enter begins m = enter_at-kept n (V m) (W m) (comm_of enter) (instance_of own k (comm_of enter)) (begins m)
 
 break_inner-same : (n : ℕ) (V W : ℕ → View) (own : View) (me k : ℕ) (enter : Call) (inputs : List (List ℤ)) → Begins V W
-    → inputs_of n V own me k enter ≡ Ok inputs → break_inner n W own me k (Some enter) ≡ break_inner n V own me k (Some enter)
+    → inputs_of n V me own k enter ≡ Ok inputs → break_inner n W me own k (Some enter) ≡ break_inner n V me own k (Some enter)
 break_inner-same n V W own me k enter inputs begins h =
     break_members-same (needs enter (members_in n own (comm_of enter)) me) (λ m. enter_at n (V m) (comm_of enter) (instance_of own k (comm_of enter))) (λ m. enter_at n (W m) (comm_of enter) (instance_of own k (comm_of enter))) (members_in n own (comm_of enter)) inputs enter (members_in n own (comm_of enter)) (enters-kept n V W own k enter begins) h
 
 fill_inner-same : (n : ℕ) (V W : ℕ → View) (own : View) (me k : ℕ) (enter : Option Call) (got : Got) → Begins V W
-    → fill_inner n V own me k enter ≡ Ok got
-    → (fill_inner n W own me k enter ≡ fill_inner n V own me k enter) × (break_inner n W own me k enter ≡ break_inner n V own me k enter)
+    → fill_inner n V me own k enter ≡ Ok got
+    → (fill_inner n W me own k enter ≡ fill_inner n V me own k enter) × (break_inner n W me own k enter ≡ break_inner n V me own k enter)
 fill_inner-same n V W own me k None got begins h = (refl, refl)
 fill_inner-same n V W own me k (Some enter) got begins h =
-    let all = joined-ok n own me k enter (inputs_of n V own me k enter) got h in
+    let all = joined-ok n own me k enter (inputs_of n V me own k enter) got h in
     let there = inputs-kept n V W own me k enter all.0 begins all.1 in
-    (ap (joined n own me k enter) (there ∙ sym all.1), break_inner-same n V W own me k enter all.0 begins all.1)
+    (ap (joined n me own k enter) (there ∙ sym all.1), break_inner-same n V W own me k enter all.0 begins all.1)
 
 fill_made-same : (comm n : ℕ) (V W : ℕ → View) (own : View) (me k : ℕ) (enter : Option Call) (got : Got) → Begins V W
-    → fill_made comm n V own me k enter ≡ Ok got
-    → (fill_made comm n W own me k enter ≡ fill_made comm n V own me k enter) × (break_inner n W own me k enter ≡ break_inner n V own me k enter)
+    → fill_made comm n V me own k enter ≡ Ok got
+    → (fill_made comm n W me own k enter ≡ fill_made comm n V me own k enter) × (break_inner n W me own k enter ≡ break_inner n V me own k enter)
 fill_made-same comm n V W own me k None got begins h = (refl, refl)
 fill_made-same comm n V W own me k (Some enter) got begins h =
-    let all = made_new-ok comm n own me k enter (inputs_of n V own me k enter) got h in
+    let all = made_new-ok comm n own me k enter (inputs_of n V me own k enter) got h in
     let there = inputs-kept n V W own me k enter all.0 begins all.1 in
-    (ap (made_new comm n own me k enter) (there ∙ sym all.1), break_inner-same n V W own me k enter all.0 begins all.1)
+    (ap (made_new comm n me own k enter) (there ∙ sym all.1), break_inner-same n V W own me k enter all.0 begins all.1)
 
 fill_mark-same : (n : ℕ) (V W : ℕ → View) (own : View) (me k : ℕ) (mark : Mark) (got : Got) → Begins V W
-    → fill_mark n V own me k mark ≡ Ok got → SameMark n V W own me k mark
+    → fill_mark n V me own k mark ≡ Ok got → SameMark n V W own me k mark
 fill_mark-same n V W own me k MarkSent got begins h = record { filled = refl; breaks = refl }
 fill_mark-same n V W own me k MarkNothing got begins h = record { filled = refl; breaks = refl }
 fill_mark-same n V W own me k (Outside source start tag ints) got begins h = record { filled = refl; breaks = refl }
@@ -118,11 +118,11 @@ push_item-ok index (Ok got) (Err m) items h = absurd (cc)
 push_item-ok index (Ok got) (Ok others) items h = (got, others, refl, refl)
 
 fill_marks-same : (n : ℕ) (V W : ℕ → View) (own : View) (me : ℕ) (starts : List ℕ) (marks : List Marked) (items : List Item)
-    → Begins V W → fill_marks n V own me starts marks ≡ Ok items
-    → (fill_marks n W own me starts marks ≡ fill_marks n V own me starts marks) × (break_marks n W own me starts marks ≡ break_marks n V own me starts marks)
+    → Begins V W → fill_marks n V me own starts marks ≡ Ok items
+    → (fill_marks n W me own starts marks ≡ fill_marks n V me own starts marks) × (break_marks n W me own starts marks ≡ break_marks n V me own starts marks)
 fill_marks-same n V W own me starts [] items begins h = (refl, refl)
 fill_marks-same n V W own me starts (marked ∷ marks) items begins h =
-    let parts = push_item-ok marked.index (fill_mark n V own me (slice_index starts marked.index) marked.mark) (fill_marks n V own me starts marks) items h in
+    let parts = push_item-ok marked.index (fill_mark n V me own (slice_index starts marked.index) marked.mark) (fill_marks n V me own starts marks) items h in
     let first = fill_mark-same n V W own me (slice_index starts marked.index) marked.mark parts.0 begins parts.2 in
     let rest = fill_marks-same n V W own me starts marks parts.1 begins parts.3 in
     (rw (first.filled, rest.0), rw (first.breaks, rest.1))
@@ -134,11 +134,11 @@ as_took-ok (Err m) reply h = absurd (cc)
 
 -- an entry that can be filled is filled alike later, and breaks alike
 pub record SameEntry (n : ℕ) (V W : ℕ → View) (own : View) (me : ℕ) (call : Call) (entry : Entry) : Type 0 where
-  pub fill : filled n W own me call entry ≡ filled n V own me call entry
-  pub breaks : broken n W own me call entry ≡ broken n V own me call entry
+  pub fill : filled n W me own call entry ≡ filled n V me own call entry
+  pub breaks : broken n W me own call entry ≡ broken n V me own call entry
 
 pub filled-same : (n : ℕ) (V W : ℕ → View) (own : View) (me : ℕ) (call : Call) (entry : Entry) (reply : Reply) → Begins V W
-    → filled n V own me call entry ≡ Ok reply → SameEntry n V W own me call entry
+    → filled n V me own call entry ≡ Ok reply → SameEntry n V W own me call entry
 filled-same n V W own me call EntrySent reply begins h = record { fill = refl; breaks = refl }
 filled-same n V W own me call Posted reply begins h = record { fill = refl; breaks = refl }
 filled-same n V W own me call EntryEntered reply begins h = record { fill = refl; breaks = refl }
@@ -150,6 +150,6 @@ filled-same n V W own me call (PeekedInside source start) reply begins h =
     let same = peeked-same source start (start_at (V source) start) (start_at (W source) start) reply (start_at-kept (V source) (W source) start (begins source)) h in
     record { fill = ap (peeked_from source start) same; breaks = ap (break_send me source start (Some call)) same }
 filled-same n V W own me call (EntryTook marks) reply begins h =
-    let items = as_took-ok (fill_marks n V own me (listed_by call) marks) reply h in
+    let items = as_took-ok (fill_marks n V me own (listed_by call) marks) reply h in
     let same = fill_marks-same n V W own me (listed_by call) marks items.0 begins items.1 in
     record { fill = ap as_took same.0; breaks = same.1 }

@@ -60,28 +60,28 @@ gather-missing n V comm instance needed (m ∷ members) =
     ]
 
 joined-missing : (n : ℕ) (own : View) (me k : ℕ) (enter : Call) (r : Result (List (List ℤ)) ℕ)
-    → member_in (comm_of enter) (instance_of own k (comm_of enter)) r ≡ missing_in (joined n own me k enter r)
+    → member_in (comm_of enter) (instance_of own k (comm_of enter)) r ≡ missing_in (joined n me own k enter r)
 joined-missing n own me k enter (Ok x) = refl
 joined-missing n own me k enter (Err m) = refl
 
 made-missing : (comm n : ℕ) (own : View) (me k : ℕ) (enter : Call) (r : Result (List (List ℤ)) ℕ)
-    → member_in (comm_of enter) (instance_of own k (comm_of enter)) r ≡ missing_in (made_new comm n own me k enter r)
+    → member_in (comm_of enter) (instance_of own k (comm_of enter)) r ≡ missing_in (made_new comm n me own k enter r)
 made-missing comm n own me k enter (Ok x) = refl
 made-missing comm n own me k enter (Err m) = refl
 
 inner-missing : (n : ℕ) (V : ℕ → View) (own : View) (me k : ℕ) (start : Option Call)
-    → first_missing n V (rests_enter n own me k start) ≡ missing_in (fill_inner n V own me k start)
+    → first_missing n V (rests_enter n me own k start) ≡ missing_in (fill_inner n V me own k start)
 inner-missing n V own me k None = refl
 inner-missing n V own me k (Some enter) =
     gather-missing n V (comm_of enter) (instance_of own k (comm_of enter)) (needs enter (members_in n own (comm_of enter)) me) (members_in n own (comm_of enter))
-    ∙ joined-missing n own me k enter (inputs_of n V own me k enter)
+    ∙ joined-missing n own me k enter (inputs_of n V me own k enter)
 
 new-missing : (comm n : ℕ) (V : ℕ → View) (own : View) (me k : ℕ) (start : Option Call)
-    → first_missing n V (rests_enter n own me k start) ≡ missing_in (fill_made comm n V own me k start)
+    → first_missing n V (rests_enter n me own k start) ≡ missing_in (fill_made comm n V me own k start)
 new-missing comm n V own me k None = refl
 new-missing comm n V own me k (Some enter) =
     gather-missing n V (comm_of enter) (instance_of own k (comm_of enter)) (needs enter (members_in n own (comm_of enter)) me) (members_in n own (comm_of enter))
-    ∙ made-missing comm n own me k enter (inputs_of n V own me k enter)
+    ∙ made-missing comm n own me k enter (inputs_of n V me own k enter)
 
 message-missing : (n : ℕ) (V : ℕ → View) (source start : ℕ) (o : Option Call) → start_at (V source) start ≡ o
     → first_missing n V (Start source start ∷ []) ≡ missing_in (message_from source start o)
@@ -108,7 +108,7 @@ peeked-missing n V source start (Some (Trap fault)) e = rw e
 peeked-missing n V source start (Some End) e = rw e
 
 mark-missing : (n : ℕ) (V : ℕ → View) (own : View) (me k : ℕ) (mark : Mark)
-    → first_missing n V (rests_mark n own me k mark) ≡ missing_in (fill_mark n V own me k mark)
+    → first_missing n V (rests_mark n me own k mark) ≡ missing_in (fill_mark n V me own k mark)
 mark-missing n V own me k MarkSent = refl
 mark-missing n V own me k MarkNothing = refl
 mark-missing n V own me k (Outside source start tag ints) = refl
@@ -143,12 +143,12 @@ push_item-missing index (Err m) (Ok items) = refl
 push_item-missing index (Err m) (Err other) = refl
 
 marks-missing : (n : ℕ) (V : ℕ → View) (own : View) (me : ℕ) (starts : List ℕ) (marks : List Marked)
-    → first_missing n V (rests_marks n own me starts marks) ≡ missing_in (fill_marks n V own me starts marks)
+    → first_missing n V (rests_marks n me own starts marks) ≡ missing_in (fill_marks n V me own starts marks)
 marks-missing n V own me starts [] = refl
 marks-missing n V own me starts (marked ∷ marks) =
     let k : ℕ = slice_index starts marked.index in
     rw (first_missing-append, mark-missing n V own me k marked.mark, marks-missing n V own me starts marks)
-    (push_item-missing marked.index (fill_mark n V own me k marked.mark) (fill_marks n V own me starts marks))
+    (push_item-missing marked.index (fill_mark n V me own k marked.mark) (fill_marks n V me own starts marks))
 
 took-missing : (items : Result (List Item) Missing) → missing_in items ≡ missing_in (as_took items)
 took-missing (Ok x) = refl
@@ -156,7 +156,7 @@ took-missing (Err m) = refl
 
 -- filled is Err of the first that the entry rests on and that is not there
 pub filled-missing : (n : ℕ) (V : ℕ → View) (own : View) (me : ℕ) (call : Call) (entry : Entry)
-    → first_missing n V (rests n own me call entry) ≡ missing_in (filled n V own me call entry)
+    → first_missing n V (rests n me own call entry) ≡ missing_in (filled n V me own call entry)
 filled-missing n V own me call EntrySent = refl
 filled-missing n V own me call Posted = refl
 filled-missing n V own me call EntryEntered = refl
@@ -165,4 +165,4 @@ filled-missing n V own me call EntryNotYet = refl
 filled-missing n V own me call (PeekedOutside source start tag count) = refl
 filled-missing n V own me call (EntryStopped halt) = refl
 filled-missing n V own me call (PeekedInside source start) = peeked-missing n V source start (start_at (V source) start) refl
-filled-missing n V own me call (EntryTook marks) = marks-missing n V own me (listed_by call) marks ∙ took-missing (fill_marks n V own me (listed_by call) marks)
+filled-missing n V own me call (EntryTook marks) = marks-missing n V own me (listed_by call) marks ∙ took-missing (fill_marks n V me own (listed_by call) marks)

@@ -54,11 +54,11 @@ not_true false h = refl
 
 joined_fits : (n : ℕ) (group : List ℕ) (me : ℕ) (own : View) (k comm : ℕ) (kind : Kind) (root : Option ℕ) (op : Option Op) (count : ℕ) (ints : List ℤ) (given : List ℤ)
     → start_at own k ≡ Some (Enter comm kind root op count ints)
-    → got_fits n own me (Some (Enter comm kind root op count ints)) (Joined given) ≡ true
+    → got_fits n me own (Some (Enter comm kind root op count ints)) (Joined given) ≡ true
     → mark_fits n group me own (Some (Enter comm kind root op count ints)) (mark_of n group me own k (Joined given)) ≡ true
 joined_fits n group me own k comm kind root op count ints given at h =
     let enter : Call = Enter comm kind root op count ints in
-    let parts = and_parts (not (makes enter)) (is_sized n own me enter given) h in
+    let parts = and_parts (not (makes enter)) (is_sized n me own enter given) h in
     elim (test_cases (is_inner n group me own (Some enter))) [
       | inl i ↦ rw (at, i, parts.0, i)
       | inr o ↦ rw (at, o, parts.0, o, parts.1)
@@ -66,7 +66,7 @@ joined_fits n group me own k comm kind root op count ints given at h =
 
 none_fits : (n : ℕ) (group : List ℕ) (me : ℕ) (own : View) (k c comm : ℕ) (kind : Kind) (root : Option ℕ) (op : Option Op) (count : ℕ) (ints : List ℤ)
     → is_member group me ≡ true → start_at own k ≡ Some (Enter comm kind root op count ints)
-    → got_fits n own me (Some (Enter comm kind root op count ints)) (Made c []) ≡ true
+    → got_fits n me own (Some (Enter comm kind root op count ints)) (Made c []) ≡ true
     → mark_fits n group me own (Some (Enter comm kind root op count ints)) (mark_of n group me own k (Made c [])) ≡ true
 none_fits n group me own k c comm kind root op count ints member at h =
     let enter : Call = Enter comm kind root op count ints in
@@ -77,7 +77,7 @@ none_fits n group me own k c comm kind root op count ints member at h =
 
 made_fits : (n : ℕ) (group : List ℕ) (me : ℕ) (own : View) (k c comm : ℕ) (kind : Kind) (root : Option ℕ) (op : Option Op) (count : ℕ) (ints : List ℤ) (m : ℕ) (members : List ℕ)
     → start_at own k ≡ Some (Enter comm kind root op count ints)
-    → got_fits n own me (Some (Enter comm kind root op count ints)) (Made c (m ∷ members)) ≡ true
+    → got_fits n me own (Some (Enter comm kind root op count ints)) (Made c (m ∷ members)) ≡ true
     → mark_fits n group me own (Some (Enter comm kind root op count ints)) (mark_of n group me own k (Made c (m ∷ members))) ≡ true
 made_fits n group me own k c comm kind root op count ints m members at h =
     let enter : Call = Enter comm kind root op count ints in
@@ -92,7 +92,7 @@ made_fits n group me own k c comm kind root op count ints m members at h =
 
 -- what a start gave, in its shape, has a mark that fits
 mark_shaped : (n : ℕ) (group : List ℕ) (me : ℕ) (own : View) (k : ℕ) (start : Option Call) (got : Got) → is_member group me ≡ true
-    → start_at own k ≡ start → got_fits n own me start got ≡ true
+    → start_at own k ≡ start → got_fits n me own start got ≡ true
     → mark_fits n group me own start (mark_of n group me own k got) ≡ true
 mark_shaped n group me own k None got member at h = absurd (cc)
 mark_shaped n group me own k (Some (Send comm dest tag ints sync)) Sent member at h = refl
@@ -111,11 +111,11 @@ mark_shaped n group me own k (Some call) (Made c (m ∷ members)) member at h = 
 mark_shaped n group me own k (Some call) got member at h = absurd (cc)
 
 marks_shaped : (n : ℕ) (group : List ℕ) (me : ℕ) (own : View) (starts : List ℕ) (items : List Item) → is_member group me ≡ true
-    → gots_fit n own me starts items ≡ true → marks_fit n group me own starts (marks_of n group me own starts items) ≡ true
+    → gots_fit n me own starts items ≡ true → marks_fit n group me own starts (marks_of n group me own starts items) ≡ true
 marks_shaped n group me own starts [] member h = refl
 marks_shaped n group me own starts (item ∷ items) member h =
     let k : ℕ = slice_index starts item.index in
-    let parts = and_parts (got_fits n own me (start_at own k) item.got) (gots_fit n own me starts items) h in
+    let parts = and_parts (got_fits n me own (start_at own k) item.got) (gots_fit n me own starts items) h in
     rw (mark_shaped n group me own k (start_at own k) item.got member refl parts.0, marks_shaped n group me own starts items member parts.1)
 
 -- marks
@@ -134,14 +134,14 @@ pub record TakeShape (n me : ℕ) (own : View) (starts : List ℕ) (mode : TakeM
   pub count : has_count mode (length starts) (length items) ≡ true
   pub rising : rise_within 0 (length starts) (map (λ (item : Item). item.index) items) ≡ true
   pub listed : list_all (λ k. can_take own k) starts ≡ true
-  pub gots : gots_fit n own me starts items ≡ true
+  pub gots : gots_fit n me own starts items ≡ true
 
 pub take_shape : (n me : ℕ) (own : View) (starts : List ℕ) (mode : TakeMode) (items : List Item)
     → has_shape n me own (Take starts mode) (Took items) ≡ true → TakeShape n me own starts mode items
 take_shape n me own starts mode items h =
-    let one = and_parts (has_count mode (length starts) (length items)) (rise_within 0 (length starts) (map (λ (item : Item). item.index) items) && (list_all (λ k. can_take own k) starts && gots_fit n own me starts items)) h in
-    let two = and_parts (rise_within 0 (length starts) (map (λ (item : Item). item.index) items)) (list_all (λ k. can_take own k) starts && gots_fit n own me starts items) one.1 in
-    let three = and_parts (list_all (λ k. can_take own k) starts) (gots_fit n own me starts items) two.1 in
+    let one = and_parts (has_count mode (length starts) (length items)) (rise_within 0 (length starts) (map (λ (item : Item). item.index) items) && (list_all (λ k. can_take own k) starts && gots_fit n me own starts items)) h in
+    let two = and_parts (rise_within 0 (length starts) (map (λ (item : Item). item.index) items)) (list_all (λ k. can_take own k) starts && gots_fit n me own starts items) one.1 in
+    let three = and_parts (list_all (λ k. can_take own k) starts) (gots_fit n me own starts items) two.1 in
     record { count = one.0; rising = two.0; listed = three.0; gots = three.1 }
 
 took_fits : (n : ℕ) (group : List ℕ) (me : ℕ) (own : View) (starts : List ℕ) (mode : TakeMode) (items : List Item)

@@ -67,7 +67,7 @@ there_member n group V (Member m comm instance) there =
 rests_before : (next : Next) (log : Log) (run before after : List Event) (rank : ℕ) (view rest : View) (call : Call) (reply : Reply) (missing : Missing) (number : ℕ)
     → IsRunWith next log run → run ≡ before ++ after → view_of run rank ≡ view ++ (call, reply) ∷ rest
     → length view < length (view_of before rank)
-    → IsIn missing (rests log.ranks view rank call (entry_of log.ranks log.group rank view call reply))
+    → IsIn missing (rests log.ranks rank view call (entry_of log.ranks log.group rank view call reply))
     → number_of (view_of run) missing ≡ Some number
     → (is_member log.group (rank_of missing) ≡ true) × (number < length (view_of before (rank_of missing)))
 rests_before next log run before after rank view rest call reply missing number is split e below among number_is =
@@ -84,9 +84,9 @@ rests_before next log run before after rank view rest call reply missing number 
     let here : view_of before rank ≡ view ++ (call, reply) ∷ cut.rest = subst G same.1 (subst F same.0 cut.whole) in
     let at = in_run next n before rank view call reply cut.rest front here in
     let entry : Entry = entry_of n group rank view call reply in
-    let fill : filled n (within group (view_of at.before)) view rank call entry ≡ Ok reply = rw at.view_is at (filled_allowed next n group at.before rank call reply at.allowed) in
-    let none : first_missing n (within group (view_of at.before)) (rests n view rank call entry) ≡ None = filled-missing n (within group (view_of at.before)) view rank call entry ∙ ap missing_in fill in
-    let there = none_missing n (within group (view_of at.before)) (rests n view rank call entry) missing none among in
+    let fill : filled n (within group (view_of at.before)) rank view call entry ≡ Ok reply = rw at.view_is at (filled_allowed next n group at.before rank call reply at.allowed) in
+    let none : first_missing n (within group (view_of at.before)) (rests n rank view call entry) ≡ None = filled-missing n (within group (view_of at.before)) view rank call entry ∙ ap missing_in fill in
+    let there = none_missing n (within group (view_of at.before)) (rests n rank view call entry) missing none among in
     let to_run : Begins (view_of before) (view_of run) = λ r. (view_of after r, sym (ap (λ l. view_of l r) split ∙ view_of-append before after r)) in
     let to_before : Begins (within group (view_of at.before)) (view_of before) = λ r. prefix_trans (within group (view_of at.before) r) (view_of at.before r) (view_of before r) (within_begins group (view_of at.before) r) (at.begins r) in
     let up : Begins (within group (view_of at.before)) (view_of run) = λ r. prefix_trans (within group (view_of at.before) r) (view_of before r) (view_of run r) (to_before r) (to_run r) in
@@ -151,7 +151,7 @@ at_break next variables log stop run events lawful is all at =
           let asked = asked_in_run next n run at.rank cut.front cut.here.0 cut.here.1 cut.rest is.is_run cut.whole in
           let live : next n at.rank (replies_in own) ≡ Some cut.here.0 = rw same asked in
           let stopped : is_break stop at.rank (length own) ≡ true = rw long t in
-          stand_at_break (next n at.rank (replies_in own)) (variables n at.rank (replies_in own)) (answer_of log stop (view_of events) own at.rank) cut.here.0 live (rw stopped))
+          stand_at_break (next n at.rank (replies_in own)) (variables n at.rank (replies_in own)) (answer_of log stop (view_of events) at.rank own) cut.here.0 live (rw stopped))
     ]
 
 waits_by : (variables : List Variable) (step : Step) (missing : Missing) → stand_by variables step ≡ Some (Starved missing)
@@ -170,7 +170,7 @@ waits_where (Some call) variables answer missing h = (call, waits_by variables (
 -- a rank that has its whole view does not wait
 not_starved : (log : Log) (stop : Breakpoint) (run events : List Event) (rank : ℕ) (call : Call) (missing : Missing)
     → log ≡ log_of log.program log.ranks run log.group → is_member log.group rank ≡ true → view_of events rank ≡ view_of run rank
-    → answer_of log stop (view_of events) (view_of events rank) rank call ≡ Wait missing → ⊥
+    → answer_of log stop (view_of events) rank (view_of events rank) call ≡ Wait missing → ⊥
 not_starved log stop run events rank call missing same_log member same h =
     let own : View = view_of events rank in
     let past = entry_past log run rank own same_log member (sym same) in
@@ -212,6 +212,6 @@ starved_law next variables log stop run events lawful is all rank missing member
           let each : (number : ℕ) → number < length (view_of run rank) → number < length (view_of events rank) = λ number below.
           (law rank number).1 (record { member = member; placed = below; free = λ off. never (cut_off_before next log stop run run [] rank number is nil member below off) }) in
           let same = nothing_more (view_of events rank) (view_of run rank) (begins_run next log stop run events is all.replays rank) (at_most (length (view_of run rank)) (length (view_of events rank)) each) in
-          let wait = waits_where (next log.ranks rank (replies_in (view_of events rank))) (variables log.ranks rank (replies_in (view_of events rank))) (answer_of log stop (view_of events) (view_of events rank) rank) missing starved in
+          let wait = waits_where (next log.ranks rank (replies_in (view_of events rank))) (variables log.ranks rank (replies_in (view_of events rank))) (answer_of log stop (view_of events) rank (view_of events rank)) missing starved in
           absurd (not_starved log stop run events rank wait.0 missing is.same_log member same wait.1))
     ]

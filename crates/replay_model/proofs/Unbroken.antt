@@ -50,7 +50,7 @@ fits_members enter all needed find (m ∷ members) fit =
 
 -- no Enter of an instance disagrees with a rank's own
 inner_unbroken : (n : ℕ) (V : ℕ → View) (me k : ℕ) (enter : Call) → SameInstances n V → start_at (V me) k ≡ Some enter
-    → is_enter enter ≡ true → break_inner n V (V me) me k (Some enter) ≡ None
+    → is_enter enter ≡ true → break_inner n V me (V me) k (Some enter) ≡ None
 inner_unbroken n V me k enter same at is =
     let C : ℕ = comm_of enter in
     let own = own_enter n V me k enter same at is in
@@ -75,7 +75,7 @@ break_members-within group V n comm instance enter all needed (m ∷ members) h 
 -- the same within the group, where all that are needed are of it
 inner_none : (n : ℕ) (group : List ℕ) (V : ℕ → View) (me k : ℕ) (enter : Call) → SameInstances n V
     → start_at (V me) k ≡ Some enter → is_enter enter ≡ true → is_inner n group me (V me) (Some enter) ≡ true
-    → break_inner n (within group V) (V me) me k (start_at (V me) k) ≡ None
+    → break_inner n (within group V) me (V me) k (start_at (V me) k) ≡ None
 inner_none n group V me k enter same at is inner =
     let C : ℕ = comm_of enter in
     let M : List ℕ = members_in n (V me) C in
@@ -87,7 +87,7 @@ inner_none n group V me k enter same at is inner =
 message_unbroken : (n : ℕ) (group : List ℕ) (before : List Event) (me k comm : ℕ) (source : Source) (tag : Tag) (room : ℕ) (got : Got)
     → IsMatched before → start_at (view_of before me) k ≡ Some (Post comm source tag room) → (is : IsMessage before me k got)
     → nat_le (length is.ints) room ≡ true
-    → break_mark n (within group (view_of before)) (view_of before me) me k (mark_of n group me (view_of before me) k got) ≡ None
+    → break_mark n (within group (view_of before)) me (view_of before me) k (mark_of n group me (view_of before me) k got) ≡ None
 message_unbroken n group before me k comm source tag room got matched at is short =
     let accepted = taken_pair before (me, k) is.send comm source tag room is.comm is.dest is.tag is.ints is.sync matched is.paired at is.sent in
     elim (test_cases (is_member group is.send.0)) [
@@ -96,7 +96,7 @@ message_unbroken n group before me k comm source tag room got matched at is shor
     ]
 
 message_short : (n : ℕ) (own : View) (before : List Event) (me k comm : ℕ) (source : Source) (tag : Tag) (room : ℕ) (got : Got)
-    → (is : IsMessage before me k got) → got_fits n own me (Some (Post comm source tag room)) got ≡ true
+    → (is : IsMessage before me k got) → got_fits n me own (Some (Post comm source tag room)) got ≡ true
     → nat_le (length is.ints) room ≡ true
 message_short n own before me k comm Null tag room got is h = absurd (let no : false ≡ true = rw is.got_is at h in cc)
 message_short n own before me k comm Any tag room got is h =
@@ -109,8 +109,8 @@ message_short n own before me k comm (From other) tag room got is h =
 
 collected_unbroken : (n : ℕ) (group : List ℕ) (before : List Event) (me k : ℕ) (enter : Call) (got : Got) (m u : Bool) (inputs : List (List ℤ))
     → SameInstances n (view_of before) → start_at (view_of before me) k ≡ Some enter → is_enter enter ≡ true
-    → IsFrom m u n (view_of before me) me enter inputs got
-    → break_mark n (within group (view_of before)) (view_of before me) me k (mark_of n group me (view_of before me) k got) ≡ None
+    → IsFrom m u n me (view_of before me) enter inputs got
+    → break_mark n (within group (view_of before)) me (view_of before me) k (mark_of n group me (view_of before me) k got) ≡ None
 collected_unbroken n group before me k enter got true true inputs same at is given =
     elim (test_cases (is_inner n group me (view_of before me) (start_at (view_of before me) k))) [
       | inl i ↦ rw (given, i)
@@ -129,8 +129,8 @@ collected_unbroken n group before me k enter got false u inputs same at is given
 
 mark_unbroken : (n : ℕ) (group : List ℕ) (before : List Event) (me k : ℕ) (start : Option Call) (got : Got) → IsMatched before
     → SameInstances n (view_of before) → start_at (view_of before me) k ≡ start
-    → IsGot n before (view_of before me) me k start got → got_fits n (view_of before me) me start got ≡ true
-    → break_mark n (within group (view_of before)) (view_of before me) me k (mark_of n group me (view_of before me) k got) ≡ None
+    → IsGot n before me (view_of before me) k start got → got_fits n me (view_of before me) start got ≡ true
+    → break_mark n (within group (view_of before)) me (view_of before me) k (mark_of n group me (view_of before me) k got) ≡ None
 mark_unbroken n group before me k None got matched same at is fit = absurd is
 mark_unbroken n group before me k (Some (Send comm dest tag ints sync)) got matched same at is fit = rw is
 mark_unbroken n group before me k (Some (Post comm Null tag room)) got matched same at is fit = rw is
@@ -145,19 +145,19 @@ mark_unbroken n group before me k (Some (Trap fault)) got matched same at is fit
 mark_unbroken n group before me k (Some End) got matched same at is fit = absurd is
 
 marks_unbroken : (n : ℕ) (group : List ℕ) (before : List Event) (me : ℕ) (starts : List ℕ) (items : List Item) → IsMatched before
-    → SameInstances n (view_of before) → AreGots n before (view_of before me) me starts items
-    → gots_fit n (view_of before me) me starts items ≡ true
-    → break_marks n (within group (view_of before)) (view_of before me) me starts (marks_of n group me (view_of before me) starts items) ≡ None
+    → SameInstances n (view_of before) → AreGots n before me (view_of before me) starts items
+    → gots_fit n me (view_of before me) starts items ≡ true
+    → break_marks n (within group (view_of before)) me (view_of before me) starts (marks_of n group me (view_of before me) starts items) ≡ None
 marks_unbroken n group before me starts [] matched same are fit = refl
 marks_unbroken n group before me starts (item ∷ items) matched same are fit =
     let own : View = view_of before me in
     let k : ℕ = slice_index starts item.index in
-    let parts = and_parts (got_fits n own me (start_at own k) item.got) (gots_fit n own me starts items) fit in
+    let parts = and_parts (got_fits n me own (start_at own k) item.got) (gots_fit n me own starts items) fit in
     rw (mark_unbroken n group before me k (start_at own k) item.got matched same refl are.0 parts.0, marks_unbroken n group before me starts items matched same are.1 parts.1)
 
 peeked_unbroken : (n : ℕ) (group : List ℕ) (before : List Event) (own : View) (me : ℕ) (call : Call) (source start tag count : ℕ)
     → IsPeekedSend before me call source start tag count
-    → broken n (within group (view_of before)) own me call (entry_of n group me own call (Peeked source start tag count)) ≡ None
+    → broken n (within group (view_of before)) me own call (entry_of n group me own call (Peeked source start tag count)) ≡ None
 peeked_unbroken n group before own me (Peek comm from t wait) source start tag count is =
     elim (test_cases (is_member group source)) [
       | inl i ↦ rw (i, i, is.sent, is.accepted)
@@ -169,7 +169,7 @@ peeked_unbroken n group before own me call source start tag count is = absurd (l
 pub unbroken : (n : ℕ) (group : List ℕ) (before : List Event) (me : ℕ) (call : Call) (reply : Reply) → IsMatched before
     → SameInstances n (view_of before) → IsTrueReply n before (view_of before me) me call reply
     → has_shape n me (view_of before me) call reply ≡ true
-    → broken n (within group (view_of before)) (view_of before me) me call (entry_of n group me (view_of before me) call reply) ≡ None
+    → broken n (within group (view_of before)) me (view_of before me) call (entry_of n group me (view_of before me) call reply) ≡ None
 unbroken n group before me (Send comm dest tag ints sync) Done matched same is shape = refl
 unbroken n group before me (Post comm source tag room) Done matched same is shape = refl
 unbroken n group before me (Enter comm kind root op count ints) Done matched same is shape = refl

@@ -64,29 +64,29 @@ pairs3 : pairs_of run3 ≡ ((1, 0), (2, 0)) ∷ ((0, 0), (2, 1)) ∷ []
 pairs3 = refl
 
 -- the first Take, after five events
-ready3 : flags_of 3 (take 5 run3) (view_of (take 5 run3) 2) 2 (0 ∷ []) ≡ true ∷ []
+ready3 : flags_of 3 (take 5 run3) 2 (view_of (take 5 run3) 2) (0 ∷ []) ≡ true ∷ []
 ready3 = refl
 
-due3 : due 3 (take 5 run3) (view_of (take 5 run3) 2) 2 (Take (0 ∷ []) All) ≡ None
+due3 : due 3 (take 5 run3) 2 (view_of (take 5 run3) 2) (Take (0 ∷ []) All) ≡ None
 due3 = refl
 
 -- a replay that has made rank 2's first event and rank 1's
-answer3 : answer_of (log_of [] 3 run3 (0 ∷ 1 ∷ 2 ∷ [])) None (view_of (event 1 (Send 0 2 9 (pos 1 ∷ []) false) Done None ∷ event 2 receive Done None ∷ [])) ((receive, Done) ∷ []) 2 (Take (0 ∷ []) All) ≡ Replied (one 0 (Message 1 0 9 (pos 1 ∷ [])))
+answer3 : answer_of (log_of [] 3 run3 (0 ∷ 1 ∷ 2 ∷ [])) None (view_of (event 1 (Send 0 2 9 (pos 1 ∷ []) false) Done None ∷ event 2 receive Done None ∷ [])) 2 ((receive, Done) ∷ []) (Take (0 ∷ []) All) ≡ Replied (one 0 (Message 1 0 9 (pos 1 ∷ [])))
 unfolding fits
 answer3 = refl
 
 -- without the Send
-wait3 : answer_of (log_of [] 3 run3 (0 ∷ 1 ∷ 2 ∷ [])) None (view_of (event 2 receive Done None ∷ [])) ((receive, Done) ∷ []) 2 (Take (0 ∷ []) All) ≡ Wait (Start 1 0)
+wait3 : answer_of (log_of [] 3 run3 (0 ∷ 1 ∷ 2 ∷ [])) None (view_of (event 2 receive Done None ∷ [])) 2 ((receive, Done) ∷ []) (Take (0 ∷ []) All) ≡ Wait (Start 1 0)
 unfolding fits
 wait3 = refl
 
 -- the named start is a Send to another rank
-diverged16 : answer_of (log_of [] 3 run3 (0 ∷ 1 ∷ 2 ∷ [])) None (view_of (event 1 (Send 0 0 9 (pos 1 ∷ []) false) Done None ∷ event 2 receive Done None ∷ [])) ((receive, Done) ∷ []) 2 (Take (0 ∷ []) All) ≡ Diverged (record { rank = 2; call_number = 1; entry = marked 0 (Inside 1 0); call = Take (0 ∷ []) All; found = Some (record { rank = 1; start = 0; call = Send 0 0 9 (pos 1 ∷ []) false }) })
+diverged16 : answer_of (log_of [] 3 run3 (0 ∷ 1 ∷ 2 ∷ [])) None (view_of (event 1 (Send 0 0 9 (pos 1 ∷ []) false) Done None ∷ event 2 receive Done None ∷ [])) 2 ((receive, Done) ∷ []) (Take (0 ∷ []) All) ≡ Diverged (record { rank = 2; call_number = 1; entry = marked 0 (Inside 1 0); call = Take (0 ∷ []) All; found = Some (record { rank = 1; start = 0; call = Send 0 0 9 (pos 1 ∷ []) false }) })
 unfolding fits
 diverged16 = refl
 
 -- that Take rests on the Send whose message it took, rank 1's call 0
-rests3 : rests 3 ((receive, Done) ∷ []) 2 (Take (0 ∷ []) All) (marked 0 (Inside 1 0)) ≡ Start 1 0 ∷ []
+rests3 : rests 3 2 ((receive, Done) ∷ []) (Take (0 ∷ []) All) (marked 0 (Inside 1 0)) ≡ Start 1 0 ∷ []
 rests3 = refl
 
 number3 : number_of (view_of run3) (Start 1 0) ≡ Some 0
@@ -102,7 +102,7 @@ cut3 =
 abbrev run9 : List Event
 run9 = event 0 (Post 0 (From 1) (Is 5) 1) Done None ∷ event 1 (Post 0 (From 0) (Is 5) 1) Done None ∷ []
 
-stuck9 : can_go 2 run9 (view_of run9 0) 0 (Take (0 ∷ []) All) ≡ false
+stuck9 : can_go 2 run9 0 (view_of run9 0) (Take (0 ∷ []) All) ≡ false
 stuck9 = refl
 
 -- a probe finds a message
@@ -113,7 +113,7 @@ open12 : has_open 2 run12 1 0 Any AnyTag ≡ true
 open12 = refl
 
 -- a start that was never made
-bad30 : due 2 [] [] 0 (Take (0 ∷ []) All) ≡ Some (BadRequest 0 0)
+bad30 : due 2 [] 0 [] (Take (0 ∷ []) All) ≡ Some (BadRequest 0 0)
 bad30 = refl
 
 -- ranks 0 and 1 in a group: a broadcast from rank 0, then a sum over all
@@ -149,17 +149,17 @@ uncoloured14 = refl
 abbrev run14 : List Event
 run14 = event 0 (split_by (pos 1)) Done None ∷ event 1 (split_by (negsuc 32765)) Done None ∷ event 2 (split_by (pos 1)) Done None ∷ event 0 (Take (0 ∷ []) All) (one 0 (Made 1 (0 ∷ 2 ∷ []))) None ∷ []
 
-answer14 : answer_of (log_of [] 3 run14 (0 ∷ 1 ∷ 2 ∷ [])) None (view_of (take 3 run14)) (view_of (take 3 run14) 0) 0 (Take (0 ∷ []) All) ≡ Replied (one 0 (Made 1 (0 ∷ 2 ∷ [])))
+answer14 : answer_of (log_of [] 3 run14 (0 ∷ 1 ∷ 2 ∷ [])) None (view_of (take 3 run14)) 0 (view_of (take 3 run14) 0) (Take (0 ∷ []) All) ≡ Replied (one 0 (Made 1 (0 ∷ 2 ∷ [])))
 unfolding fits
 answer14 = refl
 
 -- the new communicator rests on the Enters of all members, each its rank's call 0
-rests14 : rests 3 ((split_by (pos 1), Done) ∷ []) 0 (Take (0 ∷ []) All) (marked 0 (MarkMade 1)) ≡ Member 0 0 0 ∷ Member 1 0 0 ∷ Member 2 0 0 ∷ []
+rests14 : rests 3 0 ((split_by (pos 1), Done) ∷ []) (Take (0 ∷ []) All) (marked 0 (MarkMade 1)) ≡ Member 0 0 0 ∷ Member 1 0 0 ∷ Member 2 0 0 ∷ []
 rests14 = refl
 
 number14 : number_of (view_of run14) (Member 2 0 0) ≡ Some 0
 number14 = refl
 
 -- a barrier against a broadcast
-mismatch27 : due 2 (event 0 (Enter 0 Barrier None None 0 []) Done None ∷ []) [] 1 (Enter 0 Bcast (Some 0) None 1 []) ≡ Some (Mismatched 1)
+mismatch27 : due 2 (event 0 (Enter 0 Barrier None None 0 []) Done None ∷ []) 1 [] (Enter 0 Bcast (Some 0) None 1 []) ≡ Some (Mismatched 1)
 mismatch27 = refl

@@ -50,26 +50,26 @@ break_members enter all needed find (m ∷ members) =
     if needed m then or_found (break_enter enter all m (find m)) (break_members enter all needed find members)
     else break_members enter all needed find members
 
-abbrev pub break_inner : ℕ → (ℕ → View) → View → ℕ → ℕ → Option Call → Option Found
-break_inner n V own me k (Some enter) =
+abbrev pub break_inner : ℕ → (ℕ → View) → ℕ → View → ℕ → Option Call → Option Found
+break_inner n V me own k (Some enter) =
     break_members enter (members_in n own (comm_of enter)) (needs enter (members_in n own (comm_of enter)) me)
     (λ m. enter_at n (V m) (comm_of enter) (instance_of own k (comm_of enter)))
     (members_in n own (comm_of enter))
-break_inner n V own me k None = None
+break_inner n V me own k None = None
 
-abbrev pub break_mark : ℕ → (ℕ → View) → View → ℕ → ℕ → Mark → Option Found
-break_mark n V own me k (Inside source start) = break_send me source start (start_at own k) (start_at (V source) start)
-break_mark n V own me k Inner = break_inner n V own me k (start_at own k)
-break_mark n V own me k (MarkMade comm) = if comm == 0 then None else break_inner n V own me k (start_at own k)
-break_mark n V own me k mark = None
+abbrev pub break_mark : ℕ → (ℕ → View) → ℕ → View → ℕ → Mark → Option Found
+break_mark n V me own k (Inside source start) = break_send me source start (start_at own k) (start_at (V source) start)
+break_mark n V me own k Inner = break_inner n V me own k (start_at own k)
+break_mark n V me own k (MarkMade comm) = if comm == 0 then None else break_inner n V me own k (start_at own k)
+break_mark n V me own k mark = None
 
-abbrev pub break_marks : ℕ → (ℕ → View) → View → ℕ → List ℕ → List Marked → Option Found
-break_marks n V own me starts [] = None
-break_marks n V own me starts (marked ∷ items) =
-    or_found (break_mark n V own me (slice_index starts marked.index) marked.mark) (break_marks n V own me starts items)
+abbrev pub break_marks : ℕ → (ℕ → View) → ℕ → View → List ℕ → List Marked → Option Found
+break_marks n V me own starts [] = None
+break_marks n V me own starts (marked ∷ items) =
+    or_found (break_mark n V me own (slice_index starts marked.index) marked.mark) (break_marks n V me own starts items)
 
 -- the first, in item order and then in member order
-abbrev pub broken : ℕ → (ℕ → View) → View → ℕ → Call → Entry → Option Found
-broken n V own me call (Took items) = break_marks n V own me (listed_by call) items
-broken n V own me call (PeekedInside source start) = break_send me source start (Some call) (start_at (V source) start)
-broken n V own me call entry = None
+abbrev pub broken : ℕ → (ℕ → View) → ℕ → View → Call → Entry → Option Found
+broken n V me own call (Took items) = break_marks n V me own (listed_by call) items
+broken n V me own call (PeekedInside source start) = break_send me source start (Some call) (start_at (V source) start)
+broken n V me own call entry = None

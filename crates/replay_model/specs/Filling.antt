@@ -22,13 +22,13 @@ use Rattle.replay_model.specs.declared.step.Missing.{Missing}
 use Rattle.replay_model.specs.declared.step.Missing.TheVariants.{Start, Member}
 
 -- a collective's result and a new communicator, from the inputs of the members that are needed
-abbrev pub joined : ℕ → View → ℕ → ℕ → Call → Result (List (List ℤ)) ℕ → Result Got Missing
-joined n own me k enter (Ok inputs) = Ok (Joined (result_of enter (members_in n own (comm_of enter)) inputs me))
-joined n own me k enter (Err m) = Err (Member m (comm_of enter) (instance_of own k (comm_of enter)))
+abbrev pub joined : ℕ → ℕ → View → ℕ → Call → Result (List (List ℤ)) ℕ → Result Got Missing
+joined n me own k enter (Ok inputs) = Ok (Joined (result_of enter (members_in n own (comm_of enter)) inputs me))
+joined n me own k enter (Err m) = Err (Member m (comm_of enter) (instance_of own k (comm_of enter)))
 
-abbrev pub made_new : ℕ → ℕ → View → ℕ → ℕ → Call → Result (List (List ℤ)) ℕ → Result Got Missing
-made_new comm n own me k enter (Ok inputs) = Ok (Made comm (members_made enter (members_in n own (comm_of enter)) inputs me))
-made_new comm n own me k enter (Err m) = Err (Member m (comm_of enter) (instance_of own k (comm_of enter)))
+abbrev pub made_new : ℕ → ℕ → ℕ → View → ℕ → Call → Result (List (List ℤ)) ℕ → Result Got Missing
+made_new comm n me own k enter (Ok inputs) = Ok (Made comm (members_made enter (members_in n own (comm_of enter)) inputs me))
+made_new comm n me own k enter (Err m) = Err (Member m (comm_of enter) (instance_of own k (comm_of enter)))
 
 -- the message of a named start. Where that start is no Send any value serves: the entry breaks on it.
 abbrev pub message_from : ℕ → ℕ → Option Call → Result Got Missing
@@ -41,51 +41,51 @@ peeked_from source start None = Err (Start source start)
 peeked_from source start (Some (Send comm dest tag ints sync)) = Ok (Peeked source start tag (length ints))
 peeked_from source start (Some call) = Ok NotYet
 
-abbrev pub fill_inner : ℕ → (ℕ → View) → View → ℕ → ℕ → Option Call → Result Got Missing
-fill_inner n V own me k (Some enter) = joined n own me k enter (inputs_of n V own me k enter)
-fill_inner n V own me k None = Ok Nothing
+abbrev pub fill_inner : ℕ → (ℕ → View) → ℕ → View → ℕ → Option Call → Result Got Missing
+fill_inner n V me own k (Some enter) = joined n me own k enter (inputs_of n V me own k enter)
+fill_inner n V me own k None = Ok Nothing
 
-abbrev pub fill_made : ℕ → ℕ → (ℕ → View) → View → ℕ → ℕ → Option Call → Result Got Missing
-fill_made comm n V own me k (Some enter) = made_new comm n own me k enter (inputs_of n V own me k enter)
-fill_made comm n V own me k None = Ok Nothing
+abbrev pub fill_made : ℕ → ℕ → (ℕ → View) → ℕ → View → ℕ → Option Call → Result Got Missing
+fill_made comm n V me own k (Some enter) = made_new comm n me own k enter (inputs_of n V me own k enter)
+fill_made comm n V me own k None = Ok Nothing
 
 -- what a mark for start k stands for, or the first that it rests on and that is not there
-abbrev pub fill_mark : ℕ → (ℕ → View) → View → ℕ → ℕ → Mark → Result Got Missing
-fill_mark n V own me k MarkSent = Ok Sent
-fill_mark n V own me k MarkNothing = Ok Nothing
-fill_mark n V own me k (Inside source start) = message_from source start (start_at (V source) start)
-fill_mark n V own me k (Outside source start tag ints) = Ok (Message source start tag ints)
-fill_mark n V own me k Inner = fill_inner n V own me k (start_at own k)
-fill_mark n V own me k (Outer ints) = Ok (Joined ints)
-fill_mark n V own me k (MarkMade comm) =
-    if comm == 0 then Ok (Made 0 []) else fill_made comm n V own me k (start_at own k)
-fill_mark n V own me k (MadeOutside comm members) = Ok (Made comm members)
+abbrev pub fill_mark : ℕ → (ℕ → View) → ℕ → View → ℕ → Mark → Result Got Missing
+fill_mark n V me own k MarkSent = Ok Sent
+fill_mark n V me own k MarkNothing = Ok Nothing
+fill_mark n V me own k (Inside source start) = message_from source start (start_at (V source) start)
+fill_mark n V me own k (Outside source start tag ints) = Ok (Message source start tag ints)
+fill_mark n V me own k Inner = fill_inner n V me own k (start_at own k)
+fill_mark n V me own k (Outer ints) = Ok (Joined ints)
+fill_mark n V me own k (MarkMade comm) =
+    if comm == 0 then Ok (Made 0 []) else fill_made comm n V me own k (start_at own k)
+fill_mark n V me own k (MadeOutside comm members) = Ok (Made comm members)
 
 abbrev pub push_item : ℕ → Result Got Missing → Result (List Item) Missing → Result (List Item) Missing
 push_item index (Err missing) rest = Err missing
 push_item index (Ok got) (Err missing) = Err missing
 push_item index (Ok got) (Ok items) = Ok ((record { index = index; got = got }) ∷ items)
 
-abbrev pub fill_marks : ℕ → (ℕ → View) → View → ℕ → List ℕ → List Marked → Result (List Item) Missing
-fill_marks n V own me starts [] = Ok []
-fill_marks n V own me starts (marked ∷ items) =
-    push_item marked.index (fill_mark n V own me (slice_index starts marked.index) marked.mark) (fill_marks n V own me starts items)
+abbrev pub fill_marks : ℕ → (ℕ → View) → ℕ → View → List ℕ → List Marked → Result (List Item) Missing
+fill_marks n V me own starts [] = Ok []
+fill_marks n V me own starts (marked ∷ items) =
+    push_item marked.index (fill_mark n V me own (slice_index starts marked.index) marked.mark) (fill_marks n V me own starts items)
 
 abbrev pub as_took : Result (List Item) Missing → Result Reply Missing
 as_took (Ok items) = Ok (Took items)
 as_took (Err missing) = Err missing
 
 -- the reply of an entry, or the first that it rests on and that is not there, in item order and then in member order
-abbrev pub filled : ℕ → (ℕ → View) → View → ℕ → Call → Entry → Result Reply Missing
-filled n V own me call EntrySent = Ok Done
-filled n V own me call Posted = Ok Done
-filled n V own me call Entered = Ok Done
-filled n V own me call Ended = Ok Done
-filled n V own me call (EntryTook items) = as_took (fill_marks n V own me (listed_by call) items)
-filled n V own me call EntryNotYet = Ok NotYet
-filled n V own me call (PeekedInside source start) = peeked_from source start (start_at (V source) start)
-filled n V own me call (PeekedOutside source start tag count) = Ok (Peeked source start tag count)
-filled n V own me call (EntryStopped halt) = Ok (Stopped halt)
+abbrev pub filled : ℕ → (ℕ → View) → ℕ → View → Call → Entry → Result Reply Missing
+filled n V me own call EntrySent = Ok Done
+filled n V me own call Posted = Ok Done
+filled n V me own call Entered = Ok Done
+filled n V me own call Ended = Ok Done
+filled n V me own call (EntryTook items) = as_took (fill_marks n V me own (listed_by call) items)
+filled n V me own call EntryNotYet = Ok NotYet
+filled n V me own call (PeekedInside source start) = peeked_from source start (start_at (V source) start)
+filled n V me own call (PeekedOutside source start tag count) = Ok (Peeked source start tag count)
+filled n V me own call (EntryStopped halt) = Ok (Stopped halt)
 
 -- what is missing where no reply can be made
 abbrev pub missing_of : {A : Type 0} → Result A Missing → Option Missing

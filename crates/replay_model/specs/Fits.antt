@@ -29,7 +29,7 @@ mark_fits n group me own (Some (Post comm from tag room)) (Outside source start 
 mark_fits n group me own (Some enter) Inner =
     is_enter enter && (not (makes enter) && is_inner n group me own (Some enter))
 mark_fits n group me own (Some enter) (Outer ints) =
-    is_enter enter && (not (makes enter) && (not (is_inner n group me own (Some enter)) && is_sized n own me enter ints))
+    is_enter enter && (not (makes enter) && (not (is_inner n group me own (Some enter)) && is_sized n me own enter ints))
 mark_fits n group me own (Some enter) (MarkMade comm) =
     makes enter
     && (is_inner n group me own (Some enter) && (if comm == 0 then is_uncoloured enter else not (is_uncoloured enter)))

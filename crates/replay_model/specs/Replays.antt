@@ -35,18 +35,18 @@ judged me own call entry (Err missing) found = Wait missing
 judged me own call entry (Ok reply) (Some found) = diverged me own call entry (Some found)
 judged me own call entry (Ok reply) None = Replied reply
 
-abbrev pub entry_answer : ℕ → List ℕ → (ℕ → View) → View → ℕ → Call → Option Entry → Step
-entry_answer n group V own me call None = LogEnded
-entry_answer n group V own me call (Some entry) =
+abbrev pub entry_answer : ℕ → List ℕ → (ℕ → View) → ℕ → View → Call → Option Entry → Step
+entry_answer n group V me own call None = LogEnded
+entry_answer n group V me own call (Some entry) =
     if fits n group me own call entry
-    then judged me own call entry (filled n V own me call entry) (broken n V own me call entry)
+    then judged me own call entry (filled n V me own call entry) (broken n V me own call entry)
     else diverged me own call entry None
 
 -- the answer to rank `me`'s call: at its breakpoint, at its log's end, or by its next entry
-abbrev pub answer_of : Log → Breakpoint → (ℕ → View) → View → ℕ → Call → Step
-answer_of log stop V own me call =
+abbrev pub answer_of : Log → Breakpoint → (ℕ → View) → ℕ → View → Call → Step
+answer_of log stop V me own call =
     if is_break stop me (length own) then AtBreak
-    else entry_answer log.ranks log.group V own me call (slice_get (entries_for log.group log.lists me) (length own))
+    else entry_answer log.ranks log.group V me own call (slice_get (entries_for log.group log.lists me) (length own))
 
 -- an answer that makes no event and copies nothing
 abbrev pub takes_none : Step → Bool
@@ -67,7 +67,7 @@ events_after events rank call step = events
 pub record IsStep (next : Next) (log : Log) (stop : Breakpoint) (before : List Event) (event : Event) : Type 0 where
   pub member : is_member log.group event.rank ≡ true
   pub call : next log.ranks event.rank (replies_in (view_of before event.rank)) ≡ Some event.call
-  pub reply : answer_of log stop (view_of before) (view_of before event.rank) event.rank event.call ≡ Replied event.reply
+  pub reply : answer_of log stop (view_of before) event.rank (view_of before event.rank) event.call ≡ Replied event.reply
   pub mate : event.mate ≡ None
 
 abbrev pub Replays : Next → Log → Breakpoint → List Event → Type 0

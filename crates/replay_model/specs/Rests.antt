@@ -25,30 +25,30 @@ rests_members comm instance needed (m ∷ members) =
     else rests_members comm instance needed members
 
 -- what the result of the rank's Enter rests on: the Enters of its instance that it needs
-abbrev pub rests_enter : ℕ → View → ℕ → ℕ → Option Call → List Missing
-rests_enter n own me k None = []
-rests_enter n own me k (Some enter) =
+abbrev pub rests_enter : ℕ → ℕ → View → ℕ → Option Call → List Missing
+rests_enter n me own k None = []
+rests_enter n me own k (Some enter) =
     rests_members (comm_of enter) (instance_of own k (comm_of enter)) (needs enter (members_in n own (comm_of enter)) me) (members_in n own (comm_of enter))
 
 -- a message from inside the group rests on its Send, a collective result from inside on the Enters that it needs. (That of an
 -- undefined colour needs the rank's own Enter alone, an earlier call of the rank.)
-abbrev pub rests_mark : ℕ → View → ℕ → ℕ → Mark → List Missing
-rests_mark n own me k (Inside source start) = Start source start ∷ []
-rests_mark n own me k Inner = rests_enter n own me k (start_at own k)
-rests_mark n own me k (Made comm) = if comm == 0 then [] else rests_enter n own me k (start_at own k)
-rests_mark n own me k mark = []
+abbrev pub rests_mark : ℕ → ℕ → View → ℕ → Mark → List Missing
+rests_mark n me own k (Inside source start) = Start source start ∷ []
+rests_mark n me own k Inner = rests_enter n me own k (start_at own k)
+rests_mark n me own k (Made comm) = if comm == 0 then [] else rests_enter n me own k (start_at own k)
+rests_mark n me own k mark = []
 
 -- what completed starts rest on, in item order
-abbrev pub rests_marks : ℕ → View → ℕ → List ℕ → List Marked → List Missing
-rests_marks n own me starts [] = []
-rests_marks n own me starts (marked ∷ marks) =
-    rests_mark n own me (slice_index starts marked.index) marked.mark ++ rests_marks n own me starts marks
+abbrev pub rests_marks : ℕ → ℕ → View → List ℕ → List Marked → List Missing
+rests_marks n me own starts [] = []
+rests_marks n me own starts (marked ∷ marks) =
+    rests_mark n me own (slice_index starts marked.index) marked.mark ++ rests_marks n me own starts marks
 
 -- what an entry of rank `me` rests on, in item order and then in member order
-abbrev pub rests : ℕ → View → ℕ → Call → Entry → List Missing
-rests n own me call (Took marks) = rests_marks n own me (listed_by call) marks
-rests n own me call (PeekedInside source start) = Start source start ∷ []
-rests n own me call entry = []
+abbrev pub rests : ℕ → ℕ → View → Call → Entry → List Missing
+rests n me own call (Took marks) = rests_marks n me own (listed_by call) marks
+rests n me own call (PeekedInside source start) = Start source start ∷ []
+rests n me own call entry = []
 
 abbrev pub one_more : Option ℕ → Option ℕ
 one_more None = None
@@ -79,7 +79,7 @@ number_of V (Member m comm instance) = number_of_nth (is_enter_on comm) (V m) in
 pub data IsCutOff (n : ℕ) (group : List ℕ) (V : ℕ → View) (stop : Breakpoint) : ℕ → ℕ → Type 0 where
   stops : (rank number : ℕ) → is_break stop rank number ≡ true → IsCutOff n group V stop rank number
   follows : (rank number : ℕ) → IsCutOff n group V stop rank number → IsCutOff n group V stop rank (suc number)
-  rests_on : (rank : ℕ) (view rest : View) (call : Call) (reply : Reply) (missing : Missing) (number : ℕ) → is_member group rank ≡ true → V rank ≡ view ++ (call, reply) ∷ rest → IsIn missing (rests n view rank call (entry_of n group rank view call reply)) → number_of V missing ≡ Some number → IsCutOff n group V stop (rank_of missing) number → IsCutOff n group V stop rank (length view)
+  rests_on : (rank : ℕ) (view rest : View) (call : Call) (reply : Reply) (missing : Missing) (number : ℕ) → is_member group rank ≡ true → V rank ≡ view ++ (call, reply) ∷ rest → IsIn missing (rests n rank view call (entry_of n group rank view call reply)) → number_of V missing ≡ Some number → IsCutOff n group V stop (rank_of missing) number → IsCutOff n group V stop rank (length view)
 
 -- the cut of a breakpoint: the group's places that it does not cut off
 pub record IsInCut (n : ℕ) (group : List ℕ) (V : ℕ → View) (stop : Breakpoint) (rank number : ℕ) : Type 0 where

@@ -32,7 +32,7 @@ abbrev pub stand_of : Next → (ℕ → ℕ → List Reply → List Variable) �
 stand_of next variables log stop events rank =
     stand_where (next log.ranks rank (replies_in (view_of events rank)))
     (variables log.ranks rank (replies_in (view_of events rank)))
-    (answer_of log stop (view_of events) (view_of events rank) rank)
+    (answer_of log stop (view_of events) rank (view_of events rank))
 
 -- a whole replay: its events replay the log in order and can go no further; each rank's output and stand are the program's
 pub record IsReplayed (next : Next) (output : Output) (variables : ℕ → ℕ → List Reply → List Variable) (log : Log) (stop : Breakpoint) (replayed : Replayed) : Type 0 where

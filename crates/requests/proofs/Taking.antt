@@ -47,16 +47,16 @@ use Rattle.requests.proofs.Answering.{among-append, complete_enter, own_start, b
 
 -- the answer
 chosen_is : (n : ℕ) (events : List Event) (own : View) (me : ℕ) (starts : List ℕ) (mode : TakeMode) (long : Option ℕ) (items : List Item)
-    → holds mode (flags_of n events own me starts) ≡ true → items_of n events own me starts mode ≡ items → first_long own starts items ≡ long
-    → chosen_answer n events own me (Take starts mode) ≡ taken_reply me long items
+    → holds mode (flags_of n events me own starts) ≡ true → items_of n events me own starts mode ≡ items → first_long own starts items ≡ long
+    → chosen_answer n events me own (Take starts mode) ≡ taken_reply me long items
 chosen_is n events own me starts mode long items h i l =
-    let all : List Item = items_of n events own me starts mode in
+    let all : List Item = items_of n events me own starts mode in
     ap (λ (b : Bool). cond b (taken_reply me (first_long own starts all) all) (held_reply (is_test mode))) h
     ∙ (ap (λ (x : List Item). taken_reply me (first_long own starts x) x) i ∙ ap (λ (o : Option ℕ). taken_reply me o items) l)
 
 answers_by : (n : ℕ) (events : List Event) (me : ℕ) (starts : List ℕ) (mode : TakeMode) (bad : Option ℕ) (ready : Bool) (long : Option ℕ) (items : List Item)
-    → bad_request (view_of events me) [] starts ≡ bad → holds mode (flags_of n events (view_of events me) me starts) ≡ ready
-    → items_of n events (view_of events me) me starts mode ≡ items → first_long (view_of events me) starts items ≡ long
+    → bad_request (view_of events me) [] starts ≡ bad → holds mode (flags_of n events me (view_of events me) starts) ≡ ready
+    → items_of n events me (view_of events me) starts mode ≡ items → first_long (view_of events me) starts items ≡ long
     → Answers n events me starts mode (bad_or bad ready long items)
 answers_by n events me starts mode (Some k) ready long items b h i l = b
 answers_by n events me starts mode None false long items b h i l = (b, h)

@@ -120,7 +120,7 @@ impl Requests {
 
         // An Enter that does not agree takes no memory.
         ensures disagrees { (other : ℕ) → is_enter call.now ≡ true → entered_by self.old.table.stages rank call.now ≡ DisagreesWith other → IsOk result }
-        ensures knows { IfOk result (λ started. (n : ℕ) (events : List Event) → Knows n events self.old → at ≡ length events → IsInForm n (view_of events rank) rank call.now → KnowsStarted n events rank call.now started self.new) }
+        ensures knows { IfOk result (λ started. (n : ℕ) (events : List Event) → Knows n events self.old → at ≡ length events → IsInForm n rank (view_of events rank) call.now → KnowsStarted n events rank call.now started self.new) }
     {
         match call {
             Call::Enter { .. } => self.enter(at, rank, call),
@@ -158,7 +158,7 @@ impl Requests {
         ensures ok { IfOk result (λ started. IsEntered self.old self.new at rank call.now started) }
         ensures err { OnErr result (self.new ≡ self.old) }
         ensures disagrees { (other : ℕ) → entered_by self.old.table.stages rank call.now ≡ DisagreesWith other → IsOk result }
-        ensures knows { IfOk result (λ started. (n : ℕ) (events : List Event) → Knows n events self.old → at ≡ length events → IsInForm n (view_of events rank) rank call.now → KnowsStarted n events rank call.now started self.new) }
+        ensures knows { IfOk result (λ started. (n : ℕ) (events : List Event) → Knows n events self.old → at ≡ length events → IsInForm n rank (view_of events rank) call.now → KnowsStarted n events rank call.now started self.new) }
     {
         match entered(&mut self.board, rank, call)? {
             Entered::Disagrees { other } => Ok(Started::Disagrees { other }),

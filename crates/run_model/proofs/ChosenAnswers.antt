@@ -27,17 +27,17 @@ held_is true condition stuck none goes = refl
 held_is false condition stuck none goes = elim goes [ inl t ↦ (let no : false ≡ true = sym none ∙ t in absurd (cc)) | inr s ↦ (s, refl) ]
 
 take_is : (condition : Bool) (stuck : Type 0) (n : ℕ) (before : List Event) (me : ℕ) (starts : List ℕ) (mode : TakeMode) → IsMatched before
-    → holds mode (flags_of n before (view_of before me) me starts) ≡ condition
+    → holds mode (flags_of n before me (view_of before me) starts) ≡ condition
     → GoesOr (is_test mode || condition) stuck
-    → IsTakeAnswer condition stuck n before (view_of before me) me starts mode
+    → IsTakeAnswer condition stuck n before me (view_of before me) starts mode
     (if condition
-    then taken_reply me (first_long (view_of before me) starts (items_of n before (view_of before me) me starts mode)) (items_of n before (view_of before me) me starts mode)
+    then taken_reply me (first_long (view_of before me) starts (items_of n before me (view_of before me) starts mode)) (items_of n before me (view_of before me) starts mode)
     else held_reply (is_test mode))
 take_is true stuck n before me starts mode matched h goes =
-    let flags : List Bool = flags_of n before (view_of before me) me starts in
+    let flags : List Bool = flags_of n before me (view_of before me) starts in
     let F : List ℕ → Type 0 = λ l. AreChosen mode flags l in
     record {
-      items = items_of n before (view_of before me) me starts mode;
+      items = items_of n before me (view_of before me) starts mode;
       chosen = subst F (sym (items_at-indices n before (view_of before me) me starts (chosen_places mode flags))) (chosen_are mode flags h);
       gots = gots_are n before me starts mode matched;
       reply_is = refl;
@@ -56,10 +56,10 @@ peek_is None stuck n before me comm source tag wait all e goes =
     subst F (sym none) (held_is (not wait) (has_open n before me comm source tag) stuck none goes)
 
 answer_is : (stuck : Type 0) (n : ℕ) (before : List Event) (me : ℕ) (call : Call) → IsMatched before → AllBelow n before
-    → GoesOr (is_prompt n before (view_of before me) me call) stuck
-    → IsAnswer stuck n before (view_of before me) me call (chosen_answer n before (view_of before me) me call)
+    → GoesOr (is_prompt n before me (view_of before me) call) stuck
+    → IsAnswer stuck n before me (view_of before me) call (chosen_answer n before me (view_of before me) call)
 answer_is stuck n before me (Take starts mode) matched all goes =
-    take_is (holds mode (flags_of n before (view_of before me) me starts)) stuck n before me starts mode matched refl goes
+    take_is (holds mode (flags_of n before me (view_of before me) starts)) stuck n before me starts mode matched refl goes
 answer_is stuck n before me (Peek comm source tag wait) matched all goes =
     peek_is (choice before me (Peek comm source tag wait)) stuck n before me comm source tag wait all refl goes
 answer_is stuck n before me (Send comm dest tag ints sync) matched all goes = refl
@@ -70,13 +70,13 @@ answer_is stuck n before me (Trap fault) matched all goes = refl
 answer_is stuck n before me End matched all goes = refl
 
 allowed_by : (halt : Option Halt) (stuck : Type 0) (n : ℕ) (before : List Event) (me : ℕ) (call : Call) → IsMatched before → AllBelow n before
-    → GoesOr (is_some halt || is_prompt n before (view_of before me) me call) stuck
-    → IsAllowedBy halt stuck n before (view_of before me) me call (halt_or halt (chosen_answer n before (view_of before me) me call))
+    → GoesOr (is_some halt || is_prompt n before me (view_of before me) call) stuck
+    → IsAllowedBy halt stuck n before me (view_of before me) call (halt_or halt (chosen_answer n before me (view_of before me) call))
 allowed_by (Some halt) stuck n before me call matched all goes = refl
 allowed_by None stuck n before me call matched all goes = answer_is stuck n before me call matched all goes
 
 pub reply_allowed : (next : Next) (n : ℕ) (before : List Event) (me : ℕ) (call : Call) → IsMatched before → AllBelow n before
-    → GoesOr (can_go n before (view_of before me) me call) (IsStuck next n before)
+    → GoesOr (can_go n before me (view_of before me) call) (IsStuck next n before)
     → IsAllowed next n before me call (chosen_reply n before me call)
 reply_allowed next n before me call matched all goes =
-    allowed_by (due n before (view_of before me) me call) (IsStuck next n before) n before me call matched all goes
+    allowed_by (due n before me (view_of before me) call) (IsStuck next n before) n before me call matched all goes

@@ -71,7 +71,7 @@ pub suc-new : (place : ℕ) → (suc place == 0) ≡ false
 suc-new place = false_from_ne_true (suc place == 0) (λ t. (let e : suc place ≡ 0 = eqb-true (suc place) 0 t in absurd (omega arith)))
 
 from_by : (makes_is uncoloured : Bool) (n : ℕ) (before : List Event) (own : View) (me k : ℕ) (enter : Call) (inputs : List (List ℤ))
-    → IsFrom makes_is uncoloured n own me enter inputs (collected_by makes_is uncoloured n before own me k enter inputs)
+    → IsFrom makes_is uncoloured n me own enter inputs (collected_by makes_is uncoloured n before me own k enter inputs)
 from_by true true n before own me k enter inputs = refl
 from_by true false n before own me k enter inputs =
     let number : ℕ = number_among (communicators_of n before) (origin_of own k enter) in
@@ -80,22 +80,22 @@ from_by false true n before own me k enter inputs = refl
 from_by false false n before own me k enter inputs = refl
 
 collected_is : (n : ℕ) (before : List Event) (own : View) (me k : ℕ) (enter : Call) (inputs : Result (List (List ℤ)) ℕ)
-    → inputs_of n (view_of before) own me k enter ≡ inputs → is_gathered inputs ≡ true
-    → IsCollected n before own me k enter (collected n before own me k enter inputs)
+    → inputs_of n (view_of before) me own k enter ≡ inputs → is_gathered inputs ≡ true
+    → IsCollected n before me own k enter (collected n before me own k enter inputs)
 collected_is n before own me k enter (Ok inputs) e h =
     record { inputs = inputs; gathered = e; given = from_by (makes enter) (is_uncoloured enter) n before own me k enter inputs }
 collected_is n before own me k enter (Err missing) e h = absurd (cc)
 
 pub got_is : (n : ℕ) (before : List Event) (me k : ℕ) (start : Option Call) → IsMatched before → start_at (view_of before me) k ≡ start
-    → is_ready n before (view_of before me) me k start ≡ true
-    → IsGot n before (view_of before me) me k start (got_of n before (view_of before me) me k start)
+    → is_ready n before me (view_of before me) k start ≡ true
+    → IsGot n before me (view_of before me) k start (got_of n before me (view_of before me) k start)
 got_is n before me k None matched at h = absurd (cc)
 got_is n before me k (Some (Send comm dest tag ints sync)) matched at h = refl
 got_is n before me k (Some (Post comm Null tag room)) matched at h = refl
 got_is n before me k (Some (Post comm Any tag room)) matched at h = paired_message before me k comm Any tag room matched at h
 got_is n before me k (Some (Post comm (From source) tag room)) matched at h = paired_message before me k comm (From source) tag room matched at h
 got_is n before me k (Some (Enter comm kind root op count ints)) matched at h =
-    collected_is n before (view_of before me) me k (Enter comm kind root op count ints) (inputs_of n (view_of before) (view_of before me) me k (Enter comm kind root op count ints)) refl h
+    collected_is n before (view_of before me) me k (Enter comm kind root op count ints) (inputs_of n (view_of before) me (view_of before me) k (Enter comm kind root op count ints)) refl h
 got_is n before me k (Some (Take starts mode)) matched at h = absurd (cc)
 got_is n before me k (Some (Peek comm source tag wait)) matched at h = absurd (cc)
 got_is n before me k (Some (Abort code)) matched at h = absurd (cc)
@@ -140,22 +140,22 @@ flag_at ready (k ∷ starts) zero flag h = cc
 flag_at ready (k ∷ starts) (suc i) flag h = flag_at ready starts i flag h
 
 gots_at : (n : ℕ) (before : List Event) (me : ℕ) (starts indices : List ℕ) → IsMatched before
-    → AllOf (λ i. is_ready n before (view_of before me) me (slice_index starts i) (start_at (view_of before me) (slice_index starts i)) ≡ true) indices
-    → AreGots n before (view_of before me) me starts (items_at n before (view_of before me) me starts indices)
+    → AllOf (λ i. is_ready n before me (view_of before me) (slice_index starts i) (start_at (view_of before me) (slice_index starts i)) ≡ true) indices
+    → AreGots n before me (view_of before me) starts (items_at n before me (view_of before me) starts indices)
 gots_at n before me starts [] matched all = tt
 gots_at n before me starts (i ∷ indices) matched all =
     (got_is n before me (slice_index starts i) (start_at (view_of before me) (slice_index starts i)) matched refl all.0, gots_at n before me starts indices matched all.1)
 
 pub gots_are : (n : ℕ) (before : List Event) (me : ℕ) (starts : List ℕ) (mode : TakeMode) → IsMatched before
-    → AreGots n before (view_of before me) me starts (items_at n before (view_of before me) me starts (chosen_places mode (flags_of n before (view_of before me) me starts)))
+    → AreGots n before me (view_of before me) starts (items_at n before me (view_of before me) starts (chosen_places mode (flags_of n before me (view_of before me) starts)))
 gots_are n before me starts mode matched =
     let own : View = view_of before me in
-    let ready : ℕ → Bool = λ k. is_ready n before own me k (start_at own k) in
-    gots_at n before me starts (chosen_places mode (flags_of n before own me starts)) matched
-    (all_chosen (λ i. ready (slice_index starts i) ≡ true) mode (flags_of n before own me starts) (λ i h. flag_at ready starts i true h))
+    let ready : ℕ → Bool = λ k. is_ready n before me own k (start_at own k) in
+    gots_at n before me starts (chosen_places mode (flags_of n before me own starts)) matched
+    (all_chosen (λ i. ready (slice_index starts i) ≡ true) mode (flags_of n before me own starts) (λ i h. flag_at ready starts i true h))
 
 pub items_at-indices : (n : ℕ) (before : List Event) (own : View) (me : ℕ) (starts indices : List ℕ)
-    → map (λ (item : Item). item.index) (items_at n before own me starts indices) ≡ indices
+    → map (λ (item : Item). item.index) (items_at n before me own starts indices) ≡ indices
 items_at-indices n before own me starts [] = refl
 items_at-indices n before own me starts (i ∷ indices) = ap (λ l. i ∷ l) (items_at-indices n before own me starts indices)
 

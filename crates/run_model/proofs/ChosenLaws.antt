@@ -44,11 +44,11 @@ held_stuck true stuck reply h is = absurd (cc)
 held_stuck false stuck reply h is = is.1
 
 answer_stuck : (stuck : Type 0) (n : ℕ) (before : List Event) (own : View) (me : ℕ) (call : Call) (reply : Reply)
-    → is_prompt n before own me call ≡ false → IsAnswer stuck n before own me call reply → reply ≡ Stopped Stuck
+    → is_prompt n before me own call ≡ false → IsAnswer stuck n before me own call reply → reply ≡ Stopped Stuck
 answer_stuck stuck n before own me (Take starts mode) reply h is =
-    let H : Bool = holds mode (flags_of n before own me starts) in
+    let H : Bool = holds mode (flags_of n before me own starts) in
     let parts = or_parts (is_test mode) H h in
-    let F : Bool → Type 0 = λ b. IsTakeAnswer b stuck n before own me starts mode reply in
+    let F : Bool → Type 0 = λ b. IsTakeAnswer b stuck n before me own starts mode reply in
     held_stuck (is_test mode) stuck reply parts.0 (subst F parts.1 is)
 answer_stuck stuck n before own me (Peek comm source tag wait) reply h is =
     let H : Bool = has_open n before me comm source tag in
@@ -63,11 +63,11 @@ answer_stuck stuck n before own me (Trap fault) reply h is = absurd (cc)
 answer_stuck stuck n before own me End reply h is = absurd (cc)
 
 allowed_stuck : (halt : Option Halt) (stuck : Type 0) (n : ℕ) (before : List Event) (own : View) (me : ℕ) (call : Call) (reply : Reply)
-    → (is_some halt || is_prompt n before own me call) ≡ false → IsAllowedBy halt stuck n before own me call reply → reply ≡ Stopped Stuck
+    → (is_some halt || is_prompt n before me own call) ≡ false → IsAllowedBy halt stuck n before me own call reply → reply ≡ Stopped Stuck
 allowed_stuck None stuck n before own me call reply h is = answer_stuck stuck n before own me call reply h is
 allowed_stuck (Some halt) stuck n before own me call reply h is = absurd (cc)
 
 pub cannot_go : (next : Next) (n : ℕ) (before : List Event) (me : ℕ) (call : Call) (reply : Reply)
-    → can_go n before (view_of before me) me call ≡ false → IsAllowed next n before me call reply → reply ≡ Stopped Stuck
+    → can_go n before me (view_of before me) call ≡ false → IsAllowed next n before me call reply → reply ≡ Stopped Stuck
 cannot_go next n before me call reply h is =
-    allowed_stuck (due n before (view_of before me) me call) (IsStuck next n before) n before (view_of before me) me call reply h is
+    allowed_stuck (due n before me (view_of before me) call) (IsStuck next n before) n before (view_of before me) me call reply h is

@@ -41,7 +41,7 @@ gather-same needed find later (m ∷ members) inputs keeps h =
 
 -- what was gathered is gathered over longer views too
 pub inputs-kept : (n : ℕ) (V W : ℕ → View) (own : View) (me k : ℕ) (enter : Call) (inputs : List (List ℤ)) → Begins V W
-    → inputs_of n V own me k enter ≡ Ok inputs → inputs_of n W own me k enter ≡ Ok inputs
+    → inputs_of n V me own k enter ≡ Ok inputs → inputs_of n W me own k enter ≡ Ok inputs
 inputs-kept n V W own me k enter inputs begins h =
     gather-same (needs enter (members_in n own (comm_of enter)) me) (λ m. enter_at n (V m) (comm_of enter) (instance_of own k (comm_of enter))) (λ m. enter_at n (W m) (comm_of enter) (instance_of own k (comm_of enter))) (members_in n own (comm_of enter)) inputs
     (λ m. enter_at-kept n (V m) (W m) (comm_of enter) (instance_of own k (comm_of enter)) (begins m)) h

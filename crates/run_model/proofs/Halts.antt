@@ -50,7 +50,7 @@ taken_own None items reply halt me is h = (let no : Took items ≡ Stopped halt 
 taken_own (Some k) items reply halt me is h = stopped_same (Truncated me k) halt reply me is h (record { own = λ rank t. eqb-true me rank t })
 
 take_own : (condition : Bool) (stuck : Type 0) (n : ℕ) (before : List Event) (own : View) (me : ℕ) (starts : List ℕ) (mode : TakeMode) (reply : Reply) (halt : Halt)
-    → IsTakeAnswer condition stuck n before own me starts mode reply → reply ≡ Stopped halt → OwnHalt me halt
+    → IsTakeAnswer condition stuck n before me own starts mode reply → reply ≡ Stopped halt → OwnHalt me halt
 take_own true stuck n before own me starts mode reply halt is h = taken_own (first_long own starts is.items) is.items reply halt me is.reply_is h
 take_own false stuck n before own me starts mode reply halt is h = held_own (is_test mode) stuck reply halt me is h
 
@@ -63,8 +63,8 @@ done_own : (reply : Reply) (halt : Halt) (me : ℕ) → reply ≡ Done → reply
 done_own reply halt me is h = (let no : Done ≡ Stopped halt = sym is ∙ h in absurd (cc))
 
 answer_own : (stuck : Type 0) (n : ℕ) (before : List Event) (own : View) (me : ℕ) (call : Call) (reply : Reply) (halt : Halt)
-    → IsAnswer stuck n before own me call reply → reply ≡ Stopped halt → OwnHalt me halt
-answer_own stuck n before own me (Take starts mode) reply halt is h = take_own (holds mode (flags_of n before own me starts)) stuck n before own me starts mode reply halt is h
+    → IsAnswer stuck n before me own call reply → reply ≡ Stopped halt → OwnHalt me halt
+answer_own stuck n before own me (Take starts mode) reply halt is h = take_own (holds mode (flags_of n before me own starts)) stuck n before own me starts mode reply halt is h
 answer_own stuck n before own me (Peek comm source tag wait) reply halt is h = peek_own (has_open n before me comm source tag) stuck before me comm source tag wait reply halt is h
 answer_own stuck n before own me (Send comm dest tag ints sync) reply halt is h = done_own reply halt me is h
 answer_own stuck n before own me (Post comm source tag room) reply halt is h = done_own reply halt me is h
@@ -74,7 +74,7 @@ answer_own stuck n before own me (Trap fault) reply halt is h = done_own reply h
 answer_own stuck n before own me End reply halt is h = done_own reply halt me is h
 
 halt_at-own : (n : ℕ) (before : List Event) (own : View) (me : ℕ) (call : Call) (halt : Halt)
-    → halt_at n before own me call ≡ Some halt → OwnHalt me halt
+    → halt_at n before me own call ≡ Some halt → OwnHalt me halt
 halt_at-own n before own me (Abort code) halt h = (let e : Aborted me code ≡ halt = cc in subst (OwnHalt me) e (record { own = λ rank t. eqb-true me rank t }))
 halt_at-own n before own me (Trap fault) halt h = (let e : Trapped me fault ≡ halt = cc in subst (OwnHalt me) e (record { own = λ rank t. eqb-true me rank t }))
 halt_at-own n before own me (Enter comm kind root op count ints) halt h =
@@ -93,7 +93,7 @@ halt_at-own n before own me (Peek comm source tag wait) halt h = absurd (cc)
 halt_at-own n before own me End halt h = absurd (cc)
 
 first_own : (n : ℕ) (before : List Event) (own : View) (me : ℕ) (call : Call) (halt : Halt) → halted before ≡ None
-    → due n before own me call ≡ Some halt → OwnHalt me halt
+    → due n before me own call ≡ Some halt → OwnHalt me halt
 first_own n before own me call halt none h =
     elim (test_cases (is_full before)) [
       | inl t ↦ (let some : Some Limit ≡ Some halt = rw (none, t) at h in let e : Limit ≡ halt = cc in subst (OwnHalt me) e (record { own = λ rank u. absurd (cc) }))
@@ -104,8 +104,8 @@ allowed_own : (next : Next) (n : ℕ) (before : List Event) (me : ℕ) (call : C
     → halted before ≡ None → IsAllowed next n before me call reply → reply ≡ Stopped halt → OwnHalt me halt
 allowed_own next n before me call reply halt none is h =
     let own : View = view_of before me in
-    let F : Option Halt → Type 0 = λ x. IsAllowedBy x (IsStuck next n before) n before own me call reply in
-    elim (option_cases (due n before own me call)) [
+    let F : Option Halt → Type 0 = λ x. IsAllowedBy x (IsStuck next n before) n before me own call reply in
+    elim (option_cases (due n before me own call)) [
       | inl some ↦ (let stopped : reply ≡ Stopped some.0 = subst F some.1 is in stopped_same some.0 halt reply me stopped h (first_own n before own me call some.0 none some.1))
       | inr free ↦ answer_own (IsStuck next n before) n before own me call reply halt (subst F free is) h
     ]

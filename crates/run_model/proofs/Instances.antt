@@ -119,7 +119,7 @@ gather-at needed find (m ∷ members) inputs (suc place) h below need =
 
 -- they are inputs of the Enter, by the table
 pub inputs_fit : (n : ℕ) (V : ℕ → View) (r k : ℕ) (enter : Call) (inputs : List (List ℤ)) → SameInstances n V
-    → start_at (V r) k ≡ Some enter → is_enter enter ≡ true → inputs_of n V (V r) r k enter ≡ Ok inputs
+    → start_at (V r) k ≡ Some enter → is_enter enter ≡ true → inputs_of n V r (V r) k enter ≡ Ok inputs
     → AreInputsOf enter (members_in n (V r) (comm_of enter)) inputs r
 inputs_fit n V r k enter inputs same at is gathered =
     let C : ℕ = comm_of enter in
@@ -141,7 +141,7 @@ inputs_fit n V r k enter inputs same at is gathered =
 
 -- what the rank itself entered is among them, where it is needed
 pub input_own : (n : ℕ) (V : ℕ → View) (r k : ℕ) (enter : Call) (inputs : List (List ℤ)) → SameInstances n V
-    → start_at (V r) k ≡ Some enter → is_enter enter ≡ true → inputs_of n V (V r) r k enter ≡ Ok inputs
+    → start_at (V r) k ≡ Some enter → is_enter enter ≡ true → inputs_of n V r (V r) k enter ≡ Ok inputs
     → is_member (members_in n (V r) (comm_of enter)) r ≡ true
     → input_of (members_in n (V r) (comm_of enter)) inputs r ≡ ints_of enter
 input_own n V r k enter inputs same at is gathered member =
@@ -168,7 +168,7 @@ pub record Provenance (n : ℕ) (V : ℕ → View) (r comm : ℕ) (members : Lis
   pub is : is_enter enter ≡ true
   pub makes_is : makes enter ≡ true
   pub coloured : is_uncoloured enter ≡ false
-  pub gathered : inputs_of n V (V r) r k enter ≡ Ok inputs
+  pub gathered : inputs_of n V r (V r) k enter ≡ Ok inputs
   pub given : members ≡ members_made enter (members_in n (V r) (comm_of enter)) inputs r
 
 -- two of one origin have the same members

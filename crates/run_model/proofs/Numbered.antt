@@ -91,13 +91,13 @@ pub record IsFresh (n : ℕ) (before : List Event) (me : ℕ) (new : Name) : Typ
   pub at : start_at (view_of before me) new.1 ≡ Some enter
   pub makes_is : makes enter ≡ true
   pub coloured : is_uncoloured enter ≡ false
-  pub gathered : inputs_of n (view_of before) (view_of before me) me new.1 enter ≡ Ok inputs
+  pub gathered : inputs_of n (view_of before) me (view_of before me) new.1 enter ≡ Ok inputs
   pub number : new.0 ≡ number_among (communicators_of n before) (origin_of (view_of before me) new.1 enter)
 
 collected_fresh : (makes_it uncoloured : Bool) (n : ℕ) (before : List Event) (me k : ℕ) (enter : Call) (inputs : List (List ℤ)) (new : Name)
     → start_at (view_of before me) k ≡ Some enter → makes enter ≡ makes_it → is_uncoloured enter ≡ uncoloured
-    → inputs_of n (view_of before) (view_of before me) me k enter ≡ Ok inputs
-    → IsIn new (number_in k (collected_by makes_it uncoloured n before (view_of before me) me k enter inputs)) → (new.0 == 0) ≡ false
+    → inputs_of n (view_of before) me (view_of before me) k enter ≡ Ok inputs
+    → IsIn new (number_in k (collected_by makes_it uncoloured n before me (view_of before me) k enter inputs)) → (new.0 == 0) ≡ false
     → IsFresh n before me new
 collected_fresh true true n before me k enter inputs new at m u g there real =
     elim there [
@@ -117,8 +117,8 @@ collected_fresh false true n before me k enter inputs new at m u g there real = 
 collected_fresh false false n before me k enter inputs new at m u g there real = absurd there
 
 gathered_fresh : (n : ℕ) (before : List Event) (me k : ℕ) (enter : Call) (inputs : Result (List (List ℤ)) ℕ) (new : Name)
-    → start_at (view_of before me) k ≡ Some enter → inputs_of n (view_of before) (view_of before me) me k enter ≡ inputs
-    → IsIn new (number_in k (collected n before (view_of before me) me k enter inputs)) → (new.0 == 0) ≡ false → IsFresh n before me new
+    → start_at (view_of before me) k ≡ Some enter → inputs_of n (view_of before) me (view_of before me) k enter ≡ inputs
+    → IsIn new (number_in k (collected n before me (view_of before me) k enter inputs)) → (new.0 == 0) ≡ false → IsFresh n before me new
 gathered_fresh n before me k enter (Err missing) new at g there real = absurd there
 gathered_fresh n before me k enter (Ok inputs) new at g there real =
     collected_fresh (makes enter) (is_uncoloured enter) n before me k enter inputs new at refl refl g there real
@@ -135,9 +135,9 @@ not_in_message : (k : ℕ) (before : List Event) (partner : Option Name) (new : 
 not_in_message k before partner new there = (let F : List Name → Type 0 = λ l. IsIn new l in subst F (message_none k before partner) there)
 
 got_fresh : (n : ℕ) (before : List Event) (me k : ℕ) (start : Option Call) (new : Name) → start_at (view_of before me) k ≡ start
-    → IsIn new (number_in k (got_of n before (view_of before me) me k start)) → (new.0 == 0) ≡ false → IsFresh n before me new
+    → IsIn new (number_in k (got_of n before me (view_of before me) k start)) → (new.0 == 0) ≡ false → IsFresh n before me new
 got_fresh n before me k (Some (Enter comm kind root op count ints)) new at there real =
-    gathered_fresh n before me k (Enter comm kind root op count ints) (inputs_of n (view_of before) (view_of before me) me k (Enter comm kind root op count ints)) new at refl there real
+    gathered_fresh n before me k (Enter comm kind root op count ints) (inputs_of n (view_of before) me (view_of before me) k (Enter comm kind root op count ints)) new at refl there real
 got_fresh n before me k (Some (Post comm Any tag room)) new at there real = absurd (not_in_message k before (partner_of (pairs_of before) (me, k)) new there)
 got_fresh n before me k (Some (Post comm (From source) tag room)) new at there real = absurd (not_in_message k before (partner_of (pairs_of before) (me, k)) new there)
 got_fresh n before me k other new at there real = absurd there
@@ -151,12 +151,12 @@ in_parts new (x ∷ xs) ys there =
     ]
 
 items_fresh : (n : ℕ) (before : List Event) (me : ℕ) (starts indices : List ℕ) (new : Name)
-    → IsIn new (numbers_in starts (items_at n before (view_of before me) me starts indices)) → (new.0 == 0) ≡ false → IsFresh n before me new
+    → IsIn new (numbers_in starts (items_at n before me (view_of before me) starts indices)) → (new.0 == 0) ≡ false → IsFresh n before me new
 items_fresh n before me starts [] new there real = absurd there
 items_fresh n before me starts (i ∷ indices) new there real =
     let own : View = view_of before me in
     let k : ℕ = slice_index starts i in
-    elim (in_parts new (number_in k (got_of n before own me k (start_at own k))) (numbers_in starts (items_at n before own me starts indices)) there) [
+    elim (in_parts new (number_in k (got_of n before me own k (start_at own k))) (numbers_in starts (items_at n before me own starts indices)) there) [
       | inl here ↦ got_fresh n before me k (start_at own k) new refl here real
       | inr later ↦ items_fresh n before me starts indices new later real
     ]
@@ -179,7 +179,7 @@ peek_none call before true None = refl
 peek_none call before false None = refl
 
 taken_fresh : (n : ℕ) (before : List Event) (me : ℕ) (starts indices : List ℕ) (mode : TakeMode) (long : Option ℕ) (new : Name)
-    → IsIn new (numbers_in_reply (Take starts mode) (taken_reply me long (items_at n before (view_of before me) me starts indices)))
+    → IsIn new (numbers_in_reply (Take starts mode) (taken_reply me long (items_at n before me (view_of before me) starts indices)))
     → (new.0 == 0) ≡ false → IsFresh n before me new
 taken_fresh n before me starts indices mode (Some k) new there real = absurd there
 taken_fresh n before me starts indices mode None new there real = items_fresh n before me starts indices new there real
@@ -187,20 +187,20 @@ taken_fresh n before me starts indices mode None new there real = items_fresh n 
 take_fresh : (condition : Bool) (n : ℕ) (before : List Event) (me : ℕ) (starts : List ℕ) (mode : TakeMode) (new : Name)
     → IsIn new (numbers_in_reply (Take starts mode)
     (if condition
-    then taken_reply me (first_long (view_of before me) starts (items_of n before (view_of before me) me starts mode)) (items_of n before (view_of before me) me starts mode)
+    then taken_reply me (first_long (view_of before me) starts (items_of n before me (view_of before me) starts mode)) (items_of n before me (view_of before me) starts mode)
     else held_reply (is_test mode)))
     → (new.0 == 0) ≡ false → IsFresh n before me new
 take_fresh true n before me starts mode new there real =
     let own : View = view_of before me in
-    taken_fresh n before me starts (chosen_places mode (flags_of n before own me starts)) mode (first_long own starts (items_of n before own me starts mode)) new there real
+    taken_fresh n before me starts (chosen_places mode (flags_of n before me own starts)) mode (first_long own starts (items_of n before me own starts mode)) new there real
 take_fresh false n before me starts mode new there real =
     let F : List Name → Type 0 = λ l. IsIn new l in
     absurd (subst F (held_none (Take starts mode) (is_test mode)) there)
 
 answer_fresh : (n : ℕ) (before : List Event) (me : ℕ) (call : Call) (new : Name)
-    → IsIn new (numbers_in_reply call (chosen_answer n before (view_of before me) me call)) → (new.0 == 0) ≡ false → IsFresh n before me new
+    → IsIn new (numbers_in_reply call (chosen_answer n before me (view_of before me) call)) → (new.0 == 0) ≡ false → IsFresh n before me new
 answer_fresh n before me (Take starts mode) new there real =
-    take_fresh (holds mode (flags_of n before (view_of before me) me starts)) n before me starts mode new there real
+    take_fresh (holds mode (flags_of n before me (view_of before me) starts)) n before me starts mode new there real
 answer_fresh n before me (Peek comm source tag wait) new there real =
     let F : List Name → Type 0 = λ l. IsIn new l in
     absurd (subst F (peek_none (Peek comm source tag wait) before wait (choice before me (Peek comm source tag wait))) there)
@@ -212,14 +212,14 @@ answer_fresh n before me (Trap fault) new there real = absurd there
 answer_fresh n before me End new there real = absurd there
 
 reply_by : (halt : Option Halt) (n : ℕ) (before : List Event) (me : ℕ) (call : Call) (new : Name)
-    → IsIn new (numbers_in_reply call (halt_or halt (chosen_answer n before (view_of before me) me call))) → (new.0 == 0) ≡ false
+    → IsIn new (numbers_in_reply call (halt_or halt (chosen_answer n before me (view_of before me) call))) → (new.0 == 0) ≡ false
     → IsFresh n before me new
 reply_by (Some halt) n before me call new there real = absurd there
 reply_by None n before me call new there real = answer_fresh n before me call new there real
 
 pub reply_fresh : (n : ℕ) (before : List Event) (me : ℕ) (call : Call) (new : Name)
     → IsIn new (numbers_in_reply call (chosen_reply n before me call)) → (new.0 == 0) ≡ false → IsFresh n before me new
-reply_fresh n before me call new there real = reply_by (due n before (view_of before me) me call) n before me call new there real
+reply_fresh n before me call new there real = reply_by (due n before me (view_of before me) call) n before me call new there real
 
 pub made_along-append : (n : ℕ) (before xs ys : List Event) → made_along n before (xs ++ ys) ≡ made_along n before xs ++ made_along n (before ++ xs) ys
 made_along-append n before [] ys = rw append-nil
@@ -232,7 +232,7 @@ communicators_of-push n before event = made_along-append n [] before (event ∷ 
 abbrev pub AllMade : ℕ → List Event → Type 0
 AllMade n before =
     (me k : ℕ) (enter : Call) (inputs : List (List ℤ)) → start_at (view_of before me) k ≡ Some enter → makes enter ≡ true → is_uncoloured enter ≡ false
-    → inputs_of n (view_of before) (view_of before me) me k enter ≡ Ok inputs
+    → inputs_of n (view_of before) me (view_of before me) k enter ≡ Ok inputs
     → IsListed (communicators_of n before) (origin_of (view_of before me) k enter)
 
 fresh_origin : (n : ℕ) (before : List Event) (me : ℕ) (new : Name) → AllMade n before → IsFresh n before me new

@@ -44,7 +44,7 @@ start_back view call reply k start h =
     ]
 
 -- a new communicator that fits its start has members for the rank
-made_fits : (n : ℕ) (own : View) (me : ℕ) (start : Option Call) (comm : ℕ) (members : List ℕ) → (comm == 0) ≡ false → got_fits n own me start (Made comm members) ≡ true → AreMembers n me members
+made_fits : (n : ℕ) (own : View) (me : ℕ) (start : Option Call) (comm : ℕ) (members : List ℕ) → (comm == 0) ≡ false → got_fits n me own start (Made comm members) ≡ true → AreMembers n me members
 made_fits n own me None comm members real h = absurd (cc)
 made_fits n own me (Some (Enter on kind root op count ints)) comm [] real h =
     let enter : Call = Enter on kind root op count ints in
@@ -70,7 +70,7 @@ made_fits n own me (Some (Post on Null tag room)) comm (m ∷ members) real h = 
 made_fits n own me (Some call) comm [] real h = absurd (cc)
 made_fits n own me (Some call) comm (m ∷ members) real h = absurd (cc)
 
-got_made : (n : ℕ) (own : View) (me : ℕ) (start : Option Call) (got : Got) (comm : ℕ) (rest : Option (List ℕ)) (members : List ℕ) → (comm == 0) ≡ false → got_fits n own me start got ≡ true → or_members (made_in_got comm got) rest ≡ Some members → (AreMembers n me members) ⊎ (rest ≡ Some members)
+got_made : (n : ℕ) (own : View) (me : ℕ) (start : Option Call) (got : Got) (comm : ℕ) (rest : Option (List ℕ)) (members : List ℕ) → (comm == 0) ≡ false → got_fits n me own start got ≡ true → or_members (made_in_got comm got) rest ≡ Some members → (AreMembers n me members) ⊎ (rest ≡ Some members)
 got_made n own me start (Made c ms) comm rest members real fit h =
     elim (test_cases (c == comm)) [
       | inl t ↦ (
@@ -82,10 +82,10 @@ got_made n own me start (Made c ms) comm rest members real fit h =
     ]
 got_made n own me start got comm rest members real fit h = inr h
 
-items_made : (n : ℕ) (own : View) (me : ℕ) (starts : List ℕ) (items : List Item) (comm : ℕ) (members : List ℕ) → (comm == 0) ≡ false → gots_fit n own me starts items ≡ true → made_in_items comm items ≡ Some members → AreMembers n me members
+items_made : (n : ℕ) (own : View) (me : ℕ) (starts : List ℕ) (items : List Item) (comm : ℕ) (members : List ℕ) → (comm == 0) ≡ false → gots_fit n me own starts items ≡ true → made_in_items comm items ≡ Some members → AreMembers n me members
 items_made n own me starts [] comm members real fit h = absurd (cc)
 items_made n own me starts (item ∷ items) comm members real fit h =
-    let parts = and_parts (got_fits n own me (start_at own (slice_index starts item.index)) item.got) (gots_fit n own me starts items) fit in
+    let parts = and_parts (got_fits n me own (start_at own (slice_index starts item.index)) item.got) (gots_fit n me own starts items) fit in
     elim (got_made n own me (start_at own (slice_index starts item.index)) item.got comm (made_in_items comm items) members real parts.0 h) [
       | inl are ↦ are
       | inr rest ↦ items_made n own me starts items comm members real parts.1 rest
@@ -95,7 +95,7 @@ reply_made : (n me : ℕ) (own : View) (call : Call) (reply : Reply) (comm : ℕ
 reply_made n me own (Take starts mode) (Took items) comm members real shape h =
     let one = and_parts (has_count mode (length starts) (length items)) _ shape in
     let two = and_parts _ _ one.1 in
-    let three = and_parts (list_all (λ k. can_take own k) starts) (gots_fit n own me starts items) two.1 in
+    let three = and_parts (list_all (λ k. can_take own k) starts) (gots_fit n me own starts items) two.1 in
     items_made n own me starts items comm members real three.1 h
 reply_made n me own call (Took items) comm members real shape h = absurd (cc)
 reply_made n me own call Done comm members real shape h = absurd (cc)
@@ -119,7 +119,7 @@ in_order_first n me low =
     }
 
 -- an Enter stays in form while its rank goes on
-form_kept : (n : ℕ) (view more : View) (me : ℕ) (call : Call) → IsInForm n view me call → IsInForm n (view ++ more) me call
+form_kept : (n : ℕ) (view more : View) (me : ℕ) (call : Call) → IsInForm n me view call → IsInForm n me (view ++ more) call
 form_kept n view more me (Enter comm kind root op count ints) form = (form.0, known_in-kept n view (view ++ more) comm form.0 (prefix_append view more) form.1, form.2, form.3)
 form_kept n view more me call form = tt
 
@@ -136,7 +136,7 @@ known_more n me view call reply comm members order shape h =
     ]
 
 -- an Enter that a rank makes now
-entered_now : (n me : ℕ) (view : View) (call : Call) (reply : Reply) (comm instance : ℕ) (one : Entered) → IsInForm n view me call → NewEnter n view call reply comm instance one → IsEnteredBy n me (view ++ (call, reply) ∷ []) comm one
+entered_now : (n me : ℕ) (view : View) (call : Call) (reply : Reply) (comm instance : ℕ) (one : Entered) → IsInForm n me view call → NewEnter n view call reply comm instance one → IsEnteredBy n me (view ++ (call, reply) ∷ []) comm one
 entered_now n me view (Enter c kind root op count ints) reply comm instance one form new =
     let call : Call = Enter c kind root op count ints in
     let on : c ≡ comm = eqb-true c comm new.on in
@@ -164,13 +164,13 @@ entered_kept n me view more comm one is =
     }
 
 -- one more call of the program, with a reply in its shape
-pub in_order_more : (n me : ℕ) (view : View) (call : Call) (reply : Reply) → IsInOrder n me view → IsInForm n view me call → has_shape n me view call reply ≡ true → IsInOrder n me (view ++ (call, reply) ∷ [])
+pub in_order_more : (n me : ℕ) (view : View) (call : Call) (reply : Reply) → IsInOrder n me view → IsInForm n me view call → has_shape n me view call reply ≡ true → IsInOrder n me (view ++ (call, reply) ∷ [])
 in_order_more n me view call reply order form shape =
     record {
       starts = λ k start p. elim (start_back view call reply k start p) [
         | inl was ↦ form_kept n view ((call, reply) ∷ []) me start (order.starts k start was)
         | inr new ↦ (
-            let F : Call → Type 0 = λ x. IsInForm n (view ++ (call, reply) ∷ []) me x in
+            let F : Call → Type 0 = λ x. IsInForm n me (view ++ (call, reply) ∷ []) x in
             subst F new (form_kept n view ((call, reply) ∷ []) me call form))
       ];
       known = λ comm members p. known_more n me view call reply comm members order shape p;

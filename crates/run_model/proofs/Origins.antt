@@ -41,7 +41,7 @@ record FromItems (n : ℕ) (before : List Event) (own : View) (me comm : ℕ) (s
   is : is_enter enter ≡ true
   makes_is : makes enter ≡ true
   coloured : is_uncoloured enter ≡ false
-  gathered : inputs_of n (view_of before) own me k enter ≡ Ok inputs
+  gathered : inputs_of n (view_of before) me own k enter ≡ Ok inputs
   given : members ≡ members_made enter (members_in n own (comm_of enter)) inputs me
   number : IsIn (comm, k) (numbers_in starts items)
 
@@ -50,7 +50,7 @@ IsIn-back a [] ys inside = inside
 IsIn-back a (x ∷ xs) ys inside = inr (IsIn-back a xs ys inside)
 
 made_given : (m u : Bool) (n : ℕ) (own : View) (me : ℕ) (enter : Call) (inputs : List (List ℤ)) (c : ℕ) (members : List ℕ)
-    → (c == 0) ≡ false → IsFrom m u n own me enter inputs (Made c members)
+    → (c == 0) ≡ false → IsFrom m u n me own enter inputs (Made c members)
     → (m ≡ true) × (u ≡ false) × (members ≡ members_made enter (members_in n own (comm_of enter)) inputs me)
 made_given true true n own me enter inputs c members real given =
     (let e : c ≡ 0 = cc in let t : (c == 0) ≡ true = eq-eqb c 0 e in let no : true ≡ false = sym t ∙ real in absurd (cc))
@@ -61,7 +61,7 @@ made_given true false n own me enter inputs c members real given =
 made_given false u n own me enter inputs c members real given = absurd (cc)
 
 from_got : (n : ℕ) (before : List Event) (own : View) (me k : ℕ) (start : Option Call) (c : ℕ) (members : List ℕ) (starts : List ℕ) (items : List Item)
-    → (c == 0) ≡ false → start_at own k ≡ start → IsGot n before own me k start (Made c members)
+    → (c == 0) ≡ false → start_at own k ≡ start → IsGot n before me own k start (Made c members)
     → IsIn (c, k) (numbers_in starts items) → FromItems n before own me c starts items members
 from_got n before own me k None c members starts items real at is number = absurd is
 from_got n before own me k (Some (Send comm dest tag ints sync)) c members starts items real at is number = absurd (let e : Made c members ≡ Sent = is in cc)
@@ -111,14 +111,14 @@ made_cases comm (Message source start tag ints) rest members h = inr h
 made_cases comm (Joined ints) rest members h = inr h
 
 from_items : (n : ℕ) (before : List Event) (own : View) (me comm : ℕ) (starts : List ℕ) (items : List Item) (members : List ℕ)
-    → (comm == 0) ≡ false → AreGots n before own me starts items → made_in_items comm items ≡ Some members
+    → (comm == 0) ≡ false → AreGots n before me own starts items → made_in_items comm items ≡ Some members
     → FromItems n before own me comm starts items members
 from_items n before own me comm starts [] members real are h = absurd (cc)
 from_items n before own me comm starts (item ∷ items) members real are h =
     elim (made_cases comm item.got (made_in_items comm items) members h) [
       | inl e ↦ (
           let k : ℕ = slice_index starts item.index in
-          let F : Got → Type 0 = λ g. IsGot n before own me k (start_at own k) g in
+          let F : Got → Type 0 = λ g. IsGot n before me own k (start_at own k) g in
           let G : Got → Type 0 = λ g. IsIn (comm, k) (number_in k g) in
           let first : IsIn (comm, k) (number_in k item.got) = subst G (sym e) (inl refl) in
           let inside = IsIn-front (comm, k) (number_in k item.got) (numbers_in starts items) first in
@@ -161,8 +161,8 @@ accepted_enter next n before me End reply comm is start on = absurd (cc)
 accepted_enter next n before me (Enter c kind root op count ints) reply comm is start on =
     let own : View = view_of before me in
     let call : Call = Enter c kind root op count ints in
-    let F : Option Halt → Type 0 = λ x. IsAllowedBy x (IsStuck next n before) n before own me call reply in (
-      elim (option_cases (due n before own me call)) [
+    let F : Option Halt → Type 0 = λ x. IsAllowedBy x (IsStuck next n before) n before me own call reply in (
+      elim (option_cases (due n before me own call)) [
         | inl some ↦ (
             let stopped : reply ≡ Stopped some.0 = subst F some.1 is in
             let no : false ≡ true = rw stopped at start in absurd (cc))
@@ -208,7 +208,7 @@ AllBelow-more n before event all below =
           ]);
     }
 
-enters_from : (n : ℕ) (view : View) (me comm : ℕ) (call : Call) → IsInForm n view me call → is_on comm call ≡ true
+enters_from : (n : ℕ) (view : View) (me comm : ℕ) (call : Call) → IsInForm n me view call → is_on comm call ≡ true
     → Enters n view me comm call
 enters_from n view me comm (Enter c kind root op count ints) form on =
     let F : ℕ → Type 0 = λ x. known_in n view x ≡ Some form.0 in
@@ -223,7 +223,7 @@ enters_from n view me comm End form on = absurd (cc)
 
 -- an event of a run, whose Enter is in form, does to instances what it may
 pub KeepsInstances-event : (next : Next) (n : ℕ) (before : List Event) (event : Event) → AllBelow n before
-    → IsInForm n (view_of before event.rank) event.rank event.call → IsEvent next n before event → KeepsInstances n before event
+    → IsInForm n event.rank (view_of before event.rank) event.call → IsEvent next n before event → KeepsInstances n before event
 KeepsInstances-event next n before event all form step =
     let own : View = view_of before event.rank in
     record {
@@ -242,7 +242,7 @@ KeepsInstances-event next n before event all form step =
           let real = not_world n comm own none in
           let after : known_after comm (known_in n own comm) ((event.call, event.reply) ∷ []) ≡ Some members = sym (known_after-append comm (known_first n comm) own ((event.call, event.reply) ∷ [])) ∙ (rw (view_of-mine before event event.rank refl) at known) in
           let learned_now : learned comm None event.reply ≡ Some members = rw none at after in
-          let true_reply = allowed_true (due n before own event.rank event.call) (IsStuck next n before) n before own event.rank event.call event.reply step.reply in
+          let true_reply = allowed_true (due n before event.rank own event.call) (IsStuck next n before) n before own event.rank event.call event.reply step.reply in
           let from = learned_from n before event.rank comm event.call event.reply members real true_reply learned_now in
           record { from = from.0; number = rw (view_of-mine before event event.rank refl, numbers_of-append own ((event.call, event.reply) ∷ []), append-nil) (IsIn-back (comm, from.0.k) (numbers_of own) (numbers_in_reply event.call event.reply) from.1) });
       numbered = step.numbered;

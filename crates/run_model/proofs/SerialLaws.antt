@@ -19,7 +19,7 @@ use Rattle.run_model.proofs.Views.{test_cases}
 attempt_grows : (next : Next) (n : ℕ) (stage : Stage) (rank : ℕ) (asked : Option Call) → IsPrefixOf stage.events (attempt_with next n stage rank asked).events
 attempt_grows next n stage rank None = prefix_refl stage.events
 attempt_grows next n stage rank (Some call) =
-    elim (test_cases (can_go n stage.events (view_of stage.events rank) rank call)) [
+    elim (test_cases (can_go n stage.events rank (view_of stage.events rank) call)) [
       | inl t ↦ rw t (prefix_append stage.events (chosen_event n stage.events rank call ∷ []))
       | inr t ↦ elim (test_cases (is_stuck next n stage.events && others_wait next n stage rank)) [
         | inl u ↦ rw (t, u) (prefix_append stage.events (chosen_event n stage.events rank call ∷ []))
@@ -81,7 +81,7 @@ serial_ends next n lawful turns events s run rank below =
     (lawful.ends n rank (view_of events rank) (run.some, run.few, below) (kept.came rank below)).0 (s.ended rank below)
 
 -- an attempt of a call that can go
-went : (next : Next) (n : ℕ) (stage : Stage) (rank : ℕ) (call : Call) → can_go n stage.events (view_of stage.events rank) rank call ≡ true
+went : (next : Next) (n : ℕ) (stage : Stage) (rank : ℕ) (call : Call) → can_go n stage.events rank (view_of stage.events rank) call ≡ true
     → attempt_with next n stage rank (Some call) ≡ appended n stage rank call
 went next n stage rank call goes = rw goes
 
@@ -92,8 +92,8 @@ follow : (next : Next) (n : ℕ) (before run : List Event) (waiting : List ℕ) 
 follow next n before [] waiting events chosen free = sym (append-nil before)
 follow next n before (event ∷ run) waiting events chosen free =
     let parts = or_parts (is_stuck_reply event.reply) (has_stuck run) free in
-    let goes : can_go n before (view_of before event.rank) event.rank event.call ≡ true =
-    elim (test_cases (can_go n before (view_of before event.rank) event.rank event.call)) [
+    let goes : can_go n before event.rank (view_of before event.rank) event.call ≡ true =
+    elim (test_cases (can_go n before event.rank (view_of before event.rank) event.call)) [
       | inl t ↦ t
       | inr t ↦ (
           let stuck = cannot_go next n before event.rank event.call event.reply t events.0.reply in

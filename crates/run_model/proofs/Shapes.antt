@@ -68,7 +68,7 @@ receives before me k comm source tag room got matched at is short =
     record { is = is; accepted = accepted; source_is = agrees.source_is; tag_is = agrees.tag_is; within = room_fits room is.ints long }
 
 message_shaped : (n : ℕ) (own : View) (before : List Event) (me k comm : ℕ) (source : Source) (tag : Tag) (room : ℕ) (got : Got)
-    → Receives before me k comm source tag room got → got_fits n own me (Some (Post comm source tag room)) got ≡ true
+    → Receives before me k comm source tag room got → got_fits n me own (Some (Post comm source tag room)) got ≡ true
 message_shaped n own before me k comm Null tag room got of = absurd (let no : false ≡ true = of.source_is in cc)
 message_shaped n own before me k comm Any tag room got of = rw (of.is.got_is, of.tag_is, of.within)
 message_shaped n own before me k comm (From other) tag room got of = rw (of.is.got_is, of.source_is, of.tag_is, of.within)
@@ -99,16 +99,16 @@ new_shaped : (n me c : ℕ) (own : View) (comm : ℕ) (kind : Kind) (root : Opti
     → makes (Enter comm kind root op count ints) ≡ true → is_uncoloured (Enter comm kind root op count ints) ≡ false
     → (c == 0) ≡ false → AreMembers n me made
     → (not (is_dup (Enter comm kind root op count ints)) || same_ranks (members_in n own comm) made) ≡ true
-    → got_fits n own me (Some (Enter comm kind root op count ints)) (Made c made) ≡ true
+    → got_fits n me own (Some (Enter comm kind root op count ints)) (Made c made) ≡ true
 new_shaped n me c own comm kind root op count ints [] makes_is coloured real are dup = absurd (let no : false ≡ true = are.has_me in cc)
 new_shaped n me c own comm kind root op count ints (m ∷ made) makes_is coloured real are dup = rw (makes_is, coloured, real, are.below, are.distinct, are.has_me, dup)
 
 collected_shaped : (n : ℕ) (before : List Event) (me k comm : ℕ) (kind : Kind) (root : Option ℕ) (op : Option Op) (count : ℕ) (ints : List ℤ) (got : Got) (m u : Bool) (inputs : List (List ℤ))
     → Collects n before me → start_at (view_of before me) k ≡ Some (Enter comm kind root op count ints)
-    → inputs_of n (view_of before) (view_of before me) me k (Enter comm kind root op count ints) ≡ Ok inputs
+    → inputs_of n (view_of before) me (view_of before me) k (Enter comm kind root op count ints) ≡ Ok inputs
     → makes (Enter comm kind root op count ints) ≡ m → is_uncoloured (Enter comm kind root op count ints) ≡ u
-    → IsFrom m u n (view_of before me) me (Enter comm kind root op count ints) inputs got
-    → got_fits n (view_of before me) me (Some (Enter comm kind root op count ints)) got ≡ true
+    → IsFrom m u n me (view_of before me) (Enter comm kind root op count ints) inputs got
+    → got_fits n me (view_of before me) (Some (Enter comm kind root op count ints)) got ≡ true
 collected_shaped n before me k comm kind root op count ints got true true inputs of at gathered makes_is un given = rw (given, makes_is, un)
 collected_shaped n before me k comm kind root op count ints got true false inputs of at gathered makes_is un given =
     let enter : Call = Enter comm kind root op count ints in
@@ -136,8 +136,8 @@ collected_shaped n before me k comm kind root op count ints got false u inputs o
     rw (given, makes_is, sized)
 
 got_shaped : (n : ℕ) (before : List Event) (me k : ℕ) (start : Option Call) (got : Got) → IsMatched before → Collects n before me
-    → start_at (view_of before me) k ≡ start → IsGot n before (view_of before me) me k start got → is_long start got ≡ false
-    → got_fits n (view_of before me) me start got ≡ true
+    → start_at (view_of before me) k ≡ start → IsGot n before me (view_of before me) k start got → is_long start got ≡ false
+    → got_fits n me (view_of before me) start got ≡ true
 got_shaped n before me k None got matched of at is short = absurd is
 got_shaped n before me k (Some (Send comm dest tag ints sync)) got matched of at is short = rw is
 got_shaped n before me k (Some (Post comm Null tag room)) got matched of at is short = rw is
@@ -152,8 +152,8 @@ got_shaped n before me k (Some (Trap fault)) got matched of at is short = absurd
 got_shaped n before me k (Some End) got matched of at is short = absurd is
 
 gots_shaped : (n : ℕ) (before : List Event) (me : ℕ) (starts : List ℕ) (items : List Item) → IsMatched before
-    → Collects n before me → AreGots n before (view_of before me) me starts items
-    → first_long (view_of before me) starts items ≡ None → gots_fit n (view_of before me) me starts items ≡ true
+    → Collects n before me → AreGots n before me (view_of before me) starts items
+    → first_long (view_of before me) starts items ≡ None → gots_fit n me (view_of before me) starts items ≡ true
 gots_shaped n before me starts [] matched of are short = refl
 gots_shaped n before me starts (item ∷ items) matched of are short =
     let own : View = view_of before me in
@@ -193,7 +193,7 @@ taken_shaped : (n : ℕ) (before : List Event) (me : ℕ) (starts : List ℕ) (m
     → IsMatched before → Collects n before me → bad_request (view_of before me) [] starts ≡ None
     → first_long (view_of before me) starts items ≡ long → reply ≡ taken_reply me long items
     → ChosenFits mode (length starts) (map (λ (item : Item). item.index) items)
-    → AreGots n before (view_of before me) me starts items → has_shape n me (view_of before me) (Take starts mode) reply ≡ true
+    → AreGots n before me (view_of before me) starts items → has_shape n me (view_of before me) (Take starts mode) reply ≡ true
 taken_shaped n before me starts mode None items reply matched of good short is chosen gots =
     let own : View = view_of before me in
     let count : has_count mode (length starts) (length items) ≡ true = simp length-map at chosen.count in
@@ -203,12 +203,12 @@ taken_shaped n before me starts mode (Some k) items reply matched of good long i
 
 take_shaped : (n : ℕ) (before : List Event) (me : ℕ) (starts : List ℕ) (mode : TakeMode) (condition : Bool) (stuck : Type 0) (reply : Reply)
     → IsMatched before → Collects n before me → bad_request (view_of before me) [] starts ≡ None
-    → holds mode (flags_of n before (view_of before me) me starts) ≡ condition
-    → IsTakeAnswer condition stuck n before (view_of before me) me starts mode reply
+    → holds mode (flags_of n before me (view_of before me) starts) ≡ condition
+    → IsTakeAnswer condition stuck n before me (view_of before me) starts mode reply
     → has_shape n me (view_of before me) (Take starts mode) reply ≡ true
 take_shaped n before me starts mode true stuck reply matched of good h is =
     let own : View = view_of before me in
-    let chosen = chosen_fit mode (flags_of n before own me starts) (map (λ (item : Item). item.index) is.items) is.chosen h in
+    let chosen = chosen_fit mode (flags_of n before me own starts) (map (λ (item : Item). item.index) is.items) is.chosen h in
     let by_length : ChosenFits mode (length starts) (map (λ (item : Item). item.index) is.items) = simp length-map at chosen in
     taken_shaped n before me starts mode (first_long own starts is.items) is.items reply matched of good refl is.reply_is by_length is.gots
 take_shaped n before me starts mode false stuck reply matched of good h is =
@@ -223,50 +223,50 @@ peek_shaped n before own me comm source tag wait false stuck reply is = held_pee
 
 -- a call that no earlier halt and no bound stops
 answer_shaped : (n : ℕ) (before : List Event) (me : ℕ) (call : Call) (halt : Option Halt) (stuck : Type 0) (reply : Reply)
-    → IsMatched before → Collects n before me → halt_at n before (view_of before me) me call ≡ halt
-    → IsAllowedBy halt stuck n before (view_of before me) me call reply → has_shape n me (view_of before me) call reply ≡ true
+    → IsMatched before → Collects n before me → halt_at n before me (view_of before me) call ≡ halt
+    → IsAllowedBy halt stuck n before me (view_of before me) call reply → has_shape n me (view_of before me) call reply ≡ true
 answer_shaped n before me (Send comm dest tag ints sync) halt stuck reply matched of h is =
-    let F : Option Halt → Type 0 = λ x. IsAllowedBy x stuck n before (view_of before me) me (Send comm dest tag ints sync) reply in
+    let F : Option Halt → Type 0 = λ x. IsAllowedBy x stuck n before me (view_of before me) (Send comm dest tag ints sync) reply in
     let none : None ≡ halt = h in
     let done : reply ≡ Done = subst F (sym none) is in
     rw done
 answer_shaped n before me (Post comm source tag room) halt stuck reply matched of h is =
-    let F : Option Halt → Type 0 = λ x. IsAllowedBy x stuck n before (view_of before me) me (Post comm source tag room) reply in
+    let F : Option Halt → Type 0 = λ x. IsAllowedBy x stuck n before me (view_of before me) (Post comm source tag room) reply in
     let none : None ≡ halt = h in
     let done : reply ≡ Done = subst F (sym none) is in
     rw done
 answer_shaped n before me End halt stuck reply matched of h is =
-    let F : Option Halt → Type 0 = λ x. IsAllowedBy x stuck n before (view_of before me) me End reply in
+    let F : Option Halt → Type 0 = λ x. IsAllowedBy x stuck n before me (view_of before me) End reply in
     let none : None ≡ halt = h in
     let done : reply ≡ Done = subst F (sym none) is in
     rw done
 answer_shaped n before me (Abort code) halt stuck reply matched of h is =
-    let F : Option Halt → Type 0 = λ x. IsAllowedBy x stuck n before (view_of before me) me (Abort code) reply in
+    let F : Option Halt → Type 0 = λ x. IsAllowedBy x stuck n before me (view_of before me) (Abort code) reply in
     stopped_shaped n me (view_of before me) (Abort code) (Aborted me code) reply (subst F (sym h) is) (or_right _ _ (int_eq-itself code))
 answer_shaped n before me (Trap fault) halt stuck reply matched of h is =
-    let F : Option Halt → Type 0 = λ x. IsAllowedBy x stuck n before (view_of before me) me (Trap fault) reply in
+    let F : Option Halt → Type 0 = λ x. IsAllowedBy x stuck n before me (view_of before me) (Trap fault) reply in
     stopped_shaped n me (view_of before me) (Trap fault) (Trapped me fault) reply (subst F (sym h) is) (or_right _ _ (eq-eqb (fault_number fault) (fault_number fault) refl))
 answer_shaped n before me (Peek comm source tag wait) halt stuck reply matched of h is =
-    let F : Option Halt → Type 0 = λ x. IsAllowedBy x stuck n before (view_of before me) me (Peek comm source tag wait) reply in
+    let F : Option Halt → Type 0 = λ x. IsAllowedBy x stuck n before me (view_of before me) (Peek comm source tag wait) reply in
     let none : None ≡ halt = h in
     peek_shaped n before (view_of before me) me comm source tag wait (has_open n before me comm source tag) stuck reply (subst F (sym none) is)
 answer_shaped n before me (Enter comm kind root op count ints) halt stuck reply matched of h is =
     let own : View = view_of before me in
-    let F : Option Halt → Type 0 = λ x. IsAllowedBy x stuck n before own me (Enter comm kind root op count ints) reply in
+    let F : Option Halt → Type 0 = λ x. IsAllowedBy x stuck n before me own (Enter comm kind root op count ints) reply in
     elim (test_cases (is_mismatched n before own (Enter comm kind root op count ints))) [
       | inl t ↦ (let some : Some (Mismatched me) ≡ halt = rw t at h in stopped_shaped n me own (Enter comm kind root op count ints) (Mismatched me) reply (subst F (sym some) is) (or_right _ _ refl))
       | inr t ↦ (let none : None ≡ halt = rw t at h in let done : reply ≡ Done = subst F (sym none) is in rw done)
     ]
 answer_shaped n before me (Take starts mode) halt stuck reply matched of h is =
     let own : View = view_of before me in
-    let F : Option Halt → Type 0 = λ x. IsAllowedBy x stuck n before own me (Take starts mode) reply in
+    let F : Option Halt → Type 0 = λ x. IsAllowedBy x stuck n before me own (Take starts mode) reply in
     elim (option_cases (bad_request own [] starts)) [
       | inl bad ↦ (
           let some : Some (BadRequest me bad.0) ≡ halt = rw bad.1 at h in
           stopped_shaped n me own (Take starts mode) (BadRequest me bad.0) reply (subst F (sym some) is) (or_right _ _ (bad_listed own [] starts bad.0 bad.1)))
       | inr good ↦ (
           let none : None ≡ halt = rw good at h in
-          take_shaped n before me starts mode (holds mode (flags_of n before own me starts)) stuck reply matched of good refl (subst F (sym none) is))
+          take_shaped n before me starts mode (holds mode (flags_of n before me own starts)) stuck reply matched of good refl (subst F (sym none) is))
     ]
 
 -- the halt so far does not name the rank
@@ -278,17 +278,17 @@ pub allowed_shaped : (next : Next) (n : ℕ) (before : List Event) (me : ℕ) (c
     → has_shape n me (view_of before me) call reply ≡ true
 allowed_shaped next n before me call reply matched of unnamed is =
     let own : View = view_of before me in
-    let F : Option Halt → Type 0 = λ x. IsAllowedBy x (IsStuck next n before) n before own me call reply in
+    let F : Option Halt → Type 0 = λ x. IsAllowedBy x (IsStuck next n before) n before me own call reply in
     elim (option_cases (halted before)) [
       | inl some ↦ (
-          let e : due n before own me call ≡ Some some.0 = rw some.1 in
+          let e : due n before me own call ≡ Some some.0 = rw some.1 in
           stopped_shaped n me own call some.0 reply (subst F e is) (unnamed_fits me call some.0 (unnamed.unnamed some.0 some.1)))
       | inr none ↦ elim (test_cases (is_full before)) [
         | inl t ↦ (
-            let e : due n before own me call ≡ Some Limit = rw (none, t) in
+            let e : due n before me own call ≡ Some Limit = rw (none, t) in
             stopped_shaped n me own call Limit reply (subst F e is) refl)
         | inr t ↦ (
-            let e : due n before own me call ≡ halt_at n before own me call = rw (none, t) in
-            answer_shaped n before me call (halt_at n before own me call) (IsStuck next n before) reply matched of refl (subst F e is))
+            let e : due n before me own call ≡ halt_at n before me own call = rw (none, t) in
+            answer_shaped n before me call (halt_at n before me own call) (IsStuck next n before) reply matched of refl (subst F e is))
       ]
     ]

@@ -25,8 +25,8 @@ use Rattle.run_model.specs.Readiness.{is_ready, AreGots}
 use Rattle.run_model.specs.Due.{due}
 
 -- for each listed start, whether it is ready
-abbrev pub flags_of : ℕ → List Event → View → ℕ → List ℕ → List Bool
-flags_of n before own me starts = map (λ k. is_ready n before own me k (start_at own k)) starts
+abbrev pub flags_of : ℕ → List Event → ℕ → View → List ℕ → List Bool
+flags_of n before me own starts = map (λ k. is_ready n before me own k (start_at own k)) starts
 
 -- the modes that complete all listed starts
 abbrev pub takes_all : TakeMode → Bool
@@ -71,10 +71,10 @@ taken_reply me None items = Took items
 taken_reply me (Some k) items = Stopped (Truncated me k)
 
 -- the reply to a completion whose condition holds
-pub record IsTaken (n : ℕ) (before : List Event) (own : View) (me : ℕ) (starts : List ℕ) (mode : TakeMode) (reply : Reply) : Type 0 where
+pub record IsTaken (n : ℕ) (before : List Event) (me : ℕ) (own : View) (starts : List ℕ) (mode : TakeMode) (reply : Reply) : Type 0 where
   pub items : List Item
-  pub chosen : AreChosen mode (flags_of n before own me starts) (map (λ (item : Item). item.index) items)
-  pub gots : AreGots n before own me starts items
+  pub chosen : AreChosen mode (flags_of n before me own starts) (map (λ (item : Item). item.index) items)
+  pub gots : AreGots n before me own starts items
   pub reply_is : reply ≡ taken_reply me (first_long own starts items) items
 
 -- a probe finds an unpaired Send that it accepts, with no earlier unpaired one of that sender that it accepts
@@ -104,20 +104,20 @@ has_open n before me comm source tag =
     list_any (λ sender. open_in (pairs_of before) me comm source tag sender 0 (starts_of (view_of before sender))) (world n 0)
 
 -- where no halt is due, the call is answered at once, other than by Stuck
-abbrev pub is_prompt : ℕ → List Event → View → ℕ → Call → Bool
-is_prompt n before own me (Take starts mode) = is_test mode || holds mode (flags_of n before own me starts)
-is_prompt n before own me (Peek comm source tag wait) = not wait || has_open n before me comm source tag
-is_prompt n before own me call = true
+abbrev pub is_prompt : ℕ → List Event → ℕ → View → Call → Bool
+is_prompt n before me own (Take starts mode) = is_test mode || holds mode (flags_of n before me own starts)
+is_prompt n before me own (Peek comm source tag wait) = not wait || has_open n before me comm source tag
+is_prompt n before me own call = true
 
 -- a halt is due to the call, or it is answered at once
-abbrev pub can_go : ℕ → List Event → View → ℕ → Call → Bool
-can_go n before own me call = is_some (due n before own me call) || is_prompt n before own me call
+abbrev pub can_go : ℕ → List Event → ℕ → View → Call → Bool
+can_go n before me own call = is_some (due n before me own call) || is_prompt n before me own call
 
 -- no live rank's next call can go
 abbrev pub IsStuck : Next → ℕ → List Event → Type 0
 IsStuck next n before =
     (rank : ℕ) (call : Call) → rank < n → next n rank (replies_in (view_of before rank)) ≡ Some call
-    → can_go n before (view_of before rank) rank call ≡ false
+    → can_go n before rank (view_of before rank) call ≡ false
 
 -- the reply where the condition fails: NotYet to a test; Stuck, where nothing can go, to a call that waits
 abbrev pub IsHeld : Bool → Type 0 → Reply → Type 0
@@ -125,9 +125,9 @@ IsHeld true stuck reply = reply ≡ NotYet
 IsHeld false stuck reply = stuck × (reply ≡ Stopped Stuck)
 
 -- the reply to a completion, by whether its condition holds
-abbrev pub IsTakeAnswer : Bool → Type 0 → ℕ → List Event → View → ℕ → List ℕ → TakeMode → Reply → Type 0
-IsTakeAnswer true stuck n before own me starts mode reply = IsTaken n before own me starts mode reply
-IsTakeAnswer false stuck n before own me starts mode reply = IsHeld (is_test mode) stuck reply
+abbrev pub IsTakeAnswer : Bool → Type 0 → ℕ → List Event → ℕ → View → List ℕ → TakeMode → Reply → Type 0
+IsTakeAnswer true stuck n before me own starts mode reply = IsTaken n before me own starts mode reply
+IsTakeAnswer false stuck n before me own starts mode reply = IsHeld (is_test mode) stuck reply
 
 -- the reply to a probe, by whether there is a message for it
 abbrev pub IsPeekAnswer : Bool → Type 0 → List Event → ℕ → ℕ → Source → Tag → Bool → Reply → Type 0
@@ -135,19 +135,19 @@ IsPeekAnswer true stuck before me comm source tag wait reply = IsPeeked before m
 IsPeekAnswer false stuck before me comm source tag wait reply = IsHeld (not wait) stuck reply
 
 -- the replies where no halt is due
-abbrev pub IsAnswer : Type 0 → ℕ → List Event → View → ℕ → Call → Reply → Type 0
-IsAnswer stuck n before own me (Take starts mode) reply =
-    IsTakeAnswer (holds mode (flags_of n before own me starts)) stuck n before own me starts mode reply
-IsAnswer stuck n before own me (Peek comm source tag wait) reply =
+abbrev pub IsAnswer : Type 0 → ℕ → List Event → ℕ → View → Call → Reply → Type 0
+IsAnswer stuck n before me own (Take starts mode) reply =
+    IsTakeAnswer (holds mode (flags_of n before me own starts)) stuck n before me own starts mode reply
+IsAnswer stuck n before me own (Peek comm source tag wait) reply =
     IsPeekAnswer (has_open n before me comm source tag) stuck before me comm source tag wait reply
-IsAnswer stuck n before own me call reply = reply ≡ Done
+IsAnswer stuck n before me own call reply = reply ≡ Done
 
 -- a halt that is due is the reply; else the call is answered
-abbrev pub IsAllowedBy : Option Halt → Type 0 → ℕ → List Event → View → ℕ → Call → Reply → Type 0
-IsAllowedBy (Some halt) stuck n before own me call reply = reply ≡ Stopped halt
-IsAllowedBy None stuck n before own me call reply = IsAnswer stuck n before own me call reply
+abbrev pub IsAllowedBy : Option Halt → Type 0 → ℕ → List Event → ℕ → View → Call → Reply → Type 0
+IsAllowedBy (Some halt) stuck n before me own call reply = reply ≡ Stopped halt
+IsAllowedBy None stuck n before me own call reply = IsAnswer stuck n before me own call reply
 
 -- the allowed replies to the call of rank `me`
 abbrev pub IsAllowed : Next → ℕ → List Event → ℕ → Call → Reply → Type 0
 IsAllowed next n before me call reply =
-    IsAllowedBy (due n before (view_of before me) me call) (IsStuck next n before) n before (view_of before me) me call reply
+    IsAllowedBy (due n before me (view_of before me) call) (IsStuck next n before) n before me (view_of before me) call reply

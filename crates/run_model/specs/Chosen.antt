@@ -37,37 +37,37 @@ message_of before None = Nothing
 message_of before (Some send) = message_in send (named before send)
 
 -- by whether the collective makes a communicator, and whether its colour is undefined
-abbrev pub collected_by : Bool → Bool → ℕ → List Event → View → ℕ → ℕ → Call → List (List ℤ) → Got
-collected_by true true n before own me k enter inputs = Made 0 []
-collected_by true false n before own me k enter inputs =
+abbrev pub collected_by : Bool → Bool → ℕ → List Event → ℕ → View → ℕ → Call → List (List ℤ) → Got
+collected_by true true n before me own k enter inputs = Made 0 []
+collected_by true false n before me own k enter inputs =
     Made (number_among (communicators_of n before) (origin_of own k enter)) (members_made enter (members_in n own (comm_of enter)) inputs me)
-collected_by false uncoloured n before own me k enter inputs =
+collected_by false uncoloured n before me own k enter inputs =
     Joined (result_of enter (members_in n own (comm_of enter)) inputs me)
 
 -- what a collective gives, once those that it needs have entered
-abbrev pub collected : ℕ → List Event → View → ℕ → ℕ → Call → Result (List (List ℤ)) ℕ → Got
-collected n before own me k enter (Err missing) = Nothing
-collected n before own me k enter (Ok inputs) = collected_by (makes enter) (is_uncoloured enter) n before own me k enter inputs
+abbrev pub collected : ℕ → List Event → ℕ → View → ℕ → Call → Result (List (List ℤ)) ℕ → Got
+collected n before me own k enter (Err missing) = Nothing
+collected n before me own k enter (Ok inputs) = collected_by (makes enter) (is_uncoloured enter) n before me own k enter inputs
 
 -- what the ready start k of rank `me` gives
-abbrev pub got_of : ℕ → List Event → View → ℕ → ℕ → Option Call → Got
-got_of n before own me k (Some (Send comm dest tag ints sync)) = Sent
-got_of n before own me k (Some (Post comm Null tag room)) = Nothing
-got_of n before own me k (Some (Post comm source tag room)) = message_of before (partner_of (pairs_of before) (me, k))
-got_of n before own me k (Some (Enter comm kind root op count ints)) =
-    collected n before own me k (Enter comm kind root op count ints) (inputs_of n (view_of before) own me k (Enter comm kind root op count ints))
-got_of n before own me k other = Nothing
+abbrev pub got_of : ℕ → List Event → ℕ → View → ℕ → Option Call → Got
+got_of n before me own k (Some (Send comm dest tag ints sync)) = Sent
+got_of n before me own k (Some (Post comm Null tag room)) = Nothing
+got_of n before me own k (Some (Post comm source tag room)) = message_of before (partner_of (pairs_of before) (me, k))
+got_of n before me own k (Some (Enter comm kind root op count ints)) =
+    collected n before me own k (Enter comm kind root op count ints) (inputs_of n (view_of before) me own k (Enter comm kind root op count ints))
+got_of n before me own k other = Nothing
 
 -- the items of these listed starts, by their places
-abbrev pub items_at : ℕ → List Event → View → ℕ → List ℕ → List ℕ → List Item
-items_at n before own me starts [] = []
-items_at n before own me starts (index ∷ indices) =
-    (record { index = index; got = got_of n before own me (slice_index starts index) (start_at own (slice_index starts index)) })
-    ∷ items_at n before own me starts indices
+abbrev pub items_at : ℕ → List Event → ℕ → View → List ℕ → List ℕ → List Item
+items_at n before me own starts [] = []
+items_at n before me own starts (index ∷ indices) =
+    (record { index = index; got = got_of n before me own (slice_index starts index) (start_at own (slice_index starts index)) })
+    ∷ items_at n before me own starts indices
 
 -- the items of the starts that a mode chooses
-abbrev pub items_of : ℕ → List Event → View → ℕ → List ℕ → TakeMode → List Item
-items_of n before own me starts mode = items_at n before own me starts (chosen_places mode (flags_of n before own me starts))
+abbrev pub items_of : ℕ → List Event → ℕ → View → List ℕ → TakeMode → List Item
+items_of n before me own starts mode = items_at n before me own starts (chosen_places mode (flags_of n before me own starts))
 
 -- a test or probe that finds nothing is answered NotYet, a call that waits is answered Stuck
 abbrev pub held_reply : Bool → Reply
@@ -90,13 +90,13 @@ peek_reply before wait (Some at) = peeked_at before (name_at before at)
 peek_reply before wait None = held_reply (not wait)
 
 -- the reply where no halt is due
-abbrev pub chosen_answer : ℕ → List Event → View → ℕ → Call → Reply
-chosen_answer n before own me (Take starts mode) =
-    if holds mode (flags_of n before own me starts)
-    then taken_reply me (first_long own starts (items_of n before own me starts mode)) (items_of n before own me starts mode)
+abbrev pub chosen_answer : ℕ → List Event → ℕ → View → Call → Reply
+chosen_answer n before me own (Take starts mode) =
+    if holds mode (flags_of n before me own starts)
+    then taken_reply me (first_long own starts (items_of n before me own starts mode)) (items_of n before me own starts mode)
     else held_reply (is_test mode)
-chosen_answer n before own me (Peek comm source tag wait) = peek_reply before wait (choice before me (Peek comm source tag wait))
-chosen_answer n before own me call = Done
+chosen_answer n before me own (Peek comm source tag wait) = peek_reply before wait (choice before me (Peek comm source tag wait))
+chosen_answer n before me own call = Done
 
 -- a halt that is due, or else this reply
 abbrev pub halt_or : Option Halt → Reply → Reply
@@ -105,7 +105,7 @@ halt_or None reply = reply
 
 -- the machine's reply to the call of rank `me`; where the call cannot go it is Stuck
 abbrev pub chosen_reply : ℕ → List Event → ℕ → Call → Reply
-chosen_reply n before me call = halt_or (due n before (view_of before me) me call) (chosen_answer n before (view_of before me) me call)
+chosen_reply n before me call = halt_or (due n before me (view_of before me) call) (chosen_answer n before me (view_of before me) call)
 
 -- the event that the machine appends for a rank's call
 abbrev pub chosen_event : ℕ → List Event → ℕ → Call → Event

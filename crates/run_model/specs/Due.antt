@@ -90,15 +90,15 @@ bad_halt me None = None
 bad_halt me (Some k) = Some (BadRequest me k)
 
 -- the halt that a call brings by itself
-abbrev pub halt_at : ℕ → List Event → View → ℕ → Call → Option Halt
-halt_at n before own me (Abort code) = Some (Aborted me code)
-halt_at n before own me (Trap fault) = Some (Trapped me fault)
-halt_at n before own me (Enter comm kind root op count ints) =
+abbrev pub halt_at : ℕ → List Event → ℕ → View → Call → Option Halt
+halt_at n before me own (Abort code) = Some (Aborted me code)
+halt_at n before me own (Trap fault) = Some (Trapped me fault)
+halt_at n before me own (Enter comm kind root op count ints) =
     if is_mismatched n before own (Enter comm kind root op count ints) then Some (Mismatched me) else None
-halt_at n before own me (Take starts mode) = bad_halt me (bad_request own [] starts)
-halt_at n before own me call = None
+halt_at n before me own (Take starts mode) = bad_halt me (bad_request own [] starts)
+halt_at n before me own call = None
 
 -- after a Stopped reply the same halt; else Limit, and else the call's own
-abbrev pub due : ℕ → List Event → View → ℕ → Call → Option Halt
-due n before own me call =
-    or_else (halted before) (if is_full before then Some Limit else halt_at n before own me call)
+abbrev pub due : ℕ → List Event → ℕ → View → Call → Option Halt
+due n before me own call =
+    or_else (halted before) (if is_full before then Some Limit else halt_at n before me own call)

@@ -28,7 +28,7 @@ pub record IsEnteredBy (n me : ℕ) (own : View) (comm : ℕ) (entered : Entered
 
 -- a rank's view is in order
 pub record IsInOrder (n me : ℕ) (own : View) : Type 0 where
-  pub starts : (k : ℕ) (call : Call) → start_at own k ≡ Some call → IsInForm n own me call
+  pub starts : (k : ℕ) (call : Call) → start_at own k ≡ Some call → IsInForm n me own call
   pub known : (comm : ℕ) (members : List ℕ) → known_in n own comm ≡ Some members → AreMembers n me members
   pub entered : (comm instance : ℕ) (one : Entered) → enter_at n own comm instance ≡ Some one → IsEnteredBy n me own comm one
 

@@ -24,8 +24,8 @@ gather needed find (m ∷ members) =
     if needed m then with_ints m (find m) (gather needed find members) else push_ints [] (gather needed find members)
 
 -- the inputs for the Enter that is start k of rank `me`
-abbrev pub inputs_of : ℕ → (ℕ → View) → View → ℕ → ℕ → Call → Result (List (List ℤ)) ℕ
-inputs_of n V own me k enter =
+abbrev pub inputs_of : ℕ → (ℕ → View) → ℕ → View → ℕ → Call → Result (List (List ℤ)) ℕ
+inputs_of n V me own k enter =
     gather (needs enter (members_in n own (comm_of enter)) me)
     (λ m. enter_at n (V m) (comm_of enter) (instance_of own k (comm_of enter)))
     (members_in n own (comm_of enter))

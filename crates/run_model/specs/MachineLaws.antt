@@ -51,6 +51,6 @@ abbrev pub GoesOn : Next → ℕ → Type 0
 GoesOn next n =
     (before : List Event) (rank : ℕ) (call : Call) → IsChosen next n before → rank < n
     → next n rank (replies_in (view_of before rank)) ≡ Some call
-    → (can_go n before (view_of before rank) rank call ≡ true) ⊎ IsStuck next n before
+    → (can_go n before rank (view_of before rank) call ≡ true) ⊎ IsStuck next n before
     → IsMatched (before ++ chosen_event n before rank call ∷ [])
     → IsChosen next n (before ++ chosen_event n before rank call ∷ [])

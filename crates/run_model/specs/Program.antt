@@ -78,18 +78,18 @@ AsksInBounds next =
     → next n rank (replies_in view) ≡ Some call → IsInBounds n (length view) call
 
 -- an Enter's communicator is known to the rank, the Enter is as the tables state for it, and its result is not too long
-abbrev pub IsInForm : ℕ → View → ℕ → Call → Type 0
-IsInForm n own me (Enter comm kind root op count ints) =
+abbrev pub IsInForm : ℕ → ℕ → View → Call → Type 0
+IsInForm n me own (Enter comm kind root op count ints) =
     (members : List ℕ) × (known_in n own comm ≡ Some members)
     × IsEnterOf (Enter comm kind root op count ints) members me
     × (result_length (Enter comm kind root op count ints) members me ≤ MOST_RESULT_INTS)
-IsInForm n own me call = Unit {0}
+IsInForm n me own call = Unit {0}
 
 -- fourth law: each Enter is in form
 abbrev pub EntersInForm : Next → Type 0
 EntersInForm next =
     (n rank : ℕ) (view : View) (call : Call) → IsRankOf n rank → IsViewOf next n rank view
-    → next n rank (replies_in view) ≡ Some call → IsInForm n view rank call
+    → next n rank (replies_in view) ≡ Some call → IsInForm n rank view call
 
 -- what is wanted is this call, or that there is none
 abbrev pub Says : Want → Option Call → Type 0

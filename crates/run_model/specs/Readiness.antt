@@ -19,14 +19,14 @@ use Rattle.run_model.specs.Pairs.{Name, named, pairs_of, partner_of}
 -- a receive has matched it, that is, when it is paired. A receive from the null process is ready at once, another receive when it
 -- is paired, a collective when each member that its result needs has entered.
 -- (MPI 3.1, "Communication Modes": a synchronous send completes only when a matching receive has started to receive.)
-abbrev pub is_ready : ℕ → List Event → View → ℕ → ℕ → Option Call → Bool
-is_ready n before own me k None = false
-is_ready n before own me k (Some (Send comm dest tag ints sync)) = not sync || is_some (partner_of (pairs_of before) (me, k))
-is_ready n before own me k (Some (Post comm Null tag room)) = true
-is_ready n before own me k (Some (Post comm source tag room)) = is_some (partner_of (pairs_of before) (me, k))
-is_ready n before own me k (Some (Enter comm kind root op count ints)) =
-    is_gathered (inputs_of n (view_of before) own me k (Enter comm kind root op count ints))
-is_ready n before own me k (Some call) = false
+abbrev pub is_ready : ℕ → List Event → ℕ → View → ℕ → Option Call → Bool
+is_ready n before me own k None = false
+is_ready n before me own k (Some (Send comm dest tag ints sync)) = not sync || is_some (partner_of (pairs_of before) (me, k))
+is_ready n before me own k (Some (Post comm Null tag room)) = true
+is_ready n before me own k (Some (Post comm source tag room)) = is_some (partner_of (pairs_of before) (me, k))
+is_ready n before me own k (Some (Enter comm kind root op count ints)) =
+    is_gathered (inputs_of n (view_of before) me own k (Enter comm kind root op count ints))
+is_ready n before me own k (Some call) = false
 
 -- the paired Send's message
 pub record IsMessage (before : List Event) (me k : ℕ) (got : Got) : Type 0 where
@@ -41,37 +41,37 @@ pub record IsMessage (before : List Event) (me k : ℕ) (got : Got) : Type 0 whe
   pub got_is : got ≡ Message send.0 send.1 tag ints
 
 -- a new communicator: some number above 0, with the members of the table
-pub record IsMade (n : ℕ) (own : View) (me : ℕ) (enter : Call) (inputs : List (List ℤ)) (got : Got) : Type 0 where
+pub record IsMade (n : ℕ) (me : ℕ) (own : View) (enter : Call) (inputs : List (List ℤ)) (got : Got) : Type 0 where
   pub comm : ℕ
   pub is_new : (comm == 0) ≡ false
   pub got_is : got ≡ Made comm (members_made enter (members_in n own (comm_of enter)) inputs me)
 
 -- by whether the collective makes a communicator, and whether its colour is undefined
-abbrev pub IsFrom : Bool → Bool → ℕ → View → ℕ → Call → List (List ℤ) → Got → Type 0
-IsFrom true true n own me enter inputs got = got ≡ Made 0 []
-IsFrom true false n own me enter inputs got = IsMade n own me enter inputs got
-IsFrom false uncoloured n own me enter inputs got =
+abbrev pub IsFrom : Bool → Bool → ℕ → ℕ → View → Call → List (List ℤ) → Got → Type 0
+IsFrom true true n me own enter inputs got = got ≡ Made 0 []
+IsFrom true false n me own enter inputs got = IsMade n me own enter inputs got
+IsFrom false uncoloured n me own enter inputs got =
     got ≡ Joined (result_of enter (members_in n own (comm_of enter)) inputs me)
 
 -- the result of a collective, from what the members entered
-pub record IsCollected (n : ℕ) (before : List Event) (own : View) (me k : ℕ) (enter : Call) (got : Got) : Type 0 where
+pub record IsCollected (n : ℕ) (before : List Event) (me : ℕ) (own : View) (k : ℕ) (enter : Call) (got : Got) : Type 0 where
   pub inputs : List (List ℤ)
-  pub gathered : inputs_of n (view_of before) own me k enter ≡ Ok inputs
-  pub given : IsFrom (makes enter) (is_uncoloured enter) n own me enter inputs got
+  pub gathered : inputs_of n (view_of before) me own k enter ≡ Ok inputs
+  pub given : IsFrom (makes enter) (is_uncoloured enter) n me own enter inputs got
 
 -- what the ready start k of rank `me` gives
-abbrev pub IsGot : ℕ → List Event → View → ℕ → ℕ → Option Call → Got → Type 0
-IsGot n before own me k None got = ⊥
-IsGot n before own me k (Some (Send comm dest tag ints sync)) got = got ≡ Sent
-IsGot n before own me k (Some (Post comm Null tag room)) got = got ≡ Nothing
-IsGot n before own me k (Some (Post comm source tag room)) got = IsMessage before me k got
-IsGot n before own me k (Some (Enter comm kind root op count ints)) got =
-    IsCollected n before own me k (Enter comm kind root op count ints) got
-IsGot n before own me k (Some call) got = ⊥
+abbrev pub IsGot : ℕ → List Event → ℕ → View → ℕ → Option Call → Got → Type 0
+IsGot n before me own k None got = ⊥
+IsGot n before me own k (Some (Send comm dest tag ints sync)) got = got ≡ Sent
+IsGot n before me own k (Some (Post comm Null tag room)) got = got ≡ Nothing
+IsGot n before me own k (Some (Post comm source tag room)) got = IsMessage before me k got
+IsGot n before me own k (Some (Enter comm kind root op count ints)) got =
+    IsCollected n before me own k (Enter comm kind root op count ints) got
+IsGot n before me own k (Some call) got = ⊥
 
 -- each item gives what its start gives
-abbrev pub AreGots : ℕ → List Event → View → ℕ → List ℕ → List Item → Type 0
-AreGots n before own me starts [] = Unit {0}
-AreGots n before own me starts (item ∷ items) =
-    IsGot n before own me (slice_index starts item.index) (start_at own (slice_index starts item.index)) item.got
-    × AreGots n before own me starts items
+abbrev pub AreGots : ℕ → List Event → ℕ → View → List ℕ → List Item → Type 0
+AreGots n before me own starts [] = Unit {0}
+AreGots n before me own starts (item ∷ items) =
+    IsGot n before me own (slice_index starts item.index) (start_at own (slice_index starts item.index)) item.got
+    × AreGots n before me own starts items

@@ -21,7 +21,7 @@ call_after next n events rank = next n rank (replies_in (view_of events rank))
 -- a live rank's next call can go
 abbrev pub goes : ℕ → List Event → ℕ → Option Call → Bool
 goes n events rank None = false
-goes n events rank (Some call) = can_go n events (view_of events rank) rank call
+goes n events rank (Some call) = can_go n events rank (view_of events rank) call
 
 -- no live rank's next call can go
 abbrev pub is_stuck : Next → ℕ → List Event → Bool
@@ -42,7 +42,7 @@ appended n stage rank call =
 abbrev pub attempt_with : Next → ℕ → Stage → ℕ → Option Call → Stage
 attempt_with next n stage rank None = stage
 attempt_with next n stage rank (Some call) =
-    if can_go n stage.events (view_of stage.events rank) rank call then appended n stage rank call
+    if can_go n stage.events rank (view_of stage.events rank) call then appended n stage rank call
     else if is_stuck next n stage.events && others_wait next n stage rank then appended n stage rank call
     else record stage { waiting = rank ∷ stage.waiting }
 

@@ -61,8 +61,8 @@ are_members n me enter old members =
     && (is_distinct members && (is_member members me && (not (is_dup enter) || same_ranks old members)))
 
 -- the result of an Enter that makes no communicator, by its length
-abbrev pub is_sized : ℕ → View → ℕ → Call → List ℤ → Bool
-is_sized n own me enter ints = length ints == result_length enter (members_in n own (comm_of enter)) me
+abbrev pub is_sized : ℕ → ℕ → View → Call → List ℤ → Bool
+is_sized n me own enter ints = length ints == result_length enter (members_in n own (comm_of enter)) me
 
 -- a halt that names the rank itself fits only the call that makes it
 abbrev pub lists_start : ℕ → Call → Bool
@@ -88,26 +88,26 @@ halt_fits me call (BadRequest rank start) = not (rank == me) || lists_start star
 halt_fits me call halt = true
 
 -- what the completion of a start gives has the start's shape
-abbrev pub got_fits : ℕ → View → ℕ → Option Call → Got → Bool
-got_fits n own me None got = false
-got_fits n own me (Some (Send comm dest tag ints sync)) Sent = true
-got_fits n own me (Some (Post comm Null tag room)) Nothing = true
-got_fits n own me (Some (Post comm from tag room)) (Message source start t ints) =
+abbrev pub got_fits : ℕ → ℕ → View → Option Call → Got → Bool
+got_fits n me own None got = false
+got_fits n me own (Some (Send comm dest tag ints sync)) Sent = true
+got_fits n me own (Some (Post comm Null tag room)) Nothing = true
+got_fits n me own (Some (Post comm from tag room)) (Message source start t ints) =
     source_agrees from source && (tag_agrees tag t && nat_le (length ints) room)
-got_fits n own me (Some enter) (Joined ints) =
-    is_enter enter && (not (makes enter) && is_sized n own me enter ints)
-got_fits n own me (Some enter) (Made comm []) = makes enter && (is_uncoloured enter && (comm == 0))
-got_fits n own me (Some enter) (Made comm (m ∷ members)) =
+got_fits n me own (Some enter) (Joined ints) =
+    is_enter enter && (not (makes enter) && is_sized n me own enter ints)
+got_fits n me own (Some enter) (Made comm []) = makes enter && (is_uncoloured enter && (comm == 0))
+got_fits n me own (Some enter) (Made comm (m ∷ members)) =
     makes enter
     && (not (is_uncoloured enter)
     && (not (comm == 0) && are_members n me enter (members_in n own (comm_of enter)) (m ∷ members)))
-got_fits n own me start got = false
+got_fits n me own start got = false
 
 -- what each item gives has the shape of its start
-abbrev pub gots_fit : ℕ → View → ℕ → List ℕ → List Item → Bool
-gots_fit n own me starts [] = true
-gots_fit n own me starts (item ∷ items) =
-    got_fits n own me (start_at own (slice_index starts item.index)) item.got && gots_fit n own me starts items
+abbrev pub gots_fit : ℕ → ℕ → View → List ℕ → List Item → Bool
+gots_fit n me own starts [] = true
+gots_fit n me own starts (item ∷ items) =
+    got_fits n me own (start_at own (slice_index starts item.index)) item.got && gots_fit n me own starts items
 
 -- the reply has the shape of rank `me`'s call, after what it has seen
 abbrev pub has_shape : ℕ → ℕ → View → Call → Reply → Bool
@@ -122,5 +122,5 @@ has_shape n me own (Peek comm from tag wait) (Peeked source start t count) = sou
 has_shape n me own (Take starts mode) (Took items) =
     has_count mode (length starts) (length items)
     && (rise_within 0 (length starts) (map (λ (item : Item). item.index) items)
-    && (list_all (λ k. can_take own k) starts && gots_fit n own me starts items))
+    && (list_all (λ k. can_take own k) starts && gots_fit n me own starts items))
 has_shape n me own call reply = false

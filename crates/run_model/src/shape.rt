@@ -78,7 +78,7 @@ fn took_fits(
     mode: TakeMode,
     items: &[Item],
 ) -> bool
-    ensures { result ≡ (has_count mode (length starts.now) (length items.now) && (rise_within 0 (length starts.now) (map (λ (item : Item). item.index) items.now) && (list_all (λ k. can_take view.now k) starts.now && gots_fit n view.now rank starts.now items.now))) }
+    ensures { result ≡ (has_count mode (length starts.now) (length items.now) && (rise_within 0 (length starts.now) (map (λ (item : Item). item.index) items.now) && (list_all (λ k. can_take view.now k) starts.now && gots_fit n rank view.now starts.now items.now))) }
 {
     has_count(mode, starts.len(), items.len())
         && do_rise(starts.len(), items)
@@ -144,7 +144,7 @@ fn can_take(view: &[(Call, Reply)], start: u32) -> bool
 
 /// Whether each item gives what its start may give.
 fn gots_fit(n: u8, rank: u8, view: &[(Call, Reply)], starts: &[u32], items: &[Item]) -> bool
-    ensures { result ≡ gots_fit n view.now rank starts.now items.now }
+    ensures { result ≡ gots_fit n rank view.now starts.now items.now }
 {
     let mut rest = items;
     while let [item, after @ ..] = rest {
@@ -200,7 +200,7 @@ fn lists_start(start: u32, call: &Call) -> bool
 
 /// Whether a start may give this.
 fn got_fits(n: u8, rank: u8, view: &[(Call, Reply)], start: Option<&Call>, got: &Got) -> bool
-    ensures { result ≡ got_fits n view.now rank (option_map (λ call. call.now) start.entry) got.now }
+    ensures { result ≡ got_fits n rank view.now (option_map (λ call. call.now) start.entry) got.now }
 {
     let Some(call) = start else {
         return false;
@@ -221,7 +221,7 @@ fn got_fits(n: u8, rank: u8, view: &[(Call, Reply)], start: Option<&Call>, got: 
 
 /// Whether a call is a receive from the null process.
 pub fn is_from_null(call: &Call) -> bool
-    ensures { (n : ℕ) (view : View) (rank : ℕ) → result ≡ got_fits n view rank (Some call.now) Nothing }
+    ensures { (n : ℕ) (view : View) (rank : ℕ) → result ≡ got_fits n rank view (Some call.now) Nothing }
 {
     match call {
         Call::Post { source, .. } => match source {
@@ -233,7 +233,7 @@ pub fn is_from_null(call: &Call) -> bool
 }
 
 pub fn message_fits(call: &Call, source: u8, tag: u32, len: usize) -> bool
-    ensures { (n : ℕ) (view : View) (rank start : ℕ) (ints : List ℤ) → len ≡ length ints → result ≡ got_fits n view rank (Some call.now) (Message source start tag ints) }
+    ensures { (n : ℕ) (view : View) (rank start : ℕ) (ints : List ℤ) → len ≡ length ints → result ≡ got_fits n rank view (Some call.now) (Message source start tag ints) }
 {
     match call {
         Call::Post {
@@ -248,7 +248,7 @@ pub fn message_fits(call: &Call, source: u8, tag: u32, len: usize) -> bool
 
 /// Whether a result has the length of that collective for this rank.
 fn result_fits(n: u8, rank: u8, view: &[(Call, Reply)], call: &Call, len: usize) -> bool
-    ensures { (ints : List ℤ) → len ≡ length ints → result ≡ got_fits n view.now rank (Some call.now) (Joined ints) }
+    ensures { (ints : List ℤ) → len ≡ length ints → result ≡ got_fits n rank view.now (Some call.now) (Joined ints) }
 {
     match call {
         Call::Enter { comm, .. } => is_result_length(
@@ -312,7 +312,7 @@ fn made_fits(
     comm: Comm,
     members: &[u8],
 ) -> bool
-    ensures { result ≡ got_fits n view.now rank (Some call.now) (Made comm members.now) }
+    ensures { result ≡ got_fits n rank view.now (Some call.now) (Made comm members.now) }
 {
     match call {
         Call::Enter {

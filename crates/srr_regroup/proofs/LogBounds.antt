@@ -71,10 +71,10 @@ record Answered (n : ℕ) (inside : List ℕ) (V : ℕ → View) (own : View) (m
   entry : Entry
   there : found ≡ Some entry
   fit : fits n inside me own call entry ≡ true
-  made : filled n V own me call entry ≡ Ok reply
+  made : filled n V me own call entry ≡ Ok reply
 
 answered : (n : ℕ) (inside : List ℕ) (V : ℕ → View) (own : View) (me : ℕ) (call : Call) (found : Option Entry) (reply : Reply)
-    → entry_answer n inside V own me call found ≡ Replied reply → Answered n inside V own me call found reply
+    → entry_answer n inside V me own call found ≡ Replied reply → Answered n inside V own me call found reply
 answered n inside V own me call None reply h = absurd (cc)
 answered n inside V own me call (Some entry) reply h =
     elim (test_cases (fits n inside me own call entry)) [

@@ -51,30 +51,30 @@ inside_bound n V source start (Some (Send c d tag ints sync)) got sends below sm
 inside_bound n V source start (Some call) got sends below small at h =
     (let same : Nothing ≡ got = cc in subst (IsGotBound n) same tt)
 
-joined_bound : (n : ℕ) (own : View) (me k : ℕ) (enter : Call) (inputs : Result (List (List ℤ)) ℕ) (got : Got) → joined n own me k enter inputs ≡ Ok got
+joined_bound : (n : ℕ) (own : View) (me k : ℕ) (enter : Call) (inputs : Result (List (List ℤ)) ℕ) (got : Got) → joined n me own k enter inputs ≡ Ok got
     → IsGotBound n got
 joined_bound n own me k enter (Err m) got h = absurd (cc)
 joined_bound n own me k enter (Ok inputs) got h =
     (let same : Joined (result_of enter (members_in n own (comm_of enter)) inputs me) ≡ got = cc in subst (IsGotBound n) same tt)
 
-inner_bound : (n : ℕ) (V : ℕ → View) (own : View) (me k : ℕ) (start : Option Call) (got : Got) → fill_inner n V own me k start ≡ Ok got → IsGotBound n got
+inner_bound : (n : ℕ) (V : ℕ → View) (own : View) (me k : ℕ) (start : Option Call) (got : Got) → fill_inner n V me own k start ≡ Ok got → IsGotBound n got
 inner_bound n V own me k None got h = (let same : Nothing ≡ got = cc in subst (IsGotBound n) same tt)
-inner_bound n V own me k (Some enter) got h = joined_bound n own me k enter (inputs_of n V own me k enter) got h
+inner_bound n V own me k (Some enter) got h = joined_bound n own me k enter (inputs_of n V me own k enter) got h
 
 new_bound : (comm n : ℕ) (own : View) (me k : ℕ) (enter : Call) (inputs : Result (List (List ℤ)) ℕ) (got : Got) → comm ≤ 999999
-    → made_new comm n own me k enter inputs ≡ Ok got → IsGotBound n got
+    → made_new comm n me own k enter inputs ≡ Ok got → IsGotBound n got
 new_bound comm n own me k enter (Err m) got small h = absurd (cc)
 new_bound comm n own me k enter (Ok inputs) got small h =
     (let same : Made comm (members_made enter (members_in n own (comm_of enter)) inputs me) ≡ got = cc in subst (IsGotBound n) same small)
 
-made_bound : (comm n : ℕ) (V : ℕ → View) (own : View) (me k : ℕ) (start : Option Call) (got : Got) → comm ≤ 999999 → fill_made comm n V own me k start ≡ Ok got
+made_bound : (comm n : ℕ) (V : ℕ → View) (own : View) (me k : ℕ) (start : Option Call) (got : Got) → comm ≤ 999999 → fill_made comm n V me own k start ≡ Ok got
     → IsGotBound n got
 made_bound comm n V own me k None got small h = (let same : Nothing ≡ got = cc in subst (IsGotBound n) same tt)
-made_bound comm n V own me k (Some enter) got small h = new_bound comm n own me k enter (inputs_of n V own me k enter) got small h
+made_bound comm n V own me k (Some enter) got small h = new_bound comm n own me k enter (inputs_of n V me own k enter) got small h
 
 -- what a mark within its bounds stands for has numbers within theirs
 got_bound : (n : ℕ) (inside : List ℕ) (V : ℕ → View) (own : View) (me k : ℕ) (mark : Mark) (got : Got) → AreSendsBound V → IsMark n inside mark
-    → fill_mark n V own me k mark ≡ Ok got → IsGotBound n got
+    → fill_mark n V me own k mark ≡ Ok got → IsGotBound n got
 got_bound n inside V own me k MarkSent got sends is h = (let same : Sent ≡ got = cc in subst (IsGotBound n) same tt)
 got_bound n inside V own me k MarkNothing got sends is h = (let same : Nothing ≡ got = cc in subst (IsGotBound n) same tt)
 got_bound n inside V own me k (Inside source start) got sends is h =
@@ -102,7 +102,7 @@ message_mark false n group source start tag ints h below small tags short words 
 
 -- a collective's result is as long as its call says
 joined_length : (n me : ℕ) (own : View) (k : ℕ) (start : Option Call) (ints : List ℤ) → IsInOrder n me own → start_at own k ≡ start
-    → got_fits n own me start (Joined ints) ≡ true → length ints ≤ 262144
+    → got_fits n me own start (Joined ints) ≡ true → length ints ≤ 262144
 joined_length n me own k None ints order at h = absurd (cc)
 joined_length n me own k (Some (Enter comm kind root op count es)) ints order at h =
     let enter : Call = Enter comm kind root op count es in
@@ -152,7 +152,7 @@ new_members n me enter old members comm real are some =
 
 -- a new communicator that needs a rank outside is no MPI_COMM_NULL
 new_from : (n : ℕ) (group : List ℕ) (me : ℕ) (own : View) (start : Option Call) (comm : ℕ) (members : List ℕ) → is_member group me ≡ true
-    → got_fits n own me start (Made comm members) ≡ true → is_inner n group me own start ≡ false → IsNew n comm members
+    → got_fits n me own start (Made comm members) ≡ true → is_inner n group me own start ≡ false → IsNew n comm members
 new_from n group me own None comm members mine h outer = absurd (cc)
 new_from n group me own (Some (Enter c kind root op count es)) comm [] mine h outer =
     let enter : Call = Enter c kind root op count es in
@@ -179,7 +179,7 @@ new_from n group me own (Some call) comm (m ∷ members) mine h outer = absurd (
 
 -- what a start gave, with its shape, has a mark within the bounds
 mark_bound : (n : ℕ) (group : List ℕ) (me : ℕ) (own : View) (k : ℕ) (got : Got) → n ≤ 64 → is_member group me ≡ true → IsInOrder n me own
-    → IsGotBound n got → got_fits n own me (start_at own k) got ≡ true → GotFits32 got → IsMark n group (mark_of n group me own k got)
+    → IsGotBound n got → got_fits n me own (start_at own k) got ≡ true → GotFits32 got → IsMark n group (mark_of n group me own k got)
 mark_bound n group me own k Sent few mine order is fit words = tt
 mark_bound n group me own k Nothing few mine order is fit words = tt
 mark_bound n group me own k (Message source start tag ints) few mine order is fit words =
@@ -222,23 +222,23 @@ pushed index (Ok got) (Ok rest) items h = record { got = got; rest = rest; first
 
 -- what is asked of what the marks stand for
 record AreGiven (n : ℕ) (own : View) (me : ℕ) (starts : List ℕ) (items : List Item) : Type 0 where
-  fit : gots_fit n own me starts items ≡ true
+  fit : gots_fit n me own starts items ≡ true
   words : All (λ (item : Item). GotFits32 item.got) items
 
 pub items_bound : (n : ℕ) (inside group : List ℕ) (V : ℕ → View) (own : View) (me : ℕ) (starts : List ℕ) (marks : List Marked) (items : List Item)
-    → n ≤ 64 → is_member group me ≡ true → IsInOrder n me own → AreSendsBound V → All (IsItem n inside) marks → fill_marks n V own me starts marks ≡ Ok items
-    → gots_fit n own me starts items ≡ true → All (λ (item : Item). GotFits32 item.got) items → AreItems n group marks (marks_of n group me own starts items)
+    → n ≤ 64 → is_member group me ≡ true → IsInOrder n me own → AreSendsBound V → All (IsItem n inside) marks → fill_marks n V me own starts marks ≡ Ok items
+    → gots_fit n me own starts items ≡ true → All (λ (item : Item). GotFits32 item.got) items → AreItems n group marks (marks_of n group me own starts items)
 items_bound n inside group V own me starts [] items few mine order sends are h fit words =
     let none : [] ≡ items = cc in
     let F : List Item → Type 0 = λ l. AreItems n group [] (marks_of n group me own starts l) in
     subst F none (record { indices = refl; many = refl; each = λ k d less. absurd (omega (arith, less)) })
 items_bound n inside group V own me starts (marked ∷ marks) items few mine order sends are h fit words =
     let k : ℕ = slice_index starts marked.index in
-    let p = pushed marked.index (fill_mark n V own me k marked.mark) (fill_marks n V own me starts marks) items h in
+    let p = pushed marked.index (fill_mark n V me own k marked.mark) (fill_marks n V me own starts marks) items h in
     let item : Item = record { index = marked.index; got = p.got } in
     let G : List Item → Type 0 = λ l. AreGiven n own me starts l in
     let given : AreGiven n own me starts (item ∷ p.rest) = subst G (sym p.all) (record { fit = fit; words = words }) in
-    let fits = and_parts (got_fits n own me (start_at own k) p.got) (gots_fit n own me starts p.rest) given.fit in
+    let fits = and_parts (got_fits n me own (start_at own k) p.got) (gots_fit n me own starts p.rest) given.fit in
     let here = are 0 marked (omega arith) in
     let bound = got_bound n inside V own me k marked.mark p.got sends here.1 p.first_is in
     let later = items_bound n inside group V own me starts marks p.rest few mine order sends (all_rest (IsItem n inside) marked marks are) p.others_are fits.1 (all_rest (λ (item : Item). GotFits32 item.got) item p.rest given.words) in

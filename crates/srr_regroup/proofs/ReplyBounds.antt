@@ -34,7 +34,7 @@ took_from (Err missing) reply h = absurd (cc)
 took_from (Ok items) reply h = record { items = items; made_is = refl; reply_is = cc }
 
 took_fit : (n me : ℕ) (own : View) (call : Call) (items : List Item) → has_shape n me own call (Took items) ≡ true
-    → gots_fit n own me (listed_by call) items ≡ true
+    → gots_fit n me own (listed_by call) items ≡ true
 took_fit n me own (Take starts mode) items h = (take_shape n me own starts mode items h).gots
 took_fit n me own (Send comm dest tag ints sync) items h = absurd (let no : false ≡ true = h in cc)
 took_fit n me own (Post comm source tag room) items h = absurd (let no : false ≡ true = h in cc)
@@ -81,7 +81,7 @@ pub record Given (n : ℕ) (group : List ℕ) (V : ℕ → View) (own : View) (m
   pub words : ReplyFits32 reply
 
 took_bound : (n : ℕ) (inside group : List ℕ) (V : ℕ → View) (own : View) (me : ℕ) (call : Call) (marks : List Marked) (items : List Item)
-    → Given n group V own me call (Took items) → IsEntry n inside (EntryTook marks) → fill_marks n V own me (listed_by call) marks ≡ Ok items
+    → Given n group V own me call (Took items) → IsEntry n inside (EntryTook marks) → fill_marks n V me own (listed_by call) marks ≡ Ok items
     → IsReplyBound n group me own call (Took items)
 took_bound n inside group V own me call marks items g is made =
     let others = items_bound n inside group V own me (listed_by call) marks items g.few g.mine g.order g.sends is.2 made (took_fit n me own call items g.shape) g.words in
@@ -92,7 +92,7 @@ took_bound n inside group V own me call marks items g is made =
 
 -- an entry within the bounds of a log stands for a reply whose entry for another group is within its bounds
 pub entry_bound : (n : ℕ) (inside group : List ℕ) (V : ℕ → View) (own : View) (me : ℕ) (call : Call) (entry : Entry) (reply : Reply)
-    → Given n group V own me call reply → IsEntry n inside entry → filled n V own me call entry ≡ Ok reply → IsReplyBound n group me own call reply
+    → Given n group V own me call reply → IsEntry n inside entry → filled n V me own call entry ≡ Ok reply → IsReplyBound n group me own call reply
 entry_bound n inside group V own me call Sent reply g is made = (let same : Done ≡ reply = cc in subst (IsReplyBound n group me own call) same (done_entry n group call))
 entry_bound n inside group V own me call Posted reply g is made = (let same : Done ≡ reply = cc in subst (IsReplyBound n group me own call) same (done_entry n group call))
 entry_bound n inside group V own me call Entered reply g is made = (let same : Done ≡ reply = cc in subst (IsReplyBound n group me own call) same (done_entry n group call))
@@ -105,7 +105,7 @@ entry_bound n inside group V own me call (PeekedOutside source start tag count) 
     let same : Peeked source start tag count ≡ reply = cc in
     subst (IsReplyBound n group me own call) same (peeked_entry (is_member group source) n group source start tag count refl is.0.0 is.1 is.2 is.3)
 entry_bound n inside group V own me call (EntryTook marks) reply g is made =
-    let took = took_from (fill_marks n V own me (listed_by call) marks) reply made in
+    let took = took_from (fill_marks n V me own (listed_by call) marks) reply made in
     let G : Reply → Type 0 = λ r. Given n group V own me call r in
     subst (IsReplyBound n group me own call) took.reply_is (took_bound n inside group V own me call marks took.items (subst G (sym took.reply_is) g) is took.made_is)
 
@@ -134,7 +134,7 @@ not_last n group own me call given reply same going last =
     absurd (let no : true ≡ false = sym given_last ∙ going in cc)
 
 pub last_entry : (n : ℕ) (inside group : List ℕ) (V : ℕ → View) (own : View) (me : ℕ) (call : Call) (entry : Entry) (reply : Reply)
-    → fits n inside me own call entry ≡ true → filled n V own me call entry ≡ Ok reply → is_last (entry_of n group me own call reply) ≡ true → is_last entry ≡ true
+    → fits n inside me own call entry ≡ true → filled n V me own call entry ≡ Ok reply → is_last (entry_of n group me own call reply) ≡ true → is_last entry ≡ true
 unfolding fits
 last_entry n inside group V own me call (EntryStopped halt) reply fit made last = refl
 last_entry n inside group V own me call Ended reply fit made last = refl
@@ -149,6 +149,6 @@ last_entry n inside group V own me call (PeekedOutside source start tag count) r
     let F : Reply → Type 0 = λ r. is_last (entry_of n group me own call r) ≡ true in
     peeked_last (is_member group source) source start tag count (subst F (sym same) last)
 last_entry n inside group V own me call (EntryTook marks) reply fit made last =
-    let took = took_from (fill_marks n V own me (listed_by call) marks) reply made in
+    let took = took_from (fill_marks n V me own (listed_by call) marks) reply made in
     not_last n group own me call (Took took.items) reply took.reply_is refl last
 last_entry n inside group V own me call entry reply fit made last = absurd (cc)

@@ -73,7 +73,7 @@ absent-none (Ok inputs) h = (inputs, refl)
 absent-none (Err m) h = absurd (cc)
 
 -- the gathered inputs are those of the Enter, by the table
-pub inputs_are : (n : ℕ) (events : List Event) (rank k : ℕ) (enter : Call) (inputs : List (List ℤ)) → IsCollective n events rank k enter → inputs_of n (view_of events) (view_of events rank) rank k enter ≡ Ok inputs → AreInputsOf enter (members_in n (view_of events rank) (comm_of enter)) inputs rank
+pub inputs_are : (n : ℕ) (events : List Event) (rank k : ℕ) (enter : Call) (inputs : List (List ℤ)) → IsCollective n events rank k enter → inputs_of n (view_of events) rank (view_of events rank) k enter ≡ Ok inputs → AreInputsOf enter (members_in n (view_of events rank) (comm_of enter)) inputs rank
 inputs_are n events rank k enter inputs is gathered =
     let own : View = view_of events rank in
     let C : ℕ = comm_of enter in

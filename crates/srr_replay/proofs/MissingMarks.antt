@@ -50,11 +50,11 @@ IsEnterAt-made n group me own k comm fit = λ call is. enter_for-made n group me
 
 -- a collective waits for the first absent member
 pub missing_of-joined : (n : ℕ) (own : View) (me k : ℕ) (enter : Call) (inputs : Result (List (List ℤ)) ℕ)
-    → missing_of (joined n own me k enter inputs) ≡ option_map (λ m. Member m (comm_of enter) (instance_of own k (comm_of enter))) (absent_of inputs)
+    → missing_of (joined n me own k enter inputs) ≡ option_map (λ m. Member m (comm_of enter) (instance_of own k (comm_of enter))) (absent_of inputs)
 missing_of-joined n own me k enter (Ok inputs) = refl
 missing_of-joined n own me k enter (Err m) = refl
 
 pub missing_of-made : (comm n : ℕ) (own : View) (me k : ℕ) (enter : Call) (inputs : Result (List (List ℤ)) ℕ)
-    → missing_of (made_new comm n own me k enter inputs) ≡ option_map (λ m. Member m (comm_of enter) (instance_of own k (comm_of enter))) (absent_of inputs)
+    → missing_of (made_new comm n me own k enter inputs) ≡ option_map (λ m. Member m (comm_of enter) (instance_of own k (comm_of enter))) (absent_of inputs)
 missing_of-made comm n own me k enter (Ok inputs) = refl
 missing_of-made comm n own me k enter (Err m) = refl

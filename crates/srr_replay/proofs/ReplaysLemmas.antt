@@ -22,7 +22,7 @@ use Rattle.srr_replay.proofs.ShapeLemmas.{answer_shaped}
 use Rattle.view_tables.proofs.StartTableLemmas.{takes_made}
 
 -- the event of a reply keeps it a replay
-pub Replays-after : (next : Next) (log : Log) (stop : Breakpoint) (events : List Event) (rank : ℕ) (call : Call) (reply : Reply) → Replays next log stop events → is_member log.group rank ≡ true → next log.ranks rank (replies_in (view_of events rank)) ≡ Some call → answer_of log stop (view_of events) (view_of events rank) rank call ≡ Replied reply → Replays next log stop (events ++ event_of rank call reply ∷ [])
+pub Replays-after : (next : Next) (log : Log) (stop : Breakpoint) (events : List Event) (rank : ℕ) (call : Call) (reply : Reply) → Replays next log stop events → is_member log.group rank ≡ true → next log.ranks rank (replies_in (view_of events rank)) ≡ Some call → answer_of log stop (view_of events) rank (view_of events rank) call ≡ Replied reply → Replays next log stop (events ++ event_of rank call reply ∷ [])
 Replays-after next log stop events rank call reply all member asked answered =
     Along-snoc (IsStep next log stop) [] events _ all (record { member = member; call = asked; reply = answered; mate = refl })
 
@@ -79,7 +79,7 @@ pub AreInOrder-Replays : (next : Next) (log : Log) (stop : Breakpoint) (events :
 AreInOrder-Replays next log stop events laws fine all = Came-order next log events laws fine (Came-Replays next log stop events laws fine all)
 
 -- and the reply may be given
-pub MayGive-Replays : (next : Next) (log : Log) (stop : Breakpoint) (events : List Event) (rank : ℕ) (call : Call) (reply : Reply) → KeepsForm next → IsReplayable log → Replays next log stop events → is_member log.group rank ≡ true → next log.ranks rank (replies_in (view_of events rank)) ≡ Some call → answer_of log stop (view_of events) (view_of events rank) rank call ≡ Replied reply → MayGive next log.ranks rank (replies_in (view_of events rank)) reply
+pub MayGive-Replays : (next : Next) (log : Log) (stop : Breakpoint) (events : List Event) (rank : ℕ) (call : Call) (reply : Reply) → KeepsForm next → IsReplayable log → Replays next log stop events → is_member log.group rank ≡ true → next log.ranks rank (replies_in (view_of events rank)) ≡ Some call → answer_of log stop (view_of events) rank (view_of events rank) call ≡ Replied reply → MayGive next log.ranks rank (replies_in (view_of events rank)) reply
 MayGive-Replays next log stop events rank call reply laws fine all mine asked answered =
     let came = Came-Replays next log stop events laws fine all in
     record {
@@ -92,7 +92,7 @@ MayGive-Replays next log stop events rank call reply laws fine all mine asked an
     }
 
 -- so it completes starts that were made alone
-pub TakesMade-Replays : (next : Next) (log : Log) (stop : Breakpoint) (events : List Event) (rank : ℕ) (call : Call) (reply : Reply) → KeepsForm next → IsReplayable log → Replays next log stop events → is_member log.group rank ≡ true → next log.ranks rank (replies_in (view_of events rank)) ≡ Some call → answer_of log stop (view_of events) (view_of events rank) rank call ≡ Replied reply → TakesMade (view_of events rank) call reply
+pub TakesMade-Replays : (next : Next) (log : Log) (stop : Breakpoint) (events : List Event) (rank : ℕ) (call : Call) (reply : Reply) → KeepsForm next → IsReplayable log → Replays next log stop events → is_member log.group rank ≡ true → next log.ranks rank (replies_in (view_of events rank)) ≡ Some call → answer_of log stop (view_of events) rank (view_of events rank) call ≡ Replied reply → TakesMade (view_of events rank) call reply
 TakesMade-Replays next log stop events rank call reply laws fine all mine asked answered =
     let order = AreInOrder-Replays next log stop events laws fine all in
     takes_made log.ranks rank (view_of events rank) call reply

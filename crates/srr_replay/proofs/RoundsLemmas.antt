@@ -50,7 +50,7 @@ HasNoStep-ended next log stop events rank h event same step =
     let asked : next log.ranks rank (replies_in (view_of events rank)) ≡ Some event.call = rw same at step.call in
     cc
 
-pub HasNoStep-answered : (next : Next) (log : Log) (stop : Breakpoint) (events : List Event) (rank : ℕ) (call : Call) → next log.ranks rank (replies_in (view_of events rank)) ≡ Some call → ((reply : Reply) → answer_of log stop (view_of events) (view_of events rank) rank call ≡ Replied reply → ⊥) → HasNoStep next log stop events rank
+pub HasNoStep-answered : (next : Next) (log : Log) (stop : Breakpoint) (events : List Event) (rank : ℕ) (call : Call) → next log.ranks rank (replies_in (view_of events rank)) ≡ Some call → ((reply : Reply) → answer_of log stop (view_of events) rank (view_of events rank) call ≡ Replied reply → ⊥) → HasNoStep next log stop events rank
 HasNoStep-answered next log stop events rank call h other event same step =
     let asked : next log.ranks rank (replies_in (view_of events rank)) ≡ Some event.call = rw same at step.call in
     let some : Some event.call ≡ Some call = sym asked ∙ h in

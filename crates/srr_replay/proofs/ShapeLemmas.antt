@@ -54,7 +54,7 @@ use Rattle.srr_replay.proofs.MissingMarks.{enter_for-made}
 use Rattle.replay_model.proofs.ShapedFits.{not_true, uncoloured_inner}
 
 -- a Send that a receive accepts within its room gives what has the receive's shape
-message_shaped : (n : ℕ) (group : List ℕ) (own : View) (me source start : ℕ) (taker : Option Call) (c dest tag : ℕ) (ints : List ℤ) (sync : Bool) → mark_fits n group me own taker (Inside source start) ≡ true → send_fits me source taker (Send c dest tag ints sync) ≡ true → got_fits n own me taker (Message source start tag ints) ≡ true
+message_shaped : (n : ℕ) (group : List ℕ) (own : View) (me source start : ℕ) (taker : Option Call) (c dest tag : ℕ) (ints : List ℤ) (sync : Bool) → mark_fits n group me own taker (Inside source start) ≡ true → send_fits me source taker (Send c dest tag ints sync) ≡ true → got_fits n me own taker (Message source start tag ints) ≡ true
 message_shaped n group own me source start None c dest tag ints sync marked sent = absurd (cc)
 message_shaped n group own me source start (Some (Post comm Any wanted room)) c dest tag ints sync marked sent =
     let parts = both (accepts me comm Any wanted source (Send c dest tag ints sync)) (nat_le (length ints) room) sent in
@@ -100,7 +100,7 @@ TakeFits-fits n group me own starts mode marks h =
     record { count = one.0; indices = two.0; open_starts = three.0; marks_are = three.1 }
 
 -- a mark of a message from inside gives what has the receive's shape
-sent_shaped : (n : ℕ) (group : List ℕ) (own : View) (me source start : ℕ) (taker sent : Option Call) (got : Got) → mark_fits n group me own taker (Inside source start) ≡ true → message_from source start sent ≡ Ok got → break_send me source start taker sent ≡ None → got_fits n own me taker got ≡ true
+sent_shaped : (n : ℕ) (group : List ℕ) (own : View) (me source start : ℕ) (taker sent : Option Call) (got : Got) → mark_fits n group me own taker (Inside source start) ≡ true → message_from source start sent ≡ Ok got → break_send me source start taker sent ≡ None → got_fits n me own taker got ≡ true
 unfolding is_send
 sent_shaped n group own me source start taker None got fit made h = absurd (cc)
 sent_shaped n group own me source start taker (Some (Send c dest tag ints sync)) got fit made h =
@@ -115,7 +115,7 @@ sent_shaped n group own me source start taker (Some call) got fit made h =
     absurd (cc)
 
 -- what the rank itself entered is among the inputs of its collective
-own_input : (n : ℕ) (events : List Event) (rank k : ℕ) (enter : Call) (inputs : List (List ℤ)) → IsCollective n events rank k enter → inputs_of n (view_of events) (view_of events rank) rank k enter ≡ Ok inputs → input_of (members_in n (view_of events rank) (comm_of enter)) inputs rank ≡ ints_of enter
+own_input : (n : ℕ) (events : List Event) (rank k : ℕ) (enter : Call) (inputs : List (List ℤ)) → IsCollective n events rank k enter → inputs_of n (view_of events) rank (view_of events rank) k enter ≡ Ok inputs → input_of (members_in n (view_of events rank) (comm_of enter)) inputs rank ≡ ints_of enter
 own_input n events rank k enter inputs is gathered =
     let own : View = view_of events rank in
     let C : ℕ = comm_of enter in
@@ -131,7 +131,7 @@ own_input n events rank k enter inputs is gathered =
     found.2 ∙ (ap (λ (x : Entered). ints_of x.call) same ∙ ap ints_of mine.2)
 
 -- a result has the length of the table
-joined_shaped : (n : ℕ) (events : List Event) (rank k : ℕ) (enter : Call) (inputs : List (List ℤ)) → IsCollective n events rank k enter → inputs_of n (view_of events) (view_of events rank) rank k enter ≡ Ok inputs → is_sized n (view_of events rank) rank enter (result_of enter (members_in n (view_of events rank) (comm_of enter)) inputs rank) ≡ true
+joined_shaped : (n : ℕ) (events : List Event) (rank k : ℕ) (enter : Call) (inputs : List (List ℤ)) → IsCollective n events rank k enter → inputs_of n (view_of events) rank (view_of events rank) k enter ≡ Ok inputs → is_sized n rank (view_of events rank) enter (result_of enter (members_in n (view_of events rank) (comm_of enter)) inputs rank) ≡ true
 joined_shaped n events rank k enter inputs is gathered =
     let M : List ℕ = members_in n (view_of events rank) (comm_of enter) in
     let form = form_of n events rank k enter is in
@@ -139,7 +139,7 @@ joined_shaped n events rank k enter inputs is gathered =
     (length-result_of enter M inputs rank form.form form.members.has_me (inputs_are n events rank k enter inputs is gathered))
 
 -- a new communicator has members for the rank
-made_members : (n : ℕ) (events : List Event) (rank k : ℕ) (enter : Call) (inputs : List (List ℤ)) → IsCollective n events rank k enter → makes enter ≡ true → is_uncoloured enter ≡ false → inputs_of n (view_of events) (view_of events rank) rank k enter ≡ Ok inputs → AreMembers n rank (members_made enter (members_in n (view_of events rank) (comm_of enter)) inputs rank)
+made_members : (n : ℕ) (events : List Event) (rank k : ℕ) (enter : Call) (inputs : List (List ℤ)) → IsCollective n events rank k enter → makes enter ≡ true → is_uncoloured enter ≡ false → inputs_of n (view_of events) rank (view_of events rank) k enter ≡ Ok inputs → AreMembers n rank (members_made enter (members_in n (view_of events rank) (comm_of enter)) inputs rank)
 made_members n events rank k enter inputs is making coloured gathered =
     AreMembers-made n rank enter (members_in n (view_of events rank) (comm_of enter)) inputs making coloured (form_of n events rank k enter is).members (own_input n events rank k enter inputs is gathered)
 
@@ -153,7 +153,7 @@ not_or : (b c : Bool) → (b ≡ true → c ≡ true) → (not b || c) ≡ true
 not_or true c h = h refl
 not_or false c h = refl
 
-made_are : (n : ℕ) (events : List Event) (rank k : ℕ) (enter : Call) (inputs : List (List ℤ)) → IsCollective n events rank k enter → makes enter ≡ true → is_uncoloured enter ≡ false → inputs_of n (view_of events) (view_of events rank) rank k enter ≡ Ok inputs → are_members n rank enter (members_in n (view_of events rank) (comm_of enter)) (members_made enter (members_in n (view_of events rank) (comm_of enter)) inputs rank) ≡ true
+made_are : (n : ℕ) (events : List Event) (rank k : ℕ) (enter : Call) (inputs : List (List ℤ)) → IsCollective n events rank k enter → makes enter ≡ true → is_uncoloured enter ≡ false → inputs_of n (view_of events) rank (view_of events rank) k enter ≡ Ok inputs → are_members n rank enter (members_in n (view_of events rank) (comm_of enter)) (members_made enter (members_in n (view_of events rank) (comm_of enter)) inputs rank) ≡ true
 made_are n events rank k enter inputs is making coloured gathered =
     let M : List ℕ = members_in n (view_of events rank) (comm_of enter) in
     let are = made_members n events rank k enter inputs is making coloured gathered in
@@ -161,16 +161,16 @@ made_are n events rank k enter inputs is making coloured gathered =
     rw (are.below, are.distinct, are.has_me, dup) refl
 
 -- members of a new communicator with a number above 0 fit their Enter
-made_shape : (n : ℕ) (own : View) (me : ℕ) (enter : Call) (comm : ℕ) (members : List ℕ) → makes enter ≡ true → is_uncoloured enter ≡ false → (comm == 0) ≡ false → is_member members me ≡ true → are_members n me enter (members_in n own (comm_of enter)) members ≡ true → got_fits n own me (Some enter) (Made comm members) ≡ true
+made_shape : (n : ℕ) (own : View) (me : ℕ) (enter : Call) (comm : ℕ) (members : List ℕ) → makes enter ≡ true → is_uncoloured enter ≡ false → (comm == 0) ≡ false → is_member members me ≡ true → are_members n me enter (members_in n own (comm_of enter)) members ≡ true → got_fits n me own (Some enter) (Made comm members) ≡ true
 made_shape n own me (Enter c kind root op count ints) comm [] making coloured real member are = absurd (cc)
 made_shape n own me (Enter c kind root op count ints) comm (m ∷ members) making coloured real member are = rw (making, coloured, real, are) refl
 made_shape n own me call comm members making coloured real member are = absurd (cc)
 
-none_shape : (n : ℕ) (own : View) (me : ℕ) (enter : Call) → makes enter ≡ true → is_uncoloured enter ≡ true → got_fits n own me (Some enter) (Made 0 []) ≡ true
+none_shape : (n : ℕ) (own : View) (me : ℕ) (enter : Call) → makes enter ≡ true → is_uncoloured enter ≡ true → got_fits n me own (Some enter) (Made 0 []) ≡ true
 none_shape n own me (Enter c kind root op count ints) making un = rw (making, un) refl
 none_shape n own me call making un = absurd (cc)
 
-joined_shape : (n : ℕ) (own : View) (me : ℕ) (enter : Call) (ints : List ℤ) → is_enter enter ≡ true → makes enter ≡ false → is_sized n own me enter ints ≡ true → got_fits n own me (Some enter) (Joined ints) ≡ true
+joined_shape : (n : ℕ) (own : View) (me : ℕ) (enter : Call) (ints : List ℤ) → is_enter enter ≡ true → makes enter ≡ false → is_sized n me own enter ints ≡ true → got_fits n me own (Some enter) (Joined ints) ≡ true
 joined_shape n own me (Enter c kind root op count entered) ints is making sized = rw (making, sized) refl
 joined_shape n own me call ints is making sized = absurd (cc)
 
@@ -184,11 +184,11 @@ inner_parts n group me own (Post on (From from) wanted room) fit = absurd (cc)
 inner_parts n group me own (Post on Null wanted room) fit = absurd (cc)
 inner_parts n group me own call fit = absurd (cc)
 
-outer_shape : (n : ℕ) (group : List ℕ) (me : ℕ) (own : View) (call : Call) (ints : List ℤ) → mark_fits n group me own (Some call) (Outer ints) ≡ true → got_fits n own me (Some call) (Joined ints) ≡ true
+outer_shape : (n : ℕ) (group : List ℕ) (me : ℕ) (own : View) (call : Call) (ints : List ℤ) → mark_fits n group me own (Some call) (Outer ints) ≡ true → got_fits n me own (Some call) (Joined ints) ≡ true
 outer_shape n group me own (Enter c kind root op count entered) ints fit =
     let enter : Call = Enter c kind root op count entered in
     let one = and_parts (not (makes enter)) _ fit in
-    let two = and_parts (not (is_inner n group me own (Some enter))) (is_sized n own me enter ints) one.1 in
+    let two = and_parts (not (is_inner n group me own (Some enter))) (is_sized n me own enter ints) one.1 in
     rw (one.0, two.1) refl
 outer_shape n group me own (Post on Any wanted room) ints fit = absurd (cc)
 outer_shape n group me own (Post on (From from) wanted room) ints fit = absurd (cc)
@@ -215,7 +215,7 @@ made_parts n group me own (Post on (From from) wanted room) comm fit = absurd (c
 made_parts n group me own (Post on Null wanted room) comm fit = absurd (cc)
 made_parts n group me own call comm fit = absurd (cc)
 
-outside_shape : (n : ℕ) (group : List ℕ) (me : ℕ) (own : View) (call : Call) (comm : ℕ) (members : List ℕ) → is_member group me ≡ true → mark_fits n group me own (Some call) (MadeOutside comm members) ≡ true → got_fits n own me (Some call) (Made comm members) ≡ true
+outside_shape : (n : ℕ) (group : List ℕ) (me : ℕ) (own : View) (call : Call) (comm : ℕ) (members : List ℕ) → is_member group me ≡ true → mark_fits n group me own (Some call) (MadeOutside comm members) ≡ true → got_fits n me own (Some call) (Made comm members) ≡ true
 outside_shape n group me own (Enter c kind root op count ints) comm members mine fit =
     let enter : Call = Enter c kind root op count ints in
     let one = and_parts (makes enter) _ fit in
@@ -237,7 +237,7 @@ outside_shape n group me own (Post on Null wanted room) comm members mine fit = 
 outside_shape n group me own call comm members mine fit = absurd (cc)
 
 -- marks whose content is in the entry
-sent_mark : (n : ℕ) (group : List ℕ) (own : View) (me : ℕ) (start : Option Call) → mark_fits n group me own start MarkSent ≡ true → got_fits n own me start Sent ≡ true
+sent_mark : (n : ℕ) (group : List ℕ) (own : View) (me : ℕ) (start : Option Call) → mark_fits n group me own start MarkSent ≡ true → got_fits n me own start Sent ≡ true
 sent_mark n group own me None fit = absurd (cc)
 sent_mark n group own me (Some (Send comm dest tag ints sync)) fit = refl
 sent_mark n group own me (Some (Post comm Any tag room)) fit = absurd (cc)
@@ -245,47 +245,47 @@ sent_mark n group own me (Some (Post comm (From rank) tag room)) fit = absurd (c
 sent_mark n group own me (Some (Post comm Null tag room)) fit = absurd (cc)
 sent_mark n group own me (Some call) fit = absurd (cc)
 
-nothing_mark : (n : ℕ) (group : List ℕ) (own : View) (me : ℕ) (start : Option Call) → mark_fits n group me own start MarkNothing ≡ true → got_fits n own me start Nothing ≡ true
+nothing_mark : (n : ℕ) (group : List ℕ) (own : View) (me : ℕ) (start : Option Call) → mark_fits n group me own start MarkNothing ≡ true → got_fits n me own start Nothing ≡ true
 nothing_mark n group own me None fit = absurd (cc)
 nothing_mark n group own me (Some (Post comm Null tag room)) fit = refl
 nothing_mark n group own me (Some (Post comm Any tag room)) fit = absurd (cc)
 nothing_mark n group own me (Some (Post comm (From rank) tag room)) fit = absurd (cc)
 nothing_mark n group own me (Some call) fit = absurd (cc)
 
-outside_mark : (n : ℕ) (group : List ℕ) (own : View) (me : ℕ) (start : Option Call) (source from tag : ℕ) (ints : List ℤ) → mark_fits n group me own start (Outside source from tag ints) ≡ true → got_fits n own me start (Message source from tag ints) ≡ true
+outside_mark : (n : ℕ) (group : List ℕ) (own : View) (me : ℕ) (start : Option Call) (source from tag : ℕ) (ints : List ℤ) → mark_fits n group me own start (Outside source from tag ints) ≡ true → got_fits n me own start (Message source from tag ints) ≡ true
 outside_mark n group own me None source from tag ints fit = absurd (cc)
 outside_mark n group own me (Some (Post comm Any wanted room)) source from tag ints fit = fit
 outside_mark n group own me (Some (Post comm (From rank) wanted room)) source from tag ints fit = fit
 outside_mark n group own me (Some (Post comm Null wanted room)) source from tag ints fit = fit
 outside_mark n group own me (Some call) source from tag ints fit = absurd (cc)
 
-outer_mark : (n : ℕ) (group : List ℕ) (own : View) (me : ℕ) (start : Option Call) (ints : List ℤ) → mark_fits n group me own start (Outer ints) ≡ true → got_fits n own me start (Joined ints) ≡ true
+outer_mark : (n : ℕ) (group : List ℕ) (own : View) (me : ℕ) (start : Option Call) (ints : List ℤ) → mark_fits n group me own start (Outer ints) ≡ true → got_fits n me own start (Joined ints) ≡ true
 outer_mark n group own me None ints fit = absurd (cc)
 outer_mark n group own me (Some call) ints fit = outer_shape n group me own call ints fit
 
-none_mark : (n : ℕ) (group : List ℕ) (own : View) (me : ℕ) (start : Option Call) (comm : ℕ) → (comm == 0) ≡ true → mark_fits n group me own start (MarkMade comm) ≡ true → got_fits n own me start (Made 0 []) ≡ true
+none_mark : (n : ℕ) (group : List ℕ) (own : View) (me : ℕ) (start : Option Call) (comm : ℕ) → (comm == 0) ≡ true → mark_fits n group me own start (MarkMade comm) ≡ true → got_fits n me own start (Made 0 []) ≡ true
 none_mark n group own me None comm none fit = absurd (cc)
 none_mark n group own me (Some call) comm none fit =
     let parts = made_parts n group me own call comm fit in
     none_shape n own me call parts.making (parts.none none)
 
-made_outside_mark : (n : ℕ) (group : List ℕ) (own : View) (me : ℕ) (start : Option Call) (comm : ℕ) (members : List ℕ) → is_member group me ≡ true → mark_fits n group me own start (MadeOutside comm members) ≡ true → got_fits n own me start (Made comm members) ≡ true
+made_outside_mark : (n : ℕ) (group : List ℕ) (own : View) (me : ℕ) (start : Option Call) (comm : ℕ) (members : List ℕ) → is_member group me ≡ true → mark_fits n group me own start (MadeOutside comm members) ≡ true → got_fits n me own start (Made comm members) ≡ true
 made_outside_mark n group own me None comm members mine fit = absurd (cc)
 made_outside_mark n group own me (Some call) comm members mine fit = outside_shape n group me own call comm members mine fit
 
 -- a collective whose inputs are gathered
-gathered_is : (n : ℕ) (events : List Event) (me k : ℕ) (call : Call) (inputs : List (List ℤ)) → me < n → AreInOrder n events → start_at (view_of events me) k ≡ Some call → is_enter call ≡ true → inputs_of n (view_of events) (view_of events me) me k call ≡ Ok inputs → break_inner n (view_of events) (view_of events me) me k (Some call) ≡ None → IsCollective n events me k call
+gathered_is : (n : ℕ) (events : List Event) (me k : ℕ) (call : Call) (inputs : List (List ℤ)) → me < n → AreInOrder n events → start_at (view_of events me) k ≡ Some call → is_enter call ≡ true → inputs_of n (view_of events) me (view_of events me) k call ≡ Ok inputs → break_inner n (view_of events) me (view_of events me) k (Some call) ≡ None → IsCollective n events me k call
 gathered_is n events me k call inputs below order at is gathered whole =
     record { below = below; order = order; start = at; is = is; there = ap absent_of gathered; agrees = whole }
 
-inner_gathered : (n : ℕ) (group : List ℕ) (events : List Event) (me k : ℕ) (call : Call) (found : Result (List (List ℤ)) ℕ) (got : Got) → me < n → AreInOrder n events → start_at (view_of events me) k ≡ Some call → is_enter call ≡ true → makes call ≡ false → inputs_of n (view_of events) (view_of events me) me k call ≡ found → joined n (view_of events me) me k call found ≡ Ok got → break_inner n (view_of events) (view_of events me) me k (Some call) ≡ None → got_fits n (view_of events me) me (Some call) got ≡ true
+inner_gathered : (n : ℕ) (group : List ℕ) (events : List Event) (me k : ℕ) (call : Call) (found : Result (List (List ℤ)) ℕ) (got : Got) → me < n → AreInOrder n events → start_at (view_of events me) k ≡ Some call → is_enter call ≡ true → makes call ≡ false → inputs_of n (view_of events) me (view_of events me) k call ≡ found → joined n me (view_of events me) k call found ≡ Ok got → break_inner n (view_of events) me (view_of events me) k (Some call) ≡ None → got_fits n me (view_of events me) (Some call) got ≡ true
 inner_gathered n group events me k call (Ok inputs) got below order at is making gathered given whole =
     let same : Joined (result_of call (members_in n (view_of events me) (comm_of call)) inputs me) ≡ got = cc in
     let collective = gathered_is n events me k call inputs below order at is gathered whole in
     rw (← same) (joined_shape n (view_of events me) me call (result_of call (members_in n (view_of events me) (comm_of call)) inputs me) is making (joined_shaped n events me k call inputs collective gathered))
 inner_gathered n group events me k call (Err m) got below order at is making gathered given whole = absurd (cc)
 
-made_gathered : (n : ℕ) (events : List Event) (me k comm : ℕ) (call : Call) (found : Result (List (List ℤ)) ℕ) (got : Got) → me < n → AreInOrder n events → (comm == 0) ≡ false → start_at (view_of events me) k ≡ Some call → is_enter call ≡ true → makes call ≡ true → is_uncoloured call ≡ false → inputs_of n (view_of events) (view_of events me) me k call ≡ found → made_new comm n (view_of events me) me k call found ≡ Ok got → break_inner n (view_of events) (view_of events me) me k (Some call) ≡ None → got_fits n (view_of events me) me (Some call) got ≡ true
+made_gathered : (n : ℕ) (events : List Event) (me k comm : ℕ) (call : Call) (found : Result (List (List ℤ)) ℕ) (got : Got) → me < n → AreInOrder n events → (comm == 0) ≡ false → start_at (view_of events me) k ≡ Some call → is_enter call ≡ true → makes call ≡ true → is_uncoloured call ≡ false → inputs_of n (view_of events) me (view_of events me) k call ≡ found → made_new comm n me (view_of events me) k call found ≡ Ok got → break_inner n (view_of events) me (view_of events me) k (Some call) ≡ None → got_fits n me (view_of events me) (Some call) got ≡ true
 made_gathered n events me k comm call (Ok inputs) got below order real at is making coloured gathered given whole =
     let M : List ℕ = members_in n (view_of events me) (comm_of call) in
     let same : Made comm (members_made call M inputs me) ≡ got = cc in
@@ -295,21 +295,21 @@ made_gathered n events me k comm call (Ok inputs) got below order real at is mak
 made_gathered n events me k comm call (Err m) got below order real at is making coloured gathered given whole = absurd (cc)
 
 -- an inner result and an inner communicator
-inner_shaped : (n : ℕ) (group : List ℕ) (events : List Event) (me k : ℕ) (start : Option Call) (got : Got) → me < n → AreInOrder n events → start_at (view_of events me) k ≡ start → mark_fits n group me (view_of events me) start Inner ≡ true → fill_inner n (view_of events) (view_of events me) me k start ≡ Ok got → break_inner n (view_of events) (view_of events me) me k start ≡ None → got_fits n (view_of events me) me start got ≡ true
+inner_shaped : (n : ℕ) (group : List ℕ) (events : List Event) (me k : ℕ) (start : Option Call) (got : Got) → me < n → AreInOrder n events → start_at (view_of events me) k ≡ start → mark_fits n group me (view_of events me) start Inner ≡ true → fill_inner n (view_of events) me (view_of events me) k start ≡ Ok got → break_inner n (view_of events) me (view_of events me) k start ≡ None → got_fits n me (view_of events me) start got ≡ true
 inner_shaped n group events me k None got below order at fit made whole = absurd (cc)
 inner_shaped n group events me k (Some call) got below order at fit made whole =
     let parts = inner_parts n group me (view_of events me) call fit in
-    inner_gathered n group events me k call (inputs_of n (view_of events) (view_of events me) me k call) got below order at parts.0 parts.1 refl made whole
+    inner_gathered n group events me k call (inputs_of n (view_of events) me (view_of events me) k call) got below order at parts.0 parts.1 refl made whole
 
-made_shaped : (n : ℕ) (group : List ℕ) (events : List Event) (me k comm : ℕ) (start : Option Call) (got : Got) → me < n → AreInOrder n events → (comm == 0) ≡ false → start_at (view_of events me) k ≡ start → mark_fits n group me (view_of events me) start (MarkMade comm) ≡ true → fill_made comm n (view_of events) (view_of events me) me k start ≡ Ok got → break_inner n (view_of events) (view_of events me) me k start ≡ None → got_fits n (view_of events me) me start got ≡ true
+made_shaped : (n : ℕ) (group : List ℕ) (events : List Event) (me k comm : ℕ) (start : Option Call) (got : Got) → me < n → AreInOrder n events → (comm == 0) ≡ false → start_at (view_of events me) k ≡ start → mark_fits n group me (view_of events me) start (MarkMade comm) ≡ true → fill_made comm n (view_of events) me (view_of events me) k start ≡ Ok got → break_inner n (view_of events) me (view_of events me) k start ≡ None → got_fits n me (view_of events me) start got ≡ true
 made_shaped n group events me k comm None got below order real at fit made whole = absurd (cc)
 made_shaped n group events me k comm (Some call) got below order real at fit made whole =
-    made_gathered n events me k comm call (inputs_of n (view_of events) (view_of events me) me k call) got below order real at
+    made_gathered n events me k comm call (inputs_of n (view_of events) me (view_of events me) k call) got below order real at
     (enter_for-made n group me (view_of events me) (Some call) comm call fit refl) (made_parts n group me (view_of events me) call comm fit).making
     ((made_parts n group me (view_of events me) call comm fit).some real) refl made whole
 
 -- a mark for start k
-mark_shaped : (n : ℕ) (group : List ℕ) (events : List Event) (me k : ℕ) (mark : Mark) (got : Got) → me < n → AreInOrder n events → is_member group me ≡ true → mark_fits n group me (view_of events me) (start_at (view_of events me) k) mark ≡ true → fill_mark n (view_of events) (view_of events me) me k mark ≡ Ok got → break_mark n (view_of events) (view_of events me) me k mark ≡ None → got_fits n (view_of events me) me (start_at (view_of events me) k) got ≡ true
+mark_shaped : (n : ℕ) (group : List ℕ) (events : List Event) (me k : ℕ) (mark : Mark) (got : Got) → me < n → AreInOrder n events → is_member group me ≡ true → mark_fits n group me (view_of events me) (start_at (view_of events me) k) mark ≡ true → fill_mark n (view_of events) me (view_of events me) k mark ≡ Ok got → break_mark n (view_of events) me (view_of events me) k mark ≡ None → got_fits n me (view_of events me) (start_at (view_of events me) k) got ≡ true
 mark_shaped n group events me k MarkSent got below order mine fit made whole = (let same : Sent ≡ got = cc in rw (← same) (sent_mark n group (view_of events me) me (start_at (view_of events me) k) fit))
 mark_shaped n group events me k MarkNothing got below order mine fit made whole = (let same : Nothing ≡ got = cc in rw (← same) (nothing_mark n group (view_of events me) me (start_at (view_of events me) k) fit))
 mark_shaped n group events me k (Inside source start) got below order mine fit made whole =
@@ -333,7 +333,7 @@ mark_shaped n group events me k (MadeOutside comm members) got below order mine 
 
 -- the items that marks represent
 pub record ItemsShaped (n : ℕ) (own : View) (me : ℕ) (starts : List ℕ) (marks : List Marked) (items : List Item) : Type 0 where
-  pub gots : gots_fit n own me starts items ≡ true
+  pub gots : gots_fit n me own starts items ≡ true
   pub indices : map (λ (item : Item). item.index) items ≡ map (λ (marked : Marked). marked.index) marks
 
 pushed_ok : (index : ℕ) (first : Result Got Missing) (rest : Result (List Item) Missing) (items : List Item) → push_item index first rest ≡ Ok items → (got : Got) × (others : List Item) × (first ≡ Ok got) × (rest ≡ Ok others) × ((record { index = index; got = got }) ∷ others ≡ items)
@@ -341,20 +341,20 @@ pushed_ok index (Ok got) (Ok others) items h = (got, others, refl, refl, cc)
 pushed_ok index (Ok got) (Err missing) items h = absurd (cc)
 pushed_ok index (Err missing) rest items h = absurd (cc)
 
-items_shaped : (n : ℕ) (group : List ℕ) (events : List Event) (me : ℕ) (starts : List ℕ) (marks : List Marked) (items : List Item) → me < n → AreInOrder n events → is_member group me ≡ true → marks_fit n group me (view_of events me) starts marks ≡ true → fill_marks n (view_of events) (view_of events me) me starts marks ≡ Ok items → break_marks n (view_of events) (view_of events me) me starts marks ≡ None → ItemsShaped n (view_of events me) me starts marks items
+items_shaped : (n : ℕ) (group : List ℕ) (events : List Event) (me : ℕ) (starts : List ℕ) (marks : List Marked) (items : List Item) → me < n → AreInOrder n events → is_member group me ≡ true → marks_fit n group me (view_of events me) starts marks ≡ true → fill_marks n (view_of events) me (view_of events me) starts marks ≡ Ok items → break_marks n (view_of events) me (view_of events me) starts marks ≡ None → ItemsShaped n (view_of events me) me starts marks items
 items_shaped n group events me starts [] items below order mine fit made whole = (let same : [] ≡ items = cc in rw (← same) (record { gots = refl; indices = refl }))
 items_shaped n group events me starts (marked ∷ marks) items below order mine fit made whole =
     let k : ℕ = slice_index starts marked.index in
     let parts = and_parts (mark_fits n group me (view_of events me) (start_at (view_of events me) k) marked.mark) (marks_fit n group me (view_of events me) starts marks) fit in
-    let parts_of = pushed_ok marked.index (fill_mark n (view_of events) (view_of events me) me k marked.mark) (fill_marks n (view_of events) (view_of events me) me starts marks) items made in
-    let first = mark_shaped n group events me k marked.mark parts_of.0 below order mine parts.0 parts_of.2 (or_none-first (break_mark n (view_of events) (view_of events me) me k marked.mark) (break_marks n (view_of events) (view_of events me) me starts marks) whole) in
-    let rest = items_shaped n group events me starts marks parts_of.1 below order mine parts.1 parts_of.3 (or_none-rest (break_mark n (view_of events) (view_of events me) me k marked.mark) (break_marks n (view_of events) (view_of events me) me starts marks) whole) in
+    let parts_of = pushed_ok marked.index (fill_mark n (view_of events) me (view_of events me) k marked.mark) (fill_marks n (view_of events) me (view_of events me) starts marks) items made in
+    let first = mark_shaped n group events me k marked.mark parts_of.0 below order mine parts.0 parts_of.2 (or_none-first (break_mark n (view_of events) me (view_of events me) k marked.mark) (break_marks n (view_of events) me (view_of events me) starts marks) whole) in
+    let rest = items_shaped n group events me starts marks parts_of.1 below order mine parts.1 parts_of.3 (or_none-rest (break_mark n (view_of events) me (view_of events me) k marked.mark) (break_marks n (view_of events) me (view_of events me) starts marks) whole) in
     rw (← parts_of.4) (record { gots = rw (first, rest.gots) refl; indices = ap (λ l. marked.index ∷ l) rest.indices })
 
 length-indices : (marks : List Marked) (items : List Item) → map (λ (item : Item). item.index) items ≡ map (λ (marked : Marked). marked.index) marks → length items ≡ length marks
 length-indices marks items h = sym (length-map items (λ (item : Item). item.index)) ∙ (ap length h ∙ length-map marks (λ (marked : Marked). marked.index))
 
-took_shaped : (n : ℕ) (group : List ℕ) (events : List Event) (me : ℕ) (starts : List ℕ) (mode : TakeMode) (marks : List Marked) (items : List Item) → me < n → AreInOrder n events → is_member group me ≡ true → TakeFits n group me (view_of events me) starts mode marks → fill_marks n (view_of events) (view_of events me) me starts marks ≡ Ok items → break_marks n (view_of events) (view_of events me) me starts marks ≡ None → has_shape n me (view_of events me) (Take starts mode) (ReplyTook items) ≡ true
+took_shaped : (n : ℕ) (group : List ℕ) (events : List Event) (me : ℕ) (starts : List ℕ) (mode : TakeMode) (marks : List Marked) (items : List Item) → me < n → AreInOrder n events → is_member group me ≡ true → TakeFits n group me (view_of events me) starts mode marks → fill_marks n (view_of events) me (view_of events me) starts marks ≡ Ok items → break_marks n (view_of events) me (view_of events me) starts marks ≡ None → has_shape n me (view_of events me) (Take starts mode) (ReplyTook items) ≡ true
 took_shaped n group events me starts mode marks items below order mine fit made whole =
     let shaped = items_shaped n group events me starts marks items below order mine fit.marks_are made whole in
     rw (length-indices marks items shaped.indices, fit.count, shaped.indices, fit.indices, fit.open_starts, shaped.gots) refl
@@ -379,7 +379,7 @@ as_took_ok (Ok items) reply h = (items, refl, cc)
 as_took_ok (Err missing) reply h = absurd (cc)
 
 -- an entry that fits, with all that it rests on
-entry_shaped : (n : ℕ) (group : List ℕ) (events : List Event) (me : ℕ) (call : Call) (entry : Entry) (reply : Reply) → me < n → AreInOrder n events → is_member group me ≡ true → fits n group me (view_of events me) call entry ≡ true → filled n (view_of events) (view_of events me) me call entry ≡ Ok reply → broken n (view_of events) (view_of events me) me call entry ≡ None → has_shape n me (view_of events me) call reply ≡ true
+entry_shaped : (n : ℕ) (group : List ℕ) (events : List Event) (me : ℕ) (call : Call) (entry : Entry) (reply : Reply) → me < n → AreInOrder n events → is_member group me ≡ true → fits n group me (view_of events me) call entry ≡ true → filled n (view_of events) me (view_of events me) call entry ≡ Ok reply → broken n (view_of events) me (view_of events me) call entry ≡ None → has_shape n me (view_of events me) call reply ≡ true
 unfolding fits
 entry_shaped n group events me call (EntryStopped halt) reply below order mine fit made whole = (let same : Stopped halt ≡ reply = cc in rw (← same) fit)
 entry_shaped n group events me (Send comm dest tag ints sync) EntrySent reply below order mine fit made whole = (let same : Done ≡ reply = cc in rw (← same) refl)
@@ -393,7 +393,7 @@ entry_shaped n group events me (Peek comm from wanted wait) (PeekedInside source
 entry_shaped n group events me (Peek comm from wanted wait) (PeekedOutside source start tag count) reply below order mine fit made whole =
     (let same : Peeked source start tag count ≡ reply = cc in rw (← same) fit)
 entry_shaped n group events me (Take starts mode) (Took marks) reply below order mine fit made whole =
-    let took = as_took_ok (fill_marks n (view_of events) (view_of events me) me starts marks) reply made in
+    let took = as_took_ok (fill_marks n (view_of events) me (view_of events me) starts marks) reply made in
     rw (← took.2) (took_shaped n group events me starts mode marks took.0 below order mine (TakeFits-fits n group me (view_of events me) starts mode marks fit) took.1 whole)
 entry_shaped n group events me call entry reply below order mine fit made whole = absurd (cc)
 
@@ -402,18 +402,18 @@ judged_ok me own call entry (Ok given) None reply h = (let same : given ≡ repl
 judged_ok me own call entry (Ok given) (Some found) reply h = absurd (cc)
 judged_ok me own call entry (Err missing) found reply h = absurd (cc)
 
-found_shaped : (n : ℕ) (group : List ℕ) (events : List Event) (me : ℕ) (call : Call) (found : Option Entry) (reply : Reply) → me < n → AreInOrder n events → is_member group me ≡ true → entry_answer n group (view_of events) (view_of events me) me call found ≡ Replied reply → has_shape n me (view_of events me) call reply ≡ true
+found_shaped : (n : ℕ) (group : List ℕ) (events : List Event) (me : ℕ) (call : Call) (found : Option Entry) (reply : Reply) → me < n → AreInOrder n events → is_member group me ≡ true → entry_answer n group (view_of events) me (view_of events me) call found ≡ Replied reply → has_shape n me (view_of events me) call reply ≡ true
 found_shaped n group events me call None reply below order mine h = absurd (cc)
 found_shaped n group events me call (Some entry) reply below order mine h =
     elim (test_cases (fits n group me (view_of events me) call entry)) [
       | inl fit ↦ (
-          let ok = judged_ok me (view_of events me) call entry (filled n (view_of events) (view_of events me) me call entry) (broken n (view_of events) (view_of events me) me call entry) reply (rw fit at h) in
+          let ok = judged_ok me (view_of events me) call entry (filled n (view_of events) me (view_of events me) call entry) (broken n (view_of events) me (view_of events me) call entry) reply (rw fit at h) in
           entry_shaped n group events me call entry reply below order mine fit ok.0 ok.1)
       | inr unfit ↦ (let told = rw unfit at h in absurd (cc))
     ]
 
 -- the answer of a log has the shape of the call
-pub answer_shaped : (log : Log) (stop : Breakpoint) (events : List Event) (me : ℕ) (call : Call) (reply : Reply) → me < log.ranks → AreInOrder log.ranks events → is_member log.group me ≡ true → answer_of log stop (view_of events) (view_of events me) me call ≡ Replied reply → has_shape log.ranks me (view_of events me) call reply ≡ true
+pub answer_shaped : (log : Log) (stop : Breakpoint) (events : List Event) (me : ℕ) (call : Call) (reply : Reply) → me < log.ranks → AreInOrder log.ranks events → is_member log.group me ≡ true → answer_of log stop (view_of events) me (view_of events me) call ≡ Replied reply → has_shape log.ranks me (view_of events me) call reply ≡ true
 answer_shaped log stop events me call reply below order mine h =
     elim (test_cases (is_break stop me (length (view_of events me)))) [
       | inl stops ↦ (let told = rw stops at h in absurd (cc))

@@ -15,5 +15,5 @@ pub record IsCollective (n : ℕ) (events : List Event) (rank k : ℕ) (enter : 
   pub order : AreInOrder n events
   pub start : start_at (view_of events rank) k ≡ Some enter
   pub is : is_enter enter ≡ true
-  pub there : absent_of (inputs_of n (view_of events) (view_of events rank) rank k enter) ≡ None
-  pub agrees : break_inner n (view_of events) (view_of events rank) rank k (Some enter) ≡ None
+  pub there : absent_of (inputs_of n (view_of events) rank (view_of events rank) k enter) ≡ None
+  pub agrees : break_inner n (view_of events) rank (view_of events rank) k (Some enter) ≡ None

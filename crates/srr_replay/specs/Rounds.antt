@@ -47,7 +47,7 @@ pub record RunAll {P R : Type 0} (standing : R → Standing P) (program : P) (lo
 -- an attempt of a rank: one event more, where it has a step
 abbrev pub attempt_with : Log → Breakpoint → List Event → ℕ → Option Call → List Event
 attempt_with log stop events rank None = events
-attempt_with log stop events rank (Some call) = events_after events rank call (answer_of log stop (view_of events) (view_of events rank) rank call)
+attempt_with log stop events rank (Some call) = events_after events rank call (answer_of log stop (view_of events) rank (view_of events rank) call)
 
 -- an attempt of a rank with its program's next call
 abbrev pub attempt : Next → Log → Breakpoint → List Event → ℕ → List Event

@@ -30,8 +30,8 @@ pub fn answer(
     requires rank { asked.now.rank < seen.now.ranks }
     requires number { asked.now.number ≡ length (view_of seen.now.events asked.now.rank) }
     requires order { AreInOrder seen.now.ranks seen.now.events }
-    ensures answer { IfOk result (λ step. step ≡ answer_of log.now stop.now (view_of seen.now.events) (view_of seen.now.events asked.now.rank) asked.now.rank asked.now.call.now) }
-    ensures sure { takes_none (answer_of log.now stop.now (view_of seen.now.events) (view_of seen.now.events asked.now.rank) asked.now.rank asked.now.call.now) ≡ true → IsOk result }
+    ensures answer { IfOk result (λ step. step ≡ answer_of log.now stop.now (view_of seen.now.events) asked.now.rank (view_of seen.now.events asked.now.rank) asked.now.call.now) }
+    ensures sure { takes_none (answer_of log.now stop.now (view_of seen.now.events) asked.now.rank (view_of seen.now.events asked.now.rank) asked.now.call.now) ≡ true → IsOk result }
 {
     if is_at(stop, asked.rank, asked.number) {
         return Ok(Step::AtBreak);
@@ -64,8 +64,8 @@ fn answer_by(
     requires rank { asked.now.rank < seen.now.ranks }
     requires number { asked.now.number ≡ length (view_of seen.now.events asked.now.rank) }
     requires order { AreInOrder seen.now.ranks seen.now.events }
-    ensures answer { IfOk result (λ step. step ≡ entry_answer seen.now.ranks group.now (view_of seen.now.events) (view_of seen.now.events asked.now.rank) asked.now.rank asked.now.call.now (Some entry.now)) }
-    ensures sure { takes_none (entry_answer seen.now.ranks group.now (view_of seen.now.events) (view_of seen.now.events asked.now.rank) asked.now.rank asked.now.call.now (Some entry.now)) ≡ true → IsOk result }
+    ensures answer { IfOk result (λ step. step ≡ entry_answer seen.now.ranks group.now (view_of seen.now.events) asked.now.rank (view_of seen.now.events asked.now.rank) asked.now.call.now (Some entry.now)) }
+    ensures sure { takes_none (entry_answer seen.now.ranks group.now (view_of seen.now.events) asked.now.rank (view_of seen.now.events asked.now.rank) asked.now.call.now (Some entry.now)) ≡ true → IsOk result }
 {
     if !fits(group, seen, asked, entry) {
         return diverge(asked, entry, None);

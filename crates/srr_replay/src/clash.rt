@@ -36,7 +36,7 @@ pub fn find_clash<'a>(
 ) -> Option<Clash<'a>>
     requires order { IsInOrder seen.now.ranks asked.now.rank (view_of seen.now.events asked.now.rank) }
     requires fits { (group : List ℕ) × (fits seen.now.ranks group asked.now.rank (view_of seen.now.events asked.now.rank) asked.now.call.now entry.now ≡ true) }
-    ensures { option_map found_of result ≡ broken seen.now.ranks (view_of seen.now.events) (view_of seen.now.events asked.now.rank) asked.now.rank asked.now.call.now entry.now }
+    ensures { option_map found_of result ≡ broken seen.now.ranks (view_of seen.now.events) asked.now.rank (view_of seen.now.events asked.now.rank) asked.now.call.now entry.now }
 {
     match entry {
         Entry::Took(marks) => match asked.call {
@@ -61,7 +61,7 @@ fn clash_in_marks<'a>(
 ) -> Option<Clash<'a>>
     requires order { IsInOrder seen.now.ranks rank (view_of seen.now.events rank) }
     requires fits { (group : List ℕ) × (marks_fit seen.now.ranks group rank (view_of seen.now.events rank) starts.now marks.now ≡ true) }
-    ensures { option_map found_of result ≡ break_marks seen.now.ranks (view_of seen.now.events) (view_of seen.now.events rank) rank starts.now marks.now }
+    ensures { option_map found_of result ≡ break_marks seen.now.ranks (view_of seen.now.events) rank (view_of seen.now.events rank) starts.now marks.now }
 {
     let mut rest = marks;
     while let [marked, after @ ..] = rest {
@@ -83,7 +83,7 @@ fn clash_in_mark<'a>(
 ) -> Option<Clash<'a>>
     requires order { IsInOrder seen.now.ranks rank (view_of seen.now.events rank) }
     requires fits { (group : List ℕ) × (mark_fits seen.now.ranks group rank (view_of seen.now.events rank) (start_at (view_of seen.now.events rank) start) mark.now ≡ true) }
-    ensures { option_map found_of result ≡ break_mark seen.now.ranks (view_of seen.now.events) (view_of seen.now.events rank) rank start mark.now }
+    ensures { option_map found_of result ≡ break_mark seen.now.ranks (view_of seen.now.events) rank (view_of seen.now.events rank) start mark.now }
 {
     match mark {
         Mark::Inside {
@@ -167,7 +167,7 @@ fn is_fitting(rank: u8, source: u8, taker: Option<&Call>, sent: &Call) -> bool
 fn clash_entered<'a>(seen: &'a IndexedHistory, rank: u8, start: u32) -> Option<Clash<'a>>
     requires order { IsInOrder seen.now.ranks rank (view_of seen.now.events rank) }
     requires enter { IsEnterAt (view_of seen.now.events rank) start }
-    ensures { option_map found_of result ≡ break_inner seen.now.ranks (view_of seen.now.events) (view_of seen.now.events rank) rank start (start_at (view_of seen.now.events rank) start) }
+    ensures { option_map found_of result ≡ break_inner seen.now.ranks (view_of seen.now.events) rank (view_of seen.now.events rank) start (start_at (view_of seen.now.events rank) start) }
 {
     match seen.start(rank, start) {
         Some(call) => clash_for(seen, rank, start, call),
@@ -180,7 +180,7 @@ fn clash_for<'a>(seen: &'a IndexedHistory, rank: u8, start: u32, call: &Call) ->
     requires order { IsInOrder seen.now.ranks rank (view_of seen.now.events rank) }
     requires start { start_at (view_of seen.now.events rank) start ≡ Some call.now }
     requires enter { is_enter call.now ≡ true }
-    ensures { option_map found_of result ≡ break_inner seen.now.ranks (view_of seen.now.events) (view_of seen.now.events rank) rank start (Some call.now) }
+    ensures { option_map found_of result ≡ break_inner seen.now.ranks (view_of seen.now.events) rank (view_of seen.now.events rank) start (Some call.now) }
 {
     let comm = comm_of(call);
     let instance = seen.instance(rank, start, comm);

@@ -36,9 +36,9 @@ pub fn reply(
     requires rank { asked.now.rank < seen.now.ranks }
     requires order { AreInOrder seen.now.ranks seen.now.events }
     requires fits { (group : List ℕ) × (fits seen.now.ranks group asked.now.rank (view_of seen.now.events asked.now.rank) asked.now.call.now entry.now ≡ true) }
-    requires there { missing_of (filled seen.now.ranks (view_of seen.now.events) (view_of seen.now.events asked.now.rank) asked.now.rank asked.now.call.now entry.now) ≡ None }
-    requires agrees { broken seen.now.ranks (view_of seen.now.events) (view_of seen.now.events asked.now.rank) asked.now.rank asked.now.call.now entry.now ≡ None }
-    ensures { IfOk result (λ reply. filled seen.now.ranks (view_of seen.now.events) (view_of seen.now.events asked.now.rank) asked.now.rank asked.now.call.now entry.now ≡ Ok reply) }
+    requires there { missing_of (filled seen.now.ranks (view_of seen.now.events) asked.now.rank (view_of seen.now.events asked.now.rank) asked.now.call.now entry.now) ≡ None }
+    requires agrees { broken seen.now.ranks (view_of seen.now.events) asked.now.rank (view_of seen.now.events asked.now.rank) asked.now.call.now entry.now ≡ None }
+    ensures { IfOk result (λ reply. filled seen.now.ranks (view_of seen.now.events) asked.now.rank (view_of seen.now.events asked.now.rank) asked.now.call.now entry.now ≡ Ok reply) }
 {
     match entry {
         Entry::Sent | Entry::Posted | Entry::Entered | Entry::Ended => Ok(Reply::Done),
@@ -95,9 +95,9 @@ fn items(
     requires rank { rank < seen.now.ranks }
     requires order { AreInOrder seen.now.ranks seen.now.events }
     requires fits { (group : List ℕ) × (marks_fit seen.now.ranks group rank (view_of seen.now.events rank) starts.now marks.now ≡ true) }
-    requires there { missing_of (fill_marks seen.now.ranks (view_of seen.now.events) (view_of seen.now.events rank) rank starts.now marks.now) ≡ None }
-    requires agrees { break_marks seen.now.ranks (view_of seen.now.events) (view_of seen.now.events rank) rank starts.now marks.now ≡ None }
-    ensures { IfOk result (λ items. fill_marks seen.now.ranks (view_of seen.now.events) (view_of seen.now.events rank) rank starts.now marks.now ≡ Ok items) }
+    requires there { missing_of (fill_marks seen.now.ranks (view_of seen.now.events) rank (view_of seen.now.events rank) starts.now marks.now) ≡ None }
+    requires agrees { break_marks seen.now.ranks (view_of seen.now.events) rank (view_of seen.now.events rank) starts.now marks.now ≡ None }
+    ensures { IfOk result (λ items. fill_marks seen.now.ranks (view_of seen.now.events) rank (view_of seen.now.events rank) starts.now marks.now ≡ Ok items) }
 {
     let mut found = Items::new(alloc);
     let mut rest = marks;
@@ -124,9 +124,9 @@ fn got(
     requires rank { rank < seen.now.ranks }
     requires order { AreInOrder seen.now.ranks seen.now.events }
     requires fits { (group : List ℕ) × (mark_fits seen.now.ranks group rank (view_of seen.now.events rank) (start_at (view_of seen.now.events rank) start) mark.now ≡ true) }
-    requires there { missing_of (fill_mark seen.now.ranks (view_of seen.now.events) (view_of seen.now.events rank) rank start mark.now) ≡ None }
-    requires agrees { break_mark seen.now.ranks (view_of seen.now.events) (view_of seen.now.events rank) rank start mark.now ≡ None }
-    ensures { IfOk result (λ got. fill_mark seen.now.ranks (view_of seen.now.events) (view_of seen.now.events rank) rank start mark.now ≡ Ok got) }
+    requires there { missing_of (fill_mark seen.now.ranks (view_of seen.now.events) rank (view_of seen.now.events rank) start mark.now) ≡ None }
+    requires agrees { break_mark seen.now.ranks (view_of seen.now.events) rank (view_of seen.now.events rank) start mark.now ≡ None }
+    ensures { IfOk result (λ got. fill_mark seen.now.ranks (view_of seen.now.events) rank (view_of seen.now.events rank) start mark.now ≡ Ok got) }
 {
     match mark {
         Mark::Sent => Ok(Got::Sent),
@@ -209,9 +209,9 @@ fn result_of(alloc: Global, seen: &IndexedHistory, rank: u8, start: u32) -> Resu
     requires rank { rank < seen.now.ranks }
     requires order { AreInOrder seen.now.ranks seen.now.events }
     requires enter { (call : Call) → start_at (view_of seen.now.events rank) start ≡ Some call → (is_enter call ≡ true) × (makes call ≡ false) }
-    requires there { missing_of (fill_inner seen.now.ranks (view_of seen.now.events) (view_of seen.now.events rank) rank start (start_at (view_of seen.now.events rank) start)) ≡ None }
-    requires agrees { break_inner seen.now.ranks (view_of seen.now.events) (view_of seen.now.events rank) rank start (start_at (view_of seen.now.events rank) start) ≡ None }
-    ensures { IfOk result (λ got. fill_inner seen.now.ranks (view_of seen.now.events) (view_of seen.now.events rank) rank start (start_at (view_of seen.now.events rank) start) ≡ Ok got) }
+    requires there { missing_of (fill_inner seen.now.ranks (view_of seen.now.events) rank (view_of seen.now.events rank) start (start_at (view_of seen.now.events rank) start)) ≡ None }
+    requires agrees { break_inner seen.now.ranks (view_of seen.now.events) rank (view_of seen.now.events rank) start (start_at (view_of seen.now.events rank) start) ≡ None }
+    ensures { IfOk result (λ got. fill_inner seen.now.ranks (view_of seen.now.events) rank (view_of seen.now.events rank) start (start_at (view_of seen.now.events rank) start) ≡ Ok got) }
 {
     match seen.start(rank, start) {
         Some(call) => {
@@ -232,7 +232,7 @@ fn result_for(
 ) -> Result<Ints, AllocError>
     requires collective { IsCollective seen.now.ranks seen.now.events rank start call.now }
     requires kind { makes call.now ≡ false }
-    ensures { IfOk result (λ ints. joined seen.now.ranks (view_of seen.now.events rank) rank start call.now (inputs_of seen.now.ranks (view_of seen.now.events) (view_of seen.now.events rank) rank start call.now) ≡ Ok (Joined ints)) }
+    ensures { IfOk result (λ ints. joined seen.now.ranks rank (view_of seen.now.events rank) start call.now (inputs_of seen.now.ranks (view_of seen.now.events) rank (view_of seen.now.events rank) start call.now) ≡ Ok (Joined ints)) }
 {
     let comm = comm_of(call);
     let instance = seen.instance(rank, start, comm);
@@ -252,9 +252,9 @@ fn made_of(
     requires rank { rank < seen.now.ranks }
     requires order { AreInOrder seen.now.ranks seen.now.events }
     requires enter { (call : Call) → start_at (view_of seen.now.events rank) start ≡ Some call → (is_enter call ≡ true) × (makes call ≡ true) }
-    requires there { missing_of (fill_made comm seen.now.ranks (view_of seen.now.events) (view_of seen.now.events rank) rank start (start_at (view_of seen.now.events rank) start)) ≡ None }
-    requires agrees { break_inner seen.now.ranks (view_of seen.now.events) (view_of seen.now.events rank) rank start (start_at (view_of seen.now.events rank) start) ≡ None }
-    ensures { IfOk result (λ got. fill_made comm seen.now.ranks (view_of seen.now.events) (view_of seen.now.events rank) rank start (start_at (view_of seen.now.events rank) start) ≡ Ok got) }
+    requires there { missing_of (fill_made comm seen.now.ranks (view_of seen.now.events) rank (view_of seen.now.events rank) start (start_at (view_of seen.now.events rank) start)) ≡ None }
+    requires agrees { break_inner seen.now.ranks (view_of seen.now.events) rank (view_of seen.now.events rank) start (start_at (view_of seen.now.events rank) start) ≡ None }
+    ensures { IfOk result (λ got. fill_made comm seen.now.ranks (view_of seen.now.events) rank (view_of seen.now.events rank) start (start_at (view_of seen.now.events rank) start) ≡ Ok got) }
 {
     match seen.start(rank, start) {
         Some(call) => {
@@ -275,7 +275,7 @@ fn members_for(
 ) -> Result<Ranks, AllocError>
     requires collective { IsCollective seen.now.ranks seen.now.events rank start call.now }
     requires kind { makes call.now ≡ true }
-    ensures { IfOk result (λ members. (comm : ℕ) → made_new comm seen.now.ranks (view_of seen.now.events rank) rank start call.now (inputs_of seen.now.ranks (view_of seen.now.events) (view_of seen.now.events rank) rank start call.now) ≡ Ok (Made comm members)) }
+    ensures { IfOk result (λ members. (comm : ℕ) → made_new comm seen.now.ranks rank (view_of seen.now.events rank) start call.now (inputs_of seen.now.ranks (view_of seen.now.events) rank (view_of seen.now.events rank) start call.now) ≡ Ok (Made comm members)) }
 {
     let comm = comm_of(call);
     let instance = seen.instance(rank, start, comm);

@@ -250,7 +250,7 @@ fn is_inner(group: &[u8], seen: &IndexedHistory, rank: u8, start: u32, call: &Ca
 fn is_sized(seen: &IndexedHistory, rank: u8, call: &Call, len: usize) -> bool
     requires enter { is_enter call.now ≡ true }
     requires makes { makes call.now ≡ false }
-    ensures { (ints : List ℤ) → len ≡ length ints → result ≡ is_sized seen.now.ranks (view_of seen.now.events rank) rank call.now ints }
+    ensures { (ints : List ℤ) → len ≡ length ints → result ≡ is_sized seen.now.ranks rank (view_of seen.now.events rank) call.now ints }
 {
     let members = seen.members(rank, comm_of(call));
     shape::is_result_length(call, members.as_slice().len(), rank, len)

@@ -23,7 +23,7 @@ use srr_entry::entry::{Entry, Mark, Marked};
 pub fn find_missing(seen: &IndexedHistory, asked: &NextCall<'_>, entry: &Entry) -> Option<Missing>
     requires order { IsInOrder seen.now.ranks asked.now.rank (view_of seen.now.events asked.now.rank) }
     requires fits { (group : List ℕ) × (fits seen.now.ranks group asked.now.rank (view_of seen.now.events asked.now.rank) asked.now.call.now entry.now ≡ true) }
-    ensures { result ≡ missing_of (filled seen.now.ranks (view_of seen.now.events) (view_of seen.now.events asked.now.rank) asked.now.rank asked.now.call.now entry.now) }
+    ensures { result ≡ missing_of (filled seen.now.ranks (view_of seen.now.events) asked.now.rank (view_of seen.now.events asked.now.rank) asked.now.call.now entry.now) }
 {
     match entry {
         Entry::Took(marks) => match asked.call {
@@ -55,7 +55,7 @@ fn missing_in_marks(
 ) -> Option<Missing>
     requires order { IsInOrder seen.now.ranks rank (view_of seen.now.events rank) }
     requires fits { (group : List ℕ) × (marks_fit seen.now.ranks group rank (view_of seen.now.events rank) starts.now marks.now ≡ true) }
-    ensures { result ≡ missing_of (fill_marks seen.now.ranks (view_of seen.now.events) (view_of seen.now.events rank) rank starts.now marks.now) }
+    ensures { result ≡ missing_of (fill_marks seen.now.ranks (view_of seen.now.events) rank (view_of seen.now.events rank) starts.now marks.now) }
 {
     let mut rest = marks;
     while let [marked, after @ ..] = rest {
@@ -72,7 +72,7 @@ fn missing_in_marks(
 fn missing_in_mark(seen: &IndexedHistory, rank: u8, start: u32, mark: &Mark) -> Option<Missing>
     requires order { IsInOrder seen.now.ranks rank (view_of seen.now.events rank) }
     requires fits { (group : List ℕ) × (mark_fits seen.now.ranks group rank (view_of seen.now.events rank) (start_at (view_of seen.now.events rank) start) mark.now ≡ true) }
-    ensures { result ≡ missing_of (fill_mark seen.now.ranks (view_of seen.now.events) (view_of seen.now.events rank) rank start mark.now) }
+    ensures { result ≡ missing_of (fill_mark seen.now.ranks (view_of seen.now.events) rank (view_of seen.now.events rank) start mark.now) }
 {
     match mark {
         Mark::Inside { source, start } => missing_sent(seen, *source, *start),
@@ -102,8 +102,8 @@ fn missing_sent(seen: &IndexedHistory, source: u8, start: u32) -> Option<Missing
 fn missing_entered(seen: &IndexedHistory, rank: u8, start: u32) -> Option<Missing>
     requires order { IsInOrder seen.now.ranks rank (view_of seen.now.events rank) }
     requires enter { IsEnterAt (view_of seen.now.events rank) start }
-    ensures inner { result ≡ missing_of (fill_inner seen.now.ranks (view_of seen.now.events) (view_of seen.now.events rank) rank start (start_at (view_of seen.now.events rank) start)) }
-    ensures made { (comm : ℕ) → result ≡ missing_of (fill_made comm seen.now.ranks (view_of seen.now.events) (view_of seen.now.events rank) rank start (start_at (view_of seen.now.events rank) start)) }
+    ensures inner { result ≡ missing_of (fill_inner seen.now.ranks (view_of seen.now.events) rank (view_of seen.now.events rank) start (start_at (view_of seen.now.events rank) start)) }
+    ensures made { (comm : ℕ) → result ≡ missing_of (fill_made comm seen.now.ranks (view_of seen.now.events) rank (view_of seen.now.events rank) start (start_at (view_of seen.now.events rank) start)) }
 {
     match seen.start(rank, start) {
         Some(call) => missing_for(seen, rank, start, call),
@@ -116,8 +116,8 @@ fn missing_for(seen: &IndexedHistory, rank: u8, start: u32, call: &Call) -> Opti
     requires order { IsInOrder seen.now.ranks rank (view_of seen.now.events rank) }
     requires start { start_at (view_of seen.now.events rank) start ≡ Some call.now }
     requires enter { is_enter call.now ≡ true }
-    ensures inner { result ≡ missing_of (joined seen.now.ranks (view_of seen.now.events rank) rank start call.now (inputs_of seen.now.ranks (view_of seen.now.events) (view_of seen.now.events rank) rank start call.now)) }
-    ensures made { (comm : ℕ) → result ≡ missing_of (made_new comm seen.now.ranks (view_of seen.now.events rank) rank start call.now (inputs_of seen.now.ranks (view_of seen.now.events) (view_of seen.now.events rank) rank start call.now)) }
+    ensures inner { result ≡ missing_of (joined seen.now.ranks rank (view_of seen.now.events rank) start call.now (inputs_of seen.now.ranks (view_of seen.now.events) rank (view_of seen.now.events rank) start call.now)) }
+    ensures made { (comm : ℕ) → result ≡ missing_of (made_new comm seen.now.ranks rank (view_of seen.now.events rank) start call.now (inputs_of seen.now.ranks (view_of seen.now.events) rank (view_of seen.now.events rank) start call.now)) }
 {
     let comm = comm_of(call);
     let instance = seen.instance(rank, start, comm);

@@ -70,12 +70,12 @@ impl<'a, P: Program> Replay<'a, P> {
     pub fn attempt(&mut self, rank: u8, call: &Call) -> Result<Step, AllocError>
         requires member { is_member self.old.log.group rank ≡ true }
         requires next { P.next self.old.program self.old.log.ranks rank (replies_in (view_of self.old.events rank)) ≡ Some call.now }
-        ensures answer { IfOk result (λ step. step ≡ answer_of self.old.log self.old.stop (view_of self.old.events) (view_of self.old.events rank) rank call.now) }
+        ensures answer { IfOk result (λ step. step ≡ answer_of self.old.log self.old.stop (view_of self.old.events) rank (view_of self.old.events rank) call.now) }
         ensures events { IfOk result (λ step. self.new ≡ record self.old { events = events_after self.old.events rank call.now step }) }
         ensures shape { IfOk result (λ step. (reply : Reply) → step ≡ Replied reply → MayGive (P.next self.old.program) self.old.log.ranks rank (replies_in (view_of self.old.events rank)) reply) }
 
         // That the rank is at its breakpoint or its log's end, or waits, takes no memory.
-        ensures sure { takes_none (answer_of self.old.log self.old.stop (view_of self.old.events) (view_of self.old.events rank) rank call.now) ≡ true → IsOk result }
+        ensures sure { takes_none (answer_of self.old.log self.old.stop (view_of self.old.events) rank (view_of self.old.events rank) call.now) ≡ true → IsOk result }
         ensures err { OnErr result (self.new ≡ self.old) }
     {
         match self.answer(rank, call)? {
@@ -91,9 +91,9 @@ impl<'a, P: Program> Replay<'a, P> {
     fn answer(&self, rank: u8, call: &Call) -> Result<Step, AllocError>
         requires member { is_member self.now.log.group rank ≡ true }
         requires next { P.next self.now.program self.now.log.ranks rank (replies_in (view_of self.now.events rank)) ≡ Some call.now }
-        ensures answer { IfOk result (λ step. step ≡ answer_of self.now.log self.now.stop (view_of self.now.events) (view_of self.now.events rank) rank call.now) }
+        ensures answer { IfOk result (λ step. step ≡ answer_of self.now.log self.now.stop (view_of self.now.events) rank (view_of self.now.events rank) call.now) }
         ensures shape { IfOk result (λ step. (reply : Reply) → step ≡ Replied reply → MayGive (P.next self.now.program) self.now.log.ranks rank (replies_in (view_of self.now.events rank)) reply) }
-        ensures sure { takes_none (answer_of self.now.log self.now.stop (view_of self.now.events) (view_of self.now.events rank) rank call.now) ≡ true → IsOk result }
+        ensures sure { takes_none (answer_of self.now.log self.now.stop (view_of self.now.events) rank (view_of self.now.events rank) call.now) ≡ true → IsOk result }
     {
         let number = self.seen.count(rank);
         let asked = NextCall { rank, number, call };
@@ -104,7 +104,7 @@ impl<'a, P: Program> Replay<'a, P> {
     fn append(&mut self, rank: u8, call: &Call, reply: &Reply) -> Result<(), AllocError>
         requires member { is_member self.old.log.group rank ≡ true }
         requires next { P.next self.old.program self.old.log.ranks rank (replies_in (view_of self.old.events rank)) ≡ Some call.now }
-        requires answer { answer_of self.old.log self.old.stop (view_of self.old.events) (view_of self.old.events rank) rank call.now ≡ Replied reply.now }
+        requires answer { answer_of self.old.log self.old.stop (view_of self.old.events) rank (view_of self.old.events rank) call.now ≡ Replied reply.now }
         ensures ok { OnOk result (self.new ≡ record self.old { events = self.old.events ++ event_of rank call.now reply.now ∷ [] }) }
         ensures err { OnErr result (self.new ≡ self.old) }
     {

@@ -346,7 +346,7 @@ pub takes_made : (n me : ℕ) (own : View) (call : Call) (reply : Reply) → has
 takes_made n me own (Take starts mode) (Took items) shape k h =
     let one = and_parts (has_count mode (length starts) (length items)) _ shape in
     let two = and_parts (rise_within 0 (length starts) (map (λ (item : Item). item.index) items)) _ one.1 in
-    let three = and_parts (list_all (λ k. can_take own k) starts) (gots_fit n own me starts items) two.1 in
+    let three = and_parts (list_all (λ k. can_take own k) starts) (gots_fit n me own starts items) two.1 in
     completed_made own starts 0 items k two.0 three.0 (rw append-nil at h)
 takes_made n me own call (Took items) shape k h = absurd (cc)
 takes_made n me own call Done shape k h = absurd (cc)

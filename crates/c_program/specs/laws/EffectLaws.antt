@@ -185,7 +185,7 @@ learned_known n s reply comm =
     ]
 
 -- behind any reply in shape
-good_reply : (n me : ℕ) (own : View) (call : Call) (reply : Reply) (s : State) → Good n me own s → IsInForm n own me call → has_shape n me own call reply ≡ true → Good n me (own ++ (call, reply) ∷ []) (learned (items_of reply) s)
+good_reply : (n me : ℕ) (own : View) (call : Call) (reply : Reply) (s : State) → Good n me own s → IsInForm n me own call → has_shape n me own call reply ≡ true → Good n me (own ++ (call, reply) ∷ []) (learned (items_of reply) s)
 good_reply n me own call reply s good form shape = record {
   order = in_order_more n me own call reply good.order form shape;
   starts = (let more = length-append own ((call, reply) ∷ []) in let few = good.starts in omega (arith, more, few));
@@ -199,7 +199,7 @@ good_reply n me own call reply s good form shape = record {
 alike_learned : (s : State) → Alike (learned [] s) s
 alike_learned s = record { starts = refl; made = sym (append-nil s.made); slots = refl; printed = refl }
 
-good_untaught : (n me : ℕ) (own : View) (call : Call) (reply : Reply) (s : State) → Good n me own s → IsInForm n own me call → has_shape n me own call reply ≡ true → items_of reply ≡ [] → Good n me (own ++ (call, reply) ∷ []) s
+good_untaught : (n me : ℕ) (own : View) (call : Call) (reply : Reply) (s : State) → Good n me own s → IsInForm n me own call → has_shape n me own call reply ≡ true → items_of reply ≡ [] → Good n me (own ++ (call, reply) ∷ []) s
 good_untaught n me own call reply s good form shape none =
     good_alike n me (own ++ (call, reply) ∷ []) (learned (items_of reply) s) s (rw none (alike_learned s)) (good_reply n me own call reply s good form shape)
 
@@ -214,7 +214,7 @@ done_fits n me own (Abort code) starting = absurd (cc)
 done_fits n me own (Trap fault) starting = absurd (cc)
 done_fits n me own End starting = absurd (cc)
 
-good_begun : (n me : ℕ) (own : View) (call : Call) (start : Begun) (s : State) → Good n me own s → IsInForm n own me call → is_starting call ≡ true → Good n me (own ++ (call, Done) ∷ []) (begun start s)
+good_begun : (n me : ℕ) (own : View) (call : Call) (start : Begun) (s : State) → Good n me own s → IsInForm n me own call → is_starting call ≡ true → Good n me (own ++ (call, Done) ∷ []) (begun start s)
 good_begun n me own call start s good form starting =
     let next : Good n me (own ++ (call, Done) ∷ []) s = good_untaught n me own call Done s good form (done_fits n me own call starting) refl in
     record {
@@ -262,7 +262,7 @@ behind_start n me own printed course (Abort code) reply starting keeps shape = a
 behind_start n me own printed course (Trap fault) reply starting keeps shape = absurd (cc)
 behind_start n me own printed course End reply starting keeps shape = absurd (cc)
 
-starting_keeps : (n me : ℕ) (own : View) (call : Call) (start : Begun) (s : State) (go : Onward) → is_starting call ≡ true → IsInBounds n (length own) call → IsInForm n own me call → Good n me own s
+starting_keeps : (n me : ℕ) (own : View) (call : Call) (start : Begun) (s : State) (go : Onward) → is_starting call ≡ true → IsInBounds n (length own) call → IsInForm n me own call → Good n me own s
     → ((later : View) (t : State) → Good n me later t → t.printed ≡ s.printed → t.starts ≡ s.starts ++ start ∷ [] → Keeps n me later s.printed (go t))
     → Keeps n me own s.printed (Asks s call (λ reply. go (begun start s)))
 starting_keeps n me own call start s go starting bounds form good on =
@@ -430,7 +430,7 @@ completes_keep requests mode answer n me own s go good is on =
     completing_keeps n me own requests mode answer (active_in requests s) s go good (record { few = omega (arith, few, count, is); below = are.below }) on
 
 -- a start of which at most a result is wanted, until it is complete
-completed_keeps : (call : Call) (comm : ℕ) (into : Into) (n me : ℕ) (own : View) (s : State) (go : Onward) → is_starting call ≡ true → IsInBounds n (length own) call → IsInForm n own me call → Good n me own s → KeepsOn n me go
+completed_keeps : (call : Call) (comm : ℕ) (into : Into) (n me : ℕ) (own : View) (s : State) (go : Onward) → is_starting call ≡ true → IsInBounds n (length own) call → IsInForm n me own call → Good n me own s → KeepsOn n me go
     → Keeps n me own s.printed (Asks s call (λ reply. taking_result into (number_of_next s) (begun (sent comm) s) go))
 completed_keeps call comm into n me own s go starting bounds form good on =
     let number : ℕ = number_of_next s in

@@ -20,7 +20,7 @@ pub keeps_prefix : (n me : ℕ) (own : View) (short long : List ℕ) (c : Course
 keeps_prefix n me own short long (Over s) prefix keeps = absurd keeps
 keeps_prefix n me own short long (Asks s call go) prefix keeps = (prefix_trans short long s.printed prefix keeps.0, keeps.1, keeps.2, keeps.3)
 
-pub keeps_last : (n me : ℕ) (own : View) (call : Call) (s : State) → IsInBounds n (length own) call → IsInForm n own me call → ((reply : Reply) → has_shape n me own call reply ≡ true → ends (call, reply) ≡ true) → Keeps n me own s.printed (asks_last call s)
+pub keeps_last : (n me : ℕ) (own : View) (call : Call) (s : State) → IsInBounds n (length own) call → IsInForm n me own call → ((reply : Reply) → has_shape n me own call reply ≡ true → ends (call, reply) ≡ true) → Keeps n me own s.printed (asks_last call s)
 keeps_last n me own call s bounds form ending = (prefix_refl s.printed, bounds, form, λ reply shape. rw (ending reply shape) tt)
 
 trap_ends : (n me : ℕ) (own : View) (fault : Fault) (reply : Reply) → has_shape n me own (Trap fault) reply ≡ true → ends (Trap fault, reply) ≡ true

@@ -28,7 +28,7 @@ pub record Good (n me : ℕ) (own : View) (s : State) : Type 0 where
 abbrev pub Keeps : ℕ → ℕ → View → List ℕ → Course → Type 0
 Keeps n me own printed (Over s) = ⊥
 Keeps n me own printed (Asks s call go) =
-    IsPrefixOf printed s.printed × IsInBounds n (length own) call × IsInForm n own me call
+    IsPrefixOf printed s.printed × IsInBounds n (length own) call × IsInForm n me own call
     × ((reply : Reply) → has_shape n me own call reply ≡ true
     → MatchBool (ends (call, reply)) (Unit {0}) (Keeps n me (own ++ (call, reply) ∷ []) s.printed (go reply)))
 

@@ -129,12 +129,12 @@ module _ (n me : ℕ) (next : Next) where
   ends_where own false (Asks s call go) stands = (λ none. absurd (cc), λ t. absurd (cc))
 
   -- a call that is made is in bounds and in form
-  proper_call : (own : View) (ended : Bool) (c : Course) (call : Call) → Stands own ended c → call_in c ≡ Some call → IsInBounds n (length own) call × IsInForm n own me call
+  proper_call : (own : View) (ended : Bool) (c : Course) (call : Call) → Stands own ended c → call_in c ≡ Some call → IsInBounds n (length own) call × IsInForm n me own call
   proper_call own true c call stands made = absurd (cc)
   proper_call own false (Over s) call stands made = absurd stands
   proper_call own false (Asks s asked go) call stands made =
       let same : asked ≡ call = cc in
-      subst (λ call. IsInBounds n (length own) call × IsInForm n own me call) same (stands.1, stands.2)
+      subst (λ call. IsInBounds n (length own) call × IsInForm n me own call) same (stands.1, stands.2)
 
 -- ---- the laws of the program
 

@@ -48,7 +48,7 @@ pub record IsWanted (n : ℕ) (from : Source) (wanted : Tag) : Type 0 where
 -- whatever the state, the Enter is in bounds and in form
 pub record IsJoin (n me : ℕ) (own : View) (j : Collective) : Type 0 where
   pub root : IfSome j.root (λ rank. rank < n)
-  pub form : (s : State) → IsInForm n own me (enter_call j s)
+  pub form : (s : State) → IsInForm n me own (enter_call j s)
 
 -- how many ints are entered
 abbrev pub entered_length : Entered → ℕ

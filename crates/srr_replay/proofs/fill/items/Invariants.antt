@@ -8,11 +8,11 @@ use Rattle.srr_replay.proofs.fill.items.Given as goal
 
 abbrev pub invariant-loop-rest : goal.invariant-loop-rest
 invariant-loop-rest l = record {
-  same : fill_marks l.seen.ranks (view_of l.seen.events) (view_of l.seen.events l.rank) l.rank l.starts l.marks
-      ≡ items_before l.found (fill_marks l.seen.ranks (view_of l.seen.events) (view_of l.seen.events l.rank) l.rank l.starts l.rest);
+  same : fill_marks l.seen.ranks (view_of l.seen.events) l.rank (view_of l.seen.events l.rank) l.starts l.marks
+      ≡ items_before l.found (fill_marks l.seen.ranks (view_of l.seen.events) l.rank (view_of l.seen.events l.rank) l.starts l.rest);
   fit : (group : List ℕ) × (marks_fit l.seen.ranks group l.rank (view_of l.seen.events l.rank) l.starts l.rest ≡ true);
-  there : missing_of (fill_marks l.seen.ranks (view_of l.seen.events) (view_of l.seen.events l.rank) l.rank l.starts l.rest) ≡ None;
-  agrees : break_marks l.seen.ranks (view_of l.seen.events) (view_of l.seen.events l.rank) l.rank l.starts l.rest ≡ None;
+  there : missing_of (fill_marks l.seen.ranks (view_of l.seen.events) l.rank (view_of l.seen.events l.rank) l.starts l.rest) ≡ None;
+  agrees : break_marks l.seen.ranks (view_of l.seen.events) l.rank (view_of l.seen.events l.rank) l.starts l.rest ≡ None;
 }
 
 abbrev pub decreases-loop-rest : goal.decreases-loop-rest

@@ -6,8 +6,8 @@ use Rattle.srr_replay.proofs.missing.missing_in_marks.Given as goal
 
 abbrev pub invariant-loop-rest : goal.invariant-loop-rest
 invariant-loop-rest l = record {
-  same : missing_of (fill_marks l.seen.ranks (view_of l.seen.events) (view_of l.seen.events l.rank) l.rank l.starts l.rest)
-      ≡ missing_of (fill_marks l.seen.ranks (view_of l.seen.events) (view_of l.seen.events l.rank) l.rank l.starts l.marks);
+  same : missing_of (fill_marks l.seen.ranks (view_of l.seen.events) l.rank (view_of l.seen.events l.rank) l.starts l.rest)
+      ≡ missing_of (fill_marks l.seen.ranks (view_of l.seen.events) l.rank (view_of l.seen.events l.rank) l.starts l.marks);
   fit : (group : List ℕ) × (marks_fit l.seen.ranks group l.rank (view_of l.seen.events l.rank) l.starts l.rest ≡ true);
 }
 

@@ -32,7 +32,7 @@ returns-clause-shape g c =
     let events = c.self.inside.seen.events in
     let log = c.self.inside.log.now in
     let next = g.P.Program.next c.self.inside.program.now in
-    let Is : Step → Type 0 = λ step. step ≡ answer_of log c.self.inside.stop (view_of events) (view_of events c.args.rank) c.args.rank c.args.call.now in
+    let Is : Step → Type 0 = λ step. step ≡ answer_of log c.self.inside.stop (view_of events) c.args.rank (view_of events c.args.rank) c.args.call.now in
     let Gives : Step → Type 0 = λ step. (reply : Reply) → step ≡ Replied reply → MayGive next log.ranks c.args.rank (replies_in (view_of events c.args.rank)) reply in
     let laws : KeepsForm next = record { enters = g.P.Program.enters_in_form c.self.inside.program.now; bounds = g.P.Program.asks_in_bounds c.self.inside.program.now } in
     rw (← c.self.view_is)
