@@ -1,7 +1,7 @@
 -- The logs of a part and of both groups are those of the run.
-use Rattle.std.proofs.Common.{◌≡◌, ◌++◌, ◌∷◌, ◌∙◌, ◌==◌, ◌||◌, ◌<◌, zero, All, Bool, List, None, [], ap, append-nil, arith, false, get_or, inl, inr, length, map, refl, suc, sym, true, ℕ}
+use Rattle.std.proofs.Common.{◌≡◌, ◌++◌, ◌∷◌, ◌∙◌, ◌==◌, ◌||◌, All, Bool, List, None, [], ap, append-nil, arith, false, get_or, inl, inr, map, refl, suc, sym, true, ℕ}
 use Rattle.std.proofs.lemmas.Bool.{and_parts, eqb-true, or_cases}
-use Rattle.std.proofs.lemmas.List.Elements.{filter_passes}
+use Rattle.std.proofs.lemmas.List.Elements.{All-cons, All-nil, filter_passes}
 use Rattle.mpi_call.specs.Collectives.{is_member}
 use Rattle.run_model.specs.declared.event.Event.{Event}
 use Rattle.run_model.specs.Lists.{world}
@@ -24,17 +24,12 @@ same_lists f g (x ∷ xs) all =
     let first : f x ≡ g x = all 0 x (omega arith) in
     rw (first, same_lists f g xs (λ i d within. all (suc i) d (omega (arith, within))))
 
-all_at : (group : List ℕ) (x : ℕ) (ranks : List ℕ) → is_member group x ≡ true → All (λ rank. is_member group rank ≡ true) ranks
-    → (i d : ℕ) → i < length (x ∷ ranks) → is_member group (get_or (x ∷ ranks) i d) ≡ true
-all_at group x ranks first rest zero d less = first
-all_at group x ranks first rest (suc i) d less = rest i d (omega (arith, less))
-
 -- each of the ranks is in the group
 pub all_within : (group ranks : List ℕ) → are_within group ranks ≡ true → All (λ rank. is_member group rank ≡ true) ranks
-all_within group [] within = λ i d less. absurd (omega (arith, less))
+all_within group [] within = All-nil (λ rank. is_member group rank ≡ true)
 all_within group (x ∷ ranks) within =
     let parts = and_parts (is_member group x) (are_within group ranks) within in
-    λ i d less. all_at group x ranks parts.0 (all_within group ranks parts.1) i d less
+    All-cons (λ rank. is_member group rank ≡ true) x ranks parts.0 (all_within group ranks parts.1)
 
 -- a log is made of the views of its ranks
 same_log : (text : List ℕ) (n : ℕ) (events run : List Event) (group : List ℕ) → All (λ rank. view_of events rank ≡ view_of run rank) group

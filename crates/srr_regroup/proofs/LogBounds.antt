@@ -1,7 +1,8 @@
 -- The log that a replay makes for a group is within the bounds of the log text, if the log that was replayed is.
-use Rattle.std.proofs.Common.{◌≡◌, ◌≢◌, ◌≤◌, ◌<◌, ◌+◌, ◌++◌, ◌∷◌, ◌∙◌, ◌==◌, ◌||◌, All, Bool, List, None, Ok, Option, Some, [], ap, append-nil, append_assoc, arith, false, filter, get_or, inl, inr, length, length-append, map, nat_lt, refl, slice_get, subst, suc, sym, true, zero, ℕ, ℤ}
+use Rattle.std.proofs.Common.{◌≡◌, ◌≢◌, ◌≤◌, ◌<◌, ◌+◌, ◌++◌, ◌∷◌, ◌∙◌, ◌==◌, ◌||◌, All, Bool, List, None, Ok, Option, Some, [], append-nil, append_assoc, arith, false, filter, get_or, inl, inr, length, length-append, nat_lt, refl, slice_get, subst, suc, sym, true, zero, ℕ}
 use Rattle.std.proofs.lemmas.Bool.{eq-eqb, eqb-true, lt-ltb, or_left, or_right}
 use Rattle.std.proofs.lemmas.List.{length-map}
+use Rattle.std.proofs.lemmas.List.Elements.{All-map, All-tail}
 use Rattle.std.proofs.Math.Seq.{get_or-append_seam}
 use Rattle.mpi_call.specs.declared.call.Call.{Call}
 use Rattle.mpi_call.specs.declared.call.Call.TheVariants.{Send}
@@ -11,10 +12,10 @@ use Rattle.mpi_call.specs.Lists.{Rises}
 use Rattle.run_model.specs.declared.event.Event.{Event}
 use Rattle.run_model.specs.Lists.{are_below, world}
 use Rattle.run_model.specs.Program.{AsksInBounds, EntersInForm, IsRankOf, IsSeen, IsViewOf}
-use Rattle.run_model.specs.Views.{Next, View, start_at, view_of}
-use Rattle.run_model.proofs.Along.{Along-back, Along-front, Along-keeps, Along-snoc}
+use Rattle.run_model.specs.Views.{Next, View, view_of}
+use Rattle.run_model.proofs.Along.{Along-back, Along-front, Along-keeps}
 use Rattle.run_model.proofs.MemberLists.{below_part}
-use Rattle.run_model.proofs.Orders.{in_order, short_sends, start_back}
+use Rattle.run_model.proofs.Orders.{in_order}
 use Rattle.run_model.proofs.Places.{place}
 use Rattle.run_model.proofs.StartLemmas.{slice_get-below}
 use Rattle.run_model.proofs.Views.{test_cases, view_of-other, view_of-own}
@@ -23,6 +24,7 @@ use Rattle.srr_entry.specs.declared.log.Log.{Log}
 use Rattle.srr_entry.specs.Entries.{entries_for, entries_from, entry_of}
 use Rattle.srr_text.specs.Bounds.{AreEntries, IsEntry, IsGroup, IsInBounds, IsList, is_last}
 use Rattle.log_bounds.specs.RunBounds.{ReplyFits32, RepliesFit32}
+use Rattle.log_bounds.proofs.RunEntries.{length-entries, send_bounds}
 use Rattle.replay_model.specs.declared.step.Step.TheVariants.{Diverged, Replied}
 use Rattle.replay_model.specs.Filling.{filled}
 use Rattle.replay_model.specs.Fits.{fits}
@@ -35,7 +37,7 @@ use Rattle.srr_replay.proofs.ReplaysLemmas.{Came, Came-Replays}
 use Rattle.srr_regroup.specs.Regrouping.{CanBeJoined, IsPartOf, IsReplayOfAProgram, both_groups, joined, refined}
 use Rattle.srr_regroup.proofs.Groups.{all_within}
 use Rattle.srr_regroup.proofs.Made.{AreMade, all_in_both, first_entries, other_member, second_entries, within_member}
-use Rattle.srr_regroup.proofs.MarkBounds.{AreSendsBound, all_cons, all_rest}
+use Rattle.srr_regroup.proofs.MarkBounds.{AreSendsBound}
 use Rattle.srr_regroup.proofs.ReplyBounds.{Given, entry_bound, last_entry}
 
 -- the entries of a log in bounds
@@ -63,7 +65,7 @@ list_of n group (m ∷ all) [] rank there many are = absurd (omega (arith, many)
 list_of n group (m ∷ all) (list ∷ lists) rank there many are =
     elim (test_cases (m == rank)) [
       | inl t ↦ rw t (are 0 list (omega arith))
-      | inr t ↦ rw t (list_of n group all lists rank (rw t at there) (omega (arith, many)) (all_rest (IsList n group) list lists are))
+      | inr t ↦ rw t (list_of n group all lists rank (rw t at there) (omega (arith, many)) (All-tail (IsList n group) list lists are))
     ]
 
 -- the entry that answered a call of a replay
@@ -110,29 +112,6 @@ short_more next log rank before event short step =
       | inr t ↦ rw (view_of-other before event rank t) short
     ]
 
--- the tags of what a rank sends
-record Tagged (next : Next) (n me : ℕ) (view : View) : Type 0 where
-  came : IsViewOf next n me view
-  sends : (k comm dest tag : ℕ) (ints : List ℤ) (sync : Bool) → start_at view k ≡ Some (Send comm dest tag ints sync) → tag ≤ 2147483647
-
-tagged_more : (next : Next) (n me : ℕ) → AsksInBounds next → IsRankOf n me → (view : View) (seen : Call × Reply) → Tagged next n me view → IsSeen next n me view seen
-    → Tagged next n me (view ++ seen ∷ [])
-tagged_more next n me law rank view seen so_far is =
-    record {
-      came = Along-snoc (IsSeen next n me) [] view seen so_far.came is;
-      sends = λ k comm dest tag ints sync p. elim (start_back view seen.0 seen.1 k (Send comm dest tag ints sync) p) [
-        | inl was ↦ so_far.sends k comm dest tag ints sync was
-        | inr new ↦ (
-            let bounds = law n me view (Send comm dest tag ints sync) rank so_far.came (rw new at is.asked) in
-            let low : tag < 2147483648 = bounds.1 in
-            omega arith)
-      ];
-    }
-
-tagged : (next : Next) (n me : ℕ) (view : View) → AsksInBounds next → IsRankOf n me → IsViewOf next n me view → Tagged next n me view
-tagged next n me view law rank came =
-    Along-keeps (IsSeen next n me) (Tagged next n me) (tagged_more next n me law rank) [] view (record { came = tt; sends = λ k comm dest tag ints sync p. absurd (cc) }) came
-
 -- a replay of a log in bounds
 record Sound (next : Next) (log : Log) (events : List Event) : Type 0 where
   bounds : IsInBounds log
@@ -164,12 +143,7 @@ sends_bound : (next : Next) (log : Log) (events : List Event) → Sound next log
 sends_bound next log events s =
     record {
       each = λ source start c d tag ints sync at. elim (test_cases (is_member log.group source)) [
-        | inl mine ↦ (
-            let rank = rank_of log source s.fine mine in
-            let came = s.came.views source in (
-              (tagged next log.ranks source (view_of events source) s.asks rank came).sends start c d tag ints sync at,
-              short_sends next log.ranks source (view_of events source) s.asks rank came start c d tag ints sync at,
-            ))
+        | inl mine ↦ send_bounds next log.ranks source (view_of events source) s.asks (rank_of log source s.fine mine) (s.came.views source) start c d tag ints sync at
         | inr other ↦ (let no : None ≡ Some (Send c d tag ints sync) = rw (s.came.alone source other) at at in absurd (cc))
       ];
     }
@@ -237,10 +211,6 @@ entries_bound next log events group rank s mine there own ((call, reply) ∷ vie
       entries_bound next log events group rank s mine there (own ++ (call, reply) ∷ []) view deeper,
     )
 
-length-entries : (n : ℕ) (group : List ℕ) (me : ℕ) (own view : View) → length (entries_from n group me own view) ≡ length view
-length-entries n group me own [] = refl
-length-entries n group me own (seen ∷ view) = ap suc (length-entries n group me (own ++ seen ∷ []) view)
-
 -- the list that a replay makes for a rank
 list_bound : (next : Next) (log : Log) (events : List Event) (group : List ℕ) (rank : ℕ) → Sound next log events → is_member log.group rank ≡ true
     → is_member group rank ≡ true → IsList log.ranks group (entries_from log.ranks group rank [] (view_of events rank))
@@ -254,10 +224,6 @@ member_at : (xs : List ℕ) (i d : ℕ) → i < length xs → is_member xs (get_
 member_at [] i d less = absurd (omega (arith, less))
 member_at (x ∷ xs) zero d less = or_left (x == x) (is_member xs x) (eq-eqb x x refl)
 member_at (x ∷ xs) (suc i) d less = or_right (x == get_or xs i d) (is_member xs (get_or xs i d)) (member_at xs i d (omega (arith, less)))
-
-all_map : {A B : Type 0} (P : B → Type 0) (f : A → B) (xs : List A) → All (λ x. P (f x)) xs → All P (map f xs)
-all_map P f [] all = λ k d less. absurd (omega (arith, less))
-all_map P f (x ∷ xs) all = all_cons P (f x) (map f xs) (all 0 x (omega arith)) (all_map P f xs (all_rest (λ y. P (f y)) x xs all))
 
 some_length : (xs : List ℕ) → xs ≢ [] → 0 < length xs
 some_length [] some = absurd (some refl)
@@ -275,7 +241,7 @@ refined_bound log events part fine is part_is bounds words =
       group = (some_length part part_is.some, part_is.rises, below_part log.ranks log.group part bounds.group.2 (λ rank there. within_member log.group part rank part_is.within there));
       program = bounds.program;
       as_many = length-map part F;
-      lists = all_map (IsList log.ranks part) F part (λ i d less. list_bound is.next log events part (get_or part i d) s (mine i d less) (member_at part i d less));
+      lists = All-map (IsList log.ranks part) F part (λ i d less. list_bound is.next log events part (get_or part i d) s (mine i d less) (member_at part i d less));
     }
 
 -- both groups together
@@ -354,7 +320,7 @@ joined_bound one first two second can bounds other_bounds words other_words =
       group = both_group one two can.first_log;
       program = bounds.program;
       as_many = length-map group F;
-      lists = all_map (IsList one.ranks group) F group (λ i d less. both_list one first two second (get_or group i d) can s t (among i d less) (member_at group i d less));
+      lists = All-map (IsList one.ranks group) F group (λ i d less. both_list one first two second (get_or group i d) can s t (among i d less) (member_at group i d less));
     }
 
 -- the parts of the log that was made

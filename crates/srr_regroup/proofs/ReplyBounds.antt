@@ -1,5 +1,5 @@
 -- What a log's entry stands for in a replay has an entry within the bounds of a log of any group with the rank in it.
-use Rattle.std.proofs.Common.{◌≡◌, ◌≤◌, ◌<◌, ◌∙◌, Bool, Err, List, None, Ok, Option, Result, Some, arith, false, if◌then◌else◌, length, refl, subst, sym, true, ℕ}
+use Rattle.std.proofs.Common.{◌≡◌, ◌≤◌, ◌<◌, ◌∙◌, Err, List, None, Ok, Option, Result, Some, arith, false, length, refl, subst, sym, true, ℕ}
 use Rattle.mpi_call.specs.declared.call.Call.{Call}
 use Rattle.mpi_call.specs.declared.call.Call.TheVariants.{Abort, End, Enter, Peek, Post, Send, Take, Trap}
 use Rattle.mpi_call.specs.declared.reply.Item.{Item}
@@ -14,9 +14,10 @@ use Rattle.run_model.specs.Views.{View, start_at}
 use Rattle.srr_entry.specs.declared.entry.Entry.{Entry}
 use Rattle.srr_entry.specs.declared.entry.Entry.TheVariants.{Ended, Entered, NotYet as EntryNotYet, PeekedInside, PeekedOutside, Posted, Sent, Stopped as EntryStopped, Took as EntryTook}
 use Rattle.srr_entry.specs.declared.entry.Marked.{Marked}
-use Rattle.srr_entry.specs.Entries.{entry_of, entry_of_done}
+use Rattle.srr_entry.specs.Entries.{entry_of}
 use Rattle.srr_text.specs.Bounds.{IsEntry, is_last}
 use Rattle.log_bounds.specs.RunBounds.{ReplyFits32}
+use Rattle.log_bounds.proofs.RunEntries.{done_entry, peeked_entry, peeked_last}
 use Rattle.replay_model.specs.declared.step.Missing.{Missing}
 use Rattle.replay_model.specs.Filling.{as_took, fill_marks, filled, peeked_from}
 use Rattle.replay_model.specs.Fits.{fits}
@@ -43,18 +44,6 @@ took_fit n me own (Peek comm source tag wait) items h = absurd (let no : false �
 took_fit n me own (Abort code) items h = absurd (let no : false ≡ true = h in cc)
 took_fit n me own (Trap fault) items h = absurd (let no : false ≡ true = h in cc)
 took_fit n me own End items h = absurd (let no : false ≡ true = h in cc)
-
-done_entry : (n : ℕ) (group : List ℕ) (call : Call) → IsEntry n group (entry_of_done call)
-done_entry n group (Send comm dest tag ints sync) = tt
-done_entry n group (Post comm source tag room) = tt
-done_entry n group (Enter comm kind root op count ints) = tt
-done_entry n group call = tt
-
-peeked_entry : (within : Bool) (n : ℕ) (group : List ℕ) (source start tag count : ℕ) → is_member group source ≡ within
-    → source < n → start ≤ 999999 → tag ≤ 2147483647 → count ≤ 65536
-    → IsEntry n group (if within then PeekedInside source start else PeekedOutside source start tag count)
-peeked_entry true n group source start tag count h below small tags short = ((below, h), small)
-peeked_entry false n group source start tag count h below small tags short = ((below, h), small, tags, short)
 
 -- a reply's entry for a group is within its bounds
 abbrev pub IsReplyBound : ℕ → List ℕ → ℕ → View → Call → Reply → Type 0
@@ -110,10 +99,6 @@ entry_bound n inside group V own me call (EntryTook marks) reply g is made =
     subst (IsReplyBound n group me own call) took.reply_is (took_bound n inside group V own me call marks took.items (subst G (sym took.reply_is) g) is took.made_is)
 
 -- a reply is the last of its rank only where the entry is
-peeked_last : (within : Bool) (source start tag count : ℕ) {P : Type 0} → is_last (if within then PeekedInside source start else PeekedOutside source start tag count) ≡ true → P
-peeked_last true source start tag count h = absurd (cc)
-peeked_last false source start tag count h = absurd (cc)
-
 found_last : (n : ℕ) (group : List ℕ) (own : View) (me : ℕ) (call : Call) (source start : ℕ) (found : Option Call) (reply : Reply) {P : Type 0}
     → peeked_from source start found ≡ Ok reply → is_last (entry_of n group me own call reply) ≡ true → P
 found_last n group own me call source start None reply h last = absurd (cc)
