@@ -11,7 +11,7 @@ use Rattle.wiz_words.specs.declared.command.Verb.{Verb}
 use Rattle.wiz_words.specs.declared.command.Verb.TheVariants.{Record, Check, Races, Advise, Demo, Replay, Show, Stats, Convert, Refine, Join}
 use Rattle.wiz_words.specs.Forms.{form_of, name_of, verb_named, verbs}
 use Rattle.wiz_words.specs.Texts.{texts, with_texts}
-use Rattle.wiz_words.specs.Words.{AreWordsOf, AskFor, AskForNothing, verb_of}
+use Rattle.wiz_words.specs.Words.{AskFor, AskForNothing, IsCommandIn, verb_of}
 
 -- clap's exact reading covers each form
 pub form_is_simple : (verb : Verb) → is_simple_and_free (form_of verb) ≡ true
@@ -91,8 +91,7 @@ refused words verb form begin is faults command asks =
 -- and others ask for what the values say
 pub asked_by : (words : List Text) (verb : Verb) (form : App) (given : List Row) (found : Option (Command (Bor Text))) → BeginWith words verb → form ≡ form_of verb
     → fault_of form words ≡ [] → given ≡ matches_of form words
-    → MatchOption found ((command : Command Text) → verb_of command ≡ verb → AreWordsOf given command → ⊥)
-    (λ command. (verb_of (with_texts command) ≡ verb) × AreWordsOf given (with_texts command))
+    → IsCommandIn given verb found
     → MatchOption found (AskForNothing words) (λ command. AskFor words (with_texts command))
 asked_by words verb form given None begin is accepted given_is said = λ command asks.
     let same = verb_is words command verb asks begin in

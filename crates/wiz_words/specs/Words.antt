@@ -1,5 +1,6 @@
 -- The arguments of the commands.
 use Rattle.std.specs.Prelude.{◌≡◌, ◌&&◌, List, [], Bool, false, not, is_some, Option, Some, None, codes, slice_get}
+use Rattle.std.specs.Borrow.{Bor}
 use Rattle.clap.specs.Words.{Row, Text, fault_of, matches_of}
 use Rattle.wiz_words.specs.declared.command.Command.{Command}
 use Rattle.wiz_words.specs.declared.command.Command.TheVariants.{Record, Check, Races, Advise, Demo, Replay, Show, Stats, Convert, Refine, Join}
@@ -9,6 +10,7 @@ use Rattle.wiz_words.specs.declared.command.Verb.{Verb}
 use Rattle.wiz_words.specs.declared.command.Verb.TheVariants as verb
 use Rattle.wiz_words.specs.Forms.{form_of, name_of}
 use Rattle.wiz_words.specs.Limits.{fewest_ranks, fewest_rounds, greatest_seed, most_ranks, most_rounds}
+use Rattle.wiz_words.specs.Texts.{with_texts}
 use Rattle.wiz_words.specs.Values.{IsBreakpoint, IsNumberIn, flag_in, value_in}
 
 -- the name of a command
@@ -58,6 +60,11 @@ AreWordsOf given (Refine log plan prefix) =
     (value_in given (codes "LOG") ≡ Some log) × (value_in given (codes "PLAN") ≡ Some plan) × (value_in given (codes "PREFIX") ≡ Some prefix)
 AreWordsOf given (Join one other file) =
     (value_in given (codes "LOG") ≡ Some one) × (value_in given (codes "OTHER") ≡ Some other) × (value_in given (codes "FILE") ≡ Some file)
+
+-- what was found is the command of this name with the arguments that are given; nothing, where they are out of form
+abbrev pub IsCommandIn : List Row → Verb → Option (Command (Bor Text)) → Type 0
+IsCommandIn given name None = (command : Command Text) → verb_of command ≡ name → AreWordsOf given command → ⊥
+IsCommandIn given name (Some command) = (verb_of (with_texts command) ≡ name) × AreWordsOf given (with_texts command)
 
 -- the arguments ask for a command: the first is its name, clap takes the others by its form, and finds the arguments of this command
 pub record AskFor (words : List Text) (command : Command Text) : Type 0 where

@@ -1,13 +1,13 @@
 //! Which command the arguments ask for.
-ghost use Rattle.std.specs.Prelude.{◌≡◌, IfOk, MatchOption};
+ghost use Rattle.std.specs.Prelude.{IfOk, MatchOption};
 ghost use Rattle.std.specs.Option.{option_map};
 ghost use Rattle.clap.specs.Words.{Text};
-ghost use Rattle.wiz_words.specs.declared.command.Command.{Command};
 ghost use Rattle.wiz_words.specs.declared.command.ReplayWords.{ReplayWords};
 ghost use Rattle.wiz_words.specs.declared.command.RunWords.{RunWords};
+ghost use Rattle.wiz_words.specs.declared.command.Verb.TheVariants as verb;
 ghost use Rattle.wiz_words.specs.Texts.{replay_with_texts, run_with_texts, texts, with_texts};
 ghost use Rattle.wiz_words.specs.Values.{given_by};
-ghost use Rattle.wiz_words.specs.Words.{AreReplayWords, AreRunWords, AreWordsOf, AskFor, AskForNothing, AskForOneThing, verb_of};
+ghost use Rattle.wiz_words.specs.Words.{AreReplayWords, AreRunWords, AskFor, AskForNothing, AskForOneThing, IsCommandIn};
 
 use crate::command::{Command, ReplayWords, RunWords, Verb};
 use crate::forms::{form_of, verb_named};
@@ -58,55 +58,78 @@ pub fn words_ask_for_one_thing()
 
 /// The command of this name whose arguments clap found, where their values are in form.
 fn command_from<'a>(verb: Verb, matches: &ArgMatches<'a>) -> Option<Command<&'a str>>
-    ensures { MatchOption result ((command : Command Text) → verb_of command ≡ verb → AreWordsOf (given_by matches.now) command → ⊥)
-        (λ command. (verb_of (with_texts command) ≡ verb) × AreWordsOf (given_by matches.now) (with_texts command)) }
+    ensures { IsCommandIn (given_by matches.now) verb result }
 {
     match verb {
-        Verb::Record => {
-            let run = run_words(matches, value_in(matches, "order"))?;
-            let prefix = value_in(matches, "PREFIX")?;
-            Some(Command::Record { run, prefix })
-        }
+        Verb::Record => record_from(matches),
         Verb::Check => Some(Command::Check(run_words(matches, None)?)),
         Verb::Races => {
             let run = run_words(matches, value_in(matches, "order"))?;
             Some(Command::Races(run))
         }
-        Verb::Advise => {
-            let run = run_words(matches, value_in(matches, "order"))?;
-            let most = number_in(matches, "K", FEWEST_RANKS, MOST_RANKS)?;
-            Some(Command::Advise {
-                run,
-                most: most as u8,
-            })
-        }
-        Verb::Demo => {
-            let seed = number_in(matches, "SEED", 0, GREATEST_SEED)?;
-            let rounds = number_in(matches, "ROUNDS", FEWEST_ROUNDS, MOST_ROUNDS)?;
-            Some(Command::Demo { seed, rounds })
-        }
+        Verb::Advise => advise_from(matches),
+        Verb::Demo => demo_from(matches),
         Verb::Replay => Some(Command::Replay(replay_words(matches)?)),
         Verb::Show => Some(Command::Show(value_in(matches, "LOG")?)),
         Verb::Stats => Some(Command::Stats(value_in(matches, "LOG")?)),
-        Verb::Convert => {
-            let log = value_in(matches, "LOG")?;
-            let file = value_in(matches, "FILE")?;
-            let is_text = flag_in(matches, "text");
-            Some(Command::Convert { log, file, is_text })
-        }
-        Verb::Refine => {
-            let log = value_in(matches, "LOG")?;
-            let plan = value_in(matches, "PLAN")?;
-            let prefix = value_in(matches, "PREFIX")?;
-            Some(Command::Refine { log, plan, prefix })
-        }
-        Verb::Join => {
-            let one = value_in(matches, "LOG")?;
-            let other = value_in(matches, "OTHER")?;
-            let file = value_in(matches, "FILE")?;
-            Some(Command::Join { one, other, file })
-        }
+        Verb::Convert => convert_from(matches),
+        Verb::Refine => refine_from(matches),
+        Verb::Join => join_from(matches),
     }
+}
+
+fn record_from<'a>(matches: &ArgMatches<'a>) -> Option<Command<&'a str>>
+    ensures { IsCommandIn (given_by matches.now) verb.Record result }
+{
+    let run = run_words(matches, value_in(matches, "order"))?;
+    let prefix = value_in(matches, "PREFIX")?;
+    Some(Command::Record { run, prefix })
+}
+
+fn advise_from<'a>(matches: &ArgMatches<'a>) -> Option<Command<&'a str>>
+    ensures { IsCommandIn (given_by matches.now) verb.Advise result }
+{
+    let run = run_words(matches, value_in(matches, "order"))?;
+    let most = number_in(matches, "K", FEWEST_RANKS, MOST_RANKS)?;
+    Some(Command::Advise {
+        run,
+        most: most as u8,
+    })
+}
+
+fn demo_from<'a>(matches: &ArgMatches<'a>) -> Option<Command<&'a str>>
+    ensures { IsCommandIn (given_by matches.now) verb.Demo result }
+{
+    let seed = number_in(matches, "SEED", 0, GREATEST_SEED)?;
+    let rounds = number_in(matches, "ROUNDS", FEWEST_ROUNDS, MOST_ROUNDS)?;
+    Some(Command::Demo { seed, rounds })
+}
+
+fn convert_from<'a>(matches: &ArgMatches<'a>) -> Option<Command<&'a str>>
+    ensures { IsCommandIn (given_by matches.now) verb.Convert result }
+{
+    let log = value_in(matches, "LOG")?;
+    let file = value_in(matches, "FILE")?;
+    let is_text = flag_in(matches, "text");
+    Some(Command::Convert { log, file, is_text })
+}
+
+fn refine_from<'a>(matches: &ArgMatches<'a>) -> Option<Command<&'a str>>
+    ensures { IsCommandIn (given_by matches.now) verb.Refine result }
+{
+    let log = value_in(matches, "LOG")?;
+    let plan = value_in(matches, "PLAN")?;
+    let prefix = value_in(matches, "PREFIX")?;
+    Some(Command::Refine { log, plan, prefix })
+}
+
+fn join_from<'a>(matches: &ArgMatches<'a>) -> Option<Command<&'a str>>
+    ensures { IsCommandIn (given_by matches.now) verb.Join result }
+{
+    let one = value_in(matches, "LOG")?;
+    let other = value_in(matches, "OTHER")?;
+    let file = value_in(matches, "FILE")?;
+    Some(Command::Join { one, other, file })
 }
 
 /// The arguments of a run with this file for its order; nothing where an order and `--serial` are given together.
