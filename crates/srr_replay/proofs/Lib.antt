@@ -3,6 +3,7 @@ pub mod FillLemmas
 pub mod FormLemmas
 pub mod LogLemmas
 pub mod MissingMarks
+pub mod PlaceLemmas
 pub mod ShapeLemmas
 pub mod ReplaysLemmas
 pub mod RoundsLemmas

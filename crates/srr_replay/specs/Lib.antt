@@ -1,3 +1,4 @@
 pub mod Collectives
 pub mod IndexedHistory
+pub mod Places
 pub mod Rounds

@@ -1,8 +1,10 @@
 //! The answer to a rank's call, by its next entry.
-ghost use Rattle.std.specs.Prelude.{◌≡◌, ◌<◌, IfOk, IsOk, Some, length, true};
-ghost use Rattle.run_model.specs.Forms.{AreInOrder};
+ghost use Rattle.std.specs.Prelude.{◌≡◌, ◌<◌, IfOk, IfSome, IsOk, Some, is_some, length, true};
+ghost use Rattle.run_model.specs.Forms.{AreInOrder, IsInOrder};
 ghost use Rattle.run_model.specs.Views.{View, view_of};
+ghost use Rattle.replay_model.specs.Fits.{fits};
 ghost use Rattle.replay_model.specs.Replays.{answer_of, diverged, entry_answer, is_break, takes_none};
+ghost use Rattle.srr_replay.specs.Places.{AreThere, IsPlace, IsPlaceIn};
 
 use crate::clash::find_clash;
 use crate::fill::reply;
@@ -18,18 +20,21 @@ use srr_entry::entry::Entry;
 use srr_entry::log::Log;
 use std::alloc::{AllocError, Global};
 
-/// The answer to a rank's call after what has been seen.
+/// The answer to a rank's call after what has been seen. Where it waits, its place tells where the next attempt's walk begins.
 pub fn answer(
     alloc: Global,
     log: &Log,
     stop: &Option<(u8, u32)>,
     seen: &IndexedHistory,
+    place: &mut Option<usize>,
     asked: &NextCall<'_>,
 ) -> Result<Step, AllocError>
     requires ranks { seen.now.ranks ≡ log.now.ranks }
     requires rank { asked.now.rank < seen.now.ranks }
     requires number { asked.now.number ≡ length (view_of seen.now.events asked.now.rank) }
     requires order { AreInOrder seen.now.ranks seen.now.events }
+    requires place { IfSome place.old (λ place. IsPlaceIn log.now seen.now.events asked.now.rank asked.now.call.now place) }
+    ensures place { IfSome place.new (λ place. IsPlaceIn log.now seen.now.events asked.now.rank asked.now.call.now place) }
     ensures answer { IfOk result (λ step. step ≡ answer_of log.now stop.now (view_of seen.now.events) asked.now.rank (view_of seen.now.events asked.now.rank) asked.now.call.now) }
     ensures sure { takes_none (answer_of log.now stop.now (view_of seen.now.events) asked.now.rank (view_of seen.now.events asked.now.rank) asked.now.call.now) ≡ true → IsOk result }
 {
@@ -39,7 +44,7 @@ pub fn answer(
     let entries = find_entries(log.group.as_slice(), log.lists.as_slice(), asked.rank);
     match entries.get(asked.number as usize) {
         None => Ok(Step::LogEnded),
-        Some(entry) => answer_by(alloc, log.group.as_slice(), seen, asked, entry),
+        Some(entry) => answer_by(alloc, log.group.as_slice(), seen, place, asked, entry),
     }
 }
 
@@ -58,19 +63,23 @@ fn answer_by(
     alloc: Global,
     group: &[u8],
     seen: &IndexedHistory,
+    place: &mut Option<usize>,
     asked: &NextCall<'_>,
     entry: &Entry,
 ) -> Result<Step, AllocError>
     requires rank { asked.now.rank < seen.now.ranks }
     requires number { asked.now.number ≡ length (view_of seen.now.events asked.now.rank) }
     requires order { AreInOrder seen.now.ranks seen.now.events }
+    requires place { IfSome place.old (λ place. IsPlace seen.now.ranks group.now seen.now.events asked.now.rank asked.now.call.now entry.now place) }
+    ensures place { IfSome place.new (λ place. IsPlace seen.now.ranks group.now seen.now.events asked.now.rank asked.now.call.now entry.now place) }
     ensures answer { IfOk result (λ step. step ≡ entry_answer seen.now.ranks group.now (view_of seen.now.events) asked.now.rank (view_of seen.now.events asked.now.rank) asked.now.call.now (Some entry.now)) }
     ensures sure { takes_none (entry_answer seen.now.ranks group.now (view_of seen.now.events) asked.now.rank (view_of seen.now.events asked.now.rank) asked.now.call.now (Some entry.now)) ≡ true → IsOk result }
 {
-    if !fits(group, seen, asked, entry) {
+    let Some(from) = first_mark(group, seen, *place, asked, entry) else {
         return diverge(asked, entry, None);
-    }
-    if let Some(missing) = find_missing(seen, asked, entry) {
+    };
+    if let Some((walked, missing)) = find_missing(seen, asked, entry, from) {
+        *place = Some(walked);
         return Ok(Step::Wait(missing));
     }
     if let Some(clash) = find_clash(seen, asked, entry) {
@@ -84,6 +93,29 @@ fn answer_by(
     }
     let reply = reply(alloc, seen, asked, entry)?;
     Ok(Step::Replied(reply))
+}
+
+/// The mark that the walk for what is missing begins at, where the call fits the entry. A rank with a place is not asked that again.
+fn first_mark(
+    group: &[u8],
+    seen: &IndexedHistory,
+    place: Option<usize>,
+    asked: &NextCall<'_>,
+    entry: &Entry,
+) -> Option<usize>
+    requires order { IsInOrder seen.now.ranks asked.now.rank (view_of seen.now.events asked.now.rank) }
+    requires place { IfSome place (λ place. IsPlace seen.now.ranks group.now seen.now.events asked.now.rank asked.now.call.now entry.now place) }
+    ensures fits { is_some result ≡ fits seen.now.ranks group.now asked.now.rank (view_of seen.now.events asked.now.rank) asked.now.call.now entry.now }
+    ensures there { IfSome result (λ from. AreThere seen.now.ranks seen.now.events asked.now.rank asked.now.call.now entry.now from) }
+{
+    if place.is_some() {
+        return place;
+    }
+    if fits(group, seen, asked, entry) {
+        Some(0)
+    } else {
+        None
+    }
 }
 
 /// The answer that the call does not fit its entry.

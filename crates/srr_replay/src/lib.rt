@@ -11,5 +11,6 @@ mod indexed_history;
 mod missing;
 mod next_call;
 mod note;
+mod places;
 pub mod replay;
 pub mod serial;

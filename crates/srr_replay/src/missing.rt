@@ -1,5 +1,5 @@
 //! What an entry rests on and that has not been replayed.
-ghost use Rattle.std.specs.Prelude.{◌≡◌, ◌<◌, ℕ, List, None, Some, true, option_map};
+ghost use Rattle.std.specs.Prelude.{◌≡◌, ◌<◌, ◌≤◌, ℕ, List, IfSome, None, Some, true, length, option_map, take};
 ghost use Rattle.mpi_call.specs.Calls.{comm_of, is_enter};
 ghost use Rattle.mpi_call.specs.Collectives.{IsEnterOf, is_member, needs};
 ghost use Rattle.run_model.specs.Communicators.{enter_at};
@@ -8,6 +8,7 @@ ghost use Rattle.run_model.specs.Inputs.{gather, inputs_of};
 ghost use Rattle.run_model.specs.Views.{start_at, view_of};
 ghost use Rattle.replay_model.specs.Filling.{absent_of, fill_inner, fill_made, fill_mark, fill_marks, filled, joined, made_new, message_from, missing_of, peeked_from};
 ghost use Rattle.replay_model.specs.Fits.{IsEnterAt, fits, mark_fits, marks_fit};
+ghost use Rattle.srr_replay.specs.Places.{AreThere};
 
 use crate::fit::comm_of;
 use crate::indexed_history::IndexedHistory;
@@ -18,21 +19,33 @@ use mpi_call::needs::needs;
 use replay_model::step::Missing;
 use srr_entry::entry::{Entry, Mark, Marked};
 
-/// The first thing that an entry rests on and that is not there, in item order and then in member order. Takes no memory.
+/// The first thing that an entry rests on and that is not there, in item order and then in member order, and how many marks come
+/// before the one that it is missing for. The first `from` marks are not looked at. Takes no memory.
 #[tactic(auto, unfolding(replay_model::specs::Fits::fits))]
-pub fn find_missing(seen: &IndexedHistory, asked: &NextCall<'_>, entry: &Entry) -> Option<Missing>
+pub fn find_missing(
+    seen: &IndexedHistory,
+    asked: &NextCall<'_>,
+    entry: &Entry,
+    from: usize,
+) -> Option<(usize, Missing)>
     requires order { IsInOrder seen.now.ranks asked.now.rank (view_of seen.now.events asked.now.rank) }
     requires fits { (group : List ℕ) × (fits seen.now.ranks group asked.now.rank (view_of seen.now.events asked.now.rank) asked.now.call.now entry.now ≡ true) }
-    ensures { result ≡ missing_of (filled seen.now.ranks (view_of seen.now.events) asked.now.rank (view_of seen.now.events asked.now.rank) asked.now.call.now entry.now) }
+    requires there { AreThere seen.now.ranks seen.now.events asked.now.rank asked.now.call.now entry.now from }
+    ensures missing { option_map (λ found. found.1) result ≡ missing_of (filled seen.now.ranks (view_of seen.now.events) asked.now.rank (view_of seen.now.events asked.now.rank) asked.now.call.now entry.now) }
+    ensures there { IfSome result (λ found. AreThere seen.now.ranks seen.now.events asked.now.rank asked.now.call.now entry.now found.0) }
 {
     match entry {
         Entry::Took(marks) => match asked.call {
             Call::Take { starts, mode: _ } => {
-                missing_in_marks(seen, asked.rank, starts.as_slice(), marks.as_slice())
+                let starts = starts.as_slice();
+                missing_in_marks(seen, asked.rank, starts, marks.as_slice(), from)
             }
             _ => None,
         },
-        Entry::PeekedInside { source, start } => missing_probed(seen, *source, *start),
+        Entry::PeekedInside { source, start } => match missing_probed(seen, *source, *start) {
+            Some(missing) => Some((0, missing)),
+            None => None,
+        },
         _ => None,
     }
 }
@@ -47,23 +60,28 @@ fn missing_probed(seen: &IndexedHistory, source: u8, start: u32) -> Option<Missi
     }
 }
 
+/// The first that is missing for the marks after the first `from`, and how many marks come before its own.
 fn missing_in_marks(
     seen: &IndexedHistory,
     rank: u8,
     starts: &[u32],
     marks: &[Marked],
-) -> Option<Missing>
+    from: usize,
+) -> Option<(usize, Missing)>
     requires order { IsInOrder seen.now.ranks rank (view_of seen.now.events rank) }
     requires fits { (group : List ℕ) × (marks_fit seen.now.ranks group rank (view_of seen.now.events rank) starts.now marks.now ≡ true) }
-    ensures { result ≡ missing_of (fill_marks seen.now.ranks (view_of seen.now.events) rank (view_of seen.now.events rank) starts.now marks.now) }
+    requires within { from ≤ length marks.now }
+    requires there { missing_of (fill_marks seen.now.ranks (view_of seen.now.events) rank (view_of seen.now.events rank) starts.now (take from marks.now)) ≡ None }
+    ensures missing { option_map (λ found. found.1) result ≡ missing_of (fill_marks seen.now.ranks (view_of seen.now.events) rank (view_of seen.now.events rank) starts.now marks.now) }
+    ensures within { IfSome result (λ found. found.0 ≤ length marks.now) }
+    ensures there { IfSome result (λ found. missing_of (fill_marks seen.now.ranks (view_of seen.now.events) rank (view_of seen.now.events rank) starts.now (take found.0 marks.now)) ≡ None) }
 {
-    let mut rest = marks;
-    while let [marked, after @ ..] = rest {
+    for k in from..marks.len() {
+        let marked = &marks[k];
         let start = starts.get(marked.index as usize).copied().unwrap_or(0);
         if let Some(missing) = missing_in_mark(seen, rank, start, &marked.mark) {
-            return Some(missing);
+            return Some((k, missing));
         }
-        rest = after;
     }
     None
 }

@@ -11,6 +11,7 @@ ghost use Rattle.replay_model.specs.declared.step.Step.TheVariants.{Replied};
 use crate::answer::answer;
 use crate::indexed_history::IndexedHistory;
 use crate::next_call::NextCall;
+use crate::places::Places;
 use mpi_call::call::Call;
 use mpi_call::reply::Reply;
 use mpi_call::{call, reply};
@@ -29,19 +30,22 @@ pub struct Replay<'a, P: Program> {
     log: &'a Log,
     stop: Option<(u8, u32)>,
     seen: IndexedHistory,
+    /// Where each rank's next attempt begins, if it has waited at its entry. No contract speaks of them.
+    places: Places,
     alloc: Global,
 }
 
 impl<'a, P: Program> Model for Replay<'a, P> {
     ghost use Rattle.std.specs.Prelude.{◌≡◌};
     ghost use Rattle.replay_model.specs.Replays.{ReplayState, Replays};
+    ghost use Rattle.srr_replay.specs.Places.{ArePlaces};
     ghost use Rattle.srr_replay.specs.Rounds.{IsReplayable};
 
     ghost Value = { ReplayState P };
 
     ghost view = { λ r. record { program = r.program.now; log = r.log.now; stop = r.stop; events = r.seen.events } };
 
-    ghost invariant = { λ r. IsReplayable r.log.now × Replays (P.next r.program.now) r.log.now r.stop r.seen.events × (r.seen.ranks ≡ r.log.now.ranks) };
+    ghost invariant = { λ r. IsReplayable r.log.now × Replays (P.next r.program.now) r.log.now r.stop r.seen.events × (r.seen.ranks ≡ r.log.now.ranks) × ArePlaces (P.next r.program.now) r.log.now r.seen.events r.places };
 }
 
 impl<'a, P: Program> Replay<'a, P> {
@@ -57,11 +61,13 @@ impl<'a, P: Program> Replay<'a, P> {
         ensures { IfOk result (λ r. r ≡ record { program = program.now; log = log.now; stop = stop; events = [] }) }
     {
         let seen = IndexedHistory::new(alloc, log.ranks)?;
+        let places = Places::new(alloc, log.ranks)?;
         Ok(Replay {
             program,
             log,
             stop,
             seen,
+            places,
             alloc,
         })
     }
@@ -87,17 +93,23 @@ impl<'a, P: Program> Replay<'a, P> {
         }
     }
 
-    /// The answer to the rank's call.
-    fn answer(&self, rank: u8, call: &Call) -> Result<Step, AllocError>
-        requires member { is_member self.now.log.group rank ≡ true }
-        requires next { P.next self.now.program self.now.log.ranks rank (replies_in (view_of self.now.events rank)) ≡ Some call.now }
-        ensures answer { IfOk result (λ step. step ≡ answer_of self.now.log self.now.stop (view_of self.now.events) rank (view_of self.now.events rank) call.now) }
-        ensures shape { IfOk result (λ step. (reply : Reply) → step ≡ Replied reply → MayGive (P.next self.now.program) self.now.log.ranks rank (replies_in (view_of self.now.events rank)) reply) }
-        ensures sure { takes_none (answer_of self.now.log self.now.stop (view_of self.now.events) rank (view_of self.now.events rank) call.now) ≡ true → IsOk result }
+    /// The answer to the rank's call. Begins at the rank's place, and notes it.
+    fn answer(&mut self, rank: u8, call: &Call) -> Result<Step, AllocError>
+        requires member { is_member self.old.log.group rank ≡ true }
+        requires next { P.next self.old.program self.old.log.ranks rank (replies_in (view_of self.old.events rank)) ≡ Some call.now }
+        ensures same { self.new ≡ self.old }
+        ensures answer { IfOk result (λ step. step ≡ answer_of self.old.log self.old.stop (view_of self.old.events) rank (view_of self.old.events rank) call.now) }
+        ensures shape { IfOk result (λ step. (reply : Reply) → step ≡ Replied reply → MayGive (P.next self.old.program) self.old.log.ranks rank (replies_in (view_of self.old.events rank)) reply) }
+        ensures sure { takes_none (answer_of self.old.log self.old.stop (view_of self.old.events) rank (view_of self.old.events rank) call.now) ≡ true → IsOk result }
     {
         let number = self.seen.count(rank);
         let asked = NextCall { rank, number, call };
-        answer(self.alloc, self.log, &self.stop, &self.seen, &asked)
+        let mut place = self.places.get(rank);
+        let step = answer(
+            self.alloc, self.log, &self.stop, &self.seen, &mut place, &asked,
+        );
+        self.places.set(rank, place);
+        step
     }
 
     /// Adds the event of a reply.
@@ -110,6 +122,7 @@ impl<'a, P: Program> Replay<'a, P> {
     {
         let event = event_of(rank, call, reply)?;
         self.seen.add(event)?;
+        self.places.set(rank, None);
         Ok(())
     }
 

@@ -1,15 +1,10 @@
-use Rattle.std.proofs.Common.{◌≡◌, ℕ, List, length, true}
+use Rattle.std.proofs.Common.{◌≡◌, ◌≤◌, None, length, take}
 use Rattle.run_model.specs.Views.{view_of}
 use Rattle.replay_model.specs.Filling.{fill_marks, missing_of}
-use Rattle.replay_model.specs.Fits.{marks_fit}
 use Rattle.srr_replay.proofs.missing.missing_in_marks.Given as goal
 
-abbrev pub invariant-loop-rest : goal.invariant-loop-rest
-invariant-loop-rest l = record {
-  same : missing_of (fill_marks l.seen.ranks (view_of l.seen.events) l.rank (view_of l.seen.events l.rank) l.starts l.rest)
-      ≡ missing_of (fill_marks l.seen.ranks (view_of l.seen.events) l.rank (view_of l.seen.events l.rank) l.starts l.marks);
-  fit : (group : List ℕ) × (marks_fit l.seen.ranks group l.rank (view_of l.seen.events l.rank) l.starts l.rest ≡ true);
+abbrev pub invariant-loop-k : goal.invariant-loop-k
+invariant-loop-k l = record {
+  within : l.k ≤ length l.marks;
+  there : missing_of (fill_marks l.seen.ranks (view_of l.seen.events) l.rank (view_of l.seen.events l.rank) l.starts (take l.k l.marks)) ≡ None;
 }
-
-abbrev pub decreases-loop-rest : goal.decreases-loop-rest
-decreases-loop-rest l = length l.rest

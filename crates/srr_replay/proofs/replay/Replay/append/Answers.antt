@@ -4,6 +4,8 @@ use Rattle.run_model.specs.declared.event.Event.{Event}
 use Rattle.run_model.specs.Views.{view_of}
 use Rattle.view_tables.specs.StartTable.{TakesMade}
 use Rattle.srr_replay.proofs.LogLemmas.{below_at}
+use Rattle.replay_model.specs.Replays.{event_of}
+use Rattle.srr_replay.proofs.PlaceLemmas.{ArePlaces-after, place_below}
 use Rattle.srr_replay.proofs.ReplaysLemmas.{EntersKnown-Replays, Replays-after, TakesMade-Replays}
 use Rattle.srr_replay.proofs.replay.Replay.append.Goals as goal
 
@@ -32,13 +34,20 @@ add-requires-clause-known g c =
     (rw (← c.self.view_is) at c.requires.next)
     (rw (← c.self.view_is) at c.requires.answer)))
 
+pub set-requires : goal.set-requires
+set-requires g c =
+    let member : is_member c.self.inside.log.now.group c.args.rank ≡ true = rw (← c.self.view_is) at c.requires.member in
+    place_below _ _ _ _ _ c.self.invariant.0 member c.self.invariant.3
+
 pub invariant_of-self-2 : goal.invariant_of-self-2
 invariant_of-self-2 g c =
     let member : is_member c.self.inside.log.now.group c.args.rank ≡ true = rw (← c.self.view_is) at c.requires.member in
-    rw (c.in_ok-add.ensures.ok, c.in_ok-event.ensures) (
+    let below = below_at c.self.inside.log.now.ranks c.self.inside.log.now.group c.args.rank c.self.invariant.0.below member in
+    rw (c.set.ensures, c.in_ok-add.ensures.ok, c.in_ok-event.ensures) (
       c.self.invariant.0,
       Replays-after _ _ _ _ _ _ _ c.self.invariant.1 member
           (rw (← c.self.view_is) at c.requires.next)
           (rw (← c.self.view_is) at c.requires.answer),
       c.self.invariant.2,
+      ArePlaces-after _ _ c.self.inside.seen.events c.self.inside.places (event_of c.args.rank c.args.call.now c.args.reply.now) below c.self.invariant.3,
     )
