@@ -19,7 +19,7 @@ ghost use Rattle.requests.specs.States.{with_rows, State};
 ghost use Rattle.requests.specs.Taking.{answer_in, rows_after};
 ghost use Rattle.requests.specs.declared.requests.TakeAnswer.TheVariants.{Took as TookItems};
 ghost use Rattle.mpi_machine.specs.Courses.{bound_of, has_ended, HasRoom};
-ghost use Rattle.mpi_machine.specs.Turns.{after_turn, last_reply, stage_of, stands, takes_none, turn_of, HasReply, IsAsked, IsHeldBack, IsStartAt, StandsAt};
+ghost use Rattle.mpi_machine.specs.Turns.{after_turn, last_reply, rests, stage_of, stands, takes_none, turn_of, HasReply, IsAsked, IsHeldBack, IsStartAt, StandsAt};
 ghost use Rattle.mpi_machine.specs.declared.turn.Turn.TheVariants.{Replied, Wait};
 ghost use Rattle.mpi_machine.specs.Waits.{waits, AreKept};
 
@@ -95,6 +95,23 @@ impl<'a, P: Program> Machine<'a, P> {
         let turn = self.turn(rank, call)?;
         self.is_run();
         Ok(turn)
+    }
+
+    /// Whether a rank waits with a call already, and an attempt of it would wait again. Takes no memory. The list of starts that it
+    /// waits for all of is not walked from its beginning.
+    pub fn rests(&mut self, rank: u8) -> bool
+        requires rank { rank < self.old.ranks }
+        ensures value { result ≡ rests (P.next self.old.program) self.old.ranks self.old.events self.old.kept rank }
+        ensures same { self.new ≡ self.old }
+
+        // So the attempt need not be made.
+        ensures serial { result ≡ true → (stage : Stage) → StandsAt self.old stage → StandsAt self.new (attempt (P.next self.old.program) self.old.ranks stage rank) }
+    {
+        self.is_run();
+        if self.course.bound().is_some() || self.course.kept(rank).is_none() {
+            return false;
+        }
+        self.stands(rank) && !self.others_stand(rank)
     }
 
     /// The events so far are a run, each event of which is the machine's, and each rank has a place for its waiting call, which is

@@ -12,7 +12,7 @@ use mpi_machine::turn::Turn;
 use run_model::program::{Program, RankRun, Want};
 use std::alloc::AllocError;
 
-/// One attempt of a rank, where it is live.
+/// One attempt of a rank, where it is live. A rank that would wait again with the same call is not asked for it.
 fn try_rank<P: Program, R: RankRun<Of = P>>(
     machine: &mut Machine<'_, P>,
     run: &mut R,
@@ -24,6 +24,9 @@ fn try_rank<P: Program, R: RankRun<Of = P>>(
     ensures others { OnOk result (IsOnlyOf rank machine.old.events machine.new.events) }
     ensures goes { OnOk result (GoesBy (P.next machine.old.program) (rank ∷ []) machine.old machine.new) }
 {
+    if machine.rests(rank) {
+        return Ok(());
+    }
     let call = match run.want()? {
         Want::Ended => return Ok(()),
         Want::Ask(call) => call,
