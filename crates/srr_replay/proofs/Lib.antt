@@ -1,6 +1,7 @@
 pub mod CollectiveLemmas
 pub mod FillLemmas
 pub mod FormLemmas
+pub mod KeptLemmas
 pub mod LogLemmas
 pub mod MissingMarks
 pub mod PlaceLemmas

@@ -57,7 +57,7 @@ HasNoStep-answered next log stop events rank call h other event same step =
     let is : event.call ≡ call = cc in
     other event.reply (rw (same, is) at step.reply)
 
-number_cases : (a b : ℕ) → (a ≡ b) ⊎ (a ≢ b)
+pub number_cases : (a b : ℕ) → (a ≡ b) ⊎ (a ≢ b)
 number_cases a b = elim (test_cases (a == b)) [ inl h ↦ inl (eqb-true a b h) | inr h ↦ inr (λ e. let t : (a == b) ≡ true = eq-eqb a b e in cc) ]
 
 -- another rank's replies are as before

@@ -1,4 +1,5 @@
 pub mod Collectives
 pub mod IndexedHistory
+pub mod Kept
 pub mod Places
 pub mod Rounds

@@ -8,6 +8,7 @@ mod fill;
 mod find;
 mod fit;
 mod indexed_history;
+mod kept;
 mod missing;
 mod next_call;
 mod note;

@@ -7,10 +7,12 @@ ghost use Rattle.run_model.specs.Program.{IsAfter};
 ghost use Rattle.run_model.specs.Views.{view_of, replies_in};
 ghost use Rattle.replay_model.specs.Laws.{IsReplayOfEveryRun};
 ghost use Rattle.replay_model.specs.Replays.{IsExhausted, IsWholeReplay, Replays};
+ghost use Rattle.srr_replay.specs.Kept.{AreKept, IsKept};
 ghost use Rattle.srr_replay.specs.Rounds.{AreRounds, GrowsBy, HasNoStep, IsReplayable, RunAll, SameReplay, attempt, attempts};
 ghost use Rattle.replay_model.specs.Stands.{IsReplayed, stand_of};
 ghost use Rattle.srr_entry.specs.Outputs.{printed_of};
 
+use crate::kept::{next_call, no_calls};
 use crate::replay::Replay;
 use mpi_call::call::Call;
 use mpi_call::lists::Ranks;
@@ -24,24 +26,31 @@ use srr_entry::log::Log;
 use std::alloc::{AllocError, Global};
 use wiz_base::bytes::Bytes;
 
-/// One attempt of one rank, where it is live. Tells whether it made an event.
+/// One attempt of one rank, where it is live. Tells whether it made an event; if not, the rank's call is kept for the next attempt.
 fn try_rank<P: Program, R: RankRun<Of = P>>(
     replay: &mut Replay<'_, P>,
     run: &mut R,
+    kept: &mut Option<Call>,
     rank: u8,
 ) -> Result<bool, AllocError>
     requires member { is_member replay.old.log.group rank ≡ true }
     requires run { IsAfter replay.old.program replay.old.log.ranks rank replay.old.events (R.standing run.old) }
+    requires kept { IsKept P.next (R.standing run.old) kept.old }
     ensures same { SameReplay replay.old replay.new }
     ensures run { OnOk result (IsAfter replay.old.program replay.old.log.ranks rank replay.new.events (R.standing run.new)) }
+    ensures kept { OnOk result (IsKept P.next (R.standing run.new) kept.new) }
     ensures grows { IfOk result (λ moved. GrowsBy rank replay.old.events replay.new.events moved) }
     ensures rests { IfOk result (λ moved. moved ≡ false → HasNoStep (P.next replay.old.program) replay.old.log replay.old.stop replay.old.events rank) }
     ensures goes { OnOk result (replay.new.events ≡ attempt (P.next replay.old.program) replay.old.log replay.old.stop replay.old.events rank) }
 {
-    match run.want()? {
-        Want::Ended => Ok(false),
-        Want::Ask(call) => try_call(replay, run, rank, &call),
+    let Some(call) = next_call(run, kept)? else {
+        return Ok(false);
+    };
+    let moved = try_call(replay, run, rank, &call)?;
+    if !moved {
+        *kept = Some(call);
     }
+    Ok(moved)
 }
 
 /// One attempt of a rank with its next call.
@@ -57,6 +66,7 @@ fn try_call<P: Program, R: RankRun<Of = P>>(
     requires next { P.next replay.old.program replay.old.log.ranks rank (replies_in (view_of replay.old.events rank)) ≡ Some call.now }
     ensures same { SameReplay replay.old replay.new }
     ensures run { OnOk result (IsAfter replay.old.program replay.old.log.ranks rank replay.new.events (R.standing run.new)) }
+    ensures stays { IfOk result (λ moved. moved ≡ false → R.standing run.new ≡ R.standing run.old) }
     ensures grows { IfOk result (λ moved. GrowsBy rank replay.old.events replay.new.events moved) }
     ensures rests { IfOk result (λ moved. moved ≡ false → HasNoStep (P.next replay.old.program) replay.old.log replay.old.stop replay.old.events rank) }
     ensures goes { OnOk result (replay.new.events ≡ attempt (P.next replay.old.program) replay.old.log replay.old.stop replay.old.events rank) }
@@ -75,12 +85,15 @@ fn round<P: Program, R: RankRun<Of = P>>(
     replay: &mut Replay<'_, P>,
     group: &[u8],
     runs: &mut [R],
+    kept: &mut [Option<Call>],
 ) -> Result<bool, AllocError>
     requires group { group.now ≡ replay.old.log.group }
     requires distinct { is_distinct replay.old.log.group ≡ true }
     requires runs { RunAll R.standing replay.old.program replay.old.log replay.old.events runs.old }
+    requires kept { AreKept P.next R.standing runs.old kept.old }
     ensures same { SameReplay replay.old replay.new }
     ensures runs { OnOk result (RunAll R.standing replay.old.program replay.old.log replay.new.events runs.new) }
+    ensures kept { OnOk result (AreKept P.next R.standing runs.new kept.new) }
     ensures begins { OnOk result (IsPrefixOf replay.old.events replay.new.events) }
     ensures moved { IfOk result (λ moved. moved ≡ true → length replay.old.events < length replay.new.events) }
     ensures still { IfOk result (λ moved. moved ≡ false → replay.new.events ≡ replay.old.events) }
@@ -89,7 +102,7 @@ fn round<P: Program, R: RankRun<Of = P>>(
 {
     let mut moved = false;
     for (k, run) in runs.iter_mut().enumerate() {
-        if try_rank(replay, run, group[k])? {
+        if try_rank(replay, run, &mut kept[k], group[k])? {
             moved = true;
         }
     }
@@ -230,7 +243,8 @@ fn run_all<P: Program, R: RankRun<Of = P>>(
     ensures outputs { IfOk result (λ found. found.outputs ≡ map (printed_of (P.output replay.old.program) replay.old.log.ranks replay.new.events) replay.old.log.group) }
     ensures stands { IfOk result (λ found. map Some found.stands ≡ map (stand_of (P.next replay.old.program) (P.variables replay.old.program) replay.old.log replay.old.stop replay.new.events) replay.old.log.group) }
 {
-    exhaust(replay, group, runs)?;
+    let mut kept = no_calls(alloc, runs.len())?;
+    exhaust(replay, group, runs, kept.as_mut_slice())?;
     ends_of(alloc, replay, group, runs)
 }
 
@@ -239,10 +253,12 @@ fn exhaust<P: Program, R: RankRun<Of = P>>(
     replay: &mut Replay<'_, P>,
     group: &[u8],
     runs: &mut [R],
+    kept: &mut [Option<Call>],
 ) -> Result<(), AllocError>
     requires group { group.now ≡ replay.old.log.group }
     requires distinct { is_distinct replay.old.log.group ≡ true }
     requires runs { RunAll R.standing replay.old.program replay.old.log replay.old.events runs.old }
+    requires kept { AreKept P.next R.standing runs.old kept.old }
     ensures begins { OnOk result (IsPrefixOf replay.old.events replay.new.events) }
     ensures same { SameReplay replay.old replay.new }
     ensures runs { OnOk result (RunAll R.standing replay.old.program replay.old.log replay.new.events runs.new) }
@@ -251,7 +267,7 @@ fn exhaust<P: Program, R: RankRun<Of = P>>(
 {
     // For the proof that the loop ends: the number of events is below 2^32, and each round adds to it.
     let mut count = replay.len();
-    while round(replay, group, runs)? {
+    while round(replay, group, runs, kept)? {
         count = replay.len();
     }
     Ok(())

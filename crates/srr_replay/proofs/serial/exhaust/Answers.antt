@@ -12,6 +12,7 @@ loop-replay-preserved g c =
       same = same_on start c.loop-replay.replay c.round.new.replay inv.same ok.same;
       begins = prefix_trans start.events c.loop-replay.replay.events c.round.new.replay.events inv.begins ok.begins;
       runs = rw (ok.same.program, ok.same.log) ok.runs;
+      kept = ok.kept;
       counted = c.len-count-in-loop-replay.ensures;
       so_far = (suc inv.so_far.0, one_round g.P.Program.next inv.so_far.0 start c.loop-replay.replay c.round.new.replay inv.same.program inv.same.log inv.same.stop inv.so_far.1 ok.goes);
     }

@@ -1,5 +1,6 @@
 use Rattle.std.proofs.Common.{◌≡◌, ◌<◌, ap, sym, ◌∙◌, length, true, arith, below_more, slice_index}
 use Rattle.mpi_call.specs.Collectives.{is_distinct}
+use Rattle.srr_replay.proofs.KeptLemmas.{AreKept-set}
 use Rattle.srr_replay.proofs.RoundsLemmas.{RunAll-set, IsExhausted-each, grows_on, longer, no_shorter, one_attempt, same_on}
 use Rattle.srr_replay.proofs.serial.round.Goals as goal
 use Rattle.srr_replay.proofs.serial.round.Goals.{then-branch, else-branch}
@@ -16,6 +17,7 @@ loop-k-preserved g c =
       same = same_on c.args.replay.now c.loop-k.replay c.try_rank.new.replay inv.same ok.same;
       runs = rw (ok.same.program, ok.same.log)
           (RunAll-set _ _ _ _ _ _ _ _ c.in_ok-try_rank.field-0 inv.runs distinct lt (rw group_is at ok.grows) (rw group_is at ok.run));
+      kept = AreKept-set _ _ _ _ _ _ _ inv.kept (omega (arith, inv.runs.as_many, lt)) ok.kept;
       begins = grows_on (slice_index c.args.group.now c.loop-k.k) c.args.replay.now.events c.loop-k.replay.events c.try_rank.new.replay.events c.in_ok-try_rank.field-0 inv.begins ok.grows;
       grown = λ is. elim c.if-branch.branch [
         | then-branch w ↦

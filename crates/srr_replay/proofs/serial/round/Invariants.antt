@@ -1,5 +1,6 @@
 use Rattle.std.proofs.Common.{◌≡◌, ◌<◌, ℕ, length, take, true, false, slice_index}
 use Rattle.run_model.specs.Lists.{IsPrefixOf}
+use Rattle.srr_replay.specs.Kept.{AreKept}
 use Rattle.srr_replay.specs.Rounds.{HasNoStep, RunAll, SameReplay, attempts}
 use Rattle.srr_replay.proofs.serial.round.Given as goal
 
@@ -8,6 +9,7 @@ invariant-loop-k g l =
     record {
       same : SameReplay l.fn.replay l.replay;
       runs : RunAll g.R.RankRun.standing l.replay.program l.replay.log l.replay.events l.runs;
+      kept : AreKept g.P.Program.next g.R.RankRun.standing l.runs l.kept;
       begins : IsPrefixOf l.fn.replay.events l.replay.events;
       grown : l.moved ≡ true → length l.fn.replay.events < length l.replay.events;
       still : l.moved ≡ false → l.replay.events ≡ l.fn.replay.events;
