@@ -59,7 +59,8 @@ impl<'a, P: Program> Attempts<P> for Recorder<'a, P> {
     }
 }
 
-/// An attempt at the machine, with a copy of the call. The error is being out of memory; then the machine is unchanged.
+/// An attempt at the machine, with a copy of the call, which is not made where the rank would wait again. The error is being out of
+/// memory; then the machine is unchanged.
 fn turn<P: Program>(
     machine: &mut Machine<'_, P>,
     rank: u8,
@@ -73,6 +74,9 @@ fn turn<P: Program>(
     ensures shape { IfOk result (λ answer. (reply : Reply) → answer ≡ Replied reply → MayGive (P.next machine.old.program) machine.old.ranks rank (replies_in (view_of machine.old.events rank)) reply) }
     ensures err { OnErr result (machine.new ≡ machine.old) }
 {
+    if machine.rests(rank) {
+        return Ok(Attempt::Waits);
+    }
     let call = call::copy_of(call)?;
     match machine.attempt(rank, call)? {
         Turn::Replied(reply) => Ok(Attempt::Replied(reply)),
