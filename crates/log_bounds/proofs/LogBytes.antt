@@ -15,10 +15,10 @@ use Rattle.run_model.specs.Views.{Next, view_of}
 use Rattle.run_model.proofs.Along.{Along-keeps, Along-snoc}
 use Rattle.run_model.proofs.Halts.{is_stopped}
 use Rattle.run_model.proofs.RunLaws.{Lawful, kept_run}
+use Rattle.run_model.proofs.Taken.{reply_taken}
 use Rattle.run_model.proofs.Views.{test_cases}
 use Rattle.log_bounds.specs.RunBounds.{LogBytesAreShort, LogTextsAreShort}
 use Rattle.log_bounds.proofs.HistoryLengths.{short_run}
-use Rattle.log_bounds.proofs.Listed.{reply_taken}
 use Rattle.log_bounds.proofs.RunEntries.{InBounds}
 use Rattle.log_bounds.proofs.RunLengths.{going_on, short_history}
 use Rattle.log_bounds.proofs.RecordLengths.{log_bytes_short}
@@ -63,7 +63,7 @@ items_listed next n before event Done lawful run step is = omega arith
 items_listed next n before event NotYet lawful run step is = omega arith
 items_listed next n before event (Peeked source start tag count) lawful run step is = omega arith
 items_listed next n before event (Stopped halt) lawful run step is = omega arith
-items_listed next n before event (Took items) lawful run step is = (reply_taken next n before event items lawful run step is).few
+items_listed next n before event (Took items) lawful run step is = (reply_taken next n before event items step is).few
 
 few_listed : (n got : ℕ) (call : Call) → IsInBounds n got call → length (listed_by call) ≤ 1000000
 few_listed n got (Take starts mode) bounds = bounds.1

@@ -18,6 +18,7 @@ pub mod Shapes
 pub mod RunLaws
 pub mod Orders
 pub mod Positions
+pub mod Taken
 pub mod Choosing
 pub mod ChosenLaws
 pub mod ChosenGots

@@ -40,7 +40,8 @@ name_at-below events at name h =
     let p = name_parts (take at events) (slice_get events at) name h in
     slice_get-below events at p.event p.there
 
-longer : (events : List Event) (i j : ℕ) (event : Event) → slice_get events i ≡ Some event → i < j → (rest : List Event) × (take j events ≡ take i events ++ event ∷ rest)
+-- the events before a later position begin with those before an earlier one and its event
+pub longer : (events : List Event) (i j : ℕ) (event : Event) → slice_get events i ≡ Some event → i < j → (rest : List Event) × (take j events ≡ take i events ++ event ∷ rest)
 longer [] i j event h less = absurd (cc)
 longer (x ∷ events) zero zero event h less = absurd (omega arith)
 longer (x ∷ events) zero (suc j) event h less = (take j events, (let same : x ≡ event = cc in ap (λ (e : Event). e ∷ take j events) same))
