@@ -8,3 +8,4 @@ pub mod Completed
 pub mod Received
 pub mod Early
 pub mod Ranks
+pub mod One

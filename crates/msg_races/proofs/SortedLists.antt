@@ -1,5 +1,5 @@
--- Joined lists of things with names.
-use Rattle.std.proofs.Common.{◌≡◌, ◌≤◌, ◌<◌, ◌⊎◌, ◌+◌, ◌++◌, ◌∷◌, [], ℕ, zero, suc, List, inl, inr, ap, arith, subst, refl}
+-- Sorted and joined lists of things with names.
+use Rattle.std.proofs.Common.{◌≡◌, ◌≤◌, ◌<◌, ◌⊎◌, ◌+◌, ◌++◌, ◌∷◌, [], ℕ, zero, suc, List, inl, inr, ap, arith, subst, refl, sym, ◌∙◌}
 use Rattle.mpi_call.specs.Lists.{IsIn}
 use Rattle.msg_races.specs.declared.names.Name.{Name}
 use Rattle.msg_races.specs.Listing.{joined}
@@ -30,6 +30,47 @@ sorted_append name (x ∷ xs) ys first second across = (
   ],
   sorted_append name xs ys first.1 second (λ a b in_xs in_ys. across a b (inr in_xs) in_ys),
 )
+
+-- sorted lists with the same elements are the same
+not_both : (a b : Name) → ComesBefore a b → ComesBefore b a → ⊥
+not_both a b (inl one) (inl other) = omega (arith, one, other)
+not_both a b (inl one) (inr other) = (let same = other.0 in omega (arith, one, same))
+not_both a b (inr one) (inl other) = (let same = one.0 in omega (arith, same, other))
+not_both a b (inr one) (inr other) = (let less = one.1 in let more = other.1 in omega (arith, less, more))
+
+abbrev pub AreWithin : {A : Type 0} → List A → List A → Type 0
+AreWithin xs ys = (a : _) → IsIn a xs → IsIn a ys
+
+same_first : {A : Type 0} (name : A → Name) (x y : A) (xs ys : List A) → AreSorted name (x ∷ xs) → AreSorted name (y ∷ ys) → IsIn x (y ∷ ys) → IsIn y (x ∷ xs) → x ≡ y
+same_first name x y xs ys one other there here = elim there [
+  | inl same ↦ sym same
+  | inr later ↦ elim here [
+    | inl same ↦ same
+    | inr behind ↦ absurd (not_both (name x) (name y) (one.0 y behind) (other.0 x later))
+  ]
+]
+
+rest_within : {A : Type 0} (name : A → Name) (x : A) (xs ys : List A) → AreSorted name (x ∷ xs) → AreWithin (x ∷ xs) (x ∷ ys) → AreWithin xs ys
+rest_within name x xs ys sorted within a there = elim (within a (inr there)) [
+  | inl same ↦ (
+      let before = sorted.0 a there in
+      let F : Name → Type 0 = λ n. ComesBefore n (name a) in
+      let again : ComesBefore (name a) (name a) = subst F (ap name same) before in
+      absurd (not_both (name a) (name a) again again))
+  | inr later ↦ later
+]
+
+pub same_sorted : {A : Type 0} (name : A → Name) (xs ys : List A) → AreSorted name xs → AreSorted name ys → AreWithin xs ys → AreWithin ys xs → xs ≡ ys
+same_sorted name [] [] one other within back = refl
+same_sorted name [] (y ∷ ys) one other within back = absurd (back y (inl refl))
+same_sorted name (x ∷ xs) [] one other within back = absurd (within x (inl refl))
+same_sorted name (x ∷ xs) (y ∷ ys) one other within back =
+    let same : y ≡ x = sym (same_first name x y xs ys one other (within x (inl refl)) (back y (inl refl))) in
+    let S : _ → Type 0 = λ z. AreSorted name (z ∷ ys) in
+    let W : _ → Type 0 = λ z. AreWithin (x ∷ xs) (z ∷ ys) in
+    let B : _ → Type 0 = λ z. AreWithin (z ∷ ys) (x ∷ xs) in
+    let rest : xs ≡ ys = same_sorted name xs ys one.1 other.1 (rest_within name x xs ys one (subst W same within)) (rest_within name x ys xs (subst S same other) (subst B same back)) in
+    ap (λ l. x ∷ l) rest ∙ ap (λ z. z ∷ ys) (sym same)
 
 -- what is given for the ranks below a number
 pub record IsGiven {A : Type 0} (lists : ℕ → List A) (ranks : ℕ) (a : A) : Type 0 where

@@ -13,6 +13,8 @@ use Rattle.mpi_call.specs.Calls.{listed_by}
 use Rattle.mpi_call.specs.Lists.{IsIn}
 use Rattle.run_model.specs.declared.event.Event.{Event}
 use Rattle.run_model.specs.Pairs.{name_at}
+use Rattle.run_model.specs.Run.{IsRun}
+use Rattle.run_model.specs.Views.{Next}
 use Rattle.causes.specs.Before.{IsBefore}
 use Rattle.msg_races.specs.declared.names.Name.{Name}
 use Rattle.msg_races.specs.declared.receives.Receive.{Receive}
@@ -70,3 +72,9 @@ pub record AreRaces (n : ℕ) (events : List Event) (receives : List Receive) : 
   pub each : (receive : Receive) → IsIn receive receives → IsRace n events receive
   pub all : (name : Name) (comm : ℕ) (tag : Tag) (at : ℕ) (took : Name) → IsWildcard events name comm tag → IsCompletion events name at took
       → (receive : Receive) × IsIn receive receives × (name_of receive ≡ name)
+
+-- a run has one list of races: each of its wildcard receives was completed once
+abbrev pub RunsHaveOneList : Type 0
+RunsHaveOneList =
+    (next : Next) (n : ℕ) (events : List Event) (one other : List Receive) → IsRun next n events → AreRaces n events one → AreRaces n events other
+    → one ≡ other

@@ -4,6 +4,7 @@
 mod arrival;
 mod completions;
 pub mod fault;
+pub mod laws;
 mod listing;
 pub mod names;
 pub mod races;
