@@ -326,7 +326,8 @@ mark_begins false false false false false false false true i p = absurd (cc)
 mark_begins false false false false false false false false true p = refl
 mark_begins false false false false false false false false false p = absurd (cc)
 
-mark_is_some : (text : List ℕ) (at : ℕ) → at < length text → opening text at ≡ opens.Mark → 0 < mark_length text at
+-- a mark that begins in the text has a byte
+pub mark_is_some : (text : List ℕ) (at : ℕ) → at < length text → opening text at ≡ opens.Mark → 0 < mark_length text at
 mark_is_some text at less e =
     let h : nat_le (length text) at ≡ false = false_from_ne_true _ (λ t. let past = leb-true (length text) at t in omega arith) in
     ltb-true 0 (mark_length text at) (mark_begins _ _ _ _ _ _ _ _ _ (rw h at e))

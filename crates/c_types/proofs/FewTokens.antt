@@ -13,27 +13,14 @@ use Rattle.c_lex.specs.declared.step.Step.TheVariants.{Lexeme}
 use Rattle.c_lex.specs.declared.token.Token.{Token}
 use Rattle.c_lex.specs.declared.token.TokenKind.{TokenKind}
 use Rattle.c_lex.specs.declared.token.TokenKind.TheVariants as kinds
+use Rattle.c_lex.proofs.Existence.{mark_is_some}
 use Rattle.c_lex.proofs.Laws.{opening_past}
 use Rattle.c_lex.proofs.SliceLaws.{goes_on_inside}
 
 -- where a mark begins, it has a byte
-mark_begins : (a b c d e f g h i : Bool) → (if a then opens.Newline else (if b then opens.Space else (if c then opens.LineComment else (if d then opens.BlockComment else (if e then opens.Directive else (if f then opens.Word else (if g then opens.Digits else (if h then opens.Quote else (if i then opens.Mark else opens.Nothing))))))))) ≡ opens.Mark → i ≡ true
-mark_begins true b c d e f g h i p = absurd (cc)
-mark_begins false true c d e f g h i p = absurd (cc)
-mark_begins false false true d e f g h i p = absurd (cc)
-mark_begins false false false true e f g h i p = absurd (cc)
-mark_begins false false false false true f g h i p = absurd (cc)
-mark_begins false false false false false true g h i p = absurd (cc)
-mark_begins false false false false false false true h i p = absurd (cc)
-mark_begins false false false false false false false true i p = absurd (cc)
-mark_begins false false false false false false false false true p = refl
-mark_begins false false false false false false false false false p = absurd (cc)
-
 mark_some : (text : List ℕ) (at : ℕ) → opening text at ≡ opens.Mark → 0 < mark_length text at
 mark_some text at e = elim (cases_lt at (length text)) [
-  | inl less ↦
-      let h : nat_le (length text) at ≡ false = false_from_ne_true _ (λ t. let past = leb-true (length text) at t in omega arith) in
-      ltb-true 0 (mark_length text at) (mark_begins _ _ _ _ _ _ _ _ _ (rw h at e))
+  | inl less ↦ mark_is_some text at less e
   | inr past ↦ let other : opens.TextEnd ≡ opens.Mark = sym (opening_past text at past) ∙ e in absurd (let z : ⊥ = cc in z)
 ]
 

@@ -2,7 +2,6 @@
 ghost use Rattle.std.specs.Prelude.{◌≡◌, ◌<◌, ◌^◌, ◌++◌, ◌∷◌, [], ℕ, List, IfOk, OnOk, length};
 ghost use Rattle.run_model.specs.declared.event.Event.{Event as EventSpec};
 ghost use Rattle.run_model.specs.Communicators.{members_in};
-ghost use Rattle.run_model.specs.Lists.{world};
 ghost use Rattle.run_model.specs.Views.{view_of};
 ghost use Rattle.causes.specs.Beside.{AreTables};
 ghost use Rattle.causes.specs.Positions.{enter_position, instance_at, positions, is_mate_of, start_position};
@@ -13,6 +12,7 @@ use crate::places::{Places, count_below};
 use mpi_call::call::Comm;
 use mpi_call::lists::Ranks;
 use run_model::event::Event;
+use run_model::lists::all_ranks;
 use std::alloc::{AllocError, Global};
 
 /// What is looked up in the events so far.
@@ -96,15 +96,4 @@ impl Tables {
             None => &self.nobody,
         }
     }
-}
-
-/// All ranks below a number, rising.
-fn all_ranks(alloc: Global, ranks: u8) -> Result<Ranks, AllocError>
-    ensures { IfOk result (λ all. all ≡ world ranks 0) }
-{
-    let mut all = Ranks::new(alloc);
-    for rank in 0..ranks {
-        all.push(rank)?;
-    }
-    Ok(all)
 }

@@ -14,6 +14,7 @@ use Rattle.mpi_call.proofs.NeedsLemmas.{eqb-sym}
 use Rattle.mpi_call.specs.Made.{by_key, key_in, of_colour, split_into}
 use Rattle.mpi_call.specs.Members.{place_of}
 use Rattle.mpi_call.specs.Needs.{colour_in}
+use Rattle.mpi_call.proofs.FoldLemmas.{range_with_len-more}
 use Rattle.comms.proofs.ColourLemmas.{length-by_key, length-colours_of, length-part}
 use Rattle.comms.specs.Colours.{colours_of}
 use Rattle.comms.specs.Communicators.{given_in, number_at, AreColoursOf, AreSmall, Communicators, Makes}
@@ -137,9 +138,4 @@ pub ranks_more : (n : ℕ) → range_with_len 0 (n + 1) ≡ range_with_len 0 n +
 ranks_more n =
     let one : n + 1 ≡ suc n = omega arith in
     let from : 0 + n ≡ n = omega arith in
-    ap (range_with_len 0) one ∙ (more 0 n ∙ ap (λ (k : ℕ). range_with_len 0 n ++ k ∷ []) from)
-  where
-    more : (a n : ℕ) → range_with_len a (suc n) ≡ range_with_len a n ++ (a + n) ∷ []
-    more a zero = ap (λ k. k ∷ []) (let e : a ≡ a + 0 = omega arith in e)
-    more a (suc n) = (let same : (a + 1) + n ≡ a + suc n = omega arith in
-        ap (λ xs. a ∷ xs) (more (a + 1) n ∙ ap (λ k. range_with_len (a + 1) n ++ k ∷ []) same))
+    ap (range_with_len 0) one ∙ (range_with_len-more 0 n ∙ ap (λ (k : ℕ). range_with_len 0 n ++ k ∷ []) from)

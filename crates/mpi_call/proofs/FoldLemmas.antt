@@ -6,7 +6,7 @@ use Rattle.std.specs.List.{range_with_len}
 use Rattle.mpi_call.specs.Operations.{fold_of, folds_of, column_of}
 use Rattle.mpi_call.specs.declared.call.Op.{Op}
 
-range_with_len-more : (a n : ℕ) → range_with_len a (suc n) ≡ range_with_len a n ++ (a + n) ∷ []
+pub range_with_len-more : (a n : ℕ) → range_with_len a (suc n) ≡ range_with_len a n ++ (a + n) ∷ []
 range_with_len-more a zero = ap (λ k. k ∷ []) (let e : a ≡ a + 0 = omega arith in e)
 range_with_len-more a (suc n) =
     let same : (a + 1) + n ≡ a + suc n = omega arith in

@@ -1,12 +1,24 @@
 //! Lists of what ranks saw, printed and hold.
-ghost use Rattle.std.specs.Prelude.{◌≡◌, ◌++◌, ◌∷◌, [], OnOk, IfErr, OnErr};
+ghost use Rattle.std.specs.Prelude.{◌≡◌, ◌++◌, ◌∷◌, [], OnOk, IfErr, IfOk, OnErr};
+ghost use Rattle.run_model.specs.Lists.{world};
 
 use mpi_call::call::Call;
-use mpi_call::lists::Ints;
+use mpi_call::lists::{Ints, Ranks};
 use mpi_call::reply::Reply;
-use std::alloc::{AllocFailed, Global};
+use std::alloc::{AllocError, AllocFailed, Global};
 use std::marker::Model;
 use wiz_base::bytes::Bytes;
+
+/// All ranks below a number, rising.
+pub fn all_ranks(alloc: Global, ranks: u8) -> Result<Ranks, AllocError>
+    ensures { IfOk result (λ all. all ≡ world ranks 0) }
+{
+    let mut all = Ranks::new(alloc);
+    for rank in 0..ranks {
+        all.push(rank)?;
+    }
+    Ok(all)
+}
 
 /// What a rank has seen: its calls, each with its reply; contracts see the list of these pairs.
 #[derive(Drop)]

@@ -4,10 +4,10 @@ ghost use Rattle.run_model.specs.Communicators.{known_in};
 ghost use Rattle.run_model.specs.Views.{View, start_at};
 ghost use Rattle.srr_entry.specs.Known.{IsKnownOf};
 
-use crate::members::all_ranks;
 use mpi_call::call::{Call, Comm};
 use mpi_call::lists::Ranks;
 use mpi_call::reply::Reply;
+use run_model::lists::all_ranks;
 use run_model::starts::is_start;
 use std::alloc::{AllocError, Global};
 use std::marker::Model;

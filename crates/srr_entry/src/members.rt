@@ -1,25 +1,12 @@
-//! Lists of ranks: all ranks of a run, and whether those that a collective needs are in a group.
-ghost use Rattle.std.specs.Prelude.{◌≡◌, IfOk, true};
+//! Whether the ranks that a collective needs are in a group.
+ghost use Rattle.std.specs.Prelude.{◌≡◌, true};
 ghost use Rattle.mpi_call.specs.Collectives.{IsEnterOf, is_member, needs};
-ghost use Rattle.run_model.specs.Lists.{world};
 ghost use Rattle.srr_entry.specs.Entries.{all_within};
 
 use mpi_call::call::Call;
 use mpi_call::lists::Ranks;
 use mpi_call::members::is_member;
 use mpi_call::needs::needs;
-use std::alloc::{AllocError, Global};
-
-/// All ranks below a number, rising.
-pub fn all_ranks(alloc: Global, ranks: u8) -> Result<Ranks, AllocError>
-    ensures { IfOk result (λ all. all ≡ world ranks 0) }
-{
-    let mut all = Ranks::new(alloc);
-    for rank in 0..ranks {
-        all.push(rank)?;
-    }
-    Ok(all)
-}
 
 /// Whether all members that the rank's Enter needs are in the group.
 pub fn all_within(group: &[u8], call: &Call, members: &Ranks, rank: u8) -> bool

@@ -14,7 +14,7 @@ use mpi_call::call::{Call, Comm};
 use mpi_call::lists::Ranks;
 use run_model::event::Event;
 use run_model::history::History;
-use srr_entry::members::all_ranks;
+use run_model::lists::all_ranks;
 use std::alloc::{AllocError, Global};
 use std::marker::Model;
 use view_tables::enter_table::{EnterTable, count_below};

@@ -1,6 +1,6 @@
 use Rattle.std.proofs.Common.{◌∙◌, sym, ◌++◌, ◌∷◌, [], ap}
 use Rattle.run_model.proofs.CommunicatorLaws.{world-last}
-use Rattle.causes.proofs.tables.all_ranks.Goals as goal
+use Rattle.run_model.proofs.lists.all_ranks.Goals as goal
 
 pub loop-rank-preserved : goal.loop-rank-preserved
 loop-rank-preserved c =
