@@ -1,6 +1,7 @@
 pub mod Along
 pub mod Views
 pub mod Prefixes
+pub mod HandedOut
 pub mod StartLemmas
 pub mod Places
 pub mod Gathering

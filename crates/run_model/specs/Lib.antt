@@ -17,3 +17,4 @@ pub mod Chosen
 pub mod Serial
 pub mod MachineLaws
 pub mod Endings
+pub mod ByRank

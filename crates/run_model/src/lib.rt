@@ -7,6 +7,7 @@
 //! keeps (`Program`).
 #![tactic(auto)]
 
+pub mod by_rank;
 pub mod communicators;
 pub mod ending;
 pub mod event;
