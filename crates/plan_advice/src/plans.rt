@@ -5,6 +5,7 @@ ghost use Rattle.plan_advice.specs.Costs.{IsRunOfAProgram, group_cost, ints_in, 
 
 use group_plan::Plan;
 use mpi_call::lists::Ranks;
+use run_model::by_rank::ByRank;
 use run_model::history::History;
 use srr_entry::entry::{Entry, Mark, Marked};
 use srr_entry::log::Log;
@@ -18,22 +19,23 @@ pub fn plan_cost(alloc: Global, history: &History, plan: &Plan) -> Result<u64, A
 {
     let n = plan.n();
     let groups = plan.groups();
+    let by_rank = ByRank::new(alloc, history)?;
     let mut total = 0;
     for group in 0..groups {
-        total += group_cost(alloc, n, plan.ranks(group), history)?;
+        total += group_cost(alloc, n, plan.ranks(group), &by_rank)?;
     }
     Ok(total)
 }
 
 /// The ints that the log of a group keeps.
-fn group_cost(alloc: Global, n: u8, group: &Ranks, history: &History) -> Result<u64, AllocError>
-    requires run { IsRunOfAProgram n history.now.events }
+fn group_cost(alloc: Global, n: u8, group: &Ranks, by_rank: &ByRank<'_>) -> Result<u64, AllocError>
+    requires run { IsRunOfAProgram n by_rank.now }
     requires group { IsGroup group.now }
     requires below { All (λ rank. rank < n) group.now }
-    ensures cost { IfOk result (λ cost. cost ≡ group_cost n history.now.events group.now) }
+    ensures cost { IfOk result (λ cost. cost ≡ group_cost n by_rank.now group.now) }
     ensures few { IfOk result (λ cost. cost ≤ 2 ^ 38) }
 {
-    let log = log_of(alloc, n, group, &[], history)?;
+    let log = log_of(alloc, n, group, &[], by_rank)?;
     Ok(ints_in_log(&log))
 }
 

@@ -16,6 +16,7 @@ use crate::rounds::{make_rounds, take_turns};
 use group_plan::Plan;
 use mpi_call::call::Halt;
 use mpi_machine::machine::Machine;
+use run_model::by_rank::ByRank;
 use run_model::ending::Ending;
 use run_model::laws::order_begins_serial;
 use run_model::lists::Outputs;
@@ -102,9 +103,10 @@ fn logs_of<P: Program>(
     ensures { IfOk result (λ logs. logs ≡ map (log_of text.now machine.now.ranks machine.now.events) plan.now) }
 {
     let history = machine.history();
+    let by_rank = ByRank::new(alloc, history)?;
     let mut logs = Logs::new(alloc);
     for group in 0..plan.groups() {
-        let log = log_of(alloc, plan.n(), plan.ranks(group), text, history)?;
+        let log = log_of(alloc, plan.n(), plan.ranks(group), text, &by_rank)?;
         logs.push(log)?;
     }
     Ok(logs)

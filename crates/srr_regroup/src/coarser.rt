@@ -12,6 +12,7 @@ use log_bounds::ints32::replies_fit;
 use mpi_call::lists::Ranks;
 use mpi_call::members::is_member;
 use replay_model::replayed::Replayed;
+use run_model::by_rank::ByRank;
 use srr_entry::log::{Entries, Lists, Log};
 use srr_entry::run_log::entries_of;
 use std::alloc::{AllocError, Global};
@@ -52,11 +53,13 @@ pub fn join(
 {
     replies_fit(first.events.as_slice());
     replies_fit(second.events.as_slice());
+    let by_first = ByRank::new(alloc, &first.events)?;
+    let by_second = ByRank::new(alloc, &second.events)?;
     let group = both_groups(alloc, one, two)?;
     let mut lists = Lists::new(alloc);
     let mut rest = group.as_slice();
     while let [rank, after @ ..] = rest {
-        let entries = entries_in_both(alloc, &group, one, first, two, second, *rank)?;
+        let entries = entries_in_both(alloc, &group, one, &by_first, two, &by_second, *rank)?;
         lists.push(entries)?;
         rest = after;
     }
@@ -94,20 +97,20 @@ fn entries_in_both(
     alloc: Global,
     group: &Ranks,
     one: &Log,
-    first: &Replayed,
+    first: &ByRank<'_>,
     two: &Log,
-    second: &Replayed,
+    second: &ByRank<'_>,
     rank: u8,
 ) -> Result<Entries, AllocError>
-    requires logs { CanBeJoined one.now first.now.events.events two.now second.now.events.events }
+    requires logs { CanBeJoined one.now first.now two.now second.now }
     requires rank { (is_member one.now.group rank || is_member two.now.group rank) ≡ true }
     ensures { IfOk result (λ entries. entries
-        ≡ entries_from one.now.ranks group.now rank [] (view_of (first.now.events.events ++ second.now.events.events) rank)) }
+        ≡ entries_from one.now.ranks group.now rank [] (view_of (first.now ++ second.now) rank)) }
 {
     if is_member(one.group.as_slice(), rank) {
-        return entries_of(alloc, one.ranks, group, rank, &first.events);
+        return entries_of(alloc, one.ranks, group, rank, first);
     }
-    entries_of(alloc, two.ranks, group, rank, &second.events)
+    entries_of(alloc, two.ranks, group, rank, second)
 }
 
 /// The least rank of both groups.

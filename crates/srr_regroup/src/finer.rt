@@ -13,6 +13,7 @@ use log_bounds::ints32::replies_fit;
 use mpi_call::lists::Ranks;
 use mpi_call::members::is_member;
 use replay_model::replayed::Replayed;
+use run_model::by_rank::ByRank;
 use srr_entry::log::Log;
 use srr_entry::run_log::log_of;
 use std::alloc::{AllocError, Global};
@@ -50,13 +51,8 @@ pub fn refine(
     ensures in_bounds { IsInBounds log.now → IfOk result (λ made. IsInBounds made) }
 {
     replies_fit(replayed.events.as_slice());
-    log_of(
-        alloc,
-        log.ranks,
-        part,
-        log.program.as_slice(),
-        &replayed.events,
-    )
+    let by_rank = ByRank::new(alloc, &replayed.events)?;
+    log_of(alloc, log.ranks, part, log.program.as_slice(), &by_rank)
 }
 
 /// Whether each of these ranks is in a group. Takes no memory.

@@ -1,32 +1,25 @@
-use Rattle.std.proofs.Common.{length, subst, sym, take}
-use Rattle.run_model.specs.Views.{View, view_of}
-use Rattle.srr_entry.specs.Known.{IsKnownOf}
-use Rattle.srr_entry.proofs.Making.{front_more, noted, order_of}
+use Rattle.std.proofs.Common.{◌++◌, ◌∷◌, ◌∙◌, [], ap, append_assoc, sym}
+use Rattle.run_model.specs.Views.{View}
+use Rattle.srr_entry.proofs.Making.{made_more, map_front, order_of}
 use Rattle.srr_entry.proofs.run_log.seen_entries.Goals as goal
 
 pub entry-requires : goal.entry-requires
 entry-requires c = (
-  take (length c.loop-rest.entries) (view_of c.args.events.now c.args.owner.now.rank),
+  c.loop-rest.invariant.own,
   c.loop-rest.invariant.known,
-  order_of c.args.owner.now.ranks c.args.owner.now.rank _ _ _ c.requires c.loop-rest.invariant.seen,
+  order_of c.args.owner.now.ranks c.args.owner.now.rank _ c.loop-rest.invariant.own _ c.requires c.loop-rest.invariant.seen,
 )
 
-pub loop-rest-preserved-in_ok-note : goal.loop-rest-preserved-in_ok-note
-loop-rest-preserved-in_ok-note c =
-    let n = c.args.owner.now.ranks in
-    let group = c.args.owner.now.group.now in
-    let rank = c.args.owner.now.rank in
-    let view : View = view_of c.args.events.now c.args.owner.now.rank in
-    let own : View = take (length c.loop-rest.entries) (view_of c.args.events.now c.args.owner.now.rank) in
-    let more : View = take (length c.push.new.self) (view_of c.args.events.now c.args.owner.now.rank) in
+pub loop-rest-preserved : goal.loop-rest-preserved
+loop-rest-preserved c =
+    let own = c.loop-rest.invariant.own in
     let known = c.loop-rest.invariant.known in
-    let event = c.event-item.result in
-    let grown = front_more n group rank view c.loop-rest.entries c.push.new.self c.loop-rest.rest.now event c.in_ok-entry.entry
-    c.loop-rest.invariant.seen c.loop-rest.invariant.made c.in-len1-up.len_at_least c.event-item.is c.if-event-owner.true c.in_ok-push.ensures.ok in
-    let step = noted n group rank view own more c.loop-rest.entries c.push.new.self c.loop-rest.rest.now event c.in_ok-entry.entry
-    c.loop-rest.invariant.seen c.loop-rest.invariant.made c.in-len1-up.len_at_least c.event-item.is c.if-event-owner.true (c.in_ok-entry.ensures own known) c.in_ok-push.ensures.ok grown in
+    let event = c.event-item.result.now in
+    let front = map_front (λ event. (event.now.call, event.now.reply)) c.loop-rest.rest.now c.event-item.result c.in-len1-up.len_at_least c.event-item.is in
     record {
-      known = subst (λ (v : View). IsKnownOf c.args.owner.now.ranks v c.note.new.self) (sym grown) (c.in_ok-note.ensures _ own known);
-      seen = step.seen;
-      made = step.made;
+      own = own ++ (event.call, event.reply) ∷ [];
+      known = c.in_ok-note.ensures _ own known;
+      seen = c.loop-rest.invariant.seen ∙ ap (λ (v : View). own ++ v) front ∙ sym (append_assoc own ((event.call, event.reply) ∷ []) _);
+      made = made_more c.args.owner.now.ranks c.args.owner.now.group.now c.args.owner.now.rank own event.call event.reply c.loop-rest.entries c.push.new.self c.in_ok-entry.entry
+          c.loop-rest.invariant.made (c.in_ok-entry.ensures own known) c.in_ok-push.ensures.ok;
     }

@@ -8,21 +8,21 @@ pub entries_of-requires : goal.entries_of-requires
 entries_of-requires c =
     let there = rw c.as_slice.ensures at c.if-is_member.ensures in
     let mine : is_member c.args.one.now.group c.args.rank ≡ true = sym there in
-    replay_view c.args.one.now c.args.first.now.events.events c.args.rank c.requires.logs.first_log c.requires.logs.first_replay mine
+    replay_view c.args.one.now c.args.first.now c.args.rank c.requires.logs.first_log c.requires.logs.first_replay mine
 
 pub returns-then-is_member : goal.returns-then-is_member
 returns-then-is_member c =
     let there = rw c.as_slice.ensures at c.if-is_member.ensures in
     let mine : is_member c.args.one.now.group c.args.rank ≡ true = sym there in
     ifok_map c.entries_of.result _ _
-    (λ entries made. made ∙ first_entries c.args.one.now c.args.two.now c.args.first.now.events.events c.args.second.now.events.events c.args.group.now c.args.rank c.requires.logs mine)
+    (λ entries made. made ∙ first_entries c.args.one.now c.args.two.now c.args.first.now c.args.second.now c.args.group.now c.args.rank c.requires.logs mine)
     c.entries_of.ensures
 
 pub entries_of-requires-2 : goal.entries_of-requires-2
 entries_of-requires-2 c =
     let there = rw c.as_slice.ensures at c.if-is_member.ensures in
     let other : is_member c.args.one.now.group c.args.rank ≡ false = sym there in
-    replay_view c.args.two.now c.args.second.now.events.events c.args.rank c.requires.logs.second_log c.requires.logs.second_replay
+    replay_view c.args.two.now c.args.second.now c.args.rank c.requires.logs.second_log c.requires.logs.second_replay
     (other_member c.args.one.now c.args.two.now c.args.rank c.requires.rank other)
 
 pub returns : goal.returns
@@ -30,5 +30,5 @@ returns c =
     let there = rw c.as_slice.ensures at c.if-is_member.ensures in
     let other : is_member c.args.one.now.group c.args.rank ≡ false = sym there in
     ifok_map c.entries_of-2.result _ _
-    (λ entries made. made ∙ second_entries c.args.one.now c.args.two.now c.args.first.now.events.events c.args.second.now.events.events c.args.group.now c.args.rank c.requires.logs other)
+    (λ entries made. made ∙ second_entries c.args.one.now c.args.two.now c.args.first.now c.args.second.now c.args.group.now c.args.rank c.requires.logs other)
     c.entries_of-2.ensures

@@ -13,7 +13,7 @@ loop-rest-init c =
 pub loop-rest-preserved : goal.loop-rest-preserved
 loop-rest-preserved c =
     one_made c.args.one.now c.args.two.now c.args.first.now.events.events c.args.second.now.events.events c.loop-rest.lists c.push.new.self c.loop-rest.rest.now
-    c.in_ok-group.group c.in_ok-entries.entries c.loop-rest.invariant c.in-len1-up.len_at_least c.in_ok-group.ensures c.in_ok-entries.ensures c.in_ok-push.ensures.ok
+    c.in_ok-group.group c.in_ok-entries.entries c.loop-rest.invariant c.in-len1-up.len_at_least c.in_ok-group.ensures (rw (c.in_ok-by_first.ensures, c.in_ok-by_second.ensures) at c.in_ok-entries.ensures) c.in_ok-push.ensures.ok
 
 pub returns-clause-in_bounds : goal.returns-clause-in_bounds
 returns-clause-in_bounds c = λ bounds other_bounds.
