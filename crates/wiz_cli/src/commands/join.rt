@@ -90,8 +90,7 @@ fn write_joined<S: Store, K: Sink>(
     let made = srr_regroup::join(alloc, &pair.one, &first, &pair.other, &second)?;
     let text = joined_text(alloc, &made.group)?;
     let bytes = write_log2(alloc, &made)?;
-    let name = format!(in alloc; "{file}")?;
     let replays = two_replays(alloc, first, second)?;
-    let written = write_file(name, bytes.as_slice(), store);
+    let written = write_file(alloc, file, bytes.as_slice(), store);
     tell_written(alloc, written, text, replays, out)
 }
