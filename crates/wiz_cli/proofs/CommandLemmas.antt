@@ -6,11 +6,12 @@ use Rattle.group_plan.specs.Plans.{number_of_ranks}
 use Rattle.msg_races.specs.declared.fault.TheConstants.{MOST_OTHERS}
 use Rattle.msg_races.specs.declared.receives.Receive.{Receive}
 use Rattle.msg_races.specs.Names.{count_others}
-use Rattle.msg_races.specs.Races.{AreRaces}
+use Rattle.msg_races.specs.Races.{AreRaces, RunsHaveOneList}
 use Rattle.plan_advice.specs.declared.advice.Advice.{Advice}
 use Rattle.plan_advice.specs.Advices.{IsAdvice}
-use Rattle.plan_advice.specs.Costs.{plan_cost}
+use Rattle.plan_advice.specs.Costs.{IsRunOfAProgram, plan_cost}
 use Rattle.replay_model.specs.declared.replayed.Replayed.{Replayed}
+use Rattle.run_model.specs.declared.event.Event.{Event}
 use Rattle.srr_record.specs.declared.recording.Recording.{Recording}
 use Rattle.wiz_trace.specs.AdviceTexts.{advice_text}
 use Rattle.wiz_trace.specs.CheckTexts.{check_text}
@@ -75,18 +76,26 @@ advice_told most n block given program groups recording advice text status outco
     (advice, rw (block_is, n_is) at is, rw (outcome_is, status_is, text_is, given_is) refl)
 
 -- the text of races is told, or that they are too many
+only_list : {n : ℕ} {events : List Event} {receives : List Receive} → RunsHaveOneList → IsRunOfAProgram n events → AreRaces n events receives
+    → (others : List Receive) → AreRaces n events others → others ≡ receives
+only_list law run are others too = law run.next _ _ others _ run.run too are
+
 pub races_told : (n : ℕ) (program : CProgram) (groups : List (List ℕ)) (recording : Recording) (receives : List Receive) (text : List ℕ) (status : Status) (outcome : Outcome)
+    → RunsHaveOneList → IsRunOfAProgram (number_of_ranks groups) recording.history.events
     → n ≡ number_of_ranks groups → AreRaces n recording.history.events receives → count_others receives ≤ MOST_OTHERS
     → text ≡ races_text receives recording.ending → status ≡ of_ending recording.ending → outcome ≡ run_outcome status text recording []
     → TellsRaces program groups recording outcome
-races_told n program groups recording receives text status outcome n_is is few text_is status_is outcome_is =
-    (receives, rw n_is at is, rw (le-leb (count_others receives) MOST_OTHERS few, outcome_is, status_is, text_is) refl)
+races_told n program groups recording receives text status outcome law run n_is is few text_is status_is outcome_is =
+    let are = rw n_is at is in
+    (receives, are, only_list law run are, rw (le-leb (count_others receives) MOST_OTHERS few, outcome_is, status_is, text_is) refl)
 
-pub too_many_told : (n : ℕ) (program : CProgram) (groups : List (List ℕ)) (recording : Recording) (text : List ℕ) (outcome : Outcome) → n ≡ number_of_ranks groups
+pub too_many_told : (n : ℕ) (program : CProgram) (groups : List (List ℕ)) (recording : Recording) (text : List ℕ) (outcome : Outcome)
+    → RunsHaveOneList → IsRunOfAProgram (number_of_ranks groups) recording.history.events → n ≡ number_of_ranks groups
     → (receives : List Receive) × AreRaces n recording.history.events receives × (MOST_OTHERS < count_others receives)
     → text ≡ races_over_text → outcome ≡ run_outcome TooManyRaces text recording [] → TellsRaces program groups recording outcome
-too_many_told n program groups recording text outcome n_is many text_is outcome_is =
-    (many.0, rw n_is at many.1, rw (lt-leb (count_others many.0) MOST_OTHERS many.2, outcome_is, text_is) refl)
+too_many_told n program groups recording text outcome law run n_is many text_is outcome_is =
+    let are = rw n_is at many.1 in
+    (many.0, are, only_list law run are, rw (lt-leb (count_others many.0) MOST_OTHERS many.2, outcome_is, text_is) refl)
 
 pub races_done : (run : RunWords (List ℕ)) (before : World) (texts : List (List ℕ)) (ready : Ready) (recording : Recording) (outcome : Outcome)
     → AreHeld before.store.files (run_inputs run) texts → IsReady (run_texts texts) ready → IsMade (is_threaded_run run) ready recording

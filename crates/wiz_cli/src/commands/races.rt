@@ -14,6 +14,7 @@ use crate::recording::ready::{Ready, read_run};
 use crate::report::{Done, Report, tell, text_of_run};
 use crate::status::{Status, of_ending};
 use msg_races::fault::RaceFault;
+use msg_races::laws::one_list;
 use srr_record::Recording;
 use std::alloc::{AllocError, Global};
 use wiz_base::{Bytes, push_text};
@@ -45,6 +46,8 @@ fn races_of(alloc: Global, ready: &Ready, recording: Recording) -> Result<Done, 
     requires { IsMade true ready.now recording }
     ensures { IfOk result (λ done. TellsRaces ready.now.program ready.now.plan recording (outcome_of [] done)) }
 {
+    // A law: a run has one list of races, so that what is told of this run is determined.
+    one_list();
     match msg_races::races::races(alloc, ready.plan.n(), &recording.history) {
         Ok(receives) => {
             let text = races_text(alloc, &receives, &recording.ending)?;
