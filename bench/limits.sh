@@ -1,7 +1,7 @@
 #!/usr/bin/env bash
 # Runs at the limits of a run, each at a quarter, at half and whole: recorded on one thread, and its first group replayed from
 # its log on one thread. Then three runs of messages alone, recorded. Needs `rt` and GNU time (`apt-get install time`). A row gives
-# wall-clock seconds from start to end (the least of three runs), the growth against the row above, peak memory in MB, and the
+# wall-clock seconds from start to end (the least of five runs), the growth against the row above, peak memory in MB, and the
 # bytes of all logs, without the program's text in them, for each event. `bench/limits.sh NAME` does the rows of one name alone.
 . "$(dirname "$0")/begin.sh"
 only=${1:-}
@@ -61,11 +61,11 @@ all_to_one() {
   program '0-63\n' '' "if(r==0){for(i=0;i<$(($1 / 63))*(n-1);i++){MPI_Recv(&y,1,MPI_INT,MPI_ANY_SOURCE,1,MPI_COMM_WORLD,MPI_STATUS_IGNORE);x=x+y;}}else for(i=0;i<$(($1 / 63));i++)MPI_Send(&r,1,MPI_INT,0,1,MPI_COMM_WORLD);"
 }
 
-# The least of three wall-clock times of a command in seconds, and its peak memory in MB; its last line is to be this one.
+# The least of five wall-clock times of a command in seconds, and its peak memory in MB; its last line is to be this one.
 measure() {
   local want=$1
   shift
-  for _ in 1 2 3; do
+  for _ in 1 2 3 4 5; do
     /usr/bin/time -o took -f '%e %M' "$wiz" "$@" >printed || { tail -n 1 printed >&2; exit 1; }
     [ "$(tail -n 1 printed)" = "$want" ] || { echo "$*: $(tail -n 1 printed)" >&2; exit 1; }
     cat took
@@ -117,7 +117,7 @@ rows groups 999000
 rows tags 200000
 rows barriers 400000
 rows waitall 100000
-rows waiting 20000
+rows waiting 200000
 echo 'recorded on one thread'
 recording events 100000 300000
 recording ring 80000 80000
