@@ -68,12 +68,12 @@ never_both text log fault (inr is) (inr is') = two.fault_or_log text log fault i
 pub log_or_fault : (text : List ℕ) → ((log : Log) × IsTextOfLog text log) ⊎ ((fault : LogFault) × IsFaultOfLog text fault)
 log_or_fault text =
     elim (cases_Bool (is_format2 text)) [
-      | inl yes ↦ elim (two.either text) [
+      | inl chosen ↦ elim (two.either text) [
         | inl found ↦ inl (found.0, inr found.1)
-        | inr first ↦ inr (first.0, inr (yes, first.1))
+        | inr first ↦ inr (first.0, inr (chosen, first.1))
       ]
-      | inr no ↦ elim (each.log_or_fault text) [
+      | inr other ↦ elim (each.log_or_fault text) [
         | inl found ↦ inl (found.0, inl found.1)
-        | inr first ↦ inr (first.0, inl (no, first.1))
+        | inr first ↦ inr (first.0, inl (other, first.1))
       ]
     ]
