@@ -24,7 +24,6 @@ use Rattle.log_bounds.proofs.RunLengths.{going_on, short_history}
 use Rattle.log_bounds.proofs.RecordLengths.{log_bytes_short}
 use Rattle.log_bounds.proofs.Sent.{contents_sent}
 use Rattle.log_bounds.proofs.Sizes.{all_content, all_ints, all_items, content_in, content_of, content_seen, ints_seen, items_in, items_seen}
-use Rattle.log_bounds.proofs.SmallNumbers.{logs_are_in_bounds}
 use Rattle.log_bounds.proofs.TextLengths.{log_text_short}
 use Rattle.log_bounds.proofs.Weights.{weigh_push}
 
@@ -122,15 +121,17 @@ light_run next n run laws is =
     Along-keeps (IsEvent next n) (IsLight next n) (light_more next n laws) none run start is.along
 
 pub log_texts_are_short : (next : Next) (n : ℕ) → InBounds next → LogTextsAreShort next n
-log_texts_are_short next n laws run group text chosen words fine short =
-    let bytes = log_text_short n run group text (logs_are_in_bounds next n laws run group text chosen words fine short) in
-    let events = short_run next n run laws.lawful chosen.run in
-    let light = (light_run next n run laws chosen.run).light in
+log_texts_are_short next n laws run group text is bounds =
+    let bytes = log_text_short n run group text bounds in
+    let events = short_run next n run laws.lawful is in
+    let light = (light_run next n run laws is).light in
+    let short = bounds.program in
     omega (arith, bytes, events, light, short)
 
 pub log_bytes_are_short : (next : Next) (n : ℕ) → InBounds next → LogBytesAreShort next n
-log_bytes_are_short next n laws run group text chosen words fine short =
-    let bytes = log_bytes_short n run group text (logs_are_in_bounds next n laws run group text chosen words fine short) in
-    let events = short_run next n run laws.lawful chosen.run in
-    let light = (light_run next n run laws chosen.run).light in
+log_bytes_are_short next n laws run group text is bounds =
+    let bytes = log_bytes_short n run group text bounds in
+    let events = short_run next n run laws.lawful is in
+    let light = (light_run next n run laws is).light in
+    let short = bounds.program in
     omega (arith, bytes, events, light, short)

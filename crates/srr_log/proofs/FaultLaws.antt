@@ -12,7 +12,8 @@ use Rattle.srr_text.specs.LogText.{line, log_text, IsLogText}
 use Rattle.srr_text.specs.Bounds.{IsInBounds}
 use Rattle.srr_log.specs.Parts.{Part, head_line, ranks_line, group_line, size_line, program_bytes, rank_line, entry_part, end_line, part_line, part_text, parts_text, lists_parts, log_parts}
 use Rattle.srr_log.specs.Faults.{IsWhole, HasNoEnd, IsReason, IsShort, IsBad, IsExtra, IsFirstFault, no_memory}
-use Rattle.srr_log.specs.Reading.{State, at_head, at_ranks, at_group, at_size, at_program, at_list, at_entry, at_end, Allows, next, after, Runs, expected, IsOpen, FaultAt, FaultFrom, Reads, IsWithin, IsPlaced}
+use Rattle.srr_log.specs.Reading.{State, at_head, at_ranks, at_group, at_size, at_program, at_list, at_entry, at_end, Allows, next, after, Runs, expected, IsOpen, FaultAt, FaultFrom, Reads}
+use Rattle.srr_log.specs.Refused.{IsPlaced, IsWithin}
 use Rattle.srr_log.proofs.PieceLaws.{some, split_once_at}
 use Rattle.std.proofs.Math.Seq.{drop-length}
 use Rattle.srr_log.specs.declared.read_error.ReadError.{ReadError}
@@ -377,7 +378,7 @@ parts_text_long (part ∷ parts) rest =
     let later = parts_text_long parts rest in
     let long = length-append (part_line part) (10 ∷ parts_text parts rest) in omega arith
 
-fault_within : (text : List ℕ) (why : LogWhy) (left : ℕ) → FaultFrom at_head text why left → left ≤ length text
+pub fault_within : (text : List ℕ) (why : LogWhy) (left : ℕ) → FaultFrom at_head text why left → left ≤ length text
 fault_within text why left (parts, rest, run, is, fault) =
     let long : length rest ≤ length text = subst (λ xs. length rest ≤ length xs) (sym is) (parts_text_long parts rest) in
     elim fault [

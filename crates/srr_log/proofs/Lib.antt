@@ -8,4 +8,5 @@ pub mod StateLaws
 pub mod LogLaws
 pub mod ReadLaws
 pub mod FaultLaws
+pub mod LogOrFault
 pub mod WorkedExamples

@@ -11,8 +11,7 @@ use Rattle.srr_log.specs.declared.read_error.ReadError.{ReadError}
 use Rattle.srr_log.specs.declared.read_error.ReadError.TheVariants.{NoMemory, Fault}
 use Rattle.srr_text.specs.Bounds.{IsGroup, IsEntry, is_last}
 use Rattle.srr_log.specs.Parts.{Part, head_line, ranks_line, group_line, size_line, program_bytes, rank_line, entry_part, end_line, part_text, parts_text}
-use Rattle.srr_log.specs.declared.fault.LogFault.{LogFault}
-use Rattle.srr_log.specs.Faults.{IsWhole, HasNoEnd, IsReason, no_memory}
+use Rattle.srr_log.specs.Faults.{IsWhole, HasNoEnd, IsReason}
 
 -- what is known of the parts before: the ranks and the group, the program's size, the ranks whose lists follow, and how
 -- many entries follow the next one
@@ -114,12 +113,3 @@ abbrev pub IsNextLine : List ℕ → Result (Bor (List ℕ)) ReadError → List 
 IsNextLine text (Ok line) rest = HasNoNewline line.now × (text ≡ line.now ++ 10 ∷ rest)
 IsNextLine text (Err NoMemory) rest = ⊥
 IsNextLine text (Err (Fault why left)) rest = HasNoNewline text × (why ≡ Short) × (left ≡ 0)
-
--- the fault's place is in a text of that length, and the fault with its place
-abbrev pub IsWithin : ReadError → ℕ → Type 0
-IsWithin NoMemory size = Unit {0}
-IsWithin (Fault why left) size = left ≤ size
-
-abbrev pub IsPlaced : ReadError → ℕ → LogFault → Type 0
-IsPlaced NoMemory size fault = fault ≡ no_memory
-IsPlaced (Fault why left) size fault = (fault.why ≡ why) × (fault.at + left ≡ size)

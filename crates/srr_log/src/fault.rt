@@ -1,25 +1,28 @@
 //! Why a text is no log.
 use thiserror::Error;
 
-/// What is wrong with the first part of a text that no log has there.
+/// What is wrong with a text: in format 1 with its first part that no log has there, in format 2 with its first field that is not allowed.
 #[derive(Clone, Copy, Debug, PartialEq, Eq)]
 pub enum LogWhy {
-    /// The first line is not `srr 1`.
+    /// Format 1: the first line is neither `srr 1` nor that of another version. Format 2: the first six bytes are neither `srr 2` and a
+    /// newline nor those of another version.
     BadHead,
-    /// The `ranks`, the `program` or a `rank` line, or no newline after the program.
+    /// Format 1: the `ranks` line, the `program` line, a `rank` line, or no newline after the program. Format 2: the number of ranks, of
+    /// the program's bytes, or of a rank's entries.
     BadNumber,
-    /// The `group` line.
+    /// Format 1: the `group` line. Format 2: the group's eight bytes.
     BadGroup,
-    /// An entry's line, or the `end` line.
+    /// Format 1: an entry's line, or the `end` line. Format 2: a field of a record.
     BadEntry,
-    /// The text ends within a part.
+    /// The text ends within a part of format 1, or a field of format 2.
     Short,
-    /// Bytes come after the `end` line.
+    /// Format 1: bytes come after the `end` line. Format 2: after the digest.
     Extra,
-    /// The first line is `srr` and the number of another version.
+    /// Format 1: the first line is `srr` and the number of another version. Format 2: after `srr` and a blank stands another byte than `2`.
     BadVersion,
-    /// The sum over the bytes is another one. Text has no such sum.
+    /// Format 2: the digest is not that of the bytes before it. Format 1 has no digest.
     Digest,
+    /// No memory was left: of the text it says nothing.
     NoMemory,
 }
 

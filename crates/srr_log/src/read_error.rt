@@ -1,8 +1,8 @@
 //! Why a text was not read, before the place of the fault is known.
-ghost use Rattle.std.specs.Prelude.{◌≡◌};
-ghost use Rattle.srr_log.specs.Refused.{refused};
+ghost use Rattle.std.specs.Prelude.{◌≡◌, ◌<◌, ◌^◌, length};
+ghost use Rattle.srr_log.specs.Refused.{IsPlaced, IsWithin, refused};
 
-use crate::fault::LogWhy;
+use crate::fault::{LogFault, LogWhy};
 use std::alloc::AllocError;
 
 /// Why a line or a piece of it was not read.
@@ -49,5 +49,23 @@ pub fn refused(unread: Unread, why: LogWhy, left: usize) -> ReadError
     match unread {
         Unread::NotAllowed => ReadError::Fault { why, left },
         Unread::NoMemory => ReadError::NoMemory,
+    }
+}
+
+/// The fault with its place.
+pub fn fault_of(text: &[u8], error: ReadError) -> LogFault
+    requires few { length text.now < 2 ^ 32 }
+    requires fits { IsWithin error (length text.now) }
+    ensures { IsPlaced error (length text.now) result }
+{
+    match error {
+        ReadError::NoMemory => LogFault {
+            at: 0,
+            why: LogWhy::NoMemory,
+        },
+        ReadError::Fault { why, left } => LogFault {
+            at: (text.len() - left) as u32,
+            why,
+        },
     }
 }

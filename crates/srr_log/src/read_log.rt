@@ -1,16 +1,17 @@
 //! Reading a log part by part.
 ghost use Rattle.std.specs.Prelude.{◌≡◌, ◌↔◌, ◌<◌, ◌^◌, ◌⊎◌, ◌++◌, ◌∷◌, [], ℕ, List, OnOk, IfOk, IfErr, MatchResult, IsTrue, length, map};
+ghost use Rattle.group_plan.specs.OneReading.{HaveOneReading};
 ghost use Rattle.srr_entry.specs.declared.log.Log.{Log};
 ghost use Rattle.srr_log.specs.declared.fault.LogFault.{LogFault};
 ghost use Rattle.srr_text.specs.Bounds.{IsInBounds};
 ghost use Rattle.srr_log.specs.Faults.{IsFirstFault, no_memory};
 ghost use Rattle.srr_text.specs.LogText.{IsLogText, log_text};
 ghost use Rattle.srr_log.specs.Parts.{Part, head_line, ranks_line, group_line, size_line, program_bytes, rank_line, entry_part, end_line, lists_parts, log_parts, parts_text};
-ghost use Rattle.srr_log.specs.Reading.{IsNextLine, IsPlaced, IsWithin, Reads, at_end, at_entry, at_group, at_head, at_list, at_program, at_ranks, at_size, entries_left};
+ghost use Rattle.srr_log.specs.Reading.{IsNextLine, Reads, at_end, at_entry, at_group, at_head, at_list, at_program, at_ranks, at_size, entries_left};
 
 use crate::fault::{LogFault, LogWhy};
 use crate::line;
-use crate::read_error::{ReadError, refused};
+use crate::read_error::{ReadError, fault_of, refused};
 use mpi_call::lists::Ranks;
 use srr_entry::entry::Entry;
 use srr_entry::log::{Entries, Lists, Log};
@@ -294,32 +295,10 @@ pub fn read_log(alloc: Global, text: &[u8]) -> Result<Log, LogFault>
     }
 }
 
-/// The fault with its place.
-fn fault_of(text: &[u8], error: ReadError) -> LogFault
-    requires few { length text.now < 2 ^ 32 }
-    requires fits { IsWithin error (length text.now) }
-    ensures { IsPlaced error (length text.now) result }
-{
-    match error {
-        ReadError::NoMemory => LogFault {
-            at: 0,
-            why: LogWhy::NoMemory,
-        },
-        ReadError::Fault { why, left } => LogFault {
-            at: (text.len() - left) as u32,
-            why,
-        },
-    }
-}
-
-/// Different logs have different texts, and none begins another. A text has one log or one first fault, never both.
+/// Different logs have different texts, and none begins another. Each text has one log or one first fault, never both.
 pub fn one_reading()
     ensures texts { (log other : Log) (more : List ℕ) → IsInBounds log → IsInBounds other
         → log_text log ++ more ≡ log_text other → (log ≡ other) × (more ≡ []) }
-    ensures one_log { (text : List ℕ) (log other : Log) → IsLogText text log → IsLogText text other → log ≡ other }
-    ensures one_fault { (text : List ℕ) (fault other : LogFault)
-        → IsFirstFault text fault → IsFirstFault text other → fault ≡ other }
-    ensures never_both { (text : List ℕ) (log : Log) (fault : LogFault)
-        → IsLogText text log → IsFirstFault text fault → ⊥ }
+    ensures logs { HaveOneReading IsLogText IsFirstFault }
     ensures parts { (log : Log) → log_text log ≡ parts_text (log_parts log) [] }
 {}

@@ -1,8 +1,10 @@
 -- One reading of a text in either format.
-use Rattle.std.proofs.Common.{◌≡◌, ◌∙◌, ℕ, List, [], ◌++◌, Bool, true, false, ap, get_or, inl, inr, refl, sym, arith}
+use Rattle.std.proofs.Common.{◌≡◌, ◌∙◌, ◌⊎◌, ℕ, List, [], ◌++◌, Bool, true, false, ap, get_or, inl, inr, refl, sym, arith}
 use Rattle.srr_entry.specs.declared.log.Log.{Log}
 use Rattle.srr_log.specs.declared.fault.LogFault.{LogFault}
+use Rattle.std.proofs.lemmas.Bool.{cases_Bool}
 use Rattle.srr_log.proofs.FaultLaws as one
+use Rattle.srr_log.proofs.LogOrFault as each
 use Rattle.srr_text.specs.LogText.{IsLogText, log_text}
 use Rattle.srr_log2.specs.Formats.{IsFaultOfLog, IsTextOfLog, is_format2}
 use Rattle.srr_log2.specs.LogBytes.{AreLogBytes, body_bytes, log_bytes}
@@ -61,3 +63,17 @@ never_both text log fault (inl is) (inl is') = one.fault_or_log text log fault i
 never_both text log fault (inl is) (inr is') = differ (is_format2 text) is'.0 (is_1 text log is)
 never_both text log fault (inr is) (inl is') = differ (is_format2 text) (is_2 text log is) is'.0
 never_both text log fault (inr is) (inr is') = two.fault_or_log text log fault is is'.1
+
+-- always one of both
+pub log_or_fault : (text : List ℕ) → ((log : Log) × IsTextOfLog text log) ⊎ ((fault : LogFault) × IsFaultOfLog text fault)
+log_or_fault text =
+    elim (cases_Bool (is_format2 text)) [
+      | inl chosen ↦ elim (two.either text) [
+        | inl found ↦ inl (found.0, inr found.1)
+        | inr first ↦ inr (first.0, inr (chosen, first.1))
+      ]
+      | inr other ↦ elim (each.log_or_fault text) [
+        | inl found ↦ inl (found.0, inl found.1)
+        | inr first ↦ inr (first.0, inl (other, first.1))
+      ]
+    ]

@@ -15,7 +15,8 @@ use Rattle.srr_log.specs.declared.read_error.ReadError.{ReadError}
 use Rattle.srr_log.specs.declared.read_error.ReadError.TheVariants.{NoMemory, Fault}
 use Rattle.srr_log2.specs.Fields.{Outcome, reads, stops, Reader, onward, ◌>>=◌, give, allowed, byte_in, field_in, number_of, word_in, many_in, Gives}
 use Rattle.srr_log2.specs.EntryReading.{small_in, tag_in, count_in, int_in, ints_in, rank_in, sender_in, fault_in, members_in, mark_of, mark_kind_in, mark_in, item_in, items_in, some_items_in, halt_of, halt_in, record_kind_in, record_of, record_in, entries_in, list_in}
-use Rattle.srr_log2.specs.Reading.{head_in, ranks_in, group_in, program_in, body_in, digest_in, end_in, close_in, log_in, IsWithin}
+use Rattle.srr_log2.specs.Reading.{head_in, ranks_in, group_in, program_in, body_in, digest_in, end_in, close_in, log_in}
+use Rattle.srr_log.specs.Refused.{IsWithin}
 
 -- in a text of that length
 abbrev pub StaysIn : {A : Type 0} → ℕ → Outcome A → Type 0

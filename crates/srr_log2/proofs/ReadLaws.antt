@@ -8,7 +8,8 @@ use Rattle.srr_log.specs.Faults.{no_memory}
 use Rattle.srr_log.specs.declared.read_error.ReadError.{ReadError}
 use Rattle.srr_log.specs.declared.read_error.ReadError.TheVariants.{NoMemory, Fault}
 use Rattle.srr_log2.specs.Fields.{Outcome, reads, stops, Gives}
-use Rattle.srr_log2.specs.Reading.{body_in, close_in, digest_in, end_in, log_in, IsFirstFault, IsPlaced}
+use Rattle.srr_log2.specs.Reading.{body_in, close_in, digest_in, end_in, log_in, IsFirstFault}
+use Rattle.srr_log.specs.Refused.{IsPlaced}
 use Rattle.srr_log2.proofs.FieldLaws.{onward_reads}
 use Rattle.srr_log2.proofs.PlaceLaws.{stop_within}
 

@@ -1,6 +1,7 @@
 -- The text of a log in either format.
 use Rattle.std.specs.Prelude.{◌≡◌, ◌⊎◌, ℕ, List, Bool, true, false, codes, take}
 use Rattle.std.specs.Str.{bytes_eq}
+use Rattle.group_plan.specs.OneReading.{HaveOneReading}
 use Rattle.srr_entry.specs.declared.log.Log.{Log}
 use Rattle.srr_log.specs.declared.fault.LogFault.{LogFault}
 use Rattle.srr_log.specs.Faults.{IsFirstFault as IsFirstFault1}
@@ -20,3 +21,7 @@ IsTextOfLog text log = IsLogText text log ⊎ AreLogBytes text log
 abbrev pub IsFaultOfLog : List ℕ → LogFault → Type 0
 IsFaultOfLog text fault =
     ((is_format2 text ≡ false) × IsFirstFault1 text fault) ⊎ ((is_format2 text ≡ true) × IsFirstFault2 text fault)
+
+-- each text says one log or has one first fault, and never both
+abbrev pub LogsHaveOneReading : Type 0
+LogsHaveOneReading = HaveOneReading IsTextOfLog IsFaultOfLog

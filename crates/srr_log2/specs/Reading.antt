@@ -8,9 +8,6 @@ use Rattle.srr_text.specs.declared.limits.TheConstants.{MOST_PROGRAM_BYTES}
 use Rattle.srr_log.specs.declared.fault.LogFault.{LogFault}
 use Rattle.srr_log.specs.declared.fault.LogWhy.{LogWhy}
 use Rattle.srr_log.specs.declared.fault.LogWhy.TheVariants.{BadHead, BadNumber, BadGroup, Short, Extra, BadVersion, Digest}
-use Rattle.srr_log.specs.Faults.{no_memory}
-use Rattle.srr_log.specs.declared.read_error.ReadError.{ReadError}
-use Rattle.srr_log.specs.declared.read_error.ReadError.TheVariants.{NoMemory, Fault}
 use Rattle.srr_log2.specs.EntryReading.{between, list_in}
 use Rattle.srr_log2.specs.Fields.{reads, stops, Reader, onward, ◌>>=◌, give, byte_in, only_if, field_in, number_of, word_in, many_in}
 
@@ -75,12 +72,3 @@ log_in text = onward (body_in text) (λ log rest. onward (close_in (take (length
 -- the text's first fault: its place, counted from 0, has `left` bytes from it to the text's end
 abbrev pub IsFirstFault : List ℕ → LogFault → Type 0
 IsFirstFault text fault = (left : ℕ) × (log_in text ≡ stops fault.why left) × (fault.at + left ≡ length text)
-
--- the fault's place is in a text of that length, and the fault with its place; being out of memory has none
-abbrev pub IsWithin : ReadError → ℕ → Type 0
-IsWithin NoMemory size = Unit {0}
-IsWithin (Fault why left) size = left ≤ size
-
-abbrev pub IsPlaced : ReadError → ℕ → LogFault → Type 0
-IsPlaced NoMemory size fault = fault ≡ no_memory
-IsPlaced (Fault why left) size fault = (fault.why ≡ why) × (fault.at + left ≡ size)

@@ -3,7 +3,7 @@ ghost use Rattle.std.specs.Prelude.{◌≡◌, ◌<◌, ◌^◌, ◌⊎◌, ◌+
 ghost use Rattle.srr_entry.specs.declared.log.Log.{Log};
 ghost use Rattle.srr_log.specs.declared.fault.LogFault.{LogFault};
 ghost use Rattle.srr_log.specs.Faults.{no_memory};
-ghost use Rattle.srr_log2.specs.Formats.{IsFaultOfLog, IsTextOfLog, is_format2};
+ghost use Rattle.srr_log2.specs.Formats.{IsFaultOfLog, IsTextOfLog, LogsHaveOneReading, is_format2};
 
 use crate::read_log2::read_log2;
 use srr_entry::log::Log;
@@ -41,8 +41,5 @@ pub fn read_either(alloc: Global, text: &[u8]) -> Result<Log, LogFault>
 pub fn either_has_one_reading()
     ensures alone { (text more : List ℕ) (log other : Log)
         → IsTextOfLog text log → IsTextOfLog (text ++ more) other → (log ≡ other) × (more ≡ []) }
-    ensures one_fault { (text : List ℕ) (fault other : LogFault)
-        → IsFaultOfLog text fault → IsFaultOfLog text other → fault ≡ other }
-    ensures never_both { (text : List ℕ) (log : Log) (fault : LogFault)
-        → IsTextOfLog text log → IsFaultOfLog text fault → ⊥ }
+    ensures logs { LogsHaveOneReading }
 {}

@@ -2,6 +2,7 @@
 ghost use Rattle.std.specs.Prelude.{◌≡◌, ◌<◌, ◌≤◌, ◌^◌, ◌↔◌, ◌⊎◌, ◌++◌, ◌∷◌, [], ℕ, List, OnOk, IfOk, IfErr, MatchResult, IsTrue, length};
 ghost use Rattle.byteorder.specs.Endian.{big_bytes};
 ghost use Rattle.sha2.specs.Sha256.{sha256};
+ghost use Rattle.group_plan.specs.OneReading.{HaveOneReading};
 ghost use Rattle.srr_entry.specs.declared.log.Log.{Log};
 ghost use Rattle.srr_log.specs.declared.fault.LogFault.{LogFault};
 ghost use Rattle.srr_log.specs.Faults.{no_memory};
@@ -10,7 +11,7 @@ ghost use Rattle.srr_text.specs.LogText.{log_text};
 ghost use Rattle.srr_log2.specs.EntryReading.{between, list_in};
 ghost use Rattle.srr_log2.specs.Fields.{Gives, many_in};
 ghost use Rattle.srr_log2.specs.LogBytes.{AreLogBytes, log_bytes};
-ghost use Rattle.srr_log2.specs.Reading.{IsFirstFault, IsPlaced, IsWithin, bits_set, body_in, close_in, digest_in, end_in, group_in, head_in, head_why, log_in, program_in, ranks_in};
+ghost use Rattle.srr_log2.specs.Reading.{IsFirstFault, bits_set, body_in, close_in, digest_in, end_in, group_in, head_in, head_why, log_in, program_in, ranks_in};
 
 use crate::field::{byte, field, number};
 use crate::record::list;
@@ -20,7 +21,7 @@ use mpi_call::lists::Ranks;
 use sha2::{Digest, Sha256};
 use srr_entry::log::{Entries, Lists, Log};
 use srr_log::fault::{LogFault, LogWhy};
-use srr_log::read_error::ReadError;
+use srr_log::read_error::{ReadError, fault_of};
 use srr_text::limits::MOST_PROGRAM_BYTES;
 use std::alloc::{AllocError, Global};
 use wiz_base::{Bytes, Cursor};
@@ -253,34 +254,11 @@ pub fn read_log2(alloc: Global, text: &[u8]) -> Result<Log, LogFault>
     }
 }
 
-/// The fault with its place.
-fn fault_of(text: &[u8], error: ReadError) -> LogFault
-    requires few { length text.now < 2 ^ 32 }
-    requires fits { IsWithin error (length text.now) }
-    ensures { IsPlaced error (length text.now) result }
-{
-    match error {
-        ReadError::NoMemory => LogFault {
-            at: 0,
-            why: LogWhy::NoMemory,
-        },
-        ReadError::Fault { why, left } => LogFault {
-            at: (text.len() - left) as u32,
-            why,
-        },
-    }
-}
-
 /// Different logs have different bytes, and none begins another; none is a text of format 1. Each text has one log or one
 /// first fault, never both.
 pub fn one_reading()
     ensures bytes { (log other : Log) (more : List ℕ) → IsInBounds log → IsInBounds other
         → log_bytes log ++ more ≡ log_bytes other → (log ≡ other) × (more ≡ []) }
     ensures apart { (log other : Log) → log_text log ≡ log_bytes other → ⊥ }
-    ensures either { (text : List ℕ) → ((log : Log) × AreLogBytes text log) ⊎ ((fault : LogFault) × IsFirstFault text fault) }
-    ensures one_log { (text : List ℕ) (log other : Log) → AreLogBytes text log → AreLogBytes text other → log ≡ other }
-    ensures one_fault { (text : List ℕ) (fault other : LogFault)
-        → IsFirstFault text fault → IsFirstFault text other → fault ≡ other }
-    ensures never_both { (text : List ℕ) (log : Log) (fault : LogFault)
-        → AreLogBytes text log → IsFirstFault text fault → ⊥ }
+    ensures logs { HaveOneReading AreLogBytes IsFirstFault }
 {}

@@ -307,7 +307,7 @@ both_list one first two second rank can s t among there =
     ]
 
 -- the log of both groups
-joined_bound : (one : Log) (first : List Event) (two : Log) (second : List Event) → CanBeJoined one first two second → IsInBounds one → IsInBounds two
+pub joined_bound : (one : Log) (first : List Event) (two : Log) (second : List Event) → CanBeJoined one first two second → IsInBounds one → IsInBounds two
     → RepliesFit32 first → RepliesFit32 second → IsInBounds (joined one first two second)
 joined_bound one first two second can bounds other_bounds words other_words =
     let s = sound one first bounds can.first_log can.first_replay words in

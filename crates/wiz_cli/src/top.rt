@@ -30,6 +30,7 @@ use group_plan::one_reading;
 use rank_threads::Gate;
 use replay_model::replayed::Replayed;
 use srr_entry::log::Log;
+use srr_log2::read_either::either_has_one_reading;
 use srr_record::Recording;
 use std::alloc::{AllocError, Global};
 use std::sync::Wait;
@@ -51,8 +52,9 @@ pub fn wiz_serial<S: Store, K: Sink>(
     ensures complete { IsComplete AskForSerially (texts words.now) (world (S.told store.old) (K.told out.old)) (world (S.told store.new) (K.told out.new)) result }
 {
     let answered = answer_words(alloc, words, store, out);
-    // A law: a plan or an order has one reading or one first fault, so that what is accepted is not refused.
+    // Laws: a plan, an order or a log has one reading or one first fault, so that what is accepted is not refused.
     one_reading();
+    either_has_one_reading();
     settle(alloc, answered, out)
 }
 
@@ -79,8 +81,9 @@ pub fn wiz<R: Threads + Wait + Sync, S: Store, K: Sink, G: Gate + Sync>(
     ensures complete { IsComplete AskFor (texts words.now) (world (S.told store.old) (K.told out.old)) (world (S.told store.new) (K.told out.new)) result }
 {
     let answered = answer_words_on_threads(rt, alloc, words, store, out, gate);
-    // A law: a plan or an order has one reading or one first fault, so that what is accepted is not refused.
+    // Laws: a plan, an order or a log has one reading or one first fault, so that what is accepted is not refused.
     one_reading();
+    either_has_one_reading();
     settle(alloc, answered, out)
 }
 

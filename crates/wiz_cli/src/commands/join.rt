@@ -16,6 +16,7 @@ use crate::report::Report;
 use crate::status::{Status, of_both};
 use crate::writing::write_file;
 use c_program::CProgram;
+use log_bounds::ints32::replies_fit;
 use replay_model::replayed::Replayed;
 use srr_entry::log::Log;
 use srr_log2::write_log2::write_log2;
@@ -45,6 +46,8 @@ pub fn join<
     let pair = read_pair(alloc, one, other, store)?;
     let first = replay_own(&pair.program, &pair.one, replayer)?;
     let second = replay_own(&pair.program, &pair.other, replayer)?;
+    replies_fit(first.events.as_slice());
+    replies_fit(second.events.as_slice());
     let report = tell_replayed(alloc, file, &pair, first, second, store, out)?;
     Ok(report)
 }

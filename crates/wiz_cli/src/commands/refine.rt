@@ -18,6 +18,7 @@ use crate::report::Report;
 use crate::status::{Status, of_stands};
 use crate::writing::{Unwritten, write_log_file};
 use c_program::CProgram;
+use log_bounds::ints32::replies_fit;
 use replay_model::replayed::Replayed;
 use srr_entry::log::Log;
 use srr_regroup::are_within;
@@ -47,6 +48,7 @@ pub fn refine<
     let refinement = read_refinement(alloc, name, plan, store)?;
     let replayed = replay_own(&refinement.program, &refinement.log, replayer)?;
     groups_rise(&refinement.plan);
+    replies_fit(replayed.events.as_slice());
     let report = tell_replayed(alloc, prefix, &refinement, replayed, store, out)?;
     Ok(report)
 }

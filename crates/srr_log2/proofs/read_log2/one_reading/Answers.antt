@@ -9,14 +9,5 @@ returns-clause-bytes c = no_beginning
 pub returns-clause-apart : goal.returns-clause-apart
 returns-clause-apart c = no_text_is_bytes
 
-pub returns-clause-either : goal.returns-clause-either
-returns-clause-either c = either
-
-pub returns-clause-one_log : goal.returns-clause-one_log
-returns-clause-one_log c = same_log
-
-pub returns-clause-one_fault : goal.returns-clause-one_fault
-returns-clause-one_fault c = one_fault
-
-pub returns-clause-never_both : goal.returns-clause-never_both
-returns-clause-never_both c = fault_or_log
+pub returns-clause-logs : goal.returns-clause-logs
+returns-clause-logs c = record { one_value = same_log; one_fault = one_fault; never_both = fault_or_log; always_one = either }
