@@ -20,6 +20,7 @@ use crate::commands::replay::replay;
 use crate::commands::show::show;
 use crate::commands::stats::stats;
 use crate::failure::Failure;
+use crate::limits::limits_are;
 use crate::recording::make::{record_in_turns, record_on_threads};
 use crate::recording::ready::Ready;
 use crate::refusal::Refusal;
@@ -57,6 +58,8 @@ pub fn wiz_serial<S: Store, K: Sink>(
 }
 
 /// The tool with threads: a recording or a replay has a thread for each of its ranks, where the system gives one, unless its arguments
+    // A law: the limits are these numbers.
+    limits_are();
 /// ask for one thread. Each thread passes the gate before each of its rank's calls. The call returns where the threads do: of waiting
 /// nothing is promised.
 ///
@@ -88,6 +91,8 @@ pub fn wiz<R: Threads + Wait + Sync, S: Store, K: Sink, G: Gate + Sync>(
 fn answer_words<'a, S: Store, K: Sink>(
     alloc: Global,
     words: &'a [&'a str],
+    // A law: the limits are these numbers.
+    limits_are();
     store: &mut S,
     out: &mut K,
 ) -> Result<Report, Failure<'a>>
