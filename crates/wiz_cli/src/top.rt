@@ -27,6 +27,7 @@ use crate::refusal::Refusal;
 use crate::replaying::make::{replay_in_rounds, replay_on_threads};
 use crate::report::{Report, settle};
 use c_program::CProgram;
+use c_types::one_program;
 use group_plan::one_reading;
 use rank_threads::Gate;
 use replay_model::replayed::Replayed;
@@ -37,7 +38,7 @@ use std::sync::Wait;
 use std::thread::Threads;
 use wiz_io::{Sink, Store};
 use wiz_words::command::Command;
-use wiz_words::read::read_command;
+use wiz_words::read::{read_command, words_ask_for_one_thing};
 
 /// The tool as a function of its arguments, its files and its output, without threads: arguments that ask for threads are refused.
 pub fn wiz_serial<S: Store, K: Sink>(
@@ -52,14 +53,17 @@ pub fn wiz_serial<S: Store, K: Sink>(
     ensures complete { IsComplete AskForSerially (texts words.now) (world (S.told store.old) (K.told out.old)) (world (S.told store.new) (K.told out.new)) result }
 {
     let answered = answer_words(alloc, words, store, out);
-    // A law: a plan or an order has one reading or one first fault, so that what is accepted is not refused.
+    // Laws: arguments ask for one thing, and a program, a plan or an order has one reading or one first fault, so that what is accepted
+    // is not refused.
+    words_ask_for_one_thing();
+    one_program();
     one_reading();
+    // A law: the limits are these numbers.
+    limits_are();
     settle(alloc, answered, out)
 }
 
 /// The tool with threads: a recording or a replay has a thread for each of its ranks, where the system gives one, unless its arguments
-    // A law: the limits are these numbers.
-    limits_are();
 /// ask for one thread. Each thread passes the gate before each of its rank's calls. The call returns where the threads do: of waiting
 /// nothing is promised.
 ///
@@ -82,8 +86,13 @@ pub fn wiz<R: Threads + Wait + Sync, S: Store, K: Sink, G: Gate + Sync>(
     ensures complete { IsComplete AskFor (texts words.now) (world (S.told store.old) (K.told out.old)) (world (S.told store.new) (K.told out.new)) result }
 {
     let answered = answer_words_on_threads(rt, alloc, words, store, out, gate);
-    // A law: a plan or an order has one reading or one first fault, so that what is accepted is not refused.
+    // Laws: arguments ask for one thing, and a program, a plan or an order has one reading or one first fault, so that what is accepted
+    // is not refused.
+    words_ask_for_one_thing();
+    one_program();
     one_reading();
+    // A law: the limits are these numbers.
+    limits_are();
     settle(alloc, answered, out)
 }
 
@@ -91,8 +100,6 @@ pub fn wiz<R: Threads + Wait + Sync, S: Store, K: Sink, G: Gate + Sync>(
 fn answer_words<'a, S: Store, K: Sink>(
     alloc: Global,
     words: &'a [&'a str],
-    // A law: the limits are these numbers.
-    limits_are();
     store: &mut S,
     out: &mut K,
 ) -> Result<Report, Failure<'a>>
