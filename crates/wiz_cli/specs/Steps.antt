@@ -163,7 +163,7 @@ pub record IsCheckedRun (is_threaded : Bool) (ready : Ready) (checked : CheckedR
   pub made : IsMade is_threaded ready checked.recording
   pub checks : AreChecksOf ready.program checked.recording.history.events checked.recording.logs checked.replays
 
--- what is command of a call that makes a recording, on one thread or on threads, by what it takes and what it answers
+-- what is asked of a call that makes a recording, on one thread or on threads, by what it takes and what it answers
 abbrev pub TakesReady : (Bor Ready → Type 0) → Type 0
 TakesReady Takes = (ready : Bor Ready) → CanRun ready.now → Takes ready
 
@@ -190,7 +190,7 @@ pub record IsReplayBy (program : CProgram) (log : Log) (stop : Breakpoint) (repl
   pub replay : IsReplayed (next_of program) (output_of program) (variables_of program) log stop replayed
   pub runs : IsReplayOfEveryRun (next_of program) (output_of program) log stop replayed
 
--- what is command of a call that makes a replay
+-- what is asked of a call that makes a replay
 abbrev pub TakesLogs : (Bor CProgram → Bor Log → Breakpoint → Type 0) → Type 0
 TakesLogs Takes = (program : Bor CProgram) (log : Bor Log) (stop : Breakpoint) → IsReplayable log.now → Takes program log stop
 

@@ -46,6 +46,7 @@ pub fn refine<
 {
     let refinement = read_refinement(alloc, name, plan, store)?;
     let replayed = replay_own(&refinement.program, &refinement.log, replayer)?;
+    // A law: each group of a plan has ranks, rising, so that the parts' logs are in form.
     groups_rise(&refinement.plan);
     let report = tell_replayed(alloc, prefix, &refinement, replayed, store, out)?;
     Ok(report)
