@@ -1,11 +1,11 @@
 //! Happens-before, by vector clocks.
-ghost use Rattle.std.specs.Prelude.{◌≡◌, ◌<◌, ◌≤◌, ◌+◌, ◌^◌, ◌++◌, ◌∷◌, ◌↔◌, [], ℕ, List, IfOk, OnOk, IsTrue, Some, length, slice_get};
+ghost use Rattle.std.specs.Prelude.{◌≡◌, ◌<◌, ◌≤◌, ◌+◌, ◌^◌, ◌++◌, ◌∷◌, ◌↔◌, [], ℕ, suc, List, IfOk, OnOk, IsTrue, Some, length, slice_get, take};
 ghost use Rattle.run_model.specs.declared.event.Event.{Event as EventSpec};
 ghost use Rattle.causes.specs.Before.{IsBefore, IsUpTo};
 ghost use Rattle.causes.specs.Beside.{AreTables};
 ghost use Rattle.causes.specs.Clocks.{AreClocks, AreOfRanks, IsClock, Tells, comes_before, number_at};
 ghost use Rattle.causes.specs.Seen.{IsSeen};
-ghost use Rattle.causes.specs.Positions.{count_of, is_start_of, positions};
+ghost use Rattle.causes.specs.Positions.{count_of, is_of, is_start_of, positions};
 
 use crate::clock::Clock;
 use crate::key::{events_key, starts_key};
@@ -75,7 +75,7 @@ impl<'a> Causes<'a> {
         numbers[t as usize] < self.count(u, rank)
     }
 
-    /// The test of the clocks tells which events are before which.
+    /// The test of the clocks tells which events are before which. The body does nothing: the clocks are kept so.
     pub fn tells(&self)
         ensures { Tells (comes_before self.now) self.now.ranks self.now.events }
     {
@@ -104,11 +104,19 @@ impl<'a> Causes<'a> {
         self.places.get(&starts_key(rank))
     }
 
-    /// How many of a rank's events are at a position or before it.
+    /// The positions of a rank's events, in order.
+    pub fn own_events(&self, rank: u8) -> &[u32]
+        ensures { result.now ≡ positions (is_of rank) 0 self.now.events }
+    {
+        self.places.get(&events_key(rank))
+    }
+
+    /// How many of a rank's events are at a position or before it: the events with the numbers below it, and there are so many up to the position.
     pub fn count(&self, u: u32, rank: u8) -> u32
         requires place { u < length self.now.events }
         requires rank { rank < self.now.ranks }
-        ensures { (t : ℕ) (event : EventSpec) → t ≤ u → slice_get self.now.events t ≡ Some event → event.rank ≡ rank
+        ensures few { result ≤ count_of rank (take (suc u) self.now.events) }
+        ensures tells { (t : ℕ) (event : EventSpec) → t ≤ u → slice_get self.now.events t ≡ Some event → event.rank ≡ rank
             → (number_at self.now.events rank t < result) ↔ IsUpTo self.now.ranks self.now.events t u }
     {
         self.clocks[u as usize].get(rank)

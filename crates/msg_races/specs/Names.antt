@@ -23,6 +23,10 @@ abbrev pub count_others : List Receive → ℕ
 count_others [] = 0
 count_others (receive ∷ receives) = length receive.others + count_others receives
 
+-- the most others that are listed, of all receives together
+abbrev pub most_others : ℕ
+most_others = 1000000
+
 -- two names are the same
 abbrev pub same_start : Name → Name → Bool
 same_start = eq_of_both (on (λ (n : Name). n.rank) ◌==◌) (on (λ (n : Name). n.start) ◌==◌)

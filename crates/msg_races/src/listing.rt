@@ -1,8 +1,7 @@
 //! The receives that are listed.
 ghost use Rattle.std.specs.Prelude.{◌≡◌, ◌<◌, ◌≤◌, ◌++◌, ◌∷◌, [], Err, OnOk};
 ghost use Rattle.msg_races.specs.declared.fault.RaceFault.TheVariants.{TooMany};
-ghost use Rattle.msg_races.specs.declared.fault.TheConstants.{MOST_OTHERS};
-ghost use Rattle.msg_races.specs.Names.{count_others};
+ghost use Rattle.msg_races.specs.Names.{count_others, most_others};
 
 use crate::fault::{MOST_OTHERS, RaceFault};
 use crate::receives::{Receive, Receives};
@@ -19,15 +18,14 @@ pub struct Listing {
 
 impl Model for Listing {
     ghost use Rattle.std.specs.Prelude.{◌≡◌, ◌+◌, List};
-    ghost use Rattle.msg_races.specs.declared.fault.TheConstants.{MOST_OTHERS};
     ghost use Rattle.msg_races.specs.declared.receives.Receive.{Receive};
-    ghost use Rattle.msg_races.specs.Names.{count_others};
+    ghost use Rattle.msg_races.specs.Names.{count_others, most_others};
 
     ghost Value = { List Receive };
 
     ghost view = { λ s. s.receives };
 
-    ghost invariant = { λ s. count_others s.receives + s.left ≡ MOST_OTHERS };
+    ghost invariant = { λ s. count_others s.receives + s.left ≡ most_others };
 }
 
 impl Listing {
@@ -44,7 +42,7 @@ impl Listing {
     /// Adds a receive at the end, unless there are too many others then.
     pub fn push(&mut self, receive: Receive) -> Result<(), RaceFault>
         ensures ok { OnOk result (self.new ≡ self.old ++ receive ∷ []) }
-        ensures many { result ≡ Err TooMany → MOST_OTHERS < count_others (self.old ++ receive ∷ []) }
+        ensures many { result ≡ Err TooMany → most_others < count_others (self.old ++ receive ∷ []) }
     {
         let others = receive.others.as_slice().len();
         if others > self.left as usize {
@@ -61,7 +59,7 @@ impl Listing {
     /// The receives in order.
     pub fn into_receives(self) -> Receives
         ensures receives { result ≡ self }
-        ensures few { count_others result ≤ MOST_OTHERS }
+        ensures few { count_others result ≤ most_others }
     {
         self.receives
     }

@@ -2,15 +2,14 @@
 ghost use Rattle.std.specs.Prelude.{◌≡◌, ◌<◌, ◌≤◌, ◌++◌, [], Err, IfOk, List, OnOk};
 ghost use Rattle.causes.specs.Clocks.{AreOfRanks};
 ghost use Rattle.msg_races.specs.declared.fault.RaceFault.TheVariants.{TooMany};
-ghost use Rattle.msg_races.specs.declared.fault.TheConstants.{MOST_OTHERS};
 ghost use Rattle.msg_races.specs.declared.receives.Receive.{Receive as ReceiveSpec};
 ghost use Rattle.msg_races.specs.Listing.{arrival_at, receive_of, received, receives_of};
-ghost use Rattle.msg_races.specs.Names.{count_others};
+ghost use Rattle.msg_races.specs.Names.{count_others, most_others};
 ghost use Rattle.msg_races.specs.Races.{AreRaces};
 ghost use Rattle.msg_races.specs.Seen.{IsSeen};
 
 use crate::arrival::Arrival;
-use crate::fault::{MOST_OTHERS, RaceFault};
+use crate::fault::RaceFault;
 use crate::listing::Listing;
 use crate::names::Name;
 use crate::receives::{Receive, Receives};
@@ -23,8 +22,8 @@ use std::alloc::{AllocError, Global};
 pub fn races(alloc: Global, n: u8, history: &History) -> Result<Receives, RaceFault>
     requires ranks { AreOfRanks n history.now.events }
     ensures races { IfOk result (λ receives. AreRaces n history.now.events receives) }
-    ensures few { IfOk result (λ receives. count_others receives ≤ MOST_OTHERS) }
-    ensures many { result ≡ Err TooMany → (receives : List ReceiveSpec) × AreRaces n history.now.events receives × (MOST_OTHERS < count_others receives) }
+    ensures few { IfOk result (λ receives. count_others receives ≤ most_others) }
+    ensures many { result ≡ Err TooMany → (receives : List ReceiveSpec) × AreRaces n history.now.events receives × (most_others < count_others receives) }
 {
     let seen = see(alloc, n, history.as_slice())?;
     seen.causes.tells();
@@ -44,7 +43,7 @@ fn add_rank(
 ) -> Result<(), RaceFault>
     requires seen { IsSeen seen.now }
     ensures ok { OnOk result (listing.new ≡ listing.old ++ receives_of seen.now.causes rank) }
-    ensures many { result ≡ Err TooMany → MOST_OTHERS < count_others (listing.old ++ receives_of seen.now.causes rank) }
+    ensures many { result ≡ Err TooMany → most_others < count_others (listing.old ++ receives_of seen.now.causes rank) }
 {
     let starts = seen.causes.starts(rank);
     let mut rest = starts;
@@ -67,7 +66,7 @@ fn add_start(
 ) -> Result<(), RaceFault>
     requires seen { IsSeen seen.now }
     ensures ok { OnOk result (listing.new ≡ listing.old ++ received seen.now.causes (arrival_at seen.now.causes.events name place)) }
-    ensures many { result ≡ Err TooMany → MOST_OTHERS < count_others (listing.old ++ received seen.now.causes (arrival_at seen.now.causes.events name place)) }
+    ensures many { result ≡ Err TooMany → most_others < count_others (listing.old ++ received seen.now.causes (arrival_at seen.now.causes.events name place)) }
 {
     match seen.arrival(name, place) {
         Some(arrival) => listing.push(receive_of(alloc, seen, &arrival)?),

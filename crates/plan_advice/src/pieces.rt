@@ -15,7 +15,8 @@ use std::alloc::{AllocError, AllocFailed, Global};
 use std::marker::Model;
 use view_tables::start_table::listed_by;
 
-/// The ints of a completion, and the least and the greatest rank among its own and those that they came from.
+/// How many ints a completed start gave, and the least and the greatest rank of those that it came from: the sender of a message, the
+/// rank itself and the members that a collective needs, or the rank itself.
 #[derive(Clone, Copy)]
 pub struct Piece {
     pub least: u8,

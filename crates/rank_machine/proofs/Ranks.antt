@@ -17,7 +17,7 @@ use Rattle.c_run_replies.specs.declared.question.Reached.TheVariants.{Done, Asks
 use Rattle.rank_machine.specs.declared.frame.Code.{Code}
 use Rattle.rank_machine.specs.declared.going.Going.{Going}
 use Rattle.rank_machine.specs.Frames.{IsAt, within}
-use Rattle.rank_machine.specs.Goings.{HasCaughtUp, IsGoing, IsMachineAt, IsReady, Tells, TellsKept}
+use Rattle.rank_machine.specs.Goings.{HasCaughtUp, IsGoing, IsKept, IsMachineAt, IsReady, Tells, TellsKept}
 use Rattle.run_model.specs.declared.program.Want.{Want}
 use Rattle.c_program.specs.declared.program.Function.{Function}
 use Rattle.c_program.specs.declared.state.Passed.TheVariants.{Number}
@@ -130,6 +130,17 @@ machine-ready program code replies asked going g is stands ready = record {
   stands = λ h e. let same : g ≡ h = cc in subst (IsGoing program code replies) same stands;
   ready = λ a. (g, refl, ready);
 }
+
+-- once the next call was handed out, something was kept
+kept-stops : (going : Option Going) (g : Going) → going ≡ Some g → g.found ≢ Done → IsKept going
+kept-stops None g e stops = absurd (cc)
+kept-stops (Some kept) g e stops = let same : g ≡ kept = cc in subst (λ (h : Going). h.found ≢ Done) same stops
+
+pub machine-kept : (program : CProgram) (code : Code) (replies : List Reply) (asked : Bool) (going : Option Going) → IsMachineAt program code replies asked going → asked ≡ true → IsKept going
+machine-kept program code replies asked going is a = let ready = is.ready a in kept-stops going ready.0 ready.1 ready.2.stops
+
+pub none-kept : (program : CProgram) (code : Code) (replies : List Reply) (asked : Bool) (going : Option Going) → IsMachineAt program code replies asked going → asked ≡ true → going ≡ None → ⊥
+none-kept program code replies asked going is a e = let kept = machine-kept program code replies asked going is a in rw e at kept
 
 pub machine-says : (program : CProgram) (code : Code) (replies : List Reply) (asked : Bool) (going : Option Going) (g : Going) (want : Want) → IsMachineAt program code replies asked going → IsGoing program code replies g → IsReady replies g
     → Tells g.found g.stack.state want → Says want (next_of program code.rank.ranks code.rank.number replies)

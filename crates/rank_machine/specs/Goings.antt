@@ -46,7 +46,12 @@ Tells (Asks question) s want = want ≡ Ask (call_of question s)
 Tells Over s want = want ≡ Ended
 Tells Done s want = ⊥
 
--- the same where it was kept
+-- something was kept, and what is wanted is known
+abbrev pub IsKept : Option Going → Type 0
+IsKept None = ⊥
+IsKept (Some going) = going.found ≢ Done
+
+-- what is wanted where it was kept
 abbrev pub TellsKept : Option Going → Want → Type 0
 TellsKept None want = ⊥
 TellsKept (Some going) want = Tells going.found going.stack.state want

@@ -5,6 +5,7 @@ mod accept;
 pub mod commands;
 pub mod failure;
 mod inputs;
+pub mod limits;
 mod message;
 pub mod ranks;
 pub mod recording;

@@ -20,12 +20,14 @@ use crate::commands::replay::replay;
 use crate::commands::show::show;
 use crate::commands::stats::stats;
 use crate::failure::Failure;
+use crate::limits::limits_are;
 use crate::recording::make::{record_in_turns, record_on_threads};
 use crate::recording::ready::Ready;
 use crate::refusal::Refusal;
 use crate::replaying::make::{replay_in_rounds, replay_on_threads};
 use crate::report::{Report, settle};
 use c_program::CProgram;
+use c_types::one_program;
 use group_plan::one_reading;
 use rank_threads::Gate;
 use replay_model::replayed::Replayed;
@@ -37,7 +39,7 @@ use std::sync::Wait;
 use std::thread::Threads;
 use wiz_io::{Sink, Store};
 use wiz_words::command::Command;
-use wiz_words::read::read_command;
+use wiz_words::read::{read_command, words_ask_for_one_thing};
 
 /// The tool as a function of its arguments, its files and its output, without threads: arguments that ask for threads are refused.
 pub fn wiz_serial<S: Store, K: Sink>(
@@ -52,9 +54,14 @@ pub fn wiz_serial<S: Store, K: Sink>(
     ensures complete { IsComplete AskForSerially (texts words.now) (world (S.told store.old) (K.told out.old)) (world (S.told store.new) (K.told out.new)) result }
 {
     let answered = answer_words(alloc, words, store, out);
-    // Laws: a plan, an order or a log has one reading or one first fault, so that what is accepted is not refused.
+    // Laws: arguments ask for one thing, and a program, a plan, an order or a log has one reading or one first fault, so that what is accepted
+    // is not refused.
+    words_ask_for_one_thing();
+    one_program();
     one_reading();
     either_has_one_reading();
+    // A law: the limits are these numbers.
+    limits_are();
     settle(alloc, answered, out)
 }
 
@@ -81,9 +88,14 @@ pub fn wiz<R: Threads + Wait + Sync, S: Store, K: Sink, G: Gate + Sync>(
     ensures complete { IsComplete AskFor (texts words.now) (world (S.told store.old) (K.told out.old)) (world (S.told store.new) (K.told out.new)) result }
 {
     let answered = answer_words_on_threads(rt, alloc, words, store, out, gate);
-    // Laws: a plan, an order or a log has one reading or one first fault, so that what is accepted is not refused.
+    // Laws: arguments ask for one thing, and a program, a plan, an order or a log has one reading or one first fault, so that what is accepted
+    // is not refused.
+    words_ask_for_one_thing();
+    one_program();
     one_reading();
     either_has_one_reading();
+    // A law: the limits are these numbers.
+    limits_are();
     settle(alloc, answered, out)
 }
 

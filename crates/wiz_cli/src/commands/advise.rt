@@ -11,7 +11,7 @@ use crate::failure::Failure;
 use crate::recording::ready::{Ready, read_run};
 use crate::report::{Done, Report, tell, text_of_run};
 use crate::status::of_ending;
-use plan_advice::plan_cost;
+use plan_advice::{every_cutting_costs, one_advice, plan_cost};
 use srr_record::Recording;
 use std::alloc::{AllocError, Global};
 use wiz_io::{Sink, Store};
@@ -50,6 +50,9 @@ fn advise_on(
     requires made { IsMade true ready.now recording }
     ensures { IfOk result (λ done. TellsAdvice most ready.now.program ready.now.plan recording (outcome_of [] done)) }
 {
+    // Laws: a run has one advice, and no cutting costs less, so that what is told of this run is determined and the least.
+    one_advice();
+    every_cutting_costs();
     let ranks = ready.plan.n();
     let advice = plan_advice::advise(alloc, ranks, &recording.history, most.min(ranks))?;
     let given = plan_cost(alloc, &recording.history, &ready.plan)?;

@@ -13,11 +13,11 @@ use crate::failure::Failure;
 use crate::recording::ready::{Ready, read_run};
 use crate::report::{Done, Report, tell, text_of_run};
 use crate::status::{Status, of_ending};
-use msg_races::fault::RaceFault;
+use msg_races::fault::{MOST_OTHERS, RaceFault};
 use msg_races::laws::one_list;
 use srr_record::Recording;
 use std::alloc::{AllocError, Global};
-use wiz_base::{Bytes, push_text};
+use wiz_base::{Bytes, push_decimal, push_text};
 use wiz_io::{Sink, Store};
 use wiz_trace::races::races_text;
 use wiz_words::command::RunWords;
@@ -67,6 +67,8 @@ fn races_over(alloc: Global) -> Result<Bytes, AllocError>
     ensures { IfOk result (λ text. text ≡ races_over_text) }
 {
     let mut text = Bytes::new(alloc);
-    push_text(&mut text, b"races over 1000000\n")?;
+    push_text(&mut text, b"races over ")?;
+    push_decimal(&mut text, MOST_OTHERS as u64)?;
+    push_text(&mut text, b"\n")?;
     Ok(text)
 }

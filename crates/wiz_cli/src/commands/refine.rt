@@ -47,6 +47,7 @@ pub fn refine<
 {
     let refinement = read_refinement(alloc, name, plan, store)?;
     let replayed = replay_own(&refinement.program, &refinement.log, replayer)?;
+    // A law: each group of a plan has ranks, rising, so that the parts' logs are in form.
     groups_rise(&refinement.plan);
     replies_fit(replayed.events.as_slice());
     let report = tell_replayed(alloc, prefix, &refinement, replayed, store, out)?;

@@ -25,7 +25,7 @@ returns-then-t-u c =
 
 pub returns : goal.returns
 returns c =
-    let tells = rw (← c.self.view_is) at c.count.ensures in
+    let tells = rw (← c.self.view_is) at c.count.ensures.tells in
     let event : Event = get_or c.self.inside.events.now c.args.t c.index-self-t.result in
     let there : slice_get c.self.inside.events.now c.args.t ≡ Some event = slice_get-get_or c.self.inside.events.now c.args.t c.index-self-t.result (omega arith) in
     let number = ap (λ l. get_or l c.args.t 0) c.as_slice-numbers.ensures.value ∙ c.self.invariant.2.each c.args.t event there in

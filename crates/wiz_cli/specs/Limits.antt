@@ -1,0 +1,72 @@
+-- The limits of the tool, each written out: what a document says of a limit is said of this number.
+use Rattle.std.specs.Prelude.{◌≡◌}
+use Rattle.c_check_expr.specs.declared.constant.TheConstants.{MOST_ELEMENTS}
+use Rattle.c_grammar.specs.declared.limits.TheConstants.{MOST_DEPTHS}
+use Rattle.c_lex.specs.declared.limits.TheConstants.{GREATEST_NUMBER as GREATEST_LITERAL, MOST_BYTES}
+use Rattle.c_program.specs.declared.constants.TheConstants.{MOST_CALLS, MOST_CELLS, MOST_PRINTED, MOST_STEPS}
+use Rattle.log_bounds.specs.RunBounds.{log_limit}
+use Rattle.mpi_call.specs.declared.limits.TheConstants.{GREATEST_TAG, MOST_EVENTS, MOST_INTS, MOST_RANKS, MOST_RESULT_INTS, MOST_SIZE, MOST_STARTS}
+use Rattle.msg_races.specs.Names.{most_others}
+use Rattle.srr_text.specs.declared.limits.TheConstants.{GREATEST_NUMBER, MOST_ENTRIES, MOST_PROGRAM_BYTES}
+use Rattle.wiz_words.specs.Limits.{fewest_ranks, fewest_rounds, greatest_call, greatest_rank, greatest_seed, most_ranks, most_rounds}
+use Rattle.wiz_cli.specs.Inputs.{order_limit, text_limit}
+
+pub record AreTheLimits : Type 0 where
+  -- an input file: the most bytes of a program or a plan
+  pub text : text_limit ≡ 65536
+  -- of an order
+  pub order : order_limit ≡ 8388608
+  -- of a log
+  pub log : log_limit ≡ 134217728
+  -- a program's text: the most bytes
+  pub bytes : MOST_BYTES ≡ 65536
+  -- the greatest number
+  pub literal : GREATEST_LITERAL ≡ 2147483647
+  -- how deep its parts may stand in one another
+  pub depth : MOST_DEPTHS ≡ 64
+  -- the most elements of an array
+  pub elements : MOST_ELEMENTS ≡ 262144
+  -- a rank of a program: the most steps
+  pub steps : MOST_STEPS ≡ 10000000
+  -- the most cells of its variables
+  pub cells : MOST_CELLS ≡ 262144
+  -- the most bytes that it prints
+  pub printed : MOST_PRINTED ≡ 65536
+  -- the most calls of functions inside one another
+  pub calls : MOST_CALLS ≡ 100
+  -- an MPI call: the greatest tag
+  pub tag : GREATEST_TAG ≡ 2147483647
+  -- the most ints of a message, and the greatest count of a collective
+  pub ints : MOST_INTS ≡ 65536
+  -- the most ints that a collective takes of a rank or gives to it
+  pub result_ints : MOST_RESULT_INTS ≡ 262144
+  -- the most starts that a completion lists
+  pub starts : MOST_STARTS ≡ 1000000
+  -- a run: the most ranks
+  pub ranks : MOST_RANKS ≡ 64
+  -- so many events stop it
+  pub events : MOST_EVENTS ≡ 999000
+  -- events of this size together stop it
+  pub size : MOST_SIZE ≡ 4194304
+  -- the most others with which its races are listed
+  pub others : most_others ≡ 1000000
+  -- a log: the greatest number of a start, a communicator or an index
+  pub number : GREATEST_NUMBER ≡ 999999
+  -- the most entries of a rank
+  pub entries : MOST_ENTRIES ≡ 999064
+  -- the most bytes of its program's text
+  pub program : MOST_PROGRAM_BYTES ≡ 65536
+  -- arguments: the greatest rank of a breakpoint
+  pub break_rank : greatest_rank ≡ 63
+  -- the greatest call of a breakpoint
+  pub break_call : greatest_call ≡ 999999
+  -- the fewest ranks of the blocks of an advice
+  pub block_from : fewest_ranks ≡ 1
+  -- the most
+  pub block : most_ranks ≡ 64
+  -- the greatest seed of a demo
+  pub seed : greatest_seed ≡ 2147483647
+  -- the fewest rounds of a demo
+  pub rounds_from : fewest_rounds ≡ 1
+  -- the most
+  pub rounds : most_rounds ≡ 1000
