@@ -7,7 +7,7 @@ pub mod Entering
 pub mod Growing
 pub mod Moving
 pub mod Probing
-pub mod Resting
+pub mod WaitingAgain
 pub mod Roomy
 pub mod Serially
 pub mod Standing

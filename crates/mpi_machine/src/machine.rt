@@ -19,7 +19,7 @@ ghost use Rattle.requests.specs.States.{with_rows, State};
 ghost use Rattle.requests.specs.Taking.{answer_in, rows_after};
 ghost use Rattle.requests.specs.declared.requests.TakeAnswer.TheVariants.{Took as TookItems};
 ghost use Rattle.mpi_machine.specs.Courses.{bound_of, has_ended, HasRoom};
-ghost use Rattle.mpi_machine.specs.Turns.{after_turn, last_reply, rests, stage_of, stands, takes_none, turn_of, HasReply, IsAsked, IsHeldBack, IsStartAt, StandsAt};
+ghost use Rattle.mpi_machine.specs.Turns.{after_turn, last_reply, waits_again, stage_of, stands, takes_none, turn_of, HasReply, IsAsked, IsHeldBack, IsStartAt, StandsAt};
 ghost use Rattle.mpi_machine.specs.declared.turn.Turn.TheVariants.{Replied, Wait};
 ghost use Rattle.mpi_machine.specs.Waits.{waits, AreKept};
 
@@ -99,9 +99,9 @@ impl<'a, P: Program> Machine<'a, P> {
 
     /// Whether a rank waits with a call already, and an attempt of it would wait again. Takes no memory. The list of starts that it
     /// waits for all of is not walked from its beginning.
-    pub fn rests(&mut self, rank: u8) -> bool
+    pub fn waits_again(&mut self, rank: u8) -> bool
         requires rank { rank < self.old.ranks }
-        ensures value { result ≡ rests (P.next self.old.program) self.old.ranks self.old.events self.old.kept rank }
+        ensures value { result ≡ waits_again (P.next self.old.program) self.old.ranks self.old.events self.old.kept rank }
         ensures same { self.new ≡ self.old }
 
         // So the attempt need not be made.

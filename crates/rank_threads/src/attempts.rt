@@ -19,7 +19,7 @@ pub enum Attempt {
     /// The call waits for what another rank does.
     Waits,
     /// The rank makes no further entry, whatever the others do.
-    Rests,
+    Stops,
     /// The attempt was not made, or not to its end: in it, or in an earlier one of any rank, there was no memory.
     Short,
 }

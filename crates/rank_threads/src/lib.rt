@@ -4,6 +4,9 @@
 mod attempts;
 mod bell;
 pub mod gate;
+mod looks;
+mod patience;
+mod place;
 mod recorder;
 mod replayer;
 mod rounds;

@@ -19,7 +19,7 @@ use turn_lock::Told;
 /// A machine on which ranks make their attempts. Rank k has seat k.
 #[derive(Drop)]
 pub struct Recorder<'a, P: Program> {
-    pub machine: Machine<'a, P>,
+    pub machine: Box<Machine<'a, P>>,
     /// Whether there was no memory, for the machine or for a rank. Then no attempt is made.
     pub is_short: bool,
 }
@@ -31,9 +31,9 @@ impl<'a, P: Program> Told for Recorder<'a, P> {
 
     type Frame = (P, u8);
 
-    ghost entries = { λ s. numbered (λ rank. rank) s.machine.events };
+    ghost entries = { λ s. numbered (λ rank. rank) s.machine.value.events };
 
-    ghost frame = { λ s. (s.machine.program, s.machine.ranks) };
+    ghost frame = { λ s. (s.machine.value.program, s.machine.value.ranks) };
 }
 
 impl<'a, P: Program> Attempts<P> for Recorder<'a, P> {
@@ -74,7 +74,7 @@ fn turn<P: Program>(
     ensures shape { IfOk result (λ answer. (reply : Reply) → answer ≡ Replied reply → MayGive (P.next machine.old.program) machine.old.ranks rank (replies_in (view_of machine.old.events rank)) reply) }
     ensures err { OnErr result (machine.new ≡ machine.old) }
 {
-    if machine.rests(rank) {
+    if machine.waits_again(rank) {
         return Ok(Attempt::Waits);
     }
     let call = call::copy_of(call)?;

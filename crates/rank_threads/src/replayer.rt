@@ -20,7 +20,7 @@ use turn_lock::Told;
 /// A replay on which the ranks of its group make their attempts. The k-th rank of the group has seat k.
 #[derive(Drop)]
 pub struct Replayer<'a, P: Program> {
-    pub replay: Replay<'a, P>,
+    pub replay: Box<Replay<'a, P>>,
     /// Whether there was no memory, for the replay or for a rank. Then no attempt is made.
     pub is_short: bool,
 }
@@ -32,9 +32,9 @@ impl<'a, P: Program> Told for Replayer<'a, P> {
 
     type Frame = (P, Log, Option<(u8, u32)>);
 
-    ghost entries = { λ s. numbered (place_in s.replay.log.group) s.replay.events };
+    ghost entries = { λ s. numbered (place_in s.replay.value.log.group) s.replay.value.events };
 
-    ghost frame = { λ s. (s.replay.program, s.replay.log, s.replay.stop) };
+    ghost frame = { λ s. (s.replay.value.program, s.replay.value.log, s.replay.value.stop) };
 }
 
 impl<'a, P: Program> Attempts<P> for Replayer<'a, P> {
@@ -60,7 +60,7 @@ impl<'a, P: Program> Attempts<P> for Replayer<'a, P> {
     }
 }
 
-/// An attempt at the replay. At its breakpoint, at its log's end and where it diverged a rank rests. The error is being out of
+/// An attempt at the replay. At its breakpoint, at its log's end and where it diverged a rank stops. The error is being out of
 /// memory; then the replay is unchanged.
 fn step<P: Program>(
     replay: &mut Replay<'_, P>,
@@ -79,6 +79,6 @@ fn step<P: Program>(
     match replay.attempt(rank, call)? {
         Step::Replied(reply) => Ok(Attempt::Replied(reply)),
         Step::Wait(_) => Ok(Attempt::Waits),
-        _ => Ok(Attempt::Rests),
+        _ => Ok(Attempt::Stops),
     }
 }

@@ -7,6 +7,8 @@ ghost use Rattle.rank_threads.specs.Workers.{AreBeside, AreSeated, AreWorkers, A
 use crate::attempts::Attempts;
 use crate::bell::Bell;
 use crate::gate::Gate;
+use crate::looks::Looks;
+use crate::patience::Patience;
 use crate::worker::{Worker, work};
 use mpi_call::limits::MOST_RANKS;
 use run_model::program::{Program, RankRun};
@@ -30,6 +32,7 @@ pub fn run<
     value: M,
     ranks: &[u8],
     runs: Vec<R>,
+    may_rest: bool,
     gate: &G,
 ) -> Result<(M, Vec<R>), AllocError>
     requires few { (0 < length ranks.now) × (length ranks.now ≤ MOST_RANKS) }
@@ -41,7 +44,7 @@ pub fn run<
 {
     let (lock, seats) = TurnLock::new(alloc, value, ranks.len() as u32)?;
     let mut workers = workers_of(alloc, &lock, ranks, seats, runs)?;
-    make_rounds(rt, &lock, ranks, gate, &mut workers);
+    make_rounds(rt, &lock, ranks, may_rest, gate, &mut workers);
     let (seats, runs) = seats_and_runs(alloc, &lock, ranks, workers)?;
     Ok((lock.close(seats), runs))
 }
@@ -72,6 +75,8 @@ fn workers_of<P: Program, M: Attempts<P>, R: RankRun<Of = P>>(
             run,
             rank: ranks[seats.len()],
             calls: 0,
+            looks: Looks::new(),
+            patience: Patience::new(),
             has_passed: false,
             has_moved: false,
             is_done: false,
@@ -81,28 +86,39 @@ fn workers_of<P: Program, M: Attempts<P>, R: RankRun<Of = P>>(
     Ok(workers)
 }
 
-/// Rounds until one has no event, each rank is done, or there is no memory.
+/// Rounds until one has no event, each rank is done, or there is no memory; or until ranks did not start in two of them, one after the
+/// other: the system gives no threads then, and what is left is made faster on one.
 fn make_rounds<
     P: Program + Sync,
     M: Attempts<P> + Send,
     R: RankRun<Of = P> + Send,
     W: Threads + Wait + Sync,
     G: Gate + Sync,
->(rt: &W, lock: &TurnLock<M>, ranks: &[u8], gate: &G, workers: &mut Vec<Worker<M, R>>)
+>(
+    rt: &W,
+    lock: &TurnLock<M>,
+    ranks: &[u8],
+    may_rest: bool,
+    gate: &G,
+    workers: &mut Vec<Worker<M, R>>,
+)
     requires some { 0 < length ranks.now }
     requires count { length workers.old.items ≡ length ranks.now }
     requires workers { AreWorkers M.reading R.standing lock.now ranks.now workers.old.items }
     ensures count { length workers.new.items ≡ length ranks.now }
     ensures workers { AreWorkers M.reading R.standing lock.now ranks.now workers.new.items }
 {
-    let mut has_synchronous = false;
+    let processors = thread::available_parallelism(rt).map_or(1, |count| count.get());
+    let bell = Bell::new(ranks.len(), processors, may_rest);
+    let mut is_late = false;
     for _ in rt.forever() {
-        let bell = Bell::new(has_synchronous);
+        let was_late = is_late;
+        bell.begin_round();
         make_round(rt, lock, &bell, gate, workers.as_mut_slice());
-        if !goes_on(workers.as_slice()) {
+        is_late = bell.was_late();
+        if was_late && is_late || !goes_on(workers.as_slice()) {
             return;
         }
-        has_synchronous = bell.has_synchronous();
     }
     unreachable!()
 }
@@ -124,7 +140,7 @@ fn make_round<
         rt,
         workers,
         threads,
-        &|_, worker| work(rt, lock, bell, gate, threads, worker),
+        &|_, worker| work(rt, lock, bell, gate, worker),
     );
 }
 

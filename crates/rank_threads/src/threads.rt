@@ -49,14 +49,14 @@ pub fn record_threads<
     ensures { IfOk result (λ recording. IsRecorded (P.next program.now) (P.output program.now) (number_of_ranks plan.now) text.now plan.now recording) }
 {
     let ranks = ranks_below(alloc, plan.n())?;
-    let machine = Machine::new(alloc, program, plan.n())?;
+    let machine = Box::new(alloc, Machine::new(alloc, program, plan.n())?)?;
     let recorder = Recorder {
         machine,
         is_short: false,
     };
-    let (recorder, runs) = run(rt, alloc, recorder, ranks.as_slice(), runs, gate)?;
+    let (recorder, runs) = run(rt, alloc, recorder, ranks.as_slice(), runs, true, gate)?;
     let Recorder { machine, .. } = recorder;
-    finish_record(alloc, machine, text, plan, runs)
+    finish_record(alloc, Box::into_inner(machine), text, plan, runs)
 }
 
 /// The ranks below n.
@@ -95,12 +95,12 @@ pub fn replay_threads<
     ensures runs { IfOk result (λ replayed. IsReplayOfEveryRun (P.next program.now) (P.output program.now) log.now stop replayed) }
     ensures alike { IfOk result (λ replayed. (other : List Event) → IsWholeReplay (P.next program.now) log.now stop other → (rank : ℕ) → view_of replayed.events.events rank ≡ view_of other rank) }
 {
-    let replay = Replay::new(alloc, program, log, stop)?;
+    let replay = Box::new(alloc, Replay::new(alloc, program, log, stop)?)?;
     let replayer = Replayer {
         replay,
         is_short: false,
     };
-    let (replayer, runs) = run(rt, alloc, replayer, log.group.as_slice(), runs, gate)?;
+    let (replayer, runs) = run(rt, alloc, replayer, log.group.as_slice(), runs, false, gate)?;
     let Replayer { replay, .. } = replayer;
-    finish_replay(alloc, replay, runs)
+    finish_replay(alloc, Box::into_inner(replay), runs)
 }

@@ -8,8 +8,10 @@ ghost use Rattle.rank_threads.specs.declared.attempts.Attempt.TheVariants.{Repli
 ghost use Rattle.rank_threads.specs.declared.worker.After.TheVariants.{Answered, Waited};
 
 use crate::attempts::{Attempt, Attempts};
-use crate::bell::Bell;
+use crate::bell::{Bell, Rested};
 use crate::gate::Gate;
+use crate::looks::Looks;
+use crate::patience::Patience;
 use mpi_call::call::Call;
 use mpi_call::reply::Reply;
 use run_model::program::{Program, RankRun, Want};
@@ -28,6 +30,10 @@ pub struct Worker<M: Told, R> {
     pub rank: u8,
     /// How many of its calls were answered: the number of its next call.
     pub calls: u32,
+    /// What it looked at in vain.
+    pub looks: Looks,
+    /// How long it waits awake.
+    pub patience: Patience,
     /// Whether it passed the gate with its next call.
     pub has_passed: bool,
     /// Whether it had an event in the last round.
@@ -38,14 +44,13 @@ pub struct Worker<M: Told, R> {
     pub is_short: bool,
 }
 
-/// A rank's work in a round of `ranks` ranks: it makes one call after another until it is done, all ranks sleep, or there is no
+/// A rank's work in a round: it makes one call after another until it is done, all ranks sleep, or there is no
 /// memory.
 pub fn work<P: Program, M: Attempts<P>, R: RankRun<Of = P>, W: Wait, G: Gate>(
     rt: &W,
     lock: &TurnLock<M>,
     bell: &Bell,
     gate: &G,
-    ranks: usize,
     worker: &mut Worker<M, R>,
 )
     requires { CanWork M.reading R.standing lock.now worker.old }
@@ -56,7 +61,7 @@ pub fn work<P: Program, M: Attempts<P>, R: RankRun<Of = P>, W: Wait, G: Gate>(
         bell.skip();
         return;
     }
-    bell.start(ranks);
+    bell.start();
     for _ in rt.forever() {
         if !make_next_call(rt, lock, bell, gate, worker) {
             return;
@@ -132,6 +137,9 @@ fn make_call<P: Program, M: Attempts<P>, R: RankRun<Of = P>, W: Wait, G: Gate>(
     ensures goes { result ≡ true → worker.new.is_short ≡ false }
 {
     pass_gate(gate, worker);
+    if !rest(rt, bell, worker, call) {
+        return false;
+    }
     for _ in rt.forever() {
         match try_once(rt, lock, bell, worker, call) {
             After::Answered => return true,
@@ -152,6 +160,31 @@ fn pass_gate<M: Told, R, G: Gate>(gate: &G, worker: &mut Worker<M, R>)
     }
 }
 
+/// Before a look, where the rank has looked in vain often enough, it rests. Tells whether it goes on in this round.
+fn rest<M: Told, R, W: Wait>(rt: &W, bell: &Bell, worker: &mut Worker<M, R>, call: &Call) -> bool
+    ensures { (worker.new.rank ≡ worker.old.rank) × (worker.new.run ≡ worker.old.run) × (worker.new.seat ≡ worker.old.seat) × (worker.new.is_short ≡ worker.old.is_short) }
+{
+    let heard = bell.heard(worker.rank);
+    if !bell.may_rest() || !worker.looks.are_enough(call, heard) {
+        return true;
+    }
+    match bell.rest(rt, worker.rank, heard) {
+        Rested::Looks => true,
+        Rested::LooksOn => {
+            worker.looks.go_on();
+            true
+        }
+        Rested::Leaves => false,
+    }
+}
+
+/// The rank sleeps until it is woken. Tells whether it was; else it has left the round.
+fn sleep<M: Told, R, W: Wait>(rt: &W, bell: &Bell, worker: &mut Worker<M, R>, heard: u64) -> bool
+    ensures { (worker.new.rank ≡ worker.old.rank) × (worker.new.run ≡ worker.old.run) × (worker.new.seat ≡ worker.old.seat) × (worker.new.is_short ≡ worker.old.is_short) }
+{
+    bell.sleep(rt, worker.rank, heard, &mut worker.patience)
+}
+
 /// An attempt, and what follows from its answer.
 fn try_once<P: Program, M: Attempts<P>, R: RankRun<Of = P>, W: Wait>(
     rt: &W,
@@ -169,23 +202,23 @@ fn try_once<P: Program, M: Attempts<P>, R: RankRun<Of = P>, W: Wait>(
     ensures waited { result ≡ Waited → (worker.new.is_short ≡ false) × (worker.new.run ≡ worker.old.run) × (worker.new.seat.own ≡ worker.old.seat.own) }
 {
     let heard = bell.heard(worker.rank);
-    match attempt(rt, lock, worker, call) {
+    match attempt(rt, lock, bell, worker, call) {
         Attempt::Replied(reply) => {
-            bell.ring(call, &reply);
-            if give_reply(rt, lock, bell, worker, &reply) {
+            bell.ring(worker.rank, call, &reply);
+            if give_reply(rt, lock, bell, worker, call, heard, &reply) {
                 After::Answered
             } else {
                 After::Left
             }
         }
         Attempt::Waits => {
-            if bell.sleep(rt, worker.rank, heard) {
+            if sleep(rt, bell, worker, heard) {
                 After::Waited
             } else {
                 After::Left
             }
         }
-        Attempt::Rests => {
+        Attempt::Stops => {
             worker.is_done = true;
             bell.leave();
             After::Left
@@ -202,6 +235,7 @@ fn try_once<P: Program, M: Attempts<P>, R: RankRun<Of = P>, W: Wait>(
 fn attempt<P: Program, M: Attempts<P>, R, W: Wait>(
     rt: &W,
     lock: &TurnLock<M>,
+    bell: &Bell,
     worker: &mut Worker<M, R>,
     call: &Call,
 ) -> Attempt
@@ -213,18 +247,22 @@ fn attempt<P: Program, M: Attempts<P>, R, W: Wait>(
     ensures own { AddsReply M.reading worker.old.seat.number worker.old.seat.own worker.new.seat.own result }
     ensures shape { (reply : Reply) → result ≡ Replied reply → MayGiveTo M.reading P.next lock.now worker.old.rank worker.old.seat.own reply }
 {
+    bell.go_in(rt);
     let mut held = lock.hold(rt, &mut worker.seat);
     let answer = held.value.attempt(worker.rank, call);
     lock.release(&mut worker.seat, held);
+    bell.come_out();
     answer
 }
 
-/// Gives a rank's run the reply to its call. Tells whether there was memory for it.
+/// Gives a rank's run the reply to its call; `heard` is what the rank had heard before its attempt. Tells whether there was memory for it.
 fn give_reply<P: Program, M: Attempts<P>, R: RankRun<Of = P>, W: Wait>(
     rt: &W,
     lock: &TurnLock<M>,
     bell: &Bell,
     worker: &mut Worker<M, R>,
+    call: &Call,
+    heard: u64,
     reply: &Reply,
 ) -> bool
     requires ready { IsReady M.reading lock.now worker.old.rank worker.old.seat }
@@ -240,6 +278,7 @@ fn give_reply<P: Program, M: Attempts<P>, R: RankRun<Of = P>, W: Wait>(
     worker.calls = worker.calls.wrapping_add(1);
     worker.has_passed = false;
     worker.has_moved = true;
+    worker.looks.add(call, reply, heard);
     if worker.run.give(reply).is_ok() {
         return true;
     }

@@ -24,7 +24,7 @@ fn try_rank<P: Program, R: RankRun<Of = P>>(
     ensures others { OnOk result (IsOnlyOf rank machine.old.events machine.new.events) }
     ensures goes { OnOk result (GoesBy (P.next machine.old.program) (rank ∷ []) machine.old machine.new) }
 {
-    if machine.rests(rank) {
+    if machine.waits_again(rank) {
         return Ok(());
     }
     let call = match run.want()? {

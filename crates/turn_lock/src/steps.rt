@@ -32,8 +32,10 @@ const SERVED: usize = 1;
 /// The slot of the value.
 const VALUE: usize = 0;
 
-/// How often a waiter reads the served word before it sleeps.
+/// How often a waiter reads the served word before it sleeps, and how often while its turn is the next one.
 const SPINS: u32 = 100;
+
+const NEXT_SPINS: u32 = 2000;
 
 pub fn take_turn<T: Told, R: Wait>(
     rt: &R,
@@ -74,13 +76,14 @@ fn wait<T: Told, R: Wait>(
 {
     let mut spins = 0;
     for _ in rt.forever() {
-        if table.load::<Read>(token, SERVED) == ticket {
+        let served = table.load::<Read>(token, SERVED);
+        if served == ticket {
             let Some(value) = table.exchange(token, VALUE, None) else {
                 unreachable!()
             };
             return value;
         }
-        if spins < SPINS {
+        if spins < spins_at(ticket.wrapping_sub(served)) {
             spins += 1;
             hint::spin_loop();
         } else {
@@ -88,6 +91,11 @@ fn wait<T: Told, R: Wait>(
         }
     }
     unreachable!()
+}
+
+/// How often a waiter reads the served word before it sleeps, where so many turns come first.
+fn spins_at(turns: u64) -> u32 {
+    if turns == 1 { NEXT_SPINS } else { SPINS }
 }
 
 /// Gives the value back and serves the next ticket.

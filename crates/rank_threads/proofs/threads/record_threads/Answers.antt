@@ -7,7 +7,7 @@ use Rattle.rank_threads.proofs.threads.record_threads.Goals as goal
 
 pub finish_record-requires-clause-runs : goal.finish_record-requires-clause-runs
 finish_record-requires-clause-runs g c =
-    let machine = c.in_ok-recorder.recorder.machine in
+    let machine = c.in_ok-recorder.recorder.machine.value in
     let ranks = c.as_slice.result.now in
     let frame = c.in_ok-recorder.ensures.frame in
     let same : ranks ≡ c.in_ok-ranks.ranks.items = c.as_slice.ensures.value in

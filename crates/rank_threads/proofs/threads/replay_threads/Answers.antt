@@ -25,7 +25,7 @@ run-requires-clause-seated g c κs within = λ k lt.
 
 pub finish_replay-requires : goal.finish_replay-requires
 finish_replay-requires g c =
-    let replay = c.in_ok-replayer.replayer.replay in
+    let replay = c.in_ok-replayer.replayer.replay.value in
     let frame = c.in_ok-replayer.ensures.frame in
     let group = c.as_slice.result.now in
     let log : replay.log ≡ c.args.log.now = ap (λ f. f.1) frame ∙ ap (λ r. r.log) c.in_ok-replay.ensures in

@@ -1,4 +1,4 @@
-use Rattle.std.proofs.Common.{◌∙◌}
+use Rattle.std.proofs.Common.{◌∙◌, ap}
 use Rattle.rank_threads.proofs.Steps.{gains, may_give_run, stays}
 use Rattle.rank_threads.proofs.worker.try_once.Goals as goal
 
@@ -26,29 +26,31 @@ returns-then-give_reply-clause-worked g c =
 pub returns-then-sleep-clause-worked : goal.returns-then-sleep-clause-worked
 returns-then-sleep-clause-worked g c =
     let ok = c.attempt.ensures in
+    let slept = c.sleep.ensures in
     record {
-      rank = ok.rest.0;
-      number = ok.number;
-      can = stays g.M.Attempts.reading g.R.RankRun.standing c.args.lock.now c.args.worker.now c.attempt.new.worker c.requires.can ok.rest.0 ok.rest.1 ok.ready
-          (rw c.in-Waits.is at ok.own) (λ ample. c.requires.ample);
+      rank = slept.0 ∙ ok.rest.0;
+      number = ap (λ s. s.number) slept.2 ∙ ok.number;
+      can = stays g.M.Attempts.reading g.R.RankRun.standing c.args.lock.now c.args.worker.now c.sleep.new.worker c.requires.can (slept.0 ∙ ok.rest.0) (slept.1 ∙ ok.rest.1)
+          (rw slept.2 ok.ready) (ap (λ s. s.own) slept.2 ∙ (rw c.in-Waits.is at ok.own)) (λ ample. c.requires.ample);
     }
 
 pub returns-in-Waits-clause-worked : goal.returns-in-Waits-clause-worked
 returns-in-Waits-clause-worked g c =
     let ok = c.attempt.ensures in
+    let slept = c.sleep.ensures in
     record {
-      rank = ok.rest.0;
-      number = ok.number;
-      can = stays g.M.Attempts.reading g.R.RankRun.standing c.args.lock.now c.args.worker.now c.attempt.new.worker c.requires.can ok.rest.0 ok.rest.1 ok.ready
-          (rw c.in-Waits.is at ok.own) (λ ample. c.requires.ample);
+      rank = slept.0 ∙ ok.rest.0;
+      number = ap (λ s. s.number) slept.2 ∙ ok.number;
+      can = stays g.M.Attempts.reading g.R.RankRun.standing c.args.lock.now c.args.worker.now c.sleep.new.worker c.requires.can (slept.0 ∙ ok.rest.0) (slept.1 ∙ ok.rest.1)
+          (rw slept.2 ok.ready) (ap (λ s. s.own) slept.2 ∙ (rw c.in-Waits.is at ok.own)) (λ ample. c.requires.ample);
     }
 
-pub returns-in-Rests-clause-worked : goal.returns-in-Rests-clause-worked
-returns-in-Rests-clause-worked g c =
+pub returns-in-Stops-clause-worked : goal.returns-in-Stops-clause-worked
+returns-in-Stops-clause-worked g c =
     let ok = c.attempt.ensures in
     record {
       rank = ok.rest.0;
       number = ok.number;
       can = stays g.M.Attempts.reading g.R.RankRun.standing c.args.lock.now c.args.worker.now _ c.requires.can ok.rest.0 ok.rest.1 ok.ready
-          (rw c.in-Rests.is at ok.own) (λ ample. c.requires.ample);
+          (rw c.in-Stops.is at ok.own) (λ ample. c.requires.ample);
     }
