@@ -4,7 +4,7 @@
 Each program is recorded with all its ranks in one group, on one thread. Then, for every way to cut its ranks into two groups
 (of programs of more than `RANKS` ranks: `WAYS` ways, drawn from a seed), it is recorded again under that plan, by the order file of
 the first run. The first log, refined by the plan, has to be the two logs of the second run, byte for byte, and these joined have to be
-the first log again. Needs `rt`, and the built program. Argument: the seed (1)."""
+the first log again. A program that is refused has no cuts. Needs `rt`, and the built program. Argument: the seed (1)."""
 import os
 import random
 import subprocess
@@ -16,11 +16,12 @@ WIZ = os.path.join(TOP, "crates/wiz/out/wiz")
 RANKS = 8
 WAYS = 32
 HALTED = 7
+REFUSED = 5
 
 
 def wiz(folder, *words):
     """Runs a command in a folder; answers its status."""
-    return subprocess.run([WIZ, *words], cwd=folder, stdout=subprocess.DEVNULL).returncode
+    return subprocess.run([WIZ, *words], cwd=folder, stdout=subprocess.DEVNULL, stderr=subprocess.DEVNULL).returncode
 
 
 def contents(folder, name):
@@ -75,8 +76,9 @@ def run(draw, folder, program, ranks):
     with open(os.path.join(folder, "program.c"), "wb") as file:
         file.write(program)
     write(folder, "all.plan", plan_of([range(ranks)]))
-    if wiz(folder, "record", "program.c", "all.plan", "all", "--serial") not in (0, HALTED):
-        return 0, ["record"]
+    status = wiz(folder, "record", "program.c", "all.plan", "all", "--serial")
+    if status not in (0, HALTED):
+        return 0, [] if status == REFUSED else ["record"]
     found = [(groups, faults_of(folder, groups)) for groups in cuts(draw, ranks)]
     return len(found), [f"{groups}: {fault}" for groups, fault in found if fault]
 

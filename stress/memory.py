@@ -4,7 +4,7 @@
 A program of three ranks in two groups is recorded, and each of its logs replayed, on one thread and on threads. For N = 1, 2, 3 .. the
 N-th allocation of a run is refused, until a run makes fewer; then the same with all allocations from the N-th on; then once all threads.
 Each run has to end within a bounded time, either as it does without a refusal or with status 11, and then what it printed and wrote has
-to be a beginning of that. A library that is loaded before the C library counts and refuses calls of malloc, calloc, realloc, the aligned
+to be a prefix of that. A library that is loaded before the C library counts and refuses calls of malloc, calloc, realloc, the aligned
 forms, and pthread_create, since a thread's stack is memory too. Needs `rt` and gcc. Arguments: the greatest N that is tried (all)."""
 import os
 import subprocess
