@@ -206,6 +206,10 @@ def figures(house, definitions):
     return f"{count(len(definitions))} | {count(house.lines(definitions))} | {count(len(files_of(definitions)))}"
 
 
+def wrapped(text, indent=""):
+    return textwrap.wrap(text, 140, subsequent_indent=indent, break_long_words=False, break_on_hyphens=False)
+
+
 def answer_block(house, core, clauses):
     """The answer in a paragraph."""
     headline, everything = clauses["headline"], frozenset().union(*clauses.values())
@@ -214,7 +218,7 @@ def answer_block(house, core, clauses):
             f" {count(len(headline))} definitions, {count(house.lines(headline))} lines in {len(files_of(headline))} files; all clauses"
             f" of the top call together on {count(len(everything))}, {count(house.lines(everything))} lines in"
             f" {len(files_of(everything))} files.")
-    return textwrap.wrap(text, 140)
+    return wrapped(text)
 
 
 def parts_block(house, clauses):
@@ -264,7 +268,9 @@ def names_block(house, core, old):
     for one in core:
         by_key.setdefault(f"`{one.crate}/specs/{one.file}`", []).append(one.name)
     order = [key for key in order if key in by_key] + sorted(key for key in by_key if key not in order)
-    rows = [f"- {key}: " + ", ".join(f"`{name}`" for name in sorted(by_key[key])) for key in order]
+    rows = []
+    for key in order:
+        rows += wrapped(f"- {key}: " + ", ".join(f"`{name}`" for name in sorted(by_key[key])), "  ")
     declared, words = {}, set()
     for _, crate, file, name in house.outside[core]:
         if file.startswith("declared."):
@@ -274,8 +280,8 @@ def names_block(house, core, old):
         else:
             words.add((crate, file, name))
     types = "; ".join(f"{crate} " + ", ".join(f"`{name}`" for name in sorted(names)) for crate, names in sorted(declared.items()))
-    return rows + ["", f"They speak of these types and constants, which the code declares: {types}.",
-                   f"And of {len(words)} definitions of the toolchain's standard library: lists, numbers, choices."]
+    return rows + [""] + wrapped(f"They speak of these types and constants, which the code declares: {types}. And of {len(words)}"
+                                 " definitions of the toolchain's standard library: lists, numbers, choices.")
 
 
 def crates_block(house, core, headline, old):
