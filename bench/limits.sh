@@ -3,6 +3,7 @@
 # its log on one thread. Then three runs of messages alone, recorded. Needs `rt` and GNU time (`apt-get install time`). A row gives
 # wall-clock seconds from start to end (the least of five runs), the growth against the row above, peak memory in MB, and the
 # bytes of all logs, without the program's text in them, for each event. `bench/limits.sh NAME` does the rows of one name alone.
+. "$(dirname "$0")/idle.sh"
 . "$(dirname "$0")/begin.sh"
 only=${1:-}
 

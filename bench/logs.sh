@@ -39,6 +39,7 @@ for folder in "$top"/examples/*/; do
   rm -rf "$copy/want"
   for args in "$copy"/*args; do
     [ -e "$args" ] && [ "$(head -n 1 "$args")" = record ] || continue
+    [ ! -e "${args%args}status" ] || [ "$(cat "${args%args}status")" -eq 7 ] || continue
     mapfile -t words <"$args"
     record "$copy" "${words[@]}"
   done

@@ -4,6 +4,7 @@
 # log and the program in memory. Needs `rt`. A row gives processor time (user and system, from start to end) in milliseconds:
 # the median of five measurements and their range, each the mean of ten runs. `growth` is the median against that of the row
 # above.
+. "$(dirname "$0")/idle.sh"
 set -euo pipefail
 export LC_ALL=C
 top=$(cd "$(dirname "$0")/.." && pwd)

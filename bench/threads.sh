@@ -3,6 +3,7 @@
 # ranks that send to rank 0, which takes whoever comes first. Then one that computes between its messages, on 1, 2 and 4 processors
 # (`taskset`). A row gives the wall-clock time of `wiz record` from start to end in milliseconds, the median of five runs, serial
 # and on threads, and the ratio of both. Needs `rt`. Takes the number of messages of the first table (10000 where none is given).
+. "$(dirname "$0")/idle.sh"
 . "$(dirname "$0")/begin.sh"
 messages=${1:-10000}
 

@@ -1,6 +1,7 @@
 #!/usr/bin/env bash
 # Turns a second of the turn lock, beside Rust's std::sync::Mutex: 2, 8 and 64 threads push entries to one locked list.
 # Needs `rt` and `rustc`. A row gives the median of five runs and their range, measured from outside, from start to end.
+. "$(dirname "$0")/idle.sh"
 set -euo pipefail
 export LC_ALL=C
 top=$(cd "$(dirname "$0")/.." && pwd)

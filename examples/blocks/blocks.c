@@ -1,6 +1,6 @@
 #include <stdio.h>
 #include <mpi.h>
-#define N 65536
+#define N 256
 int main(int argc, char **argv) {
   int rank, size, i, sum = 0, big[N]; /* one block */
   MPI_Status st;

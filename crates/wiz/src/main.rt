@@ -1,40 +1,47 @@
 //! The command line tool `wiz`.
 //!
 //! It hands the arguments of its command line, the host's files and the standard output to the top call, and ends with the
-//! status of the report.
+//! status of the report. Beside a refusal the error output shows what helps: the form of the command, or the line of the program.
 #![tactic(auto)]
 
+use c_lex::Why;
+use c_lex::limits::MOST_BYTES;
+use c_types::read_program;
 use rank_threads::OpenGate;
-use std::alloc::AllocError;
+use std::alloc::{AllocError, Global};
 use std::env::Env;
+use std::io::Write;
 use std::process::ExitCode;
 use std::rt::Files;
 use std::sync::Wait;
 use std::thread::Threads;
 use std::{env, io};
+use wiz_cli::status::Status;
 use wiz_cli::top::wiz;
 use wiz_io::{HostSink, HostStore};
-
-/// The status of running out of memory.
-const NO_MEMORY: u8 = 11;
+use wiz_usage::{WatchedStore, marked_line, usage};
+use wiz_words::command::Command;
+use wiz_words::read::read_command;
 
 fn main(rt: HostRuntime) -> ExitCode {
-    match run(&rt) {
+    match run(&rt, &rt.stderr()) {
         Ok(status) => ExitCode::from(status),
-        Err(_) => ExitCode::from(NO_MEMORY),
+        Err(_) => ExitCode::from(Status::OutOfMemory.number()),
     }
 }
 
 /// The status of the command. The error is out of memory.
-fn run<R: Files + Print + Threads + Wait + Sync + Env + AllocGlobal>(
+fn run<R: Files + Print + Threads + Wait + Sync + Env + AllocGlobal, E: Print>(
     rt: &R,
+    errors: &E,
 ) -> Result<u8, AllocError> {
     let args = read_words(rt)?;
     let mut words = Vec::new(rt.alloc());
     for word in args.iter() {
         words.push(word.as_str())?;
     }
-    let mut store = HostStore::new(rt);
+    let program = program_named(rt.alloc(), words.as_slice());
+    let mut store = WatchedStore::new(HostStore::new(rt), program);
     let mut out = HostSink::new(rt);
     let report = wiz(
         rt,
@@ -44,6 +51,14 @@ fn run<R: Files + Print + Threads + Wait + Sync + Env + AllocGlobal>(
         &mut out,
         &OpenGate,
     );
+    if report.status == Status::Words.number() {
+        show_usage(errors, words.as_slice());
+    }
+    if report.status == Status::Program.number() {
+        if let Some(text) = store.seen() {
+            show_fault(rt.alloc(), errors, text.as_slice());
+        }
+    }
     Ok(report.status)
 }
 
@@ -61,5 +76,42 @@ fn read_words<R: Env + AllocGlobal>(rt: &R) -> Result<Vec<String>, AllocError> {
             io::ErrorKind::OutOfMemory => Err(AllocError),
             _ => Ok(words),
         },
+    }
+}
+
+/// The file of the program that the arguments name, if they name one.
+fn program_named<'a>(alloc: Global, words: &'a [&'a str]) -> Option<&'a str> {
+    match read_command(alloc, words) {
+        Ok(Some(command)) => match command {
+            Command::Record { run, .. }
+            | Command::Check(run)
+            | Command::Races(run)
+            | Command::Advise { run, .. } => Some(run.program),
+            Command::Replay(replay) => replay.program,
+            _ => None,
+        },
+        _ => None,
+    }
+}
+
+/// Shows the forms of the commands, or of the one that is named. What cannot be shown is left out.
+fn show_usage<E: Print>(errors: &E, words: &[&str]) {
+    let mut errors = io::writer(errors);
+    for form in usage(words) {
+        let _ = errors.write_all(form.as_bytes());
+    }
+}
+
+/// Shows the line of a program's first fault, if there is memory for it.
+fn show_fault<E: Print>(alloc: Global, errors: &E, text: &[u8]) {
+    if text.len() > MOST_BYTES {
+        return;
+    }
+    if let Err(fault) = read_program(alloc, text) {
+        if fault.why != Why::NoMemory {
+            if let Ok(Some(line)) = marked_line(alloc, text, fault.line, fault.column) {
+                let _ = io::writer(errors).write_all(line.as_slice());
+            }
+        }
     }
 }
