@@ -10,7 +10,7 @@ use Rattle.turn_lock.specs.Entries.{entries_of}
 use Rattle.rank_threads.specs.Reading.{Reading, AddsReply, replies_of}
 use Rattle.rank_threads.specs.Numbered.{AddsEvent, numbered, place_in}
 use Rattle.rank_threads.specs.declared.attempts.Attempt.{Attempt}
-use Rattle.rank_threads.specs.declared.attempts.Attempt.TheVariants.{Replied, Waits, Rests, Short}
+use Rattle.rank_threads.specs.declared.attempts.Attempt.TheVariants.{Replied, Waits, Stops, Short}
 
 -- no other rank has the seat of this one
 abbrev pub IsSeatOf : (ℕ → ℕ) → ℕ → Type 0
@@ -36,7 +36,7 @@ module _ {P F : Type 0} (reading : Reading P Event F) (plain : (e : Event) → r
       let event = a.0 in
       (event, plain event ∙ a.2, ap (numbered seat) a.3 ∙ (numbered_more before event ∙ ap (λ (r : ℕ). numbered seat before ++ (seat r, event) ∷ []) a.1))
   adds before after Waits a = ap (numbered seat) a
-  adds before after Rests a = ap (numbered seat) a
+  adds before after Stops a = ap (numbered seat) a
   adds before after Short a = ap (numbered seat) a
 
 -- the place of a member, and what stands there

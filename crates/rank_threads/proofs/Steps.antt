@@ -9,7 +9,7 @@ use Rattle.turn_lock.specs.Seat.{LockView, SeatView, HasFrame}
 use Rattle.rank_threads.specs.Reading.{Reading, AddsReply, replies_of, program_of, ranks_of}
 use Rattle.rank_threads.specs.Workers.{CanWork, IsNextCall, IsReady, IsRunAfter, MayGiveTo}
 use Rattle.rank_threads.specs.declared.attempts.Attempt.{Attempt}
-use Rattle.rank_threads.specs.declared.attempts.Attempt.TheVariants.{Replied, Waits, Rests, Short}
+use Rattle.rank_threads.specs.declared.attempts.Attempt.TheVariants.{Replied, Waits, Stops, Short}
 use Rattle.rank_threads.specs.declared.worker.Worker.{Worker}
 
 module _ {P E F : Type 0} (reading : Reading P E F) where
@@ -17,7 +17,7 @@ module _ {P E F : Type 0} (reading : Reading P E F) where
   pub no_reply : (k : ℕ) (before after : List (ℕ × E)) (answer : Attempt) → ((reply : Reply) → answer ≡ Replied reply → ⊥) → AddsReply reading k before after answer → after ≡ before
   no_reply k before after (Replied reply) fresh a = absurd (fresh reply refl)
   no_reply k before after Waits fresh a = a
-  no_reply k before after Rests fresh a = a
+  no_reply k before after Stops fresh a = a
   no_reply k before after Short fresh a = a
 
   -- what may be given to a run beside its seat's own entries

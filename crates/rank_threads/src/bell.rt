@@ -370,7 +370,7 @@ impl Bell {
     /// Gives a rank another state if it has this one, and counts it among those that work.
     fn rouse(&self, place: &Place, from: u64, to: u64) -> bool {
         let _ = self.awake.value.fetch_add(1, Ordering::SeqCst);
-        let is_roused = place.change(from, to);
+        let is_roused = place.wake(from, to);
         if !is_roused {
             let _ = self.awake.value.fetch_sub(1, Ordering::SeqCst);
         }
@@ -391,8 +391,8 @@ impl Bell {
         }
         if self.was_late() || !self.look_on() {
             for place in &self.places {
-                let _ = place.change(SLEEPS, LEAVES);
-                let _ = place.change(RESTS, LEAVES);
+                let _ = place.wake(SLEEPS, LEAVES);
+                let _ = place.wake(RESTS, LEAVES);
             }
         }
     }

@@ -60,12 +60,16 @@ impl Place {
         self.state.swap(WORKS, Ordering::SeqCst)
     }
 
-    /// Gives the rank another state if it has this one, and wakes its thread. Tells whether it had.
+    /// Gives the rank another state if it has this one. Tells whether it had.
     pub fn change(&self, from: u64, to: u64) -> bool {
-        let is_changed = self
-            .state
+        self.state
             .compare_exchange(from, to, Ordering::SeqCst, Ordering::SeqCst)
-            .is_ok();
+            .is_ok()
+    }
+
+    /// Gives the rank another state if it has this one, and wakes its thread. Tells whether it had.
+    pub fn wake(&self, from: u64, to: u64) -> bool {
+        let is_changed = self.change(from, to);
         if is_changed {
             self.parker.unpark();
         }

@@ -116,7 +116,7 @@ fn make_rounds<
         bell.begin_round();
         make_round(rt, lock, &bell, gate, workers.as_mut_slice());
         is_late = bell.was_late();
-        if was_late && is_late || !goes_on(workers.as_slice()) {
+        if !goes_on(workers.as_slice(), was_late && is_late) {
             return;
         }
     }
@@ -144,8 +144,9 @@ fn make_round<
     );
 }
 
-/// Whether a further round is of use: there is memory, a rank is not done, and the last round had an event. No clause rests on it.
-fn goes_on<M: Told, R>(workers: &[Worker<M, R>]) -> bool {
+/// Whether a further round is of use: there is memory, a rank is not done, the last round had an event, and ranks start in time. No
+/// clause rests on it.
+fn goes_on<M: Told, R>(workers: &[Worker<M, R>], is_late: bool) -> bool {
     let mut is_live = false;
     let mut has_moved = false;
     for worker in workers {
@@ -155,7 +156,7 @@ fn goes_on<M: Told, R>(workers: &[Worker<M, R>]) -> bool {
         is_live = is_live || !worker.is_done;
         has_moved = has_moved || worker.has_moved;
     }
-    is_live && has_moved
+    is_live && has_moved && !is_late
 }
 
 /// The seats and the runs of the workers, in the order of the ranks. The error is that there was no memory for one of them.

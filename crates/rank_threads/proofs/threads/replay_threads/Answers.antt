@@ -19,7 +19,7 @@ run-requires-clause-few g c κs within =
 pub run-requires-clause-seated : goal.run-requires-clause-seated
 run-requires-clause-seated g c κs within = λ k lt.
     let log = c.args.log.now in
-    let same : c.in_ok-replay.replay.log ≡ log = ap (λ r. r.log) c.in_ok-replay.ensures in
+    let same : c.in_ok-replay.replay.value.log ≡ log = ap (λ r. r.log) (c.in_ok-replay.ensures.ok ∙ c.in_ok-new.ensures) in
     let group : c.as_slice.result.now ≡ log.group = c.as_slice.ensures in
     rw (same, group) (member_of log.group k (rw group at lt), place_at log.group k c.requires.log.distinct (rw group at lt))
 
@@ -28,9 +28,9 @@ finish_replay-requires g c =
     let replay = c.in_ok-replayer.replayer.replay.value in
     let frame = c.in_ok-replayer.ensures.frame in
     let group = c.as_slice.result.now in
-    let log : replay.log ≡ c.args.log.now = ap (λ f. f.1) frame ∙ ap (λ r. r.log) c.in_ok-replay.ensures in
+    let log : replay.log ≡ c.args.log.now = ap (λ f. f.1) frame ∙ ap (λ r. r.log) (c.in_ok-replay.ensures.ok ∙ c.in_ok-new.ensures) in
     let are = subst (λ f. AreRunsAfter replay_reading g.R.RankRun.standing f group (numbered (place_in replay.log.group) replay.events) c.in_ok-replayer.runs.items) (sym frame) c.in_ok-replayer.ensures.runs in
     let same : group ≡ replay.log.group = c.as_slice.ensures ∙ sym (ap (λ l. l.group) log) in
     record {
-      runs = run_all g.R.RankRun.standing replay.program replay.log replay.stop replay.events c.in_ok-replayer.runs.items (rw log c.requires.log.distinct) (rw same at are);
+      runs = rw c.into_inner.ensures (run_all g.R.RankRun.standing replay.program replay.log replay.stop replay.events c.in_ok-replayer.runs.items (rw log c.requires.log.distinct) (rw same at are));
     }
