@@ -2,6 +2,7 @@
 # Ranks that poll, recorded on threads: how many looks found nothing, and the times beside serial recordings. Each program of the first
 # table is recorded many times (100, or as many as are given), and the table has the most vain looks of any rank in any of them; the
 # second has a rank that polls for what never comes, on one and two ranks. Needs `rt`.
+. "$(dirname "$0")/idle.sh"
 . "$(dirname "$0")/begin.sh"
 times=${1:-100}
 
@@ -15,9 +16,10 @@ program() {
 # Two million steps, as the language counts them.
 work='for (i = 0; i < 200000; i++) x = (x * 5 + i) % 1000;'
 
-# The most entries `n`, looks that found nothing, in a log of this program's last recording.
+# The most looks that found nothing in a log of this program's last recording; each rank has a log of its own.
 vain_looks() {
-  grep -c '^n' "$1".*.srr | cut -d: -f2 | sort -n | tail -n 1
+  local log
+  for log in "$1".*.srr; do "$wiz" stats "$log" | sed -n 's/^total .* notyet //p'; done | sort -n | tail -n 1
 }
 
 row() {
