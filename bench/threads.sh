@@ -1,6 +1,6 @@
 #!/usr/bin/env bash
-# Recordings on threads beside serial ones. First programs that hardly compute: a ping-pong, a token that goes round a ring, and all
-# ranks that send to rank 0, which takes whoever comes first. Then one that computes between its messages, on 1, 2 and 4 processors
+# Recordings on threads beside serial ones. First programs that hardly compute: a ping-pong, a token that goes round a ring, all
+# ranks that send to rank 0, which takes whoever comes first, a halo exchange and an allreduce. Then one that computes between its messages, on 1, 2 and 4 processors
 # (`taskset`). A row gives the wall-clock time of `wiz record` from start to end in milliseconds, the median of five runs, serial
 # and on threads, and the ratio of both. Needs `rt`. Takes the number of messages of the first table (10000 where none is given).
 . "$(dirname "$0")/idle.sh"
@@ -39,7 +39,7 @@ echo "program                             serial ms (range)       threads ms (ra
 half=$((messages / 2))
 program pong 2 "for(i=0;i<$half;i++){if(r==0){MPI_Send(&x,1,MPI_INT,1,1,MPI_COMM_WORLD);MPI_Recv(&x,1,MPI_INT,1,1,MPI_COMM_WORLD,&s);}else{MPI_Recv(&x,1,MPI_INT,0,1,MPI_COMM_WORLD,&s);x=x+1;MPI_Send(&x,1,MPI_INT,0,1,MPI_COMM_WORLD);}}"
 row pong "ping-pong, 2 ranks"
-for ranks in 2 16 64; do
+for ranks in 2 4 16 64; do
   laps=$((messages / ranks))
   program ring "$ranks" "for(i=0;i<$laps;i++){if(r==0){MPI_Send(&x,1,MPI_INT,1,1,MPI_COMM_WORLD);MPI_Recv(&x,1,MPI_INT,n-1,1,MPI_COMM_WORLD,&s);}else{MPI_Recv(&x,1,MPI_INT,r-1,1,MPI_COMM_WORLD,&s);x=x+1;MPI_Send(&x,1,MPI_INT,(r+1)%n,1,MPI_COMM_WORLD);}}"
   row ring "a token round $ranks ranks"
@@ -48,6 +48,13 @@ for ranks in 2 16 64; do
   each=$((messages / (ranks - 1)))
   program all "$ranks" "if(r==0){for(i=0;i<$each*(n-1);i++){MPI_Recv(&y,1,MPI_INT,MPI_ANY_SOURCE,1,MPI_COMM_WORLD,&s);x=x+y;}}else for(i=0;i<$each;i++)MPI_Send(&r,1,MPI_INT,0,1,MPI_COMM_WORLD);"
   row all "$ranks ranks, all to one"
+done
+
+program halo 16 "for(i=0;i<$messages/32;i++){MPI_Send(&x,1,MPI_INT,(r+1)%n,1,MPI_COMM_WORLD);MPI_Send(&x,1,MPI_INT,(r+n-1)%n,2,MPI_COMM_WORLD);MPI_Recv(&y,1,MPI_INT,(r+n-1)%n,1,MPI_COMM_WORLD,&s);MPI_Recv(&j,1,MPI_INT,(r+1)%n,2,MPI_COMM_WORLD,&s);x=(x+y+j)%1000+1;}"
+row halo "halo exchange, 16 ranks"
+for ranks in 4 16; do
+  program sum "$ranks" "for(i=0;i<$messages/$ranks;i++){MPI_Allreduce(&r,&y,1,MPI_INT,MPI_SUM,MPI_COMM_WORLD);x=x+y%7;}"
+  row sum "allreduce, $ranks ranks"
 done
 
 # Each rank computes for most of its time: ten times half a million steps, and a message round the ring after each.

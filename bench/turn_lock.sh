@@ -1,5 +1,5 @@
 #!/usr/bin/env bash
-# Turns a second of the turn lock, beside Rust's std::sync::Mutex: 2, 8 and 64 threads push entries to one locked list.
+# Turns a second of the turn lock, beside Rust's std::sync::Mutex: 2, 4, 8 and 64 threads push entries to one locked list.
 # Needs `rt` and `rustc`. A row gives the median of five runs and their range, measured from outside, from start to end.
 . "$(dirname "$0")/idle.sh"
 set -euo pipefail
@@ -46,7 +46,7 @@ times() {
 
 echo "$(nproc) processors, load $(cut -d' ' -f1 /proc/loadavg) before the run; $(rustc --version)"
 printf '%6s %8s  %12s %25s  %12s %25s %7s\n' seats turns 'lock turns/s' '(slowest to fastest)' 'Mutex' '(slowest to fastest)' ratio
-for row in '2 1000000' '8 100000' '64 12500'; do
+for row in '2 1000000' '4 250000' '8 100000' '64 12500'; do
   read -r seats turns <<<"$row"
   ours=$(times "$lock" "$seats" "$turns")
   theirs=$(times "$work/mutex" "$seats" "$turns")
