@@ -50,31 +50,53 @@ def read_arguments(words):
     )
     parser.add_argument("file", metavar="PROGRAM.c")
     parser.add_argument(
-        "--ranks", type=bounded(1, MOST_RANKS), required=True, metavar="N",
+        "--ranks",
+        type=bounded(1, MOST_RANKS),
+        required=True,
+        metavar="N",
         help="the number of ranks that it will run on",
     )
     parser.add_argument(
-        "--room", type=bounded(1, MOST_ROOM), default=ROOM, metavar="K",
+        "--room",
+        type=bounded(1, MOST_ROOM),
+        default=ROOM,
+        metavar="K",
         help=f"the length of arrays whose length is not known ({ROOM})",
     )
     parser.add_argument(
-        "--blocking", action="store_true",
+        "--blocking",
+        action="store_true",
         help="do nonblocking collectives at once",
     )
     parser.add_argument(
-        "--synchronous", action="store_true",
+        "--synchronous",
+        action="store_true",
         help="do each MPI_Send as MPI_Ssend, each MPI_Isend as MPI_Issend",
     )
     parser.add_argument(
-        "--strict", action="store_true",
+        "--strict",
+        action="store_true",
         help="refuse what would be a note",
     )
-    parser.add_argument("-I", dest="include", action="append", default=[],
-                        metavar="FOLDER", help="look for headers there")
-    parser.add_argument("-D", dest="define", action="append", default=[],
-                        metavar="NAME[=VALUE]", help="define a name")
-    parser.add_argument("-o", dest="out", metavar="OUT",
-                        help="write the program there")
+    parser.add_argument(
+        "-I",
+        dest="include",
+        action="append",
+        default=[],
+        metavar="FOLDER",
+        help="look for headers there",
+    )
+    parser.add_argument(
+        "-D",
+        dest="define",
+        action="append",
+        default=[],
+        metavar="NAME[=VALUE]",
+        help="define a name",
+    )
+    parser.add_argument(
+        "-o", dest="out", metavar="OUT", help="write the program there"
+    )
     return parser.parse_args(words)
 
 
@@ -85,8 +107,10 @@ def heading(words, options):
     text = text.encode("ascii", "replace").decode("ascii")
     name = os.path.basename(options.file).replace("*/", "* /")
     name = name.encode("ascii", "replace").decode("ascii")
-    return (f"/* Made from {name} for {options.ranks} ranks, by\n"
-            f"   {text} */\n")
+    return (
+        f"/* Made from {name} for {options.ranks} ranks, by\n"
+        f"   {text} */\n"
+    )
 
 
 def without_out(words):
@@ -110,14 +134,19 @@ def translate(options, report):
     except Refused as refused:
         report.keep(refused)
     except RecursionError:
-        report.keep(Refused(
-            report.here, "nested too deeply", "use variables for parts"
-        ))
+        report.keep(
+            Refused(
+                report.here, "nested too deeply", "use variables for parts"
+            )
+        )
     except MemoryError:
-        report.keep(Refused(
-            report.here, "it takes more than the memory of 1 GB",
-            "make the program smaller",
-        ))
+        report.keep(
+            Refused(
+                report.here,
+                "it takes more than the memory of 1 GB",
+                "make the program smaller",
+            )
+        )
     return None if report.refusals else text
 
 
@@ -127,12 +156,22 @@ def run(options, words, answer):
     answer["report"] = report
     try:
         answer["text"] = translate(options, report)
-    except (KeyError, IndexError, AttributeError, TypeError, ValueError,
-            AssertionError, OverflowError) as error:
-        report.keep(Refused(
-            report.here, f"not understood ({type(error).__name__})",
-            "write it in another way",
-        ))
+    except (
+        KeyError,
+        IndexError,
+        AttributeError,
+        TypeError,
+        ValueError,
+        AssertionError,
+        OverflowError,
+    ) as error:
+        report.keep(
+            Refused(
+                report.here,
+                f"not understood ({type(error).__name__})",
+                "write it in another way",
+            )
+        )
         if os.environ.get("ADAPT_TRACE"):
             raise
     answer["done"] = True
@@ -169,8 +208,12 @@ def write(text, out):
             with open(out, "w", encoding="ascii", newline="\n") as file:
                 file.write(text)
     except OSError as error:
-        say([f"adapt: {out or 'the output'} is not written "
-             f"({error.strerror})"])
+        say(
+            [
+                f"adapt: {out or 'the output'} is not written "
+                f"({error.strerror})"
+            ]
+        )
         return 1
     return 0
 
@@ -180,8 +223,12 @@ def main(words):
     options = read_arguments(words)
     answer = limited(options, words)
     if not answer["done"]:
-        say([f"{options.file}:1: it takes more than {SECONDS} seconds: make "
-             "the program smaller"])
+        say(
+            [
+                f"{options.file}:1: it takes more than {SECONDS} seconds: make "
+                "the program smaller"
+            ]
+        )
         sys.stderr.flush()
         os._exit(1)
     report = answer["report"]

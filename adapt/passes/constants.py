@@ -11,11 +11,25 @@ from pycparser import c_ast
 
 from .parsing import arguments, bare, called
 from .types import (
-    INTS, NUMBERS, RELATIONS, UNSIGNED, as_type, common, holds, promoted,
+    INTS,
+    NUMBERS,
+    RELATIONS,
+    UNSIGNED,
+    as_type,
+    common,
+    holds,
+    promoted,
 )
 
 ESCAPES = {
-    "n": 10, "t": 9, "r": 13, "a": 7, "b": 8, "f": 12, "v": 11, "0": 0,
+    "n": 10,
+    "t": 9,
+    "r": 13,
+    "a": 7,
+    "b": 8,
+    "f": 12,
+    "v": 11,
+    "0": 0,
 }
 # The arguments of MPI calls that are buffers that the call only reads.
 READ_ONLY = {
@@ -66,7 +80,7 @@ class Constants:
         if len(node.value) > MOST_DIGITS:
             return "ulong"
         number, suffix = number_of_digits(node.value), node.value.lower()
-        suffix = suffix[len(suffix.rstrip("ul")):]
+        suffix = suffix[len(suffix.rstrip("ul")) :]
         decimal = node.value[0] != "0"
         for type in ("int", "uint", "long", "ulong"):
             if "l" in suffix and type in ("int", "uint"):
@@ -81,7 +95,7 @@ class Constants:
 
     def number_of_character(self, node):
         """The value of a character constant; a char has a sign here."""
-        text = node.value[node.value.index("'") + 1:-1]
+        text = node.value[node.value.index("'") + 1 : -1]
         codes = text_bytes(text)
         if codes is None or len(codes) != 1:
             return None
@@ -93,8 +107,7 @@ class Constants:
 
     def inside_of_text(self, node):
         """What stands between a text's quotes."""
-        inside = re.sub(r'(?<!\\)((?:\\\\)*)"\s*"', r"\1", node.value)
-        return inside[inside.index('"') + 1:-1]
+        return node.value[node.value.index('"') + 1 : -1]
 
     def constant_Cast(self, node):
         type, number = self.type_of(node), self.constant(node.expr)
@@ -288,8 +301,12 @@ def text_bytes(text):
 def compare(sign, left, right):
     """Whether left SIGN right holds."""
     return {
-        "<": left < right, ">": left > right, "==": left == right,
-        "<=": left <= right, ">=": left >= right, "!=": left != right,
+        "<": left < right,
+        ">": left > right,
+        "==": left == right,
+        "<=": left <= right,
+        ">=": left >= right,
+        "!=": left != right,
     }[sign]
 
 
@@ -303,6 +320,10 @@ def compute(sign, left, right):
             quotient = -quotient
         return quotient if sign == "/" else left - quotient * right
     return {
-        "+": left + right, "-": left - right, "*": left * right,
-        "&": left & right, "|": left | right, "^": left ^ right,
+        "+": left + right,
+        "-": left - right,
+        "*": left * right,
+        "&": left & right,
+        "|": left | right,
+        "^": left ^ right,
     }[sign]

@@ -11,12 +11,32 @@ from pycparser import c_ast
 
 from .parsing import bare, called
 from .types import (
-    INTS, LONGS, NARROW, NUMBERS, REALS, RELATIONS, UNSIGNED, as_type,
-    common, holds, is_pointer, promoted,
+    INTS,
+    LONGS,
+    NARROW,
+    NUMBERS,
+    REALS,
+    RELATIONS,
+    UNSIGNED,
+    as_type,
+    common,
+    holds,
+    is_pointer,
+    promoted,
 )
 from .values import (
-    ATOM, BINDS, CHOICE, LEAST, MOST, SIGN, Place, Value, literal, negated,
-    operation, wrapped,
+    ATOM,
+    BINDS,
+    CHOICE,
+    LEAST,
+    MOST,
+    SIGN,
+    Place,
+    Value,
+    literal,
+    negated,
+    operation,
+    wrapped,
 )
 
 WORD = re.compile(r"[A-Za-z_]\w*")
@@ -27,11 +47,15 @@ RING = ("+", "-", "*", "&", "|", "^")
 EFFECTS = (c_ast.FuncCall, c_ast.Assignment)
 BITS_OF_NARROW = {"char": 8, "uchar": 8, "short": 16, "ushort": 16}
 HANDLE_NAMES = {
-    "MPI_COMM_WORLD": "comm", "MPI_COMM_NULL": "comm",
+    "MPI_COMM_WORLD": "comm",
+    "MPI_COMM_NULL": "comm",
     "MPI_REQUEST_NULL": "request",
 }
 INT_NAMES = {
-    "MPI_ANY_TAG", "MPI_PROC_NULL", "MPI_ANY_SOURCE", "MPI_UNDEFINED",
+    "MPI_ANY_TAG",
+    "MPI_PROC_NULL",
+    "MPI_ANY_SOURCE",
+    "MPI_UNDEFINED",
 }
 
 
@@ -83,7 +107,8 @@ class Expressions:
                 if name in self.acting or name == "printf":
                     return True
                 if name.startswith("MPI_") and name not in (
-                    "MPI_Comm_rank", "MPI_Comm_size",
+                    "MPI_Comm_rank",
+                    "MPI_Comm_size",
                 ):
                     return True
         return any(line in ("{", "do {") for line in lines)
@@ -118,7 +143,8 @@ class Expressions:
         number = self.constant(node)
         if number is None:
             self.report.refuse(
-                node, f"the number {node.value[:40]}, which is not whole",
+                node,
+                f"the number {node.value[:40]}, which is not whole",
                 "use whole numbers",
             )
         type = self.type_of(node)
@@ -128,7 +154,8 @@ class Expressions:
             return literal(number, type)
         if not LEAST <= number < 2**32 or type in LONGS:
             self.report.refuse(
-                node, f"the number {node.value[:40]} has more than 32 bits",
+                node,
+                f"the number {node.value[:40]} has more than 32 bits",
                 "use a smaller one",
             )
         return literal(number, type)
@@ -156,7 +183,8 @@ class Expressions:
         """The number that is written in place of a variable, or None."""
         if symbol.type not in INTS:
             return None
-        if not (self.folding or self.is_folded(symbol)):
+        argument = symbol.kind == "parameter" and symbol.function == "main"
+        if not (self.folding or argument or self.is_folded(symbol)):
             return None
         number = self.constant_symbol(symbol)
         if number is None or not LEAST <= number <= MOST:
@@ -166,9 +194,7 @@ class Expressions:
     def value_at(self, place, node):
         """The value that is in a place."""
         if place.type not in NUMBERS | {"comm", "request"}:
-            self.report.refuse(
-                node, "a value that is no number", "use ints"
-            )
+            self.report.refuse(node, "a value that is no number", "use ints")
         return Value(place.text(), ATOM, place.type)
 
     def value_of_name(self, node):
@@ -187,9 +213,7 @@ class Expressions:
                 node, f"{name} is 1: an error stops the run, no call gives it"
             )
             return literal(1)
-        self.report.refuse(
-            node, f"the name {name}", "declare it in this file"
-        )
+        self.report.refuse(node, f"the name {name}", "declare it in this file")
 
     def value_of_Cast(self, node):
         type = self.type_of(node)
@@ -222,7 +246,8 @@ class Expressions:
             return literal(0)
         if name not in ("MPI_SOURCE", "MPI_TAG"):
             self.report.refuse(
-                node, f"the field {name} of a status",
+                node,
+                f"the field {name} of a status",
                 "use MPI_SOURCE, MPI_TAG or MPI_Get_count",
             )
         return Value(f"{place.text()}.{name}")
@@ -329,8 +354,8 @@ class Expressions:
             if is_pointer(self.type_of(pointer)):
                 return self.compare_pointers(node)
         left, right = self.in_order(
-            node, [lambda: self.value(node.left),
-                   lambda: self.value(node.right)],
+            node,
+            [lambda: self.value(node.left), lambda: self.value(node.right)],
         )
         if left.type not in NUMBERS or right.type not in NUMBERS:
             return self.compare_handles(node, left, right)
@@ -367,9 +392,11 @@ class Expressions:
         result = operation(
             sign, left, right, "int" if sign in RELATIONS else type
         )
-        result.wide = sign in RING and (
-            left.wide or right.wide or type in LONGS
-        ) and result.number is None
+        result.wide = (
+            sign in RING
+            and (left.wide or right.wide or type in LONGS)
+            and result.number is None
+        )
         return result
 
     def check_real(self, node, sign):
@@ -427,13 +454,15 @@ class Expressions:
     def compare_pointers(self, node):
         """A comparison of a pointer with NULL."""
         for pointer, null in (
-            (node.left, node.right), (node.right, node.left),
+            (node.left, node.right),
+            (node.right, node.left),
         ):
             if node.op in ("==", "!=") and self.is_null(null):
                 value = self.pointer_test(pointer)
                 if value.number is not None:
-                    return literal(int(bool(value.number) ==
-                                       (node.op == "!=")))
+                    return literal(
+                        int(bool(value.number) == (node.op == "!="))
+                    )
                 if node.op == "!=":
                     return value
                 return Value("!" + value.at(SIGN), SIGN)
@@ -473,7 +502,8 @@ class Expressions:
             else:
                 return literal(1)
             self.report.refuse(
-                node, f"{symbol.name} may be NULL in some call",
+                node,
+                f"{symbol.name} may be NULL in some call",
                 "give a number beside it",
             )
         plan = self.plan_of(symbol, node)
@@ -534,7 +564,7 @@ class Expressions:
         self.check_wide(left, node)
         self.check_wide(right, node)
         if not before and not after:
-            text = (f"{condition.at(1)} ? {left.at(1)} : {right.at(1)}")
+            text = f"{condition.at(1)} ? {left.at(1)} : {right.at(1)}"
             return Value(text, CHOICE, type)
         name = self.fresh()
         self.emit(f"int {name};")
@@ -621,8 +651,8 @@ class Expressions:
         """place = value"""
         start = len(self.lines)
         value, place = self.in_order(
-            node, [lambda: self.value(node.rvalue),
-                   lambda: self.place(target)],
+            node,
+            [lambda: self.value(node.rvalue), lambda: self.place(target)],
         )
         self.check_open_order(place, self.lines[start:], node)
         value = self.fitted(value, place.type, node)
@@ -647,8 +677,17 @@ class Expressions:
     def stable_for_value(self, place, node):
         """A place that means the same after the statement, if it is used."""
         parent = self.parent.get(id(node))
-        if isinstance(parent, (c_ast.Compound, c_ast.If, c_ast.For,
-                               c_ast.While, c_ast.Case, c_ast.Default)):
+        if isinstance(
+            parent,
+            (
+                c_ast.Compound,
+                c_ast.If,
+                c_ast.For,
+                c_ast.While,
+                c_ast.Case,
+                c_ast.Default,
+            ),
+        ):
             return place
         return self.stable(place)
 
@@ -656,23 +695,28 @@ class Expressions:
         """place += value and the like"""
         sign = node.op[:-1]
         value, place = self.in_order(
-            node, [lambda: self.value(node.rvalue),
-                   lambda: self.place(target)],
+            node,
+            [lambda: self.value(node.rvalue), lambda: self.place(target)],
         )
         self.check_number(value, node)
         self.check_number(Value("", type=place.type), node)
         place = self.stable_for_value(place, node)
         old = Value(place.text(), ATOM, place.type)
         plain = place.type in ("int", "uint") and value.type in INTS
-        if plain and not (
-            sign in ("/", "%", ">>")
-            and "uint" in (place.type, promoted(value.type))
-        ) and value.type not in LONGS:
+        if (
+            plain
+            and not (
+                sign in ("/", "%", ">>")
+                and "uint" in (place.type, promoted(value.type))
+            )
+            and value.type not in LONGS
+        ):
             self.emit(f"{place.text()} {node.op} {value.text};")
             return place
         result = self.arithmetic(
             c_ast.BinaryOp(sign, node.lvalue, node.rvalue, node.coord),
-            old, value,
+            old,
+            value,
         )
         result = self.fitted(result, place.type, node)
         self.emit(f"{place.text()} = {result.text};")
@@ -683,7 +727,8 @@ class Expressions:
         field = node.lvalue.field.name
         if field != "MPI_ERROR":
             self.report.refuse(
-                node, f"an assignment to the field {field}",
+                node,
+                f"an assignment to the field {field}",
                 "use a variable of your own",
             )
         self.effect(node.rvalue)
@@ -694,7 +739,8 @@ class Expressions:
         symbol = self.symbol_of.get(id(node.lvalue))
         if symbol is None:
             self.report.refuse(
-                node, "an array of datatypes or operations",
+                node,
+                "an array of datatypes or operations",
                 "use variables",
             )
         self.handle(node.lvalue, kind)
@@ -750,7 +796,8 @@ class Expressions:
             return False
         if node.args is not None and self.has_effects(node.args):
             self.report.refuse(
-                node, "a call or a change in what memory is asked for",
+                node,
+                "a call or a change in what memory is asked for",
                 "compute the length before",
             )
         return True

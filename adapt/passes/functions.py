@@ -12,12 +12,23 @@ from .types import NUMBERS, element, is_pointer
 from .values import Place, Value, literal
 
 PERSISTENT = (
-    "MPI_Send_init", "MPI_Ssend_init", "MPI_Bsend_init", "MPI_Rsend_init",
-    "MPI_Recv_init", "MPI_Start", "MPI_Startall",
+    "MPI_Send_init",
+    "MPI_Ssend_init",
+    "MPI_Bsend_init",
+    "MPI_Rsend_init",
+    "MPI_Recv_init",
+    "MPI_Start",
+    "MPI_Startall",
 )
 QUIET = {
-    "MPI_Comm_rank", "MPI_Comm_size", "abs", "labs", "free", "sizeof",
-    "strlen", "strcmp",
+    "MPI_Comm_rank",
+    "MPI_Comm_size",
+    "abs",
+    "labs",
+    "free",
+    "sizeof",
+    "strlen",
+    "strcmp",
 }
 MOST_WRITTEN_OUT = 12
 MOST_LINES = 20000
@@ -52,7 +63,9 @@ class Functions:
             for write in symbol.writes:
                 outer = symbol.kind == "global"
                 through = symbol.kind == "parameter" and write.kind in (
-                    "part", "given", "address",
+                    "part",
+                    "given",
+                    "address",
                 )
                 if (outer or through) and write.function:
                     own.add(write.function)
@@ -62,9 +75,10 @@ class Functions:
         """The globals that a function needs, with those that it calls."""
         below = self.below(name)
         return [
-            symbol for symbol in self.globals
-            if symbol.functions & below and not self.is_written_in_place(
-                symbol)
+            symbol
+            for symbol in self.globals
+            if symbol.functions & below
+            and not self.is_written_in_place(symbol)
         ]
 
     def is_written_in_place(self, symbol):
@@ -111,13 +125,17 @@ class Functions:
         for caller, callee, _ in self.calls:
             if caller in below and callee in PERSISTENT:
                 return False
-        if any(n.name == "MPI_COMM_SELF" for n in nodes(
-                self.functions[name]) if isinstance(n, c_ast.ID)):
+        if any(
+            n.name == "MPI_COMM_SELF"
+            for n in nodes(self.functions[name])
+            if isinstance(n, c_ast.ID)
+        ):
             return False
         if not all(self.plain_parameter(it) for it in self.parameters[name]):
             return False
-        return all(self.plain_global(it, below)
-                   for it in self.globals_of(name))
+        return all(
+            self.plain_global(it, below) for it in self.globals_of(name)
+        )
 
     def plain_parameter(self, symbol):
         """Whether a parameter can be one of the language."""
@@ -148,12 +166,18 @@ class Functions:
         if symbol.type == "comm":
             return not any(w.function in below for w in symbol.writes)
         if symbol.type[0] == "ptr" and is_pointer(symbol.type):
+            self.trying = True
             try:
                 plan = self.plan_of(symbol, symbol.node)
             except Refused:
                 return False
-            return (plan.kind == "array" and not plan.tested
-                    and element(symbol.type) in NUMBERS)
+            finally:
+                self.trying = False
+            return (
+                plan.kind == "array"
+                and not plan.tested
+                and element(symbol.type) in NUMBERS
+            )
         return is_pointer(symbol.type) and element(symbol.type) in NUMBERS
 
     def head_of(self, name):
@@ -180,16 +204,14 @@ class Functions:
     def global_text(self, symbol):
         """A global as a parameter in a function's head."""
         name = self.name_for(symbol)
-        return f"MPI_Comm {name}" if symbol.type == "comm" else (
-            f"int {name}[]"
+        return (
+            f"MPI_Comm {name}" if symbol.type == "comm" else (f"int {name}[]")
         )
 
     def open_parameters(self, name):
         """The index variables of parameters that are pointers that move."""
         for symbol in self.parameters[name]:
-            if is_pointer(symbol.type) and not isinstance(
-                symbol.bound, Place
-            ):
+            if is_pointer(symbol.type) and not isinstance(symbol.bound, Place):
                 plan = self.plan_of(symbol, symbol.node)
                 if plan.kind == "index":
                     plan.index = self.fresh(symbol.name + "_at")
@@ -202,7 +224,8 @@ class Functions:
             self.report.refuse(node, "a call of main", "use a loop")
         if len(given) != len(parameters):
             self.report.refuse(
-                node, f"{name} with another number of arguments",
+                node,
+                f"{name} with another number of arguments",
                 "give it as many as it has parameters",
             )
         if not self.is_plain(name):
@@ -251,11 +274,10 @@ class Functions:
                 node, "the adapted text is too long", "use fewer calls"
             )
         result = self.result_type(name)
-        if self.variadic[name] or (
-            result != "void" and result not in NUMBERS
-        ):
+        if self.variadic[name] or (result != "void" and result not in NUMBERS):
             self.report.refuse(
-                node, f"the function {name}, by what it takes or gives",
+                node,
+                f"the function {name}, by what it takes or gives",
                 "let it take and give ints, arrays or communicators",
             )
         parameters = self.parameters[name]
@@ -340,9 +362,7 @@ class Functions:
                 meaning, Value
             ):
                 symbol.bound = meaning
-                if isinstance(meaning, Place) and self.parameter_moves(
-                    symbol
-                ):
+                if isinstance(meaning, Place) and self.parameter_moves(symbol):
                     self.bind_index(symbol, meaning)
             else:
                 from .output import WORDS
@@ -410,21 +430,30 @@ class Functions:
         self.at_top = True
         for symbol in self.globals:
             if symbol.functions & self.live:
-                symbol.shared = self.is_shared(symbol)
-        for symbol in self.globals:
-            if symbol.functions & self.live:
                 try:
                     self.declare_variable(symbol)
                 except Refused as refused:
+                    symbol.broken = True
                     self.report.keep(refused)
         self.at_top = False
 
+    def find_shared(self):
+        """Marks the globals that are parameters of functions."""
+        for symbol in self.globals:
+            if symbol.functions & self.live:
+                symbol.shared = self.is_shared(symbol)
+
     def is_shared(self, symbol):
         """Whether a function other than main has a global as parameter."""
-        return symbol.type in NUMBERS and any(
-            self.is_plain(name) for name in self.live - {"main"}
-            if symbol.functions & self.below(name)
-        ) and not self.is_written_in_place(symbol)
+        return (
+            symbol.type in NUMBERS
+            and any(
+                self.is_plain(name)
+                for name in self.live - {"main"}
+                if symbol.functions & self.below(name)
+            )
+            and not self.is_written_in_place(symbol)
+        )
 
     def is_called(self, node):
         """Whether a name is that of a function that is called there."""

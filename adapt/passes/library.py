@@ -43,7 +43,8 @@ class Library:
         if name in DROPPED:
             return self.drop_call(node, name)
         self.report.refuse(
-            node, f"the function {name}",
+            node,
+            f"the function {name}",
             "write it in this file, or leave its call out",
         )
 
@@ -79,8 +80,8 @@ class Library:
         if at_once:
             if value.number != 0:
                 self.report.note(
-                    node, "exit ends this rank only: mpirun may stop the "
-                    "others",
+                    node,
+                    "exit ends this rank only: mpirun may stop the " "others",
                 )
             self.emit(f"return {value.text};")
             return
@@ -112,7 +113,8 @@ class Library:
         codes = None if text is None else self.codes_of(text)
         if codes is None:
             self.report.refuse(
-                node, "the length of a text that is not known",
+                node,
+                "the length of a text that is not known",
                 "use a number",
             )
         return literal(len(codes), "ulong")
@@ -121,16 +123,15 @@ class Library:
         texts = [self.text_of(item) for item in given]
         if None in texts:
             self.report.refuse(
-                node, "a comparison of texts that are not known",
+                node,
+                "a comparison of texts that are not known",
                 "compare numbers",
             )
         left, right = (self.codes_of(text) for text in texts)
         return literal((left > right) - (left < right))
 
     def call_of_perror(self, node, given):
-        self.report.note(
-            node, "what goes to the error output is not printed"
-        )
+        self.report.note(node, "what goes to the error output is not printed")
 
     def call_of_bzero(self, node, given):
         zero = c_ast.Constant("int", "0")
@@ -144,13 +145,16 @@ class Library:
         place = self.address(target)
         size = self.size_of_type(element(place.type))
         number = self.constant(filler)
-        if size not in (1, 2, 4, 8) or number is None or (
-            size > 1 and number not in (0, 255, -1)
-        ) or element(place.type) not in NUMBERS - {"float", "double"} and (
-            number != 0
+        if (
+            size not in (1, 2, 4, 8)
+            or number is None
+            or (size > 1 and number not in (0, 255, -1))
+            or element(place.type) not in NUMBERS - {"float", "double"}
+            and (number != 0)
         ):
             self.report.refuse(
-                node, "memset by what is not one value for each element",
+                node,
+                "memset by what is not one value for each element",
                 "use a loop",
             )
         if number == 255 and size > 1:
@@ -168,11 +172,17 @@ class Library:
         size = self.size_of_type(mine)
         if mine != theirs or mine not in NUMBERS:
             self.report.refuse(
-                node, "memcpy between things of different types",
+                node,
+                "memcpy between things of different types",
                 "use a loop",
             )
-        self.repeat(node, place, size, length, lambda index: Value(
-            self.shifted_place(source, index).text()))
+        self.repeat(
+            node,
+            place,
+            size,
+            length,
+            lambda index: Value(self.shifted_place(source, index).text()),
+        )
 
     def shifted_place(self, place, index):
         """The place some cells after another one."""
@@ -194,7 +204,8 @@ class Library:
             count = self.count_of_bytes(length, size)
             if count is None:
                 self.report.refuse(
-                    node, "a number of bytes that is not known",
+                    node,
+                    "a number of bytes that is not known",
                     "write it as a number times sizeof",
                 )
         if place.offset is None:
@@ -206,9 +217,7 @@ class Library:
             return
         index = self.fresh()
         limit = count.at(BINDS["<"] + 1)
-        self.emit(
-            f"for (int {index} = 0; {index} < {limit}; {index}++) {{"
-        )
+        self.emit(f"for (int {index} = 0; {index} < {limit}; {index}++) {{")
         target = self.shifted_place(place, Value(index))
         self.emit(f"{target.text()} = {value_at(Value(index)).text};")
         self.emit("}")
@@ -221,7 +230,8 @@ class Library:
             return self.value(node)
         if isinstance(node, c_ast.BinaryOp) and node.op == "*":
             for factor, other in (
-                (node.left, node.right), (node.right, node.left),
+                (node.left, node.right),
+                (node.right, node.left),
             ):
                 if self.constant(factor) == size:
                     return self.value(other)

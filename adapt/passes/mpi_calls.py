@@ -3,7 +3,12 @@ from pycparser import c_ast
 
 from .handles import TYPES
 from .mpi_table import (
-    DROPPED, ERROR_HANDLERS, NONBLOCKING, PERSISTENT, SAME, SIGNATURES,
+    DROPPED,
+    ERROR_HANDLERS,
+    NONBLOCKING,
+    PERSISTENT,
+    SAME,
+    SIGNATURES,
     SYNCHRONOUS,
 )
 from .parsing import arguments, bare, names_in
@@ -107,13 +112,16 @@ class MpiCalls:
         self.emit(f"{place.text()} = 1;")
 
     def mpi_of_Type_contiguous(self, node, given):
-        self.set_type(node, given[2], lambda: operation(
-            "*", self.value(given[0]), literal(self.multiple(given[1]))))
+        self.set_type(
+            node,
+            given[2],
+            lambda: operation(
+                "*", self.value(given[0]), literal(self.multiple(given[1]))
+            ),
+        )
 
     def mpi_of_Type_dup(self, node, given):
-        self.set_type(
-            node, given[1], lambda: literal(self.multiple(given[0]))
-        )
+        self.set_type(node, given[1], lambda: literal(self.multiple(given[0])))
 
     def mpi_of_Type_free(self, node, given):
         self.set_type(node, given[0], lambda: literal(-1))
@@ -123,7 +131,8 @@ class MpiCalls:
         number = self.handle(node, "dtype")[1]
         if not isinstance(number, int):
             self.report.refuse(
-                node, "a datatype of one with several values",
+                node,
+                "a datatype of one with several values",
                 "use a variable for each",
             )
         return number
@@ -141,15 +150,14 @@ class MpiCalls:
         if symbol.many:
             self.emit(f"{symbol.name_now} = {work().text};")
         else:
-            self.report.say(
-                node, f"{symbol.name} is written where it is used"
-            )
+            self.report.say(node, f"{symbol.name} is written where it is used")
 
     def mpi_of_Type_size(self, node, given):
         name, number = self.handle(given[0], "dtype")
         if not isinstance(number, int) or number < 0:
             self.report.refuse(
-                node, "the size of a datatype with several values",
+                node,
+                "the size of a datatype with several values",
                 "use a number",
             )
         place = self.address(given[1])
@@ -211,7 +219,8 @@ class MpiCalls:
             same = SAME[name]
             if "rsend" in name.lower():
                 self.report.note(
-                    node, f"{name} as {same}: that a receive is there is "
+                    node,
+                    f"{name} as {same}: that a receive is there is "
                     "not checked",
                 )
             else:
@@ -226,7 +235,8 @@ class MpiCalls:
         if name in NONBLOCKING:
             if not self.options.blocking:
                 self.report.refuse(
-                    node, f"{name}: the language has no such call",
+                    node,
+                    f"{name}: the language has no such call",
                     "--blocking does it at once",
                 )
             self.report.note(
@@ -251,20 +261,25 @@ class MpiCalls:
         letters = SIGNATURES.get(name)
         if letters is None:
             self.report.refuse(
-                node, f"{name}: the language has no such call",
+                node,
+                f"{name}: the language has no such call",
                 "do without it, or use one of docs/LANGUAGE.md",
             )
         if len(given) != len(letters):
             self.report.refuse(
-                node, f"{name} with {len(given)} arguments",
+                node,
+                f"{name} with {len(given)} arguments",
                 f"give it {len(letters)}",
             )
         given = self.in_place(node, name, given)
         types = self.buffer_types(letters, given)
         works = []
         for at, (letter, item) in enumerate(zip(letters, given)):
-            works.append(self.argument_of(
-                node, name, letters, given, types, at, letter, item))
+            works.append(
+                self.argument_of(
+                    node, name, letters, given, types, at, letter, item
+                )
+            )
         values = self.in_order(node, works)
         texts = [value.text for value in values]
         self.emit_reduction(node, name, letters, given, texts)
@@ -294,8 +309,7 @@ class MpiCalls:
         if not isinstance(meaning, str):
             self.emit("}")
 
-    def argument_of(self, node, name, letters, given, types, at, letter,
-                    item):
+    def argument_of(self, node, name, letters, given, types, at, letter, item):
         """What finds the text of one argument, as a value."""
         if isinstance(item, Value):
             return lambda: item
@@ -305,7 +319,8 @@ class MpiCalls:
             counts = at + 1 < len(letters) and letters[at + 1] == "T"
             if counts and not isinstance(given[at + 1], Value):
                 return lambda: self.scaled_count(
-                    node, item, given[at + 1], types.get(at))
+                    node, item, given[at + 1], types.get(at)
+                )
             return lambda: self.int_argument(item)
         if letter == "T":
             return lambda: self.type_argument(node, name, item)
@@ -329,7 +344,8 @@ class MpiCalls:
         meaning = self.handle(item, "dtype")
         if name == "MPI_Get_count" and meaning[1] != 1:
             self.report.refuse(
-                node, "MPI_Get_count of a datatype of several ints",
+                node,
+                "MPI_Get_count of a datatype of several ints",
                 "count ints",
             )
         return Value("MPI_INT")
@@ -387,9 +403,7 @@ class MpiCalls:
         place = self.address(node)
         type = element(place.type)
         if type not in NUMBERS and type != "void":
-            self.report.refuse(
-                node, "a buffer of no numbers", "send ints"
-            )
+            self.report.refuse(node, "a buffer of no numbers", "send ints")
         return place, type
 
     def buffer_types(self, letters, given):
@@ -460,7 +474,8 @@ class MpiCalls:
             value = self.count_of_bytes(count, size)
         if value is None:
             self.report.refuse(
-                node, "a count of bytes that is not known",
+                node,
+                "a count of bytes that is not known",
                 "write it as a number times sizeof",
             )
         self.report.note(
@@ -470,8 +485,11 @@ class MpiCalls:
 
     def in_place(self, node, name, given):
         """Arguments with MPI_IN_PLACE, as the buffer itself."""
-        found = [at for at, item in enumerate(given)
-                 if names_in(item) == "MPI_IN_PLACE"]
+        found = [
+            at
+            for at, item in enumerate(given)
+            if names_in(item) == "MPI_IN_PLACE"
+        ]
         if not found:
             return given
         given, at = list(given), found[0]
@@ -514,13 +532,15 @@ class MpiCalls:
         One int more than asked goes along, so that it matches no plain scan.
         """
         if len(given) != 6:
-            self.report.refuse(node, "MPI_Exscan without 6 arguments",
-                               "give it 6")
+            self.report.refuse(
+                node, "MPI_Exscan without 6 arguments", "give it 6"
+            )
         name, count = self.handle(given[4], "op"), self.constant(given[2])
         if not isinstance(name, str) or name not in INVERSE:
             if name != "MPI_OP_NULL":
                 self.report.refuse(
-                    node, "MPI_Exscan of this operation",
+                    node,
+                    "MPI_Exscan of this operation",
                     "use MPI_SUM or MPI_BXOR",
                 )
         comm = self.comm_text(given[5])
@@ -536,7 +556,8 @@ class MpiCalls:
         target, _ = self.buffer_place(given[1])
         if count is None or count < 0 or None in (source, target):
             self.report.refuse(
-                node, "MPI_Exscan of an unknown count or of NULL",
+                node,
+                "MPI_Exscan of an unknown count or of NULL",
                 "give its count by a number",
             )
         if type in REALS:
@@ -550,8 +571,9 @@ class MpiCalls:
         else:
             cells = count + 1
             limit = scaled
-        head = (f"for (int {index} = 0; {index} < {limit.at(8)}; "
-                f"{index}++) {{")
+        head = (
+            f"for (int {index} = 0; {index} < {limit.at(8)}; " f"{index}++) {{"
+        )
         self.emit(f"int {own}[{cells}];")
         self.emit(f"int {sums}[{cells}];")
         self.emit(f"int {rank};")
@@ -560,14 +582,18 @@ class MpiCalls:
         self.emit(f"{own}[{index}] = {from_cell.text()};")
         self.emit("}")
         more = operation("+", limit, literal(1))
-        self.emit(f"MPI_Scan({own}, {sums}, {more.text}, MPI_INT, {name}, "
-                  f"{comm});")
+        self.emit(
+            f"MPI_Scan({own}, {sums}, {more.text}, MPI_INT, {name}, "
+            f"{comm});"
+        )
         self.emit(f"MPI_Comm_rank({comm}, &{rank});")
         self.emit(f"if ({rank} > 0) {{")
         self.emit(head)
         cell = self.shifted_place(target, Value(index))
-        self.emit(f"{cell.text()} = {sums}[{index}] {INVERSE[name]} "
-                  f"{own}[{index}];")
+        self.emit(
+            f"{cell.text()} = {sums}[{index}] {INVERSE[name]} "
+            f"{own}[{index}];"
+        )
         self.emit("}")
         self.emit("}")
         self.report.say(node, "MPI_Exscan is an MPI_Scan with one int more")
@@ -576,8 +602,9 @@ class MpiCalls:
         """The collectives with counts, by the plain ones with blocks."""
         gather = name == "MPI_Allgatherv"
         if len(given) != (8 if gather else 9):
-            self.report.refuse(node, f"{name} with {len(given)} arguments",
-                               "mend it")
+            self.report.refuse(
+                node, f"{name} with {len(given)} arguments", "mend it"
+            )
         if any(names_in(item) == "MPI_IN_PLACE" for item in given):
             self.report.refuse(
                 node, f"MPI_IN_PLACE in {name}", "use a buffer of its own"
@@ -585,17 +612,17 @@ class MpiCalls:
         for at in (2, 6) if gather else (3, 7):
             if self.handle(given[at], "dtype")[1] != 1:
                 self.report.refuse(
-                    node, f"{name} of a datatype of several ints",
+                    node,
+                    f"{name} of a datatype of several ints",
                     "use MPI_INT",
                 )
             buffer = 0 if at in (2, 3) else 3 if gather else 4
             _, type = self.buffer_place(given[buffer])
             word, width = TYPES[self.handle(given[at], "dtype")[0]]
-            if type not in (None, "void") and width != self.size_of_type(
-                type
-            ):
+            if type not in (None, "void") and width != self.size_of_type(type):
                 self.report.refuse(
-                    node, f"{name} of another type than its buffer's",
+                    node,
+                    f"{name} of another type than its buffer's",
                     "use the buffer's type",
                 )
         order = "bnTbbbTc" if gather else "bbbTbbbTc"
@@ -631,18 +658,22 @@ class MpiCalls:
         count = self.scaled_count(node, given[1], given[2], type)
         if count.number is None or count.number < 0 or place is None:
             self.report.refuse(
-                node, "MPI_Sendrecv_replace of an unknown count",
+                node,
+                "MPI_Sendrecv_replace of an unknown count",
                 "give its count by a number",
             )
         copy, index = self.fresh(), self.fresh()
         self.emit(f"int {copy}[{max(1, count.number)}];")
-        self.emit(f"for (int {index} = 0; {index} < {count.number}; "
-                  f"{index}++) {{")
+        self.emit(
+            f"for (int {index} = 0; {index} < {count.number}; "
+            f"{index}++) {{"
+        )
         cell = self.shifted_place(place, Value(index))
         self.emit(f"{copy}[{index}] = {cell.text()};")
         self.emit("}")
-        works = [lambda at=at: self.int_argument(given[at])
-                 for at in (3, 4, 5, 6)]
+        works = [
+            lambda at=at: self.int_argument(given[at]) for at in (3, 4, 5, 6)
+        ]
         to, tag, source, tag_of = (
             value.text for value in self.in_order(node, works)
         )

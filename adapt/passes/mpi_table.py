@@ -65,14 +65,24 @@ NONBLOCKING = {
 }
 # Calls that need no counterpart: nothing that a run sees depends on them.
 DROPPED = {
-    "MPI_Type_commit", "MPI_Comm_set_name", "MPI_Comm_get_name",
-    "MPI_Buffer_attach", "MPI_Buffer_detach", "MPI_Errhandler_free",
-    "MPI_Op_free", "MPI_Pcontrol", "MPI_Info_free", "MPI_Error_string",
+    "MPI_Type_commit",
+    "MPI_Comm_set_name",
+    "MPI_Comm_get_name",
+    "MPI_Buffer_attach",
+    "MPI_Buffer_detach",
+    "MPI_Errhandler_free",
+    "MPI_Op_free",
+    "MPI_Pcontrol",
+    "MPI_Info_free",
+    "MPI_Error_string",
     "MPI_Type_set_name",
 }
 # Those that choose what happens at an error; here every error stops a run.
 ERROR_HANDLERS = {
-    "MPI_Comm_set_errhandler", "MPI_Errhandler_set", "MPI_Error_class",
-    "MPI_Comm_call_errhandler", "MPI_Errhandler_create",
+    "MPI_Comm_set_errhandler",
+    "MPI_Errhandler_set",
+    "MPI_Error_class",
+    "MPI_Comm_call_errhandler",
+    "MPI_Errhandler_create",
     "MPI_Comm_create_errhandler",
 }

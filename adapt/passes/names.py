@@ -26,7 +26,8 @@ class Symbol:
 
     `kind` is `global` (also for a static in a function), `local` or
     `parameter`. `name_now` is its name in the text being written; `bound`
-    is what a parameter of a function that is written out means.
+    is what a parameter of a function that is written out means. Of a
+    `broken` one the declaration was refused: its uses are refused silently.
     """
 
     def __init__(self, name, type, node, function, kind):
@@ -34,7 +35,7 @@ class Symbol:
         self.function, self.kind = function, kind
         self.writes, self.functions, self.uses = [], set(), []
         self.name_now = self.bound = self.plan = self.index_name = None
-        self.static = self.many = self.shared = False
+        self.static = self.many = self.shared = self.broken = False
 
 
 class Names:

@@ -12,12 +12,15 @@ KEYWORDS = set(
     typedef union unsigned volatile""".split()
 )
 INTS = {
-    "MPI_ANY_TAG", "MPI_PROC_NULL", "MPI_ANY_SOURCE", "MPI_UNDEFINED",
-    "INT_MAX", "INT_MIN",
+    "MPI_ANY_TAG",
+    "MPI_PROC_NULL",
+    "MPI_ANY_SOURCE",
+    "MPI_UNDEFINED",
+    "INT_MAX",
+    "INT_MIN",
 }
 TAKEN = KEYWORDS | INTS | set(SIGNATURES) | set(OPERATIONS) | set(TYPES)
-WORDS = {"comm": "MPI_Comm", "status": "MPI_Status",
-         "request": "MPI_Request"}
+WORDS = {"comm": "MPI_Comm", "status": "MPI_Status", "request": "MPI_Request"}
 MOST_DEPTHS = 64
 MOST_BYTES = 65536
 INDENT = "    "

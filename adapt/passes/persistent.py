@@ -48,7 +48,8 @@ class Persistent:
                     cells = symbol.plan.length
                 return cells or self.options.room
         self.report.refuse(
-            node, "a persistent request that is not in sight",
+            node,
+            "a persistent request that is not in sight",
             "declare it in main",
         )
 
@@ -72,8 +73,11 @@ class Persistent:
         index = place.offset or literal(0)
         buffer, type = self.buffer_place(given[0])
         count = self.scaled_count(node, given[1], given[2], type)
-        works = [lambda: self.value(given[3]), lambda: self.value(given[4]),
-                 lambda: self.value(given[5])]
+        works = [
+            lambda: self.value(given[3]),
+            lambda: self.value(given[4]),
+            lambda: self.value(given[5]),
+        ]
         peer, tag, comm = self.in_order(node, works)
         call = SAME.get(PERSISTENT[name], PERSISTENT[name])
         call = self.chosen_mode(node, call)
@@ -82,12 +86,17 @@ class Persistent:
         if buffer is not None and buffer.offset is not None:
             offset = buffer.offset
         values = {
-            "kind": literal(len(kept.inits)), "at": offset, "count": count,
-            "peer": peer, "tag": tag, "comm": comm,
+            "kind": literal(len(kept.inits)),
+            "at": offset,
+            "count": count,
+            "peer": peer,
+            "tag": tag,
+            "comm": comm,
         }
         for field in FIELDS:
-            self.emit(f"{self.cell(kept, field, index)} = "
-                      f"{values[field].text};")
+            self.emit(
+                f"{self.cell(kept, field, index)} = " f"{values[field].text};"
+            )
         self.report.say(node, f"{name} keeps what its start will need")
 
     def request_place(self, node):
@@ -119,7 +128,8 @@ class Persistent:
             lines.append(self.start_call(kept, index, place, call, buffer))
             if buffer is not None and buffer.base not in visible:
                 self.report.refuse(
-                    None, f"the buffer {buffer.base} of a persistent request"
+                    None,
+                    f"the buffer {buffer.base} of a persistent request"
                     " is not known where it is started",
                     "declare it outside of this block",
                 )
@@ -139,11 +149,15 @@ class Persistent:
                 text = Place(buffer.base, offset, buffer.type).reference()
             else:
                 text = buffer.reference()
-        fields = [self.cell(kept, field, index)
-                  for field in ("count", "peer", "tag", "comm")]
+        fields = [
+            self.cell(kept, field, index)
+            for field in ("count", "peer", "tag", "comm")
+        ]
         count, peer, tag, comm = fields
-        return (f"{call}({text}, {count}, MPI_INT, {peer}, {tag}, {comm}, "
-                f"{place.reference()});")
+        return (
+            f"{call}({text}, {count}, MPI_INT, {peer}, {tag}, {comm}, "
+            f"{place.reference()});"
+        )
 
     def start_all(self, node, given):
         """MPI_Startall as a loop."""
@@ -153,8 +167,9 @@ class Persistent:
             return
         first = self.temporary(place.offset)
         index, limit = self.fresh(), self.temporary(count)
-        self.emit(f"for (int {index} = 0; {index} < {limit.text}; "
-                  f"{index}++) {{")
+        self.emit(
+            f"for (int {index} = 0; {index} < {limit.text}; " f"{index}++) {{"
+        )
         offset = operation("+", first, Value(index))
         offset = self.temporary(offset)
         self.start_request(node, Place(place.base, offset, place.type))

@@ -24,9 +24,13 @@ class Places:
 
     def refuse_use(self, symbol, node):
         """Refuses a variable of a type that the language has not."""
+        if symbol.broken:
+            self.report.follow(node)
         type = symbol.type
-        name = type if isinstance(type, str) else " ".join(
-            word for word in type if isinstance(word, str)
+        name = (
+            type
+            if isinstance(type, str)
+            else " ".join(word for word in type if isinstance(word, str))
         )
         self.report.refuse(
             node,
@@ -84,11 +88,13 @@ class Places:
             return place
         if place.offset is None:
             self.report.refuse(
-                node, f"an offset from {place.base}, which is no array",
+                node,
+                f"an offset from {place.base}, which is no array",
                 "use an array",
             )
         offset = self.ordered(
-            lambda: place.offset, lambda: index,
+            lambda: place.offset,
+            lambda: index,
             lambda a, b: operation("+", a, b),
         )
         return Place(place.base, offset, place.type)
@@ -190,7 +196,8 @@ class Places:
         plan = self.plan_of(symbol, node)
         if plan.kind == "null":
             self.report.refuse(
-                node, f"the pointer {symbol.name} is NULL here",
+                node,
+                f"the pointer {symbol.name} is NULL here",
                 "set it, or leave its use out",
             )
         if plan.kind == "place":
@@ -204,8 +211,7 @@ class Places:
         if plan.kind == "index":
             base = self.root_of(plan.base, node)
             self.check_visible(plan.index, symbol.name, node)
-            return Place(base.base, Value(plan.index),
-                         self.seen(base, inner))
+            return Place(base.base, Value(plan.index), self.seen(base, inner))
         if symbol.name_now is None:
             self.refuse_use(symbol, node)
         self.check_visible(symbol.name_now, symbol.name, node)
@@ -229,8 +235,7 @@ class Places:
             if is_pointer(self.type_of(inner)):
                 if self.type_of(inner)[0] == "arr":
                     place = self.address(inner)
-                    return Place(place.base, place.offset,
-                                 self.type_of(inner))
+                    return Place(place.base, place.offset, self.type_of(inner))
                 self.report.refuse(
                     node, "the address of a pointer", "use an array"
                 )
@@ -311,7 +316,8 @@ class Places:
             place = self.address(value)
             if symbol.index_name is None or place.base != symbol.bound.base:
                 self.report.refuse(
-                    node, f"{symbol.name} is set to another array",
+                    node,
+                    f"{symbol.name} is set to another array",
                     "use an index",
                 )
             self.emit(f"{symbol.index_name} = {place.offset.text};")

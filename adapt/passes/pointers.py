@@ -16,6 +16,7 @@ from pycparser import c_ast
 
 from .mpi_table import DROPPED
 from .parsing import arguments, bare, called, nodes
+from .report import Refused
 from .types import element, is_pointer
 
 HEAP = ("malloc", "calloc", "realloc", "alloca", "xbt_malloc", "xbt_new")
@@ -43,6 +44,8 @@ class Pointers:
     def plan_of(self, symbol, node):
         """The plan of a pointer variable."""
         if symbol.plan is None:
+            if symbol.broken:
+                self.report.follow(node)
             if symbol in self.planning:
                 self.report.refuse(
                     node, f"{symbol.name} points by itself", ADVICE
@@ -50,6 +53,9 @@ class Pointers:
             self.planning.add(symbol)
             try:
                 symbol.plan = self.make_plan(symbol, node)
+            except Refused:
+                symbol.broken = not self.trying
+                raise
             finally:
                 self.planning.discard(symbol)
         return symbol.plan
@@ -76,7 +82,8 @@ class Pointers:
                     targets.append(value)
             elif self.gives_address(symbol, write):
                 self.report.refuse(
-                    write.node, f"the address of the pointer {symbol.name}",
+                    write.node,
+                    f"the address of the pointer {symbol.name}",
                     ADVICE,
                 )
         return self.choose_plan(symbol, node, heap, targets, moves, null)
@@ -95,8 +102,10 @@ class Pointers:
             if called(node) in DROPPED:
                 return False
             node = bare(arguments(node)[write.index])
-        return isinstance(node, c_ast.UnaryOp) and node.op == "&" and (
-            self.symbol_of.get(id(node.expr)) is symbol
+        return (
+            isinstance(node, c_ast.UnaryOp)
+            and node.op == "&"
+            and (self.symbol_of.get(id(node.expr)) is symbol)
         )
 
     def choose_plan(self, symbol, node, heap, targets, moves, null):
@@ -114,7 +123,8 @@ class Pointers:
         moves = moves or bool(inner)
         if heap and targets:
             self.report.refuse(
-                node, f"{symbol.name} is set to memory of its own and not",
+                node,
+                f"{symbol.name} is set to memory of its own and not",
                 ADVICE,
             )
         if heap:
@@ -216,7 +226,10 @@ class Pointers:
         elif isinstance(node, c_ast.UnaryOp) and node.op == "&":
             return self.base_of_place(node.expr, where)
         elif isinstance(node, c_ast.UnaryOp) and node.op in (
-            "++", "--", "p++", "p--",
+            "++",
+            "--",
+            "p++",
+            "p--",
         ):
             return self.base_of(node.expr, where)
         elif isinstance(node, c_ast.BinaryOp) and node.op in "+-":
@@ -226,7 +239,8 @@ class Pointers:
         elif isinstance(node, c_ast.ArrayRef):
             return self.base_of_place(node, where)
         self.report.refuse(
-            node, "a pointer that is not known to point into one array",
+            node,
+            "a pointer that is not known to point into one array",
             ADVICE,
         )
 
@@ -251,9 +265,7 @@ class Pointers:
             return self.base_of(node.name, where)
         if isinstance(node, c_ast.UnaryOp) and node.op == "*":
             return self.base_of(node.expr, where)
-        self.report.refuse(
-            node, "the address of what is no variable", ADVICE
-        )
+        self.report.refuse(node, "the address of what is no variable", ADVICE)
 
     def is_fixed(self, target):
         """Whether a pointer expression is the same whenever it is used."""
@@ -274,7 +286,10 @@ class Pointers:
             elif isinstance(node, (c_ast.FuncCall, c_ast.Assignment)):
                 return False
             elif isinstance(node, c_ast.UnaryOp) and node.op in (
-                "++", "--", "p++", "p--",
+                "++",
+                "--",
+                "p++",
+                "p--",
             ):
                 return False
         return True
@@ -297,8 +312,10 @@ class Pointers:
                 return True
             elif getattr(parent, "cond", None) is node:
                 return True
-            elif called(self.parent.get(id(parent))) in ("assert",
-                                                         "adapt_assert"):
+            elif called(self.parent.get(id(parent))) in (
+                "assert",
+                "adapt_assert",
+            ):
                 return True
         return False
 
@@ -306,8 +323,10 @@ class Pointers:
         """Whether another pointer is set to this one."""
         for use in symbol.uses:
             node, parent = use, self.parent[id(use)]
-            while isinstance(parent, (c_ast.Cast, c_ast.BinaryOp,
-                                      c_ast.UnaryOp, c_ast.TernaryOp)):
+            while isinstance(
+                parent,
+                (c_ast.Cast, c_ast.BinaryOp, c_ast.UnaryOp, c_ast.TernaryOp),
+            ):
                 if isinstance(parent, c_ast.UnaryOp) and parent.op == "*":
                     break
                 node, parent = parent, self.parent[id(parent)]

@@ -15,10 +15,22 @@ MOST_HEADERS = 40
 SECONDS = 8
 MEMORY = 512 << 20
 CPP = [
-    "cpp", "-w", "-fmax-errors=5", "-nostdinc", "-undef", "-std=gnu99", "-D__extension__=",
-    "-D__attribute__(x)=", "-D__inline=inline", "-D__inline__=inline",
-    "-D__restrict=", "-D__restrict__=", "-D__const=const",
-    "-D__volatile__=", "-D__signed__=signed", "-D__STDC__=1",
+    "cpp",
+    "-w",
+    "-fmax-errors=5",
+    "-nostdinc",
+    "-undef",
+    "-std=gnu99",
+    "-D__extension__=",
+    "-D__attribute__(x)=",
+    "-D__inline=inline",
+    "-D__inline__=inline",
+    "-D__restrict=",
+    "-D__restrict__=",
+    "-D__const=const",
+    "-D__volatile__=",
+    "-D__signed__=signed",
+    "-D__STDC__=1",
 ]
 ABSENT = re.compile(r"fatal error: (\S+): No such file")
 CONDITION = re.compile(r"^[ \t]*#[ \t]*(if|ifdef|ifndef|elif)\b(.*)$", re.M)
@@ -130,7 +142,8 @@ def run(command, report):
     timer.cancel()
     if status < 0:
         report.refuse(
-            None, "the preprocessor takes too long, or writes too much",
+            None,
+            "the preprocessor takes too long, or writes too much",
             "simplify its macros and headers",
         )
     text = text.decode("utf-8", "replace")

@@ -14,8 +14,17 @@ PIECES = re.compile(
     r"|\\x[0-9a-fA-F]+|\\[0-7]{1,3}|\\.|[^\\%]|%",
     re.S,
 )
-PRINTERS = {"printf", "fprintf", "puts", "fputs", "putchar", "fputc",
-            "strlen", "strcmp", "putc"}
+PRINTERS = {
+    "printf",
+    "fprintf",
+    "puts",
+    "fputs",
+    "putchar",
+    "fputc",
+    "strlen",
+    "strcmp",
+    "putc",
+}
 MOST_WIDTH = 99
 PROGRAM_NAME = "a.out"
 DOUBLE_DIGITS = 6
@@ -86,9 +95,11 @@ class Printing:
         self.computing.add(symbol)
         try:
             return all(
-                it.kind == "argument" or (it.kind == "given" and (
-                    called(it.node) in PRINTERS or self.keeps_text(it)
-                ))
+                it.kind == "argument"
+                or (
+                    it.kind == "given"
+                    and (called(it.node) in PRINTERS or self.keeps_text(it))
+                )
                 for it in symbol.writes
             )
         finally:
@@ -136,9 +147,7 @@ class Printing:
             self.report.refuse(
                 node, "printing to a file", "print to the output"
             )
-        self.report.note(
-            node, "what goes to the error output is not printed"
-        )
+        self.report.note(node, "what goes to the error output is not printed")
         for item in rest:
             if self.has_effects(item):
                 self.effect(item)
@@ -205,8 +214,11 @@ class Printing:
             pieces.append(ONE_OF_MANY)
             return
         reals = kind in "fFgGeE"
-        bad = kind not in "diuxXfFgGeE" or kind == "X" or set(flags) & {
-            "+", " ", "#"}
+        bad = (
+            kind not in "diuxXfFgGeE"
+            or kind == "X"
+            or set(flags) & {"+", " ", "#"}
+        )
         bad = bad or width == "*" or (digits is not None and not reals)
         if bad or (width and int(width) > MOST_WIDTH):
             self.report.refuse(
@@ -233,9 +245,7 @@ class Printing:
             number = self.constant(item)
             codes = None if number is None else [number & 255]
         if codes is None:
-            self.report.note(
-                node, "a text that is not known is printed as ?"
-            )
+            self.report.note(node, "a text that is not known is printed as ?")
             if self.has_effects(item):
                 self.effect(item)
             codes = [ord(ONE_OF_MANY)]
@@ -246,8 +256,8 @@ class Printing:
             )
         if width:
             blanks = [32] * (int(width) - len(codes))
-            codes = codes + blanks if "-" in found["flags"] else (
-                blanks + codes
+            codes = (
+                codes + blanks if "-" in found["flags"] else (blanks + codes)
             )
         text = "".join(printed(code) for code in codes)
         pieces.append(text)
@@ -257,9 +267,7 @@ class Printing:
         """The value of an int directive."""
         value = self.value(item)
         if value.type not in INTS:
-            self.report.refuse(
-                node, f"no int for {found[0]}", "print an int"
-            )
+            self.report.refuse(node, f"no int for {found[0]}", "print an int")
         size, kind = found["size"], found["kind"]
         if size not in (None, "h", "hh"):
             self.check_wide(value, node)
@@ -269,17 +277,13 @@ class Printing:
             word = "char" if size == "hh" else "short"
             return self.fitted(value, letter + word, node)
         if kind == "u" and unknown:
-            self.report.note(
-                node, f"{found[0]} as %d: other above 2147483647"
-            )
+            self.report.note(node, f"{found[0]} as %d: other above 2147483647")
         if kind == "x" and unknown and size in ("l", "ll", "z", "j", "t"):
             self.report.note(
                 node, f"{found[0]} as %x: other below 0 and above 32 bits"
             )
         if kind in "di" and value.type in UNSIGNED and unknown and size:
-            self.report.note(
-                node, f"{found[0]} as %d: other above 2147483647"
-            )
+            self.report.note(node, f"{found[0]} as %d: other above 2147483647")
         return value
 
     def real_directive(self, node, found):
@@ -327,4 +331,3 @@ def printed(code):
     if code in known:
         return known[code]
     return chr(code) if 32 <= code < 127 else ONE_OF_MANY
-

@@ -51,8 +51,14 @@ class Report:
         """Gives up on what is being translated."""
         raise Refused(self.place_of(node), what, how)
 
+    def follow(self, node):
+        """Gives up on what follows from something that was refused."""
+        raise Refused(self.place_of(node), None, None)
+
     def keep(self, refused):
         """Keeps a refusal, so that all can be told at once."""
+        if refused.what is None:
+            return
         place, what, how = refused.place, refused.what, refused.how
         self.refusals[(place, what, how)] = True
 

@@ -67,8 +67,10 @@ class Statements:
         """if (condition) first else second"""
         known = self.constant(condition)
         if known is not None:
-            why = "argc is 1" if "argc" in names_in(condition) else (
-                "its condition is known"
+            why = (
+                "argc is 1"
+                if "argc" in names_in(condition)
+                else ("its condition is known")
             )
             dropped = second if known else first
             if dropped is not None:
@@ -107,8 +109,10 @@ class Statements:
                 self.effect(node.init)
             return
         first, _ = self.caught(lambda: self.statement_of_head(node.init))
-        simple = len(first) == 1 and first[0].endswith(";") and (
-            "(" not in first[0] and "{" not in first[0]
+        simple = (
+            len(first) == 1
+            and first[0].endswith(";")
+            and ("(" not in first[0] and "{" not in first[0])
         )
         if not first or simple:
             head = first[0].rstrip(";") if first else ""
@@ -155,9 +159,13 @@ class Statements:
         after = []
         if step is not None:
             after, _ = self.caught(lambda: self.effect(step))
-        plain = not before and len(after) <= 1 and not any(
-            "{" in line or line.startswith(("int ", "MPI_Comm "))
-            for line in after
+        plain = (
+            not before
+            and len(after) <= 1
+            and not any(
+                "{" in line or line.startswith(("int ", "MPI_Comm "))
+                for line in after
+            )
         )
         self.loops.append(Loop("loop"))
         if plain:
@@ -234,8 +242,13 @@ class Statements:
         self.check_number(test, node)
         if before:
             self.loops.append(Loop("loop"))
-            self.flagged_loop([], literal(1), before + self.caught(
-                lambda: self.leave_unless(test))[0], node.stmt, "")
+            self.flagged_loop(
+                [],
+                literal(1),
+                before + self.caught(lambda: self.leave_unless(test))[0],
+                node.stmt,
+                "",
+            )
             self.loops.pop()
             return
         self.loops.append(Loop("loop"))
@@ -254,13 +267,11 @@ class Statements:
         while at >= 0 and self.loops[at].kind == "switch":
             at -= 1
         if at < 0 or self.loops[at].kind == "function":
-            self.report.refuse(
-                node, "a continue outside of a loop", "mend it"
-            )
+            self.report.refuse(node, "a continue outside of a loop", "mend it")
         if at == len(self.loops) - 1:
             self.emit("continue;")
             return
-        for switch in self.loops[at + 1:]:
+        for switch in self.loops[at + 1 :]:
             switch.skip = switch.skip or self.fresh("go_on_")
             self.emit(f"{switch.skip} = 1;")
         self.emit("break;")
@@ -294,8 +305,17 @@ class Statements:
     def write_Switch(self, node):
         """A loop of one turn, with an if for each case."""
         value = self.value(node.cond)
-        if value.type not in ("int", "uint", "char", "uchar", "short",
-                              "ushort", "bool", "long", "ulong"):
+        if value.type not in (
+            "int",
+            "uint",
+            "char",
+            "uchar",
+            "short",
+            "ushort",
+            "bool",
+            "long",
+            "ulong",
+        ):
             self.report.refuse(node, "a switch on no int", "use ifs")
         chosen = self.fresh()
         self.emit(f"int {chosen} = {value.text};")
@@ -315,8 +335,9 @@ class Statements:
         if switch.skip:
             self.emit(f"if ({switch.skip}) {{")
             outer = self.loops[-1] if self.loops else None
-            self.emit("break;" if outer and outer.kind == "switch"
-                      else "continue;")
+            self.emit(
+                "break;" if outer and outer.kind == "switch" else "continue;"
+            )
             self.emit("}")
 
     def write_cases(self, cases, chosen, through, numbers):
@@ -340,8 +361,11 @@ class Statements:
     def cases_of(self, node):
         """Pairs of a case's number (None: default) and its statements."""
         inside = node.stmt
-        items = inside.block_items or [] if isinstance(
-            inside, c_ast.Compound) else [inside]
+        items = (
+            inside.block_items or []
+            if isinstance(inside, c_ast.Compound)
+            else [inside]
+        )
         cases = []
         for item in items:
             if not isinstance(item, (c_ast.Case, c_ast.Default)):
@@ -394,7 +418,11 @@ class Statements:
         if symbol.kind == "global" and not self.at_top:
             self.report.say(node, f"the static {symbol.name} is in main")
             return
-        self.declare_variable(symbol)
+        try:
+            self.declare_variable(symbol)
+        except Refused:
+            symbol.broken = True
+            raise
 
     def declare_variable(self, symbol):
         """The declaration of one variable, with its first value."""
@@ -419,9 +447,7 @@ class Statements:
         elif self.is_folded(symbol) and self.constant_symbol(symbol) is not (
             None
         ):
-            self.report.say(
-                node, f"{symbol.name} is written as its number"
-            )
+            self.report.say(node, f"{symbol.name} is written as its number")
         else:
             self.declare_scalar(symbol)
 
@@ -451,8 +477,11 @@ class Statements:
         self.report.note(
             symbol.node,
             f"{symbol.name} has several values: an int "
-            + ("that multiplies counts" if symbol.type == "dtype"
-               else "that chooses the operation"),
+            + (
+                "that multiplies counts"
+                if symbol.type == "dtype"
+                else "that chooses the operation"
+            ),
         )
         number = NO_TYPE[1] if symbol.type == "dtype" else 0
         if symbol.node.init is not None:
@@ -504,7 +533,8 @@ class Statements:
         """The length of an array, if the language has room for it."""
         if length > 262144:
             self.report.refuse(
-                node, f"an array of {length} ints",
+                node,
+                f"an array of {length} ints",
                 "make it smaller: the language has 262144 for each rank",
             )
         return max(length, 1)
@@ -516,7 +546,8 @@ class Statements:
         while is_pointer(inner):
             if inner[0] == "ptr":
                 self.report.refuse(
-                    node, f"{symbol.name} is an array of pointers",
+                    node,
+                    f"{symbol.name} is an array of pointers",
                     "use an array of ints",
                 )
             inner = inner[1]
@@ -539,8 +570,9 @@ class Statements:
                 values.pop()
             first = f" = {{{', '.join(values)}}}"
         elif values:
-            self.report.refuse(node, "the first values of handles",
-                               "assign them")
+            self.report.refuse(
+                node, "the first values of handles", "assign them"
+            )
         self.emit(f"{word} {name}[{length}]{first};")
 
     def array_length(self, symbol, values):

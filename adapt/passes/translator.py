@@ -27,8 +27,20 @@ START = re.compile(r"@start (\d+)$")
 
 
 class Translator(
-    Types, Names, Constants, Handles, Pointers, Places, Expressions,
-    Statements, Functions, Library, Printing, MpiCalls, Persistent, Output,
+    Types,
+    Names,
+    Constants,
+    Handles,
+    Pointers,
+    Places,
+    Expressions,
+    Statements,
+    Functions,
+    Library,
+    Printing,
+    MpiCalls,
+    Persistent,
+    Output,
 ):
     """A program in translation.
 
@@ -45,7 +57,7 @@ class Translator(
         self.symbol_of, self.parent, self.live = {}, {}, set()
         self.function = self.current = None
         self.computing, self.planning = set(), set()
-        self.with_ranks = self.folding = self.at_top = False
+        self.with_ranks = self.folding = self.at_top = self.trying = False
         self.below_of, self.plain, self.acting = {}, {}, set()
         self.lines, self.loops, self.returns = [], [], []
         self.written_out, self.visible, self.taken = [], [set()], set()
@@ -59,6 +71,7 @@ class Translator(
         symbols = {id(it): it for it in self.symbol_of.values()}
         self.all_symbols = list(symbols.values())
         self.acting = self.find_acting()
+        self.find_shared()
         parts = []
         for name in self.functions:
             if name in self.live and name != "main" and self.is_plain(name):
@@ -100,7 +113,8 @@ class Translator(
         """The laid out text, if the language can have it."""
         if depths(lines) > MOST_DEPTHS and not self.report.refusals:
             self.report.refuse(
-                None, "nested too deeply: the language has 64 depths",
+                None,
+                "nested too deeply: the language has 64 depths",
                 "use functions, or variables for parts",
             )
         text = layout(lines)

@@ -14,14 +14,34 @@ HANDLES = {
     "MPI_Request": "request",
 }
 SIZES = {
-    "char": 1, "uchar": 1, "bool": 1, "short": 2, "ushort": 2,
-    "int": 4, "uint": 4, "long": 8, "ulong": 8, "float": 4, "double": 8,
-    "comm": 4, "request": 4, "dtype": 4, "op": 4, "status": 24, "void": 1,
+    "char": 1,
+    "uchar": 1,
+    "bool": 1,
+    "short": 2,
+    "ushort": 2,
+    "int": 4,
+    "uint": 4,
+    "long": 8,
+    "ulong": 8,
+    "float": 4,
+    "double": 8,
+    "comm": 4,
+    "request": 4,
+    "dtype": 4,
+    "op": 4,
+    "status": 24,
+    "void": 1,
 }
 POINTER_SIZE = 8
 BITS = {
-    "char": 8, "short": 16, "int": 32, "long": 64,
-    "uchar": 8, "ushort": 16, "uint": 32, "ulong": 64,
+    "char": 8,
+    "short": 16,
+    "int": 32,
+    "long": 64,
+    "uchar": 8,
+    "ushort": 16,
+    "uint": 32,
+    "ulong": 64,
 }
 INTS = set(BITS) | {"bool"}
 REALS = {"float", "double"}
