@@ -225,8 +225,8 @@ def main(words):
     if not answer["done"]:
         say(
             [
-                f"{options.file}:1: it takes more than {SECONDS} seconds: make "
-                "the program smaller"
+                f"{options.file}:1: it takes more than {SECONDS} seconds: "
+                "make the program smaller"
             ]
         )
         sys.stderr.flush()

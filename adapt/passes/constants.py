@@ -80,7 +80,7 @@ class Constants:
         if len(node.value) > MOST_DIGITS:
             return "ulong"
         number, suffix = number_of_digits(node.value), node.value.lower()
-        suffix = suffix[len(suffix.rstrip("ul")) :]
+        suffix = suffix.lstrip("0123456789abcdefx")
         decimal = node.value[0] != "0"
         for type in ("int", "uint", "long", "ulong"):
             if "l" in suffix and type in ("int", "uint"):
@@ -95,8 +95,8 @@ class Constants:
 
     def number_of_character(self, node):
         """The value of a character constant; a char has a sign here."""
-        text = node.value[node.value.index("'") + 1 : -1]
-        codes = text_bytes(text)
+        start = node.value.index("'") + 1
+        codes = text_bytes(node.value[start:-1])
         if codes is None or len(codes) != 1:
             return None
         return as_type(codes[0], "char")
@@ -107,7 +107,8 @@ class Constants:
 
     def inside_of_text(self, node):
         """What stands between a text's quotes."""
-        return node.value[node.value.index('"') + 1 : -1]
+        start = node.value.index('"') + 1
+        return node.value[start:-1]
 
     def constant_Cast(self, node):
         type, number = self.type_of(node), self.constant(node.expr)

@@ -9,6 +9,7 @@ import re
 
 from pycparser import c_ast
 
+from .constants import compare
 from .parsing import bare, called
 from .types import (
     INTS,
@@ -389,6 +390,8 @@ class Expressions:
             left, right = self.turned(left), self.turned(right)
         elif sign in ("/", "%", ">>") and type in UNSIGNED:
             return self.unsigned(node, left, right, type)
+        if sign in RELATIONS and None not in (left.number, right.number):
+            return literal(int(compare(sign, left.number, right.number)))
         result = operation(
             sign, left, right, "int" if sign in RELATIONS else type
         )

@@ -66,21 +66,18 @@ class Statements:
     def branch(self, condition, first, second, node):
         """if (condition) first else second"""
         known = self.constant(condition)
+        by_argc = known is not None and "argc" in names_in(condition).split()
+        if known is None:
+            value = self.truth(condition)
+            self.check_number(value, node)
+            known = value.number
         if known is not None:
-            why = (
-                "argc is 1"
-                if "argc" in names_in(condition)
-                else ("its condition is known")
-            )
+            why = "argc is 1" if by_argc else "its condition is known"
             dropped = second if known else first
             if dropped is not None:
                 self.report.say(dropped, f"never done, dropped: {why}")
-            chosen = first if known else second
-            if chosen is not None:
-                self.statement(chosen)
+            self.statement(first if known else second)
             return
-        value = self.truth(condition)
-        self.check_number(value, node)
         self.emit(f"if ({value.text}) {{")
         self.body(first)
         if second is not None:
@@ -271,7 +268,8 @@ class Statements:
         if at == len(self.loops) - 1:
             self.emit("continue;")
             return
-        for switch in self.loops[at + 1 :]:
+        inner = at + 1
+        for switch in self.loops[inner:]:
             switch.skip = switch.skip or self.fresh("go_on_")
             self.emit(f"{switch.skip} = 1;")
         self.emit("break;")

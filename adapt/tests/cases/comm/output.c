@@ -15,9 +15,6 @@ int main(void)
     int text[4];
     int big[4] = {1, 1, 1, 1};
     MPI_Init(NULL, NULL);
-    if (0 != 0) {
-        return 1;
-    }
     world = MPI_COMM_WORLD;
     MPI_Comm_rank(world, &rank);
     MPI_Comm_size(world, &size);
@@ -27,9 +24,6 @@ int main(void)
     v = rank * 11;
     for (int w1 = 0; w1 < 4096; w1++) {
         all[w1] = 0;
-    }
-    if (0) {
-        MPI_Abort(world, 1);
     }
     {
         int to = (rank + 1) % size;

@@ -11,9 +11,6 @@ int main(void)
         int n_1 = 0;
         printf("say fast: %d\n", n_1);
     }
-    if (-1 == 0) {
-        printf("slow\n");
-    }
     buffer[1] = buffer[1] + 1 << 24 >> 24;
     printf("q%d l     |     r|\n", buffer[1]);
     printf("a \"quoted\" 100%%\n");
