@@ -10,7 +10,7 @@ static int pure(int k)
 }
 int main(void)
 {
-    int x = 10, a[5] = {0};
+    int x = 10, a[6] = {0};
     x = x + next();
     printf("%d\n", x);
     x = n + next();
@@ -18,7 +18,7 @@ int main(void)
     printf("%d %d\n", next(), next());
     printf("%d %d\n", pure(x), pure(n));
     a[n] = next();
-    printf("%d %d\n", a[4], a[5 - 1]);
+    printf("%d\n", a[4] + a[5]);
     if (next() == 6 && next() == 7 || next())
         printf("%d\n", n);
     x = next() ? next() : 0;

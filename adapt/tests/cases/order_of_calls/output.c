@@ -15,7 +15,7 @@ int main(void)
 {
     int n[1];
     int x = 10;
-    int a[5] = {0};
+    int a[6] = {0};
     int w1 = next(n);
     x = x + w1;
     printf("%d\n", x);
@@ -31,7 +31,7 @@ int main(void)
     printf("%d %d\n", w6, w7);
     int w8 = next(n);
     a[n[0]] = w8;
-    printf("%d %d\n", a[4], a[4]);
+    printf("%d\n", a[4] + a[5]);
     int w9 = next(n);
     int w11 = w9 == 6 != 0;
     if (w11) {
