@@ -98,7 +98,8 @@ class Expressions:
                 continue
             if words & set(WORD.findall(value.text)):
                 changed = True
-                values[at] = self.temporary(value)
+                if value.type in NUMBERS | {"comm"}:
+                    values[at] = self.temporary(value)
         return changed
 
     def acts(self, lines):
@@ -383,6 +384,8 @@ class Expressions:
             self.check_real(node, sign)
         elif type in LONGS:
             self.check_long(node, left, right)
+            if sign in ("<<", ">>"):
+                self.note_long(node)
         if sign not in RING:
             self.check_wide(left, node)
             self.check_wide(right, node)
@@ -469,9 +472,21 @@ class Expressions:
                 if node.op == "!=":
                     return value
                 return Value("!" + value.at(SIGN), SIGN)
+        if node.op in RELATIONS or node.op == "-":
+            return self.compare_addresses(node)
         self.report.refuse(
             node, "an operation on pointers as a value", "use indices"
         )
+
+    def compare_addresses(self, node):
+        """A comparison, or the distance, of pointers into one array."""
+        left, right = self.address(node.left), self.address(node.right)
+        same = left.base == right.base and self.cells(left.type) == 1
+        if not same or None in (left.offset, right.offset):
+            self.report.refuse(
+                node, "two pointers that may be into two arrays", "use indices"
+            )
+        return operation(node.op, left.offset, right.offset)
 
     def pointer_test(self, node):
         """Whether a pointer is set, as a value."""

@@ -256,8 +256,8 @@ class Functions:
     def array_argument(self, node):
         """An argument that is an array, as a value in the making."""
         if self.is_null(node):
-            return Value("NULL")
-        return Value(self.address(node).reference())
+            return Value("NULL", type="reference")
+        return Value(self.address(node).reference(), type="reference")
 
     def write_out(self, node, name, given, wanted):
         """A call by the function's statements."""

@@ -314,7 +314,7 @@ class MpiCalls:
         if isinstance(item, Value):
             return lambda: item
         if letter == "b":
-            return lambda: Value(self.buffer(item))
+            return lambda: Value(self.buffer(item), type="reference")
         if letter == "n":
             counts = at + 1 < len(letters) and letters[at + 1] == "T"
             if counts and not isinstance(given[at + 1], Value):
@@ -325,11 +325,13 @@ class MpiCalls:
         if letter == "T":
             return lambda: self.type_argument(node, name, item)
         if letter == "o":
-            return lambda: Value("o")
+            return lambda: Value("o", type="reference")
         if letter == "c":
             return lambda: Value(self.comm_text(item), type="comm")
         if letter in "sS":
-            return lambda: Value(self.status_text(item, letter == "S"))
+            return lambda: Value(
+                self.status_text(item, letter == "S"), type="reference"
+            )
         return lambda: self.reference_argument(name, letter, item)
 
     def int_argument(self, node):
@@ -348,7 +350,7 @@ class MpiCalls:
                 "MPI_Get_count of a datatype of several ints",
                 "count ints",
             )
-        return Value("MPI_INT")
+        return Value("MPI_INT", type="reference")
 
     def reference_argument(self, name, letter, item):
         """An argument that gets an answer."""
@@ -363,7 +365,7 @@ class MpiCalls:
             self.report.refuse(
                 item, f"an argument of {name}", "give it the right type"
             )
-        return Value(place.reference())
+        return Value(place.reference(), type="reference")
 
     def check_answer(self, place, node, name):
         """Refuses an answer that would not fit."""
@@ -643,7 +645,7 @@ class MpiCalls:
     def vector_work(self, letter, item):
         """What finds an argument of a collective with counts."""
         if letter == "b":
-            return lambda: Value(self.buffer(item))
+            return lambda: Value(self.buffer(item), type="reference")
         if letter == "n":
             return lambda: self.int_argument(item)
         return lambda: Value(self.comm_text(item), type="comm")

@@ -112,7 +112,7 @@ class Names:
     def resolve_node(self, node):
         """Resolves the names in a node and below it."""
         if isinstance(node, c_ast.Typedef):
-            self.typedefs[node.name] = self.type_of_declaration(node.type)
+            self.declare_type(node)
             return
         if isinstance(node, c_ast.Decl):
             self.resolve_declaration(node)
@@ -132,6 +132,15 @@ class Names:
             self.resolve_node(child)
         if scoped:
             self.scopes.pop()
+
+    def declare_type(self, node):
+        """Keeps what a typedef says; a name has one meaning in a text."""
+        type = self.type_of_declaration(node.type)
+        if repr(self.typedefs.get(node.name, type)) != repr(type):
+            self.report.refuse(
+                node, f"the type {node.name} has two meanings", "rename one"
+            )
+        self.typedefs[node.name] = type
 
     def resolve_name(self, node):
         """Gives an occurrence of a name its variable."""
@@ -164,6 +173,10 @@ class Names:
         if "extern" in node.storage and node.init is None:
             if self.find(node.name):
                 return
+            if self.function is not None:
+                self.report.refuse(
+                    node, f"{node.name} is not declared before", "move it"
+                )
         symbol = self.new_variable(node)
         if node.init is not None:
             symbol.writes.append(Write("start", node.init, self.function))

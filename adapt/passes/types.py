@@ -154,6 +154,10 @@ class Types:
                     f"the value of {item.name} is not known",
                     "give it a number",
                 )
+            if self.enums.get(item.name, number) != number:
+                self.report.refuse(
+                    item, f"{item.name} has two values", "rename one of them"
+                )
             self.enums[item.name] = number
             number += 1
 

@@ -8,7 +8,7 @@ int main(void)
     printf("%d %d\n", *p, p[1]);
     *p = 9;
     printf("%d %d\n", a[1], a[i]);
-    while (*q != 4)
+    while (q < a + 4 && *q != 4)
         q++;
     printf("%d\n", *q);
     return 0;

@@ -12,7 +12,7 @@ int main(void)
     printf("%d %d\n", a[p_at1], a[p_at1 + 1]);
     a[p_at1] = 9;
     printf("%d %d\n", a[1], a[i]);
-    while (a[q_at1] != 4) {
+    while (q_at1 < 4 && a[q_at1] != 4) {
         q_at1++;
     }
     printf("%d\n", a[q_at1]);
