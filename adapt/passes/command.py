@@ -49,54 +49,31 @@ def read_arguments(words):
         "wiz's language.",
     )
     parser.add_argument("file", metavar="PROGRAM.c")
-    parser.add_argument(
-        "--ranks",
-        type=bounded(1, MOST_RANKS),
-        required=True,
-        metavar="N",
-        help="the number of ranks that it will run on",
-    )
-    parser.add_argument(
-        "--room",
-        type=bounded(1, MOST_ROOM),
-        default=ROOM,
-        metavar="K",
-        help=f"the length of arrays whose length is not known ({ROOM})",
-    )
-    parser.add_argument(
-        "--blocking",
-        action="store_true",
-        help="do nonblocking collectives at once",
-    )
-    parser.add_argument(
-        "--synchronous",
-        action="store_true",
-        help="do each MPI_Send as MPI_Ssend, each MPI_Isend as MPI_Issend",
-    )
-    parser.add_argument(
-        "--strict",
-        action="store_true",
-        help="refuse what would be a note",
-    )
-    parser.add_argument(
-        "-I",
-        dest="include",
-        action="append",
-        default=[],
-        metavar="FOLDER",
-        help="look for headers there",
-    )
-    parser.add_argument(
-        "-D",
-        dest="define",
-        action="append",
-        default=[],
-        metavar="NAME[=VALUE]",
-        help="define a name",
-    )
-    parser.add_argument(
-        "-o", dest="out", metavar="OUT", help="write the program there"
-    )
+    for name, kind, first, text in (
+        ("ranks", MOST_RANKS, None, "the number of ranks that it runs on"),
+        ("room", MOST_ROOM, ROOM, "the length of arrays of unknown length"),
+    ):
+        parser.add_argument(
+            f"--{name}",
+            type=bounded(1, kind),
+            default=first,
+            required=first is None,
+            help=text,
+        )
+    for name, text in (
+        ("blocking", "do nonblocking collectives at once"),
+        ("synchronous", "do each MPI_Send as MPI_Ssend, Isend as Issend"),
+        ("strict", "refuse what would be a note"),
+    ):
+        parser.add_argument(f"--{name}", action="store_true", help=text)
+    for letter, name, text in (
+        ("-I", "include", "a folder of headers"),
+        ("-D", "define", "a name to be defined, NAME or NAME=VALUE"),
+    ):
+        parser.add_argument(
+            letter, dest=name, action="append", default=[], help=text
+        )
+    parser.add_argument("-o", dest="out", help="where to write the program")
     return parser.parse_args(words)
 
 

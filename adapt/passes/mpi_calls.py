@@ -564,41 +564,34 @@ class MpiCalls:
             )
         if type in REALS:
             self.report.refuse(node, "MPI_Exscan of doubles", "use ints")
-        scaled = self.scaled_count(node, given[2], given[3], type)
+        limit = self.scaled_count(node, given[2], given[3], type)
+        cells = 1 + (count if limit.number is None else limit.number)
+        self.write_exscan(name, source, target, limit, cells, comm)
+        self.report.say(node, "MPI_Exscan is an MPI_Scan with one int more")
+
+    def write_exscan(self, name, source, target, limit, cells, comm):
+        """The lines of an exclusive scan whose places are known."""
         own, sums, rank, index = (self.fresh() for _ in range(4))
-        cells = 1
-        if scaled.number is not None:
-            cells = scaled.number + 1
-            limit = literal(scaled.number)
-        else:
-            cells = count + 1
-            limit = scaled
-        head = (
-            f"for (int {index} = 0; {index} < {limit.at(8)}; " f"{index}++) {{"
-        )
+        head = f"for (int {index} = 0; {index} < {limit.at(8)}; {index}++) {{"
         self.emit(f"int {own}[{cells}];")
         self.emit(f"int {sums}[{cells}];")
         self.emit(f"int {rank};")
         self.emit(head)
-        from_cell = self.shifted_place(source, Value(index))
-        self.emit(f"{own}[{index}] = {from_cell.text()};")
+        cell = self.shifted_place(source, Value(index))
+        self.emit(f"{own}[{index}] = {cell.text()};")
         self.emit("}")
         more = operation("+", limit, literal(1))
         self.emit(
-            f"MPI_Scan({own}, {sums}, {more.text}, MPI_INT, {name}, "
-            f"{comm});"
+            f"MPI_Scan({own}, {sums}, {more.text}, MPI_INT, {name}, {comm});"
         )
         self.emit(f"MPI_Comm_rank({comm}, &{rank});")
         self.emit(f"if ({rank} > 0) {{")
         self.emit(head)
         cell = self.shifted_place(target, Value(index))
-        self.emit(
-            f"{cell.text()} = {sums}[{index}] {INVERSE[name]} "
-            f"{own}[{index}];"
-        )
+        less = f"{sums}[{index}] {INVERSE[name]} {own}[{index}]"
+        self.emit(f"{cell.text()} = {less};")
         self.emit("}")
         self.emit("}")
-        self.report.say(node, "MPI_Exscan is an MPI_Scan with one int more")
 
     def vector(self, node, name, given):
         """The collectives with counts, by the plain ones with blocks."""
