@@ -742,15 +742,19 @@ class Expressions:
 
     def assign_field(self, node):
         """An assignment to a field of a status."""
-        field = node.lvalue.field.name
-        if field != "MPI_ERROR":
+        target = node.lvalue
+        if target.type == "->":
+            place = self.address(target.name)
+        else:
+            place = self.place(target.name)
+        if place.type != "status":
             self.report.refuse(
-                node,
-                f"an assignment to the field {field}",
-                "use a variable of your own",
+                node, "a field of a struct", "use a variable for each field"
             )
         self.effect(node.rvalue)
-        self.report.note(node, "an assignment to MPI_ERROR is dropped")
+        self.report.note(
+            node, f"an assignment to {target.field.name} of a status dropped"
+        )
 
     def assign_handle(self, node, kind):
         """An assignment to a datatype or an operation."""

@@ -398,15 +398,23 @@ class MpiCalls:
             node = node.expr
         if self.is_null(node):
             return None, None
-        if isinstance(node, c_ast.Constant):
-            self.report.refuse(
-                node, "a text as a buffer", "copy it into an array"
-            )
+        if isinstance(node, c_ast.Constant) and node.type == "string":
+            return self.text_buffer(node), "char"
         place = self.address(node)
         type = element(place.type)
         if type not in NUMBERS and type != "void":
             self.report.refuse(node, "a buffer of no numbers", "send ints")
         return place, type
+
+    def text_buffer(self, node):
+        """A text that is sent, as an array of its bytes."""
+        codes = self.bytes_of_text(node)
+        if codes is None:
+            self.report.refuse(node, "this text", "use plain letters")
+        cells = [str(code) for code in codes] + ["0"]
+        name = self.fresh()
+        self.emit(f"int {name}[{len(cells)}] = {{{', '.join(cells)}}};")
+        return Place(name, literal(0), "char")
 
     def buffer_types(self, letters, given):
         """The types of the buffers that counts are of, by the counts."""

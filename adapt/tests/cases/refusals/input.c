@@ -18,6 +18,7 @@ int main(int argc, char **argv)
     MPI_Send("text", 4, MPI_CHAR, 0, 0, MPI_COMM_WORLD);
     printf("%*d %+d\n", i, i, i);
     rand();
+    p.b = 2;
 out:
     return 0;
 }
