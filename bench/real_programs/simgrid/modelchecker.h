@@ -1,0 +1,1 @@
+#define MC_assert(x) adapt_assert(x)
