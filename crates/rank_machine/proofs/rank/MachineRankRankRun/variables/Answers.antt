@@ -4,8 +4,8 @@ use Rattle.c_program.specs.Program.{next_of, variables_of}
 use Rattle.rank_machine.proofs.Ranks.{none-kept, ready-variables}
 use Rattle.rank_machine.proofs.rank.MachineRankRankRun.variables.Goals as goal
 
-pub returns-in-Some : goal.returns-in-Some
-returns-in-Some c =
+pub returns : goal.returns
+returns c =
     let asked : c.self.inside.asked ≡ true = rw (← c.self.view_is) at c.requires.asked in
     let live : next_of c.self.inside.program.now c.self.inside.code.rank.ranks c.self.inside.code.rank.number c.self.inside.replies.items ≡ Some c.requires.live.0 = rw (← c.self.view_is) at c.requires.live.1 in
     let same : listed_of c.in-Some.going.stack.state c.in-Some.going.stack.state.slots ≡ variables_of c.self.inside.program.now c.self.inside.code.rank.ranks c.self.inside.code.rank.number c.self.inside.replies.items =
