@@ -7,6 +7,7 @@ int main(void) {
   MPI_Comm_rank(MPI_COMM_WORLD, &rank);
   MPI_Comm_size(MPI_COMM_WORLD, &size);
   printf("rank %d begins\n", rank);
+  fflush(stdout);
   if (rank == size - 1) MPI_Abort(MPI_COMM_WORLD, 5);
   MPI_Barrier(MPI_COMM_WORLD);
   printf("rank %d goes on\n", rank);
