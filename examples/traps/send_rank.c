@@ -1,0 +1,12 @@
+#include <stdio.h>
+#include <mpi.h>
+/* Rank 0 sends to a rank that is not there. */
+int main(void) {
+  int rank, x = 7;
+  MPI_Init(NULL, NULL);
+  MPI_Comm_rank(MPI_COMM_WORLD, &rank);
+  if (rank == 0) MPI_Send(&x, 1, MPI_INT, 2, 5, MPI_COMM_WORLD);
+  printf("rank %d goes on\n", rank);
+  MPI_Finalize();
+  return 0;
+}
