@@ -1,10 +1,7 @@
 //! Histories of events, programs and the ranks that run them, and the definition of the runs that the matching rules
 //! allow.
 //!
-//! The definitions stand in `specs/`: what ranks have seen (`Views`), communicators and instances of collectives
-//! (`Communicators`, `Inputs`), pairs of sends and receives (`Pairs`), readiness (`Readiness`), halts that are due (`Due`),
-//! allowed replies (`Allowed`), runs (`Run`), how they end (`Endings`), the shape of a reply (`Shape`), and what every program
-//! keeps (`Program`).
+//! The definitions stand in `specs/`; README.md has the list, with what each file says.
 #![tactic(auto)]
 
 pub mod by_rank;
