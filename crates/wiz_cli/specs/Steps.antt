@@ -163,14 +163,6 @@ pub record IsCheckedRun (is_threaded : Bool) (ready : Ready) (checked : CheckedR
   pub made : IsMade is_threaded ready checked.recording
   pub checks : AreChecksOf ready.program checked.recording.history.events checked.recording.logs checked.replays
 
--- what is asked of a call that makes a recording, on one thread or on threads, by what it takes and what it answers
-abbrev pub TakesReady : (Bor Ready → Type 0) → Type 0
-TakesReady Takes = (ready : Bor Ready) → CanRun ready.now → Takes ready
-
-abbrev pub MakesRecordings : Bool → (Bor Ready → Result Recording AllocError → Type 0) → Type 0
-MakesRecordings is_threaded Makes =
-    (ready : Bor Ready) (made : Result Recording AllocError) → Makes ready made → IfOk made (IsMade is_threaded ready.now)
-
 -- ---- replaying
 
 -- the text of the program with which a log is replayed
@@ -190,14 +182,29 @@ pub record IsReplayBy (program : CProgram) (log : Log) (stop : Breakpoint) (repl
   pub replay : IsReplayed (next_of program) (output_of program) (variables_of program) log stop replayed
   pub runs : IsReplayOfEveryRun (next_of program) (output_of program) log stop replayed
 
--- what is asked of a call that makes a replay
-abbrev pub TakesLogs : (Bor CProgram → Bor Log → Breakpoint → Type 0) → Type 0
-TakesLogs Takes = (program : Bor CProgram) (log : Bor Log) (stop : Breakpoint) → IsReplayable log.now → Takes program log stop
+-- ---- a runner of two calls
 
-abbrev pub MakesReplays : (Bor CProgram → Bor Log → Breakpoint → Result Replayed AllocError → Type 0) → Type 0
-MakesReplays Makes =
-    (program : Bor CProgram) (log : Bor Log) (stop : Breakpoint) (made : Result Replayed AllocError) → Makes program log stop made
-    → IfOk made (IsReplayBy program.now log.now stop)
+-- what such calls may be made with
+abbrev pub TakesReady : Type 1
+TakesReady = Bor Ready → Type 0
+
+abbrev pub TakesLog : Type 1
+TakesLog = Bor CProgram → Bor Log → Breakpoint → Type 0
+
+-- what they answer
+abbrev pub GivesRecording : Type 1
+GivesRecording = Bor Ready → Result Recording AllocError → Type 0
+
+abbrev pub GivesReplay : Type 1
+GivesReplay = Bor CProgram → Bor Log → Breakpoint → Result Replayed AllocError → Type 0
+
+-- a call that records and one that replays, on threads or on one, by what each takes and what it answers
+pub record IsRunnerBy (is_threaded : Bool) (Takes : TakesReady) (Records : GivesRecording) (TakesALog : TakesLog) (Replays : GivesReplay) : Type 0 where
+  pub takes_ready : (ready : Bor Ready) → CanRun ready.now → Takes ready
+  pub records : (ready : Bor Ready) (made : Result Recording AllocError) → Records ready made → IfOk made (IsMade is_threaded ready.now)
+  pub takes_log : (program : Bor CProgram) (log : Bor Log) (stop : Breakpoint) → IsReplayable log.now → TakesALog program log stop
+  pub replays : (program : Bor CProgram) (log : Bor Log) (stop : Breakpoint) (made : Result Replayed AllocError)
+      → Replays program log stop made → IfOk made (IsReplayBy program.now log.now stop)
 
 -- ---- regrouping
 

@@ -13,6 +13,8 @@ pub mod refusal;
 pub mod regrouping;
 pub mod replaying;
 pub mod report;
+pub mod runner;
 pub mod status;
+mod threaded;
 pub mod top;
 pub mod writing;

@@ -3,7 +3,7 @@ ghost use Rattle.std.specs.Prelude.{◌≡◌, false};
 ghost use Rattle.srr_replay.specs.Rounds.{IsReplayable};
 ghost use Rattle.wiz_cli.specs.Commands.{AskForSerially, IsReport};
 ghost use Rattle.wiz_cli.specs.Promises.{IsComplete, NeverDiverges, ShowsEveryRun};
-ghost use Rattle.wiz_cli.specs.Steps.{AllowsBlocks, CanRun, Ends, EndsWords, IsFailureBy, MakesRecordings, MakesReplays, TakesLogs, TakesReady, refused_words};
+ghost use Rattle.wiz_cli.specs.Steps.{AllowsBlocks, CanRun, Ends, EndsWords, IsFailureBy, refused_words};
 ghost use Rattle.wiz_cli.specs.World.{world};
 ghost use Rattle.wiz_words.specs.Texts.{texts, with_texts};
 ghost use Rattle.wiz_words.specs.Words.{AskFor, is_threaded};
@@ -21,11 +21,13 @@ use crate::commands::show::show;
 use crate::commands::stats::stats;
 use crate::failure::Failure;
 use crate::limits::limits_are;
-use crate::recording::make::{record_in_turns, record_on_threads};
+use crate::recording::make::record_on_threads;
 use crate::recording::ready::Ready;
 use crate::refusal::Refusal;
-use crate::replaying::make::{replay_in_rounds, replay_on_threads};
+use crate::replaying::make::replay_on_threads;
 use crate::report::{Report, settle};
+use crate::runner::{Runner, Serial};
+use crate::threaded::Threaded;
 use c_program::CProgram;
 use c_types::one_program;
 use group_plan::one_reading;
@@ -143,7 +145,7 @@ fn answer_words_on_threads<'a, R: Threads + Wait + Sync, S: Store, K: Sink, G: G
     >
         requires { IsReplayable log.now }
     { replay_on_threads(rt, alloc, program, log, stop, gate) };
-    answer(alloc, command, store, out, &recorder, &replayer)
+    answer(alloc, command, store, out, &Threaded { recorder, replayer })
 }
 
 fn refused_words() -> Failure<'static>
@@ -167,55 +169,35 @@ fn answer_serially<'a, S: Store, K: Sink>(
     ensures serial { is_threaded (with_texts command.entry) ≡ false }
     ensures ends { Ends (with_texts command.entry) (world (S.told store.old) (K.told out.old)) (world (S.told store.new) (K.told out.new)) result }
 {
-    let recorder = |ready: &Ready| -> Result<Recording, AllocError>
-        requires { CanRun ready.now }
-    { record_in_turns(alloc, ready) };
-    let replayer = |program: &CProgram, log: &Log, stop: Option<(u8, u32)>| -> Result<
-        Replayed,
-        AllocError,
-    >
-        requires { IsReplayable log.now }
-    { replay_in_rounds(alloc, program, log, stop) };
-    answer(alloc, command, store, out, &recorder, &replayer)
+    answer(alloc, command, store, out, &Serial)
 }
 
-/// What a command comes to: `recorder` makes a recording, and `replayer` the replay of a log.
-fn answer<
-    'a,
-    S: Store,
-    K: Sink,
-    F: Fn(&Ready) -> Result<Recording, AllocError>,
-    G: Fn(&CProgram, &Log, Option<(u8, u32)>) -> Result<Replayed, AllocError>,
->(
+/// What a command comes to: `runner` runs the ranks.
+fn answer<'a, S: Store, K: Sink, R: Runner>(
     alloc: Global,
     command: Command<&'a str>,
     store: &mut S,
     out: &mut K,
-    recorder: &F,
-    replayer: &G,
+    runner: &R,
 ) -> Result<Report, Failure<'a>>
     requires blocks { AllowsBlocks (with_texts command) }
-    requires takes { TakesReady (F.pre recorder.now) }
-    requires makes { MakesRecordings (is_threaded (with_texts command)) (F.post recorder.now) }
-    requires takes_logs { TakesLogs (G.pre replayer.now) }
-    requires replays { MakesReplays (G.post replayer.now) }
+    requires threads { R.is_threaded ≡ is_threaded (with_texts command) }
+    requires runs { R.runs runner.now }
     ensures { Ends (with_texts command.entry) (world (S.told store.old) (K.told out.old)) (world (S.told store.new) (K.told out.new)) result }
 {
     match command {
-        Command::Record { run, prefix } => record(alloc, &run, prefix, store, out, recorder),
-        Command::Check(run) => check(alloc, &run, store, out, recorder, replayer),
-        Command::Races(run) => races(alloc, &run, store, out, recorder),
-        Command::Advise { run, most } => advise(alloc, &run, most, store, out, recorder),
-        Command::Demo { seed, rounds } => demo(alloc, seed, rounds, store, out, recorder, replayer),
-        Command::Replay(words) => replay(alloc, &words, store, out, replayer),
+        Command::Record { run, prefix } => record(alloc, &run, prefix, store, out, runner),
+        Command::Check(run) => check(alloc, &run, store, out, runner),
+        Command::Races(run) => races(alloc, &run, store, out, runner),
+        Command::Advise { run, most } => advise(alloc, &run, most, store, out, runner),
+        Command::Demo { seed, rounds } => demo(alloc, seed, rounds, store, out, runner),
+        Command::Replay(words) => replay(alloc, &words, store, out, runner),
         Command::Show(log) => show(alloc, log, store, out),
         Command::Stats(log) => stats(alloc, log, store, out),
         Command::Convert { log, file, is_text } => convert(alloc, log, file, is_text, store, out),
         Command::Refine { log, plan, prefix } => {
-            refine(alloc, log, plan, prefix, store, out, replayer)
+            refine(alloc, log, plan, prefix, store, out, runner)
         }
-        Command::Join { one, other, file } => {
-            join(alloc, one, other, file, store, out, replayer)
-        }
+        Command::Join { one, other, file } => { join(alloc, one, other, file, store, out, runner) }
     }
 }

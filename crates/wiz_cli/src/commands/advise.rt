@@ -1,7 +1,7 @@
 //! `advise PROGRAM PLAN K [--order FILE] [--serial]`: a run is recorded, and the blocks of ranks are told whose logs keep the fewest ints.
-ghost use Rattle.std.specs.Prelude.{◌<◌, [], IfOk, true};
+ghost use Rattle.std.specs.Prelude.{◌≡◌, ◌<◌, [], IfOk, true};
 ghost use Rattle.wiz_cli.specs.Commands.{TellsAdvice};
-ghost use Rattle.wiz_cli.specs.Steps.{Ends, IsMade, MakesRecordings, TakesReady, outcome_of};
+ghost use Rattle.wiz_cli.specs.Steps.{Ends, IsMade, outcome_of};
 ghost use Rattle.wiz_cli.specs.World.{world};
 ghost use Rattle.wiz_words.specs.Texts.{run_with_texts};
 ghost use Rattle.wiz_words.specs.Words.{is_threaded_run};
@@ -10,6 +10,7 @@ ghost use Rattle.wiz_words.specs.declared.command.Command.TheVariants.{Advise};
 use crate::failure::Failure;
 use crate::recording::ready::{Ready, read_run};
 use crate::report::{Done, Report, tell, text_of_run};
+use crate::runner::Runner;
 use crate::status::of_ending;
 use plan_advice::{every_cutting_costs, one_advice, plan_cost};
 use srr_record::Recording;
@@ -18,22 +19,22 @@ use wiz_io::{Sink, Store};
 use wiz_trace::advice::advice_text;
 use wiz_words::command::RunWords;
 
-/// Records what the arguments name, and advises on blocks of at most `most` ranks: `recorder` makes the recording.
-pub fn advise<'a, S: Store, K: Sink, F: Fn(&Ready) -> Result<Recording, AllocError>>(
+/// Records what the arguments name, and advises on blocks of at most `most` ranks: `runner` runs the ranks.
+pub fn advise<'a, S: Store, K: Sink, R: Runner>(
     alloc: Global,
     run: &RunWords<&'a str>,
     most: u8,
     store: &mut S,
     out: &mut K,
-    recorder: &F,
+    runner: &R,
 ) -> Result<Report, Failure<'a>>
     requires some { 0 < most }
-    requires takes { TakesReady (F.pre recorder.now) }
-    requires makes { MakesRecordings (is_threaded_run (run_with_texts run.now)) (F.post recorder.now) }
+    requires threads { R.is_threaded ≡ is_threaded_run (run_with_texts run.now) }
+    requires runs { R.runs runner.now }
     ensures { Ends (Advise (run_with_texts run.now) most) (world (S.told store.old) (K.told out.old)) (world (S.told store.new) (K.told out.new)) result }
 {
     let ready = read_run(alloc, run, store)?;
-    let recording = recorder(&ready)?;
+    let recording = runner.record(alloc, &ready)?;
     let done = advise_on(alloc, most, &ready, recording)?;
     let report = tell(done, out)?;
     Ok(report)

@@ -1,11 +1,11 @@
 //! `check PROGRAM PLAN [--serial]`: a run is recorded, and each group is replayed from the bytes of its log.
-ghost use Rattle.std.specs.Prelude.{◌≡◌, [], Bool, IfOk, None};
+ghost use Rattle.std.specs.Prelude.{◌≡◌, [], IfOk, None};
 ghost use Rattle.std.specs.List.{AllByRecursion, AllZip};
 ghost use Rattle.c_types.specs.Checks.{IsProgramOf};
 ghost use Rattle.srr_entry.specs.declared.log.Log.{Log};
 ghost use Rattle.wiz_cli.specs.Commands.{check_outcome};
 ghost use Rattle.wiz_cli.specs.Replayings.{IsReplayOf};
-ghost use Rattle.wiz_cli.specs.Steps.{CanRun, Ends, IsCheckedRun, IsKeptLog, MakesRecordings, MakesReplays, TakesLogs, TakesReady, outcome_of};
+ghost use Rattle.wiz_cli.specs.Steps.{CanRun, Ends, IsCheckedRun, IsKeptLog, outcome_of};
 ghost use Rattle.wiz_cli.specs.World.{world};
 ghost use Rattle.wiz_words.specs.Texts.{run_with_texts};
 ghost use Rattle.wiz_words.specs.Words.{is_threaded_run};
@@ -15,6 +15,7 @@ use crate::failure::Failure;
 use crate::recording::ready::{Ready, read_run};
 use crate::replaying::make::replay_text;
 use crate::report::{Done, Report, tell};
+use crate::runner::Runner;
 use crate::status::of_ending;
 use c_program::CProgram;
 use replay_model::replayed::{Replayed, Replays};
@@ -28,29 +29,20 @@ use wiz_io::{Sink, Store};
 use wiz_trace::check::check_text;
 use wiz_words::command::RunWords;
 
-/// Records what the arguments name, and replays each group: `recorder` makes the recording, and `replayer` the replay of a log.
-pub fn check<
-    'a,
-    S: Store,
-    K: Sink,
-    F: Fn(&Ready) -> Result<Recording, AllocError>,
-    G: Fn(&CProgram, &Log, Option<(u8, u32)>) -> Result<Replayed, AllocError>,
->(
+/// Records what the arguments name, and replays each group: `runner` runs the ranks.
+pub fn check<'a, S: Store, K: Sink, R: Runner>(
     alloc: Global,
     run: &RunWords<&'a str>,
     store: &mut S,
     out: &mut K,
-    recorder: &F,
-    replayer: &G,
+    runner: &R,
 ) -> Result<Report, Failure<'a>>
-    requires takes { TakesReady (F.pre recorder.now) }
-    requires makes { MakesRecordings (is_threaded_run (run_with_texts run.now)) (F.post recorder.now) }
-    requires takes_logs { TakesLogs (G.pre replayer.now) }
-    requires replays { MakesReplays (G.post replayer.now) }
+    requires threads { R.is_threaded ≡ is_threaded_run (run_with_texts run.now) }
+    requires runs { R.runs runner.now }
     ensures { Ends (Check (run_with_texts run.now)) (world (S.told store.old) (K.told out.old)) (world (S.told store.new) (K.told out.new)) result }
 {
     let ready = read_run(alloc, run, store)?;
-    let checked = run_and_replay(alloc, &ready, recorder, replayer)?;
+    let checked = run_and_replay(alloc, &ready, runner)?;
     let text = check_text(
         alloc,
         &ready.plan,
@@ -85,52 +77,48 @@ impl CheckedRun {
 }
 
 /// Records a run and replays each group.
-pub fn run_and_replay<
-    F: Fn(&Ready) -> Result<Recording, AllocError>,
-    G: Fn(&CProgram, &Log, Option<(u8, u32)>) -> Result<Replayed, AllocError>,
->(alloc: Global, ready: &Ready, recorder: &F, replayer: &G) -> Result<CheckedRun, AllocError>
+pub fn run_and_replay<R: Runner>(
+    alloc: Global,
+    ready: &Ready,
+    runner: &R,
+) -> Result<CheckedRun, AllocError>
     requires ready { CanRun ready.now }
-    requires takes { TakesReady (F.pre recorder.now) }
-    requires makes { (is_threaded : Bool) × MakesRecordings is_threaded (F.post recorder.now) }
-    requires takes_logs { TakesLogs (G.pre replayer.now) }
-    requires replays { MakesReplays (G.post replayer.now) }
-    ensures { IfOk result (λ checked. (is_threaded : Bool) → MakesRecordings is_threaded (F.post recorder.now) → IsCheckedRun is_threaded ready.now checked) }
+    requires runs { R.runs runner.now }
+    ensures { IfOk result (IsCheckedRun R.is_threaded ready.now) }
 {
-    let recording = recorder(ready)?;
-    let replays = replay_groups(alloc, &ready.program, recording.logs.as_slice(), replayer)?;
+    let recording = runner.record(alloc, ready)?;
+    let replays = replay_groups(alloc, &ready.program, recording.logs.as_slice(), runner)?;
     Ok(CheckedRun { recording, replays })
 }
 
 /// The replay of each log with the one program that all of them hold.
-fn replay_groups<G: Fn(&CProgram, &Log, Option<(u8, u32)>) -> Result<Replayed, AllocError>>(
+fn replay_groups<R: Runner>(
     alloc: Global,
     program: &CProgram,
     logs: &[Log],
-    replayer: &G,
+    runner: &R,
 ) -> Result<Replays, AllocError>
     requires logs { AllByRecursion (IsKeptLog program.now) logs.now }
-    requires takes { TakesLogs (G.pre replayer.now) }
-    requires makes { MakesReplays (G.post replayer.now) }
+    requires runs { R.runs runner.now }
     ensures { IfOk result (λ replays. AllZip (λ (log : Log). IsReplayOf log.program log None) logs.now replays) }
 {
     let mut replays = Replays::new(alloc);
     for log in logs {
-        let replayed = replay_kept(alloc, program, log, replayer)?;
+        let replayed = replay_kept(alloc, program, log, runner)?;
         replays.push(replayed)?;
     }
     Ok(replays)
 }
 
 /// The replay of a log that is read from its text.
-fn replay_kept<G: Fn(&CProgram, &Log, Option<(u8, u32)>) -> Result<Replayed, AllocError>>(
+fn replay_kept<R: Runner>(
     alloc: Global,
     program: &CProgram,
     log: &Log,
-    replayer: &G,
+    runner: &R,
 ) -> Result<Replayed, AllocError>
     requires log { IsKeptLog program.now log.now }
-    requires takes { TakesLogs (G.pre replayer.now) }
-    requires makes { MakesReplays (G.post replayer.now) }
+    requires runs { R.runs runner.now }
     ensures { IfOk result (IsReplayOf log.now.program log.now None) }
 {
     let text = write_log2(alloc, log)?;
@@ -138,5 +126,5 @@ fn replay_kept<G: Fn(&CProgram, &Log, Option<(u8, u32)>) -> Result<Replayed, All
     let Ok(read) = read_either(alloc, text.as_slice()) else {
         return Err(AllocError);
     };
-    replay_text(program, read.program.as_slice(), &read, None, replayer)
+    replay_text(alloc, program, read.program.as_slice(), &read, None, runner)
 }

@@ -1,18 +1,15 @@
 //! `demo SEED ROUNDS`: a program of sixteen ranks is checked on one thread.
-ghost use Rattle.std.specs.Prelude.{false};
-ghost use Rattle.wiz_cli.specs.Steps.{Ends, MakesRecordings, MakesReplays, TakesLogs, TakesReady};
+ghost use Rattle.std.specs.Prelude.{◌≡◌, false};
+ghost use Rattle.wiz_cli.specs.Steps.{Ends};
 ghost use Rattle.wiz_cli.specs.World.{world};
 ghost use Rattle.wiz_words.specs.declared.command.Command.TheVariants.{Demo};
 
 use crate::commands::check::run_and_replay;
 use crate::failure::Failure;
-use crate::recording::ready::{Ready, accept_run};
+use crate::recording::ready::accept_run;
 use crate::report::{Report, tell};
-use c_program::CProgram;
-use replay_model::replayed::Replayed;
-use srr_entry::log::Log;
-use srr_record::Recording;
-use std::alloc::{AllocError, Global};
+use crate::runner::Runner;
+use std::alloc::Global;
 use wiz_io::{Sink, Store};
 use wiz_trace::demo::{demo_program, demo_text};
 
@@ -20,30 +17,21 @@ use wiz_trace::demo::{demo_program, demo_text};
 const PLAN: &[u8] = b"0-3\n4-7\n8-11\n12-15\n";
 
 /// Records the demo program with this seed and so many rounds, and replays each group.
-pub fn demo<
-    'a,
-    S: Store,
-    K: Sink,
-    F: Fn(&Ready) -> Result<Recording, AllocError>,
-    G: Fn(&CProgram, &Log, Option<(u8, u32)>) -> Result<Replayed, AllocError>,
->(
+pub fn demo<'a, S: Store, K: Sink, R: Runner>(
     alloc: Global,
     seed: u32,
     rounds: u32,
     store: &mut S,
     out: &mut K,
-    recorder: &F,
-    replayer: &G,
+    runner: &R,
 ) -> Result<Report, Failure<'a>>
-    requires takes { TakesReady (F.pre recorder.now) }
-    requires makes { MakesRecordings false (F.post recorder.now) }
-    requires takes_logs { TakesLogs (G.pre replayer.now) }
-    requires replays { MakesReplays (G.post replayer.now) }
+    requires threads { R.is_threaded ≡ false }
+    requires runs { R.runs runner.now }
     ensures { Ends (Demo seed rounds) (world (S.told store.old) (K.told out.old)) (world (S.told store.new) (K.told out.new)) result }
 {
     let text = demo_program(alloc, seed, rounds)?;
     let ready = accept_run(alloc, text, PLAN, &None)?;
-    let checked = run_and_replay(alloc, &ready, recorder, replayer)?;
+    let checked = run_and_replay(alloc, &ready, runner)?;
     let text = demo_text(
         alloc,
         seed,

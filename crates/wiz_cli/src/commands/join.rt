@@ -3,7 +3,7 @@ ghost use Rattle.std.specs.Prelude.{◌≡◌, ◌∷◌, [], IfOk};
 ghost use Rattle.srr_regroup.specs.Joining.{CanJoin};
 ghost use Rattle.srr_regroup.specs.Regrouping.{both_groups, joined};
 ghost use Rattle.wiz_cli.specs.Regroupings.{done_outcome, join_outcome, log_file};
-ghost use Rattle.wiz_cli.specs.Steps.{AreJoinable, Ends, IsToldBy, MakesReplays, TakesLogs};
+ghost use Rattle.wiz_cli.specs.Steps.{AreJoinable, Ends, IsToldBy};
 ghost use Rattle.wiz_cli.specs.World.{world};
 ghost use Rattle.wiz_trace.specs.RegroupTexts.{joined_text};
 ghost use Rattle.wiz_words.specs.declared.command.Command.TheVariants.{Join};
@@ -13,39 +13,32 @@ use crate::regrouping::make::{replay_own, two_replays};
 use crate::regrouping::subject::{Pair, read_pair};
 use crate::regrouping::tell::{tell_traces, tell_written};
 use crate::report::Report;
+use crate::runner::Runner;
 use crate::status::{Status, of_both};
 use crate::writing::write_file;
-use c_program::CProgram;
 use log_bounds::ints32::replies_fit;
 use replay_model::replayed::Replayed;
-use srr_entry::log::Log;
 use srr_log2::write_log2::write_log2;
 use std::alloc::{AllocError, Global};
 use wiz_io::{Sink, Store};
 use wiz_trace::regroup::joined_text;
 
-/// Joins two logs: `replayer` makes the replays.
-pub fn join<
-    'a,
-    S: Store,
-    K: Sink,
-    G: Fn(&CProgram, &Log, Option<(u8, u32)>) -> Result<Replayed, AllocError>,
->(
+/// Joins two logs: `runner` runs the ranks.
+pub fn join<'a, S: Store, K: Sink, R: Runner>(
     alloc: Global,
     one: &'a str,
     other: &'a str,
     file: &str,
     store: &mut S,
     out: &mut K,
-    replayer: &G,
+    runner: &R,
 ) -> Result<Report, Failure<'a>>
-    requires takes { TakesLogs (G.pre replayer.now) }
-    requires makes { MakesReplays (G.post replayer.now) }
+    requires { R.runs runner.now }
     ensures { Ends (Join one.now other.now file.now) (world (S.told store.old) (K.told out.old)) (world (S.told store.new) (K.told out.new)) result }
 {
     let pair = read_pair(alloc, one, other, store)?;
-    let first = replay_own(&pair.program, &pair.one, replayer)?;
-    let second = replay_own(&pair.program, &pair.other, replayer)?;
+    let first = replay_own(alloc, &pair.program, &pair.one, runner)?;
+    let second = replay_own(alloc, &pair.program, &pair.other, runner)?;
     replies_fit(first.events.as_slice());
     replies_fit(second.events.as_slice());
     let report = tell_replayed(alloc, file, &pair, first, second, store, out)?;

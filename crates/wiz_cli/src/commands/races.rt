@@ -3,7 +3,7 @@
 ghost use Rattle.std.specs.Prelude.{◌≡◌, [], IfOk, true};
 ghost use Rattle.wiz_cli.specs.Commands.{TellsRaces};
 ghost use Rattle.wiz_cli.specs.Messages.{races_over_text};
-ghost use Rattle.wiz_cli.specs.Steps.{Ends, IsMade, MakesRecordings, TakesReady, outcome_of};
+ghost use Rattle.wiz_cli.specs.Steps.{Ends, IsMade, outcome_of};
 ghost use Rattle.wiz_cli.specs.World.{world};
 ghost use Rattle.wiz_words.specs.Texts.{run_with_texts};
 ghost use Rattle.wiz_words.specs.Words.{is_threaded_run};
@@ -12,6 +12,7 @@ ghost use Rattle.wiz_words.specs.declared.command.Command.TheVariants.{Races};
 use crate::failure::Failure;
 use crate::recording::ready::{Ready, read_run};
 use crate::report::{Done, Report, tell, text_of_run};
+use crate::runner::Runner;
 use crate::status::{Status, of_ending};
 use msg_races::fault::{MOST_OTHERS, RaceFault};
 use msg_races::laws::one_list;
@@ -22,20 +23,20 @@ use wiz_io::{Sink, Store};
 use wiz_trace::races::races_text;
 use wiz_words::command::RunWords;
 
-/// Records what the arguments name, and lists the message races of the run: `recorder` makes the recording.
-pub fn races<'a, S: Store, K: Sink, F: Fn(&Ready) -> Result<Recording, AllocError>>(
+/// Records what the arguments name, and lists the message races of the run: `runner` runs the ranks.
+pub fn races<'a, S: Store, K: Sink, R: Runner>(
     alloc: Global,
     run: &RunWords<&'a str>,
     store: &mut S,
     out: &mut K,
-    recorder: &F,
+    runner: &R,
 ) -> Result<Report, Failure<'a>>
-    requires takes { TakesReady (F.pre recorder.now) }
-    requires makes { MakesRecordings (is_threaded_run (run_with_texts run.now)) (F.post recorder.now) }
+    requires threads { R.is_threaded ≡ is_threaded_run (run_with_texts run.now) }
+    requires runs { R.runs runner.now }
     ensures { Ends (Races (run_with_texts run.now)) (world (S.told store.old) (K.told out.old)) (world (S.told store.new) (K.told out.new)) result }
 {
     let ready = read_run(alloc, run, store)?;
-    let recording = recorder(&ready)?;
+    let recording = runner.record(alloc, &ready)?;
     let done = races_of(alloc, &ready, recording)?;
     let report = tell(done, out)?;
     Ok(report)

@@ -3,7 +3,7 @@ ghost use Rattle.std.specs.Prelude.{◌≡◌, ◌≤◌, List, ℕ, IfOk, OnErr
 ghost use Rattle.wiz_cli.specs.Commands.{record_outcome};
 ghost use Rattle.wiz_cli.specs.Outcomes.{IsPut};
 ghost use Rattle.wiz_cli.specs.Output.{GrewByPart};
-ghost use Rattle.wiz_cli.specs.Steps.{AreInBounds, Ends, IsToldBy, MakesRecordings, TakesReady};
+ghost use Rattle.wiz_cli.specs.Steps.{AreInBounds, Ends, IsToldBy};
 ghost use Rattle.wiz_cli.specs.World.{world};
 ghost use Rattle.wiz_words.specs.Texts.{run_with_texts};
 ghost use Rattle.wiz_words.specs.Words.{is_threaded_run};
@@ -14,6 +14,7 @@ use crate::commands::record_files::write_files;
 use crate::failure::Failure;
 use crate::recording::ready::{Ready, read_run};
 use crate::report::{Done, Report, tell, tell_unwritten};
+use crate::runner::Runner;
 use crate::status::of_ending;
 use crate::writing::Unwritten;
 use replay_model::replayed::Replays;
@@ -23,21 +24,21 @@ use wiz_io::{Sink, Store};
 use wiz_trace::recording::record_text;
 use wiz_words::command::RunWords;
 
-/// Records what the arguments name: `recorder` makes the recording.
-pub fn record<'a, S: Store, K: Sink, F: Fn(&Ready) -> Result<Recording, AllocError>>(
+/// Records what the arguments name: `runner` runs the ranks.
+pub fn record<'a, S: Store, K: Sink, R: Runner>(
     alloc: Global,
     run: &RunWords<&'a str>,
     prefix: &str,
     store: &mut S,
     out: &mut K,
-    recorder: &F,
+    runner: &R,
 ) -> Result<Report, Failure<'a>>
-    requires takes { TakesReady (F.pre recorder.now) }
-    requires makes { MakesRecordings (is_threaded_run (run_with_texts run.now)) (F.post recorder.now) }
+    requires threads { R.is_threaded ≡ is_threaded_run (run_with_texts run.now) }
+    requires runs { R.runs runner.now }
     ensures { Ends (Record (run_with_texts run.now) prefix.now) (world (S.told store.old) (K.told out.old)) (world (S.told store.new) (K.told out.new)) result }
 {
     let ready = read_run(alloc, run, store)?;
-    let recording = recorder(&ready)?;
+    let recording = runner.record(alloc, &ready)?;
     let report = write(alloc, prefix, recording, store, out)?;
     Ok(report)
 }

@@ -4,7 +4,7 @@ ghost use Rattle.std.specs.List.{slice_index_or};
 ghost use Rattle.srr_regroup.specs.Regrouping.{refined};
 ghost use Rattle.wiz_cli.specs.Files.{AreWritten};
 ghost use Rattle.wiz_cli.specs.Regroupings.{done_outcome, part_file, part_files, refine_outcome};
-ghost use Rattle.wiz_cli.specs.Steps.{Ends, IsRegroupable, IsStopped, IsToldBy, MakesReplays, TakesLogs};
+ghost use Rattle.wiz_cli.specs.Steps.{Ends, IsRegroupable, IsStopped, IsToldBy};
 ghost use Rattle.wiz_cli.specs.World.{world};
 ghost use Rattle.wiz_trace.specs.RegroupTexts.{refined_text};
 ghost use Rattle.wiz_words.specs.declared.command.Command.TheVariants.{Refine};
@@ -15,38 +15,31 @@ use crate::regrouping::subject::{Refinement, read_refinement};
 use crate::regrouping::tell::{tell_traces, tell_written};
 use crate::replaying::make::one_replay;
 use crate::report::Report;
+use crate::runner::Runner;
 use crate::status::{Status, of_stands};
 use crate::writing::{Unwritten, write_log_file};
-use c_program::CProgram;
 use log_bounds::ints32::replies_fit;
 use replay_model::replayed::Replayed;
-use srr_entry::log::Log;
 use srr_regroup::are_within;
 use std::alloc::{AllocError, Global};
 use wiz_io::{Sink, Store};
 use wiz_trace::regroup::refined_text;
 
-/// Refines a log by a plan: `replayer` makes the replay.
-pub fn refine<
-    'a,
-    S: Store,
-    K: Sink,
-    G: Fn(&CProgram, &Log, Option<(u8, u32)>) -> Result<Replayed, AllocError>,
->(
+/// Refines a log by a plan: `runner` runs the ranks.
+pub fn refine<'a, S: Store, K: Sink, R: Runner>(
     alloc: Global,
     name: &'a str,
     plan: &'a str,
     prefix: &str,
     store: &mut S,
     out: &mut K,
-    replayer: &G,
+    runner: &R,
 ) -> Result<Report, Failure<'a>>
-    requires takes { TakesLogs (G.pre replayer.now) }
-    requires makes { MakesReplays (G.post replayer.now) }
+    requires { R.runs runner.now }
     ensures { Ends (Refine name.now plan.now prefix.now) (world (S.told store.old) (K.told out.old)) (world (S.told store.new) (K.told out.new)) result }
 {
     let refinement = read_refinement(alloc, name, plan, store)?;
-    let replayed = replay_own(&refinement.program, &refinement.log, replayer)?;
+    let replayed = replay_own(alloc, &refinement.program, &refinement.log, runner)?;
     // A law: each group of a plan has ranks, rising, so that the parts' logs are in form.
     groups_rise(&refinement.plan);
     replies_fit(replayed.events.as_slice());

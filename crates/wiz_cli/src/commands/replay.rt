@@ -4,7 +4,7 @@ ghost use Rattle.wiz_cli.specs.Commands.{replay_outcome};
 ghost use Rattle.wiz_cli.specs.Outcomes.{IsPut};
 ghost use Rattle.wiz_cli.specs.Output.{GrewByPart};
 ghost use Rattle.wiz_trace.specs.TraceTexts.{trace_text};
-ghost use Rattle.wiz_cli.specs.Steps.{Ends, MakesReplays, TakesLogs};
+ghost use Rattle.wiz_cli.specs.Steps.{Ends};
 ghost use Rattle.wiz_cli.specs.World.{world};
 ghost use Rattle.wiz_words.specs.Texts.{replay_with_texts};
 ghost use Rattle.wiz_words.specs.declared.command.Command.TheVariants.{Replay};
@@ -13,35 +13,35 @@ use crate::failure::Failure;
 use crate::replaying::make::{one_replay, replay_text};
 use crate::replaying::subject::{read_subject, used_text};
 use crate::report::{Done, Report, tell};
+use crate::runner::Runner;
 use crate::status::of_stands;
-use c_program::CProgram;
 use replay_model::replayed::Replayed;
-use srr_entry::log::Log;
 use std::alloc::{AllocError, Global};
 use wiz_io::{Sink, Store};
 use wiz_trace::trace::trace_text;
 use wiz_words::command::ReplayWords;
 
-/// Replays what the arguments name: `replayer` makes the replay.
-pub fn replay<
-    'a,
-    S: Store,
-    K: Sink,
-    G: Fn(&CProgram, &Log, Option<(u8, u32)>) -> Result<Replayed, AllocError>,
->(
+/// Replays what the arguments name: `runner` runs the ranks.
+pub fn replay<'a, S: Store, K: Sink, R: Runner>(
     alloc: Global,
     words: &ReplayWords<&'a str>,
     store: &mut S,
     out: &mut K,
-    replayer: &G,
+    runner: &R,
 ) -> Result<Report, Failure<'a>>
-    requires takes { TakesLogs (G.pre replayer.now) }
-    requires makes { MakesReplays (G.post replayer.now) }
+    requires { R.runs runner.now }
     ensures { Ends (Replay (replay_with_texts words.now)) (world (S.told store.old) (K.told out.old)) (world (S.told store.new) (K.told out.new)) result }
 {
     let subject = read_subject(alloc, words, store)?;
     let text = used_text(&subject.log, &subject.text);
-    let replayed = replay_text(&subject.program, text, &subject.log, words.stop, replayer)?;
+    let replayed = replay_text(
+        alloc,
+        &subject.program,
+        text,
+        &subject.log,
+        words.stop,
+        runner,
+    )?;
     let report = tell_replay(alloc, replayed, out)?;
     Ok(report)
 }
