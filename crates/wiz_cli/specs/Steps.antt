@@ -4,6 +4,7 @@ use Rattle.std.specs.Borrow.{Bor}
 use Rattle.std.specs.List.{AllByRecursion}
 use Rattle.std.specs.String.{string_bytes}
 use Rattle.std.specs.declared.alloc.AllocError.{AllocError}
+use Rattle.clap.specs.Words.{Text}
 use Rattle.c_program.specs.declared.program.CProgram.{CProgram}
 use Rattle.c_program.specs.Program.{next_of, output_of, variables_of}
 use Rattle.c_types.specs.Checks.{IsProgramOf}
@@ -19,7 +20,7 @@ use Rattle.srr_regroup.specs.Refining.{CanRefine}
 use Rattle.srr_regroup.specs.Regrouping.{IsReplayOfAProgram}
 use Rattle.srr_replay.specs.Rounds.{IsReplayable}
 use Rattle.srr_text.specs.Bounds.{IsInBounds}
-use Rattle.wiz_io.specs.Files.{Files, HasRisen}
+use Rattle.wiz_io.specs.Files.{FilesTold, HasRisen}
 use Rattle.wiz_io.specs.Output.{OutTold}
 use Rattle.wiz_words.specs.declared.command.Command.{Command}
 use Rattle.wiz_words.specs.declared.command.Command.TheVariants.{Advise}
@@ -38,12 +39,13 @@ use Rattle.wiz_cli.specs.declared.report.Report.{Report}
 use Rattle.wiz_cli.specs.Commands.{AreLogsOf, IsDoneFor, IsLogOf, IsPlanOf, IsRefusedFor, program_text, refusal_outcome}
 use Rattle.wiz_cli.specs.Files.{ArePartlyWritten, IsStoppedAt, NamedFile}
 use Rattle.wiz_cli.specs.Inputs.{Refused, text_limit}
+use Rattle.wiz_cli.specs.Names.{Asking, Plan}
 use Rattle.wiz_cli.specs.Outcomes.{IsDone, IsPartlyDone, IsPut, IsUntouched, IsUnwritten, Outcome, out_of_memory}
 use Rattle.wiz_cli.specs.Output.{GrewByPart}
 use Rattle.wiz_cli.specs.Recordings.{ArePrepared, IsReadable, IsRecordingOf, RunTexts}
 use Rattle.wiz_cli.specs.Replayings.{AreChecksOf}
 use Rattle.wiz_cli.specs.Requirements.{IsFirstUnmet, IsJoinRefusal, IsOrderRefusal, IsRefineRefusal, Requirement}
-use Rattle.wiz_cli.specs.World.{World}
+use Rattle.wiz_cli.specs.Environment.{Around, Environment}
 
 -- ---- failures
 
@@ -57,12 +59,12 @@ abbrev pub IsUnmetIn : List Requirement → Refused → Type 0
 IsUnmetIn requirements refused = IsFirstUnmet requirements refused.refusal × (refused.name ≡ [])
 
 -- the turns of an order are refused
-abbrev pub AreRefusedTurns : ℕ → Option (List ℕ) → Refused → Type 0
+abbrev pub AreRefusedTurns : ℕ → Option Text → Refused → Type 0
 AreRefusedTurns n None refused = ⊥
 AreRefusedTurns n (Some text) refused = IsOrderRefusal n text refused.refusal × (refused.name ≡ [])
 
 -- a log cannot be refined by the groups of a plan, or joined with another log
-abbrev pub IsRefusedRefinement : Log → List (List ℕ) → Refused → Type 0
+abbrev pub IsRefusedRefinement : Log → Plan → Refused → Type 0
 IsRefusedRefinement log groups refused = IsRefineRefusal log groups refused.refusal × (refused.name ≡ [])
 
 abbrev pub IsRefusedJoin : Log → Log → Refused → Type 0
@@ -78,32 +80,32 @@ listed (Some text) = text ∷ []
 abbrev pub refused_words : Refused
 refused_words = record { refusal = Words; name = [] }
 
-abbrev pub IsRefusedForWords : (List (List ℕ) → Command (List ℕ) → Type 0) → List (List ℕ) → World → World → Refused → Type 0
+abbrev pub IsRefusedForWords : Asking → List Text → Environment → Environment → Refused → Type 0
 IsRefusedForWords Ask words before after refused =
-    (((command : Command (List ℕ)) → Ask words command → ⊥) × (refused ≡ refused_words))
-    ⊎ ((command : Command (List ℕ)) × Ask words command × IsRefusedFor command before after refused)
+    (((command : Command Text) → Ask words command → ⊥) × (refused ≡ refused_words))
+    ⊎ ((command : Command Text) × Ask words command × IsRefusedFor command before after refused)
 
-abbrev pub EndsBy : (Refused → Type 0) → (Outcome → Type 0) → World → World → Result Report Failure → Type 0
-EndsBy IsRefusal Does before after (Ok report) =
-    (outcome : Outcome) × Does outcome × (IsDone outcome before after report ⊎ IsUnwritten outcome before after report)
-EndsBy IsRefusal Does before after (Err (IsRefused refusal name)) =
-    IsUntouched before after × IsRefusal (record { refusal = refusal; name = name.now })
-EndsBy IsRefusal Does before after (Err OutOfMemory) =
-    IsUntouched before after ⊎ ((outcome : Outcome) × Does outcome × IsPartlyDone outcome before after)
+abbrev pub EndsBy : (Refused → Type 0) → (Outcome → Type 0) → Around → Result Report Failure → Type 0
+EndsBy IsRefusal Does call (Ok report) =
+    (outcome : Outcome) × Does outcome × (IsDone outcome call.before call.after report ⊎ IsUnwritten outcome call.before call.after report)
+EndsBy IsRefusal Does call (Err (IsRefused refusal name)) =
+    IsUntouched call.before call.after × IsRefusal (record { refusal = refusal; name = name.now })
+EndsBy IsRefusal Does call (Err OutOfMemory) =
+    IsUntouched call.before call.after ⊎ ((outcome : Outcome) × Does outcome × IsPartlyDone outcome call.before call.after)
 
-abbrev pub Ends : Command (List ℕ) → World → World → Result Report Failure → Type 0
-Ends command before after result = EndsBy (IsRefusedFor command before after) (IsDoneFor command before) before after result
+abbrev pub Ends : Command Text → Around → Result Report Failure → Type 0
+Ends command call result = EndsBy (IsRefusedFor command call.before call.after) (IsDoneFor command call.before) call result
 
 -- the end of arguments: those that ask for nothing are refused
-abbrev pub EndsWords : (List (List ℕ) → Command (List ℕ) → Type 0) → List (List ℕ) → World → World → Result Report Failure → Type 0
-EndsWords Ask words before after result =
-    EndsBy (IsRefusedForWords Ask words before after)
-    (λ outcome. (command : Command (List ℕ)) × Ask words command × IsDoneFor command before outcome) before after result
+abbrev pub EndsWords : Asking → List Text → Around → Result Report Failure → Type 0
+EndsWords Ask words call result =
+    EndsBy (IsRefusedForWords Ask words call.before call.after)
+    (λ outcome. (command : Command Text) × Ask words command × IsDoneFor command call.before outcome) call result
 
 -- an outcome is told
-abbrev pub IsToldBy : Outcome → World → World → Result Report AllocError → Type 0
-IsToldBy outcome before after (Ok report) = IsDone outcome before after report ⊎ IsUnwritten outcome before after report
-IsToldBy outcome before after (Err error) = IsPartlyDone outcome before after
+abbrev pub IsToldBy : Outcome → Around → Result Report AllocError → Type 0
+IsToldBy outcome call (Ok report) = IsDone outcome call.before call.after report ⊎ IsUnwritten outcome call.before call.after report
+IsToldBy outcome call (Err error) = IsPartlyDone outcome call.before call.after
 
 -- what is told when these files are written
 abbrev pub outcome_of : List NamedFile → Done → Outcome
@@ -129,14 +131,15 @@ abbrev pub AreInBounds : List Log → Type 0
 AreInBounds logs = AllByRecursion IsInBounds logs
 
 -- a block of an advice may have a rank
-abbrev pub AllowsBlocks : Command (List ℕ) → Type 0
+abbrev pub AllowsBlocks : Command Text → Type 0
 AllowsBlocks (Advise run most) = 0 < most
 AllowsBlocks command = Unit {0}
 
 -- the files are written up to one that is not, or memory was out
-abbrev pub IsStopped : Option Files → Option Files → ℕ → ℕ → List NamedFile → Unwritten → Type 0
-IsStopped before after writes writes' files (Failed name) = HasRisen writes writes' × IsStoppedAt before after files (string_bytes name)
-IsStopped before after writes writes' files WriteMemory = ArePartlyWritten before after files
+abbrev pub IsStopped : FilesTold → FilesTold → List NamedFile → Unwritten → Type 0
+IsStopped before after files (Failed name) =
+    HasRisen before.writes after.writes × IsStoppedAt before.files after.files files (string_bytes name)
+IsStopped before after files WriteMemory = ArePartlyWritten before.files after.files files
 
 -- it is what these texts hold; the program's text is not longer than such a file may be
 pub record IsReady (texts : RunTexts) (ready : Ready) : Type 0 where
@@ -166,12 +169,12 @@ pub record IsCheckedRun (is_threaded : Bool) (ready : Ready) (checked : CheckedR
 -- ---- replaying
 
 -- the text of the program with which a log is replayed
-abbrev pub used_text : Log → Option (List ℕ) → List ℕ
+abbrev pub used_text : Log → Option Text → Text
 used_text log None = log.program
 used_text log (Some text) = text
 
 -- it is the log that the texts of files hold, which can be replayed, and the program for it
-pub record IsSubjectOf (texts : List (List ℕ)) (subject : Subject) : Type 0 where
+pub record IsSubjectOf (texts : List Text) (subject : Subject) : Type 0 where
   pub is_log : IsLogOf texts subject.log
   pub replayable : IsReplayable subject.log
   pub is_text : used_text subject.log subject.text ≡ program_text texts subject.log
@@ -209,14 +212,14 @@ pub record IsRunnerBy (is_threaded : Bool) (Takes : TakesReady) (Records : Gives
 -- ---- regrouping
 
 -- it is the log and the plan that the texts of files hold, and the program of the log, which can be refined by the plan
-pub record IsRefinementOf (texts : List (List ℕ)) (refinement : Refinement) : Type 0 where
+pub record IsRefinementOf (texts : List Text) (refinement : Refinement) : Type 0 where
   pub is_log : IsLogOf texts refinement.log
   pub is_plan : IsPlanOf texts refinement.plan
   pub can_refine : CanRefine refinement.log refinement.plan
   pub is_program : IsProgramOf refinement.log.program refinement.program
 
 -- they are the logs that the texts of files hold, which can be joined, and their program
-pub record ArePairOf (texts : List (List ℕ)) (pair : Pair) : Type 0 where
+pub record ArePairOf (texts : List Text) (pair : Pair) : Type 0 where
   pub are_logs : AreLogsOf texts pair.one pair.other
   pub can_join : CanJoin pair.one pair.other
   pub is_program : IsProgramOf pair.one.program pair.program

@@ -4,7 +4,7 @@ ghost use Rattle.srr_replay.specs.Rounds.{IsReplayable};
 ghost use Rattle.wiz_cli.specs.Commands.{AskForSerially, IsReport};
 ghost use Rattle.wiz_cli.specs.Promises.{IsComplete, NeverDiverges, ShowsEveryRun};
 ghost use Rattle.wiz_cli.specs.Steps.{AllowsBlocks, CanRun, Ends, EndsWords, IsFailureBy, refused_words};
-ghost use Rattle.wiz_cli.specs.World.{world};
+ghost use Rattle.wiz_cli.specs.Environment.{around};
 ghost use Rattle.wiz_words.specs.Texts.{texts, with_texts};
 ghost use Rattle.wiz_words.specs.Words.{AskFor, is_threaded};
 
@@ -50,10 +50,10 @@ pub fn wiz_serial<S: Store, K: Sink>(
     store: &mut S,
     out: &mut K,
 ) -> Report
-    ensures report { IsReport AskForSerially (texts words.now) (world (S.told store.old) (K.told out.old)) (world (S.told store.new) (K.told out.new)) result }
-    ensures headline { ShowsEveryRun AskForSerially (texts words.now) (world (S.told store.old) (K.told out.old)) result }
-    ensures never_diverges { NeverDiverges AskForSerially (texts words.now) (world (S.told store.old) (K.told out.old)) result }
-    ensures complete { IsComplete AskForSerially (texts words.now) (world (S.told store.old) (K.told out.old)) (world (S.told store.new) (K.told out.new)) result }
+    ensures report { IsReport AskForSerially (texts words.now) (around S.told K.told store out) result }
+    ensures headline { ShowsEveryRun AskForSerially (texts words.now) (around S.told K.told store out) result }
+    ensures never_diverges { NeverDiverges AskForSerially (texts words.now) (around S.told K.told store out) result }
+    ensures complete { IsComplete AskForSerially (texts words.now) (around S.told K.told store out) result }
 {
     let answered = answer_words(alloc, words, store, out);
     // Laws: arguments ask for one thing, and a program, a plan, an order or a log has one reading or one first fault, so that what is accepted
@@ -84,10 +84,10 @@ pub fn wiz<R: Threads + Wait + Sync, S: Store, K: Sink, G: Gate + Sync>(
     out: &mut K,
     gate: &G,
 ) -> Report
-    ensures report { IsReport AskFor (texts words.now) (world (S.told store.old) (K.told out.old)) (world (S.told store.new) (K.told out.new)) result }
-    ensures headline { ShowsEveryRun AskFor (texts words.now) (world (S.told store.old) (K.told out.old)) result }
-    ensures never_diverges { NeverDiverges AskFor (texts words.now) (world (S.told store.old) (K.told out.old)) result }
-    ensures complete { IsComplete AskFor (texts words.now) (world (S.told store.old) (K.told out.old)) (world (S.told store.new) (K.told out.new)) result }
+    ensures report { IsReport AskFor (texts words.now) (around S.told K.told store out) result }
+    ensures headline { ShowsEveryRun AskFor (texts words.now) (around S.told K.told store out) result }
+    ensures never_diverges { NeverDiverges AskFor (texts words.now) (around S.told K.told store out) result }
+    ensures complete { IsComplete AskFor (texts words.now) (around S.told K.told store out) result }
 {
     let answered = answer_words_on_threads(rt, alloc, words, store, out, gate);
     // Laws: arguments ask for one thing, and a program, a plan, an order or a log has one reading or one first fault, so that what is accepted
@@ -108,7 +108,7 @@ fn answer_words<'a, S: Store, K: Sink>(
     store: &mut S,
     out: &mut K,
 ) -> Result<Report, Failure<'a>>
-    ensures { EndsWords AskForSerially (texts words.now) (world (S.told store.old) (K.told out.old)) (world (S.told store.new) (K.told out.new)) result }
+    ensures { EndsWords AskForSerially (texts words.now) (around S.told K.told store out) result }
 {
     let Some(command) = read_command(alloc, words)? else {
         return Err(refused_words());
@@ -128,7 +128,7 @@ fn answer_words_on_threads<'a, R: Threads + Wait + Sync, S: Store, K: Sink, G: G
     out: &mut K,
     gate: &G,
 ) -> Result<Report, Failure<'a>>
-    ensures { EndsWords AskFor (texts words.now) (world (S.told store.old) (K.told out.old)) (world (S.told store.new) (K.told out.new)) result }
+    ensures { EndsWords AskFor (texts words.now) (around S.told K.told store out) result }
 {
     let Some(command) = read_command(alloc, words)? else {
         return Err(refused_words());
@@ -167,7 +167,7 @@ fn answer_serially<'a, S: Store, K: Sink>(
     requires serial { is_threaded (with_texts command) ≡ false }
     requires blocks { AllowsBlocks (with_texts command) }
     ensures serial { is_threaded (with_texts command.entry) ≡ false }
-    ensures ends { Ends (with_texts command.entry) (world (S.told store.old) (K.told out.old)) (world (S.told store.new) (K.told out.new)) result }
+    ensures ends { Ends (with_texts command.entry) (around S.told K.told store out) result }
 {
     answer(alloc, command, store, out, &Serial)
 }
@@ -183,7 +183,7 @@ fn answer<'a, S: Store, K: Sink, R: Runner>(
     requires blocks { AllowsBlocks (with_texts command) }
     requires threads { R.is_threaded ≡ is_threaded (with_texts command) }
     requires runs { R.runs runner.now }
-    ensures { Ends (with_texts command.entry) (world (S.told store.old) (K.told out.old)) (world (S.told store.new) (K.told out.new)) result }
+    ensures { Ends (with_texts command.entry) (around S.told K.told store out) result }
 {
     match command {
         Command::Record { run, prefix } => record(alloc, &run, prefix, store, out, runner),

@@ -2,7 +2,7 @@
 ghost use Rattle.std.specs.Prelude.{◌≡◌, ◌<◌, [], IfOk, true};
 ghost use Rattle.wiz_cli.specs.Commands.{TellsAdvice};
 ghost use Rattle.wiz_cli.specs.Steps.{Ends, IsMade, outcome_of};
-ghost use Rattle.wiz_cli.specs.World.{world};
+ghost use Rattle.wiz_cli.specs.Environment.{around};
 ghost use Rattle.wiz_words.specs.Texts.{run_with_texts};
 ghost use Rattle.wiz_words.specs.Words.{is_threaded_run};
 ghost use Rattle.wiz_words.specs.declared.command.Command.TheVariants.{Advise};
@@ -31,7 +31,7 @@ pub fn advise<'a, S: Store, K: Sink, R: Runner>(
     requires some { 0 < most }
     requires threads { R.is_threaded ≡ is_threaded_run (run_with_texts run.now) }
     requires runs { R.runs runner.now }
-    ensures { Ends (Advise (run_with_texts run.now) most) (world (S.told store.old) (K.told out.old)) (world (S.told store.new) (K.told out.new)) result }
+    ensures { Ends (Advise (run_with_texts run.now) most) (around S.told K.told store out) result }
 {
     let ready = read_run(alloc, run, store)?;
     let recording = runner.record(alloc, &ready)?;

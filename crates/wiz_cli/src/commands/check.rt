@@ -6,7 +6,7 @@ ghost use Rattle.srr_entry.specs.declared.log.Log.{Log};
 ghost use Rattle.wiz_cli.specs.Commands.{check_outcome};
 ghost use Rattle.wiz_cli.specs.Replayings.{IsReplayOf};
 ghost use Rattle.wiz_cli.specs.Steps.{CanRun, Ends, IsCheckedRun, IsKeptLog, outcome_of};
-ghost use Rattle.wiz_cli.specs.World.{world};
+ghost use Rattle.wiz_cli.specs.Environment.{around};
 ghost use Rattle.wiz_words.specs.Texts.{run_with_texts};
 ghost use Rattle.wiz_words.specs.Words.{is_threaded_run};
 ghost use Rattle.wiz_words.specs.declared.command.Command.TheVariants.{Check};
@@ -39,7 +39,7 @@ pub fn check<'a, S: Store, K: Sink, R: Runner>(
 ) -> Result<Report, Failure<'a>>
     requires threads { R.is_threaded ≡ is_threaded_run (run_with_texts run.now) }
     requires runs { R.runs runner.now }
-    ensures { Ends (Check (run_with_texts run.now)) (world (S.told store.old) (K.told out.old)) (world (S.told store.new) (K.told out.new)) result }
+    ensures { Ends (Check (run_with_texts run.now)) (around S.told K.told store out) result }
 {
     let ready = read_run(alloc, run, store)?;
     let checked = run_and_replay(alloc, &ready, runner)?;

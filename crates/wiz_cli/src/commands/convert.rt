@@ -3,7 +3,7 @@ ghost use Rattle.std.specs.Prelude.{◌≡◌, IfOk};
 ghost use Rattle.srr_text.specs.Bounds.{IsInBounds};
 ghost use Rattle.wiz_cli.specs.Commands.{convert_outcome, converted};
 ghost use Rattle.wiz_cli.specs.Steps.{Ends, IsToldBy};
-ghost use Rattle.wiz_cli.specs.World.{world};
+ghost use Rattle.wiz_cli.specs.Environment.{around};
 ghost use Rattle.wiz_words.specs.declared.command.Command.TheVariants.{Convert};
 
 use crate::failure::Failure;
@@ -27,7 +27,7 @@ pub fn convert<'a, S: Store, K: Sink>(
     store: &mut S,
     out: &mut K,
 ) -> Result<Report, Failure<'a>>
-    ensures { Ends (Convert name.now file.now is_text) (world (S.told store.old) (K.told out.old)) (world (S.told store.new) (K.told out.new)) result }
+    ensures { Ends (Convert name.now file.now is_text) (around S.told K.told store out) result }
 {
     let log = read_log_file(alloc, name, store)?;
     let bytes = converted(alloc, &log, is_text)?;
@@ -55,7 +55,7 @@ fn write<S: Store, K: Sink>(
     store: &mut S,
     out: &mut K,
 ) -> Result<Report, AllocError>
-    ensures told { IsToldBy (convert_outcome file.now bytes.now) (world (S.told store.old) (K.told out.old)) (world (S.told store.new) (K.told out.new)) result }
+    ensures told { IsToldBy (convert_outcome file.now bytes.now) (around S.told K.told store out) result }
     ensures reads { (S.told store.new).reads ≡ (S.told store.old).reads }
 {
     match store.write(file, bytes) {

@@ -1,7 +1,7 @@
 //! `demo SEED ROUNDS`: a program of sixteen ranks is checked on one thread.
 ghost use Rattle.std.specs.Prelude.{◌≡◌, false};
 ghost use Rattle.wiz_cli.specs.Steps.{Ends};
-ghost use Rattle.wiz_cli.specs.World.{world};
+ghost use Rattle.wiz_cli.specs.Environment.{around};
 ghost use Rattle.wiz_words.specs.declared.command.Command.TheVariants.{Demo};
 
 use crate::commands::check::run_and_replay;
@@ -27,7 +27,7 @@ pub fn demo<'a, S: Store, K: Sink, R: Runner>(
 ) -> Result<Report, Failure<'a>>
     requires threads { R.is_threaded ≡ false }
     requires runs { R.runs runner.now }
-    ensures { Ends (Demo seed rounds) (world (S.told store.old) (K.told out.old)) (world (S.told store.new) (K.told out.new)) result }
+    ensures { Ends (Demo seed rounds) (around S.told K.told store out) result }
 {
     let text = demo_program(alloc, seed, rounds)?;
     let ready = accept_run(alloc, text, PLAN, &None)?;

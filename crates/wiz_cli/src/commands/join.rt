@@ -4,7 +4,7 @@ ghost use Rattle.srr_regroup.specs.Joining.{CanJoin};
 ghost use Rattle.srr_regroup.specs.Regrouping.{both_groups, joined};
 ghost use Rattle.wiz_cli.specs.Regroupings.{done_outcome, join_outcome, log_file};
 ghost use Rattle.wiz_cli.specs.Steps.{AreJoinable, Ends, IsToldBy};
-ghost use Rattle.wiz_cli.specs.World.{world};
+ghost use Rattle.wiz_cli.specs.Environment.{around};
 ghost use Rattle.wiz_trace.specs.RegroupTexts.{joined_text};
 ghost use Rattle.wiz_words.specs.declared.command.Command.TheVariants.{Join};
 
@@ -34,7 +34,7 @@ pub fn join<'a, S: Store, K: Sink, R: Runner>(
     runner: &R,
 ) -> Result<Report, Failure<'a>>
     requires { R.runs runner.now }
-    ensures { Ends (Join one.now other.now file.now) (world (S.told store.old) (K.told out.old)) (world (S.told store.new) (K.told out.new)) result }
+    ensures { Ends (Join one.now other.now file.now) (around S.told K.told store out) result }
 {
     let pair = read_pair(alloc, one, other, store)?;
     let first = replay_own(alloc, &pair.program, &pair.one, runner)?;
@@ -56,7 +56,7 @@ fn tell_replayed<S: Store, K: Sink>(
     out: &mut K,
 ) -> Result<Report, AllocError>
     requires { AreJoinable pair.now.one first.events.events pair.now.other second.events.events }
-    ensures told { IsToldBy (join_outcome file.now pair.now.one first pair.now.other second) (world (S.told store.old) (K.told out.old)) (world (S.told store.new) (K.told out.new)) result }
+    ensures told { IsToldBy (join_outcome file.now pair.now.one first pair.now.other second) (around S.told K.told store out) result }
     ensures reads { (S.told store.new).reads ≡ (S.told store.old).reads }
 {
     match of_both(first.ends.as_slice(), second.ends.as_slice()) {
@@ -80,7 +80,7 @@ fn write_joined<S: Store, K: Sink>(
 ) -> Result<Report, AllocError>
     requires { AreJoinable pair.now.one first.events.events pair.now.other second.events.events }
     ensures told { let files = log_file file.now (joined pair.now.one first.events.events pair.now.other second.events.events) in
-        IsToldBy (done_outcome files (joined_text (both_groups pair.now.one pair.now.other)) (first ∷ second ∷ [])) (world (S.told store.old) (K.told out.old)) (world (S.told store.new) (K.told out.new)) result }
+        IsToldBy (done_outcome files (joined_text (both_groups pair.now.one pair.now.other)) (first ∷ second ∷ [])) (around S.told K.told store out) result }
     ensures reads { (S.told store.new).reads ≡ (S.told store.old).reads }
 {
     let made = srr_regroup::join(alloc, &pair.one, &first, &pair.other, &second)?;

@@ -4,7 +4,7 @@ ghost use Rattle.std.specs.Prelude.{◌≡◌, [], IfOk, true};
 ghost use Rattle.wiz_cli.specs.Commands.{TellsRaces};
 ghost use Rattle.wiz_cli.specs.Messages.{races_over_text};
 ghost use Rattle.wiz_cli.specs.Steps.{Ends, IsMade, outcome_of};
-ghost use Rattle.wiz_cli.specs.World.{world};
+ghost use Rattle.wiz_cli.specs.Environment.{around};
 ghost use Rattle.wiz_words.specs.Texts.{run_with_texts};
 ghost use Rattle.wiz_words.specs.Words.{is_threaded_run};
 ghost use Rattle.wiz_words.specs.declared.command.Command.TheVariants.{Races};
@@ -33,7 +33,7 @@ pub fn races<'a, S: Store, K: Sink, R: Runner>(
 ) -> Result<Report, Failure<'a>>
     requires threads { R.is_threaded ≡ is_threaded_run (run_with_texts run.now) }
     requires runs { R.runs runner.now }
-    ensures { Ends (Races (run_with_texts run.now)) (world (S.told store.old) (K.told out.old)) (world (S.told store.new) (K.told out.new)) result }
+    ensures { Ends (Races (run_with_texts run.now)) (around S.told K.told store out) result }
 {
     let ready = read_run(alloc, run, store)?;
     let recording = runner.record(alloc, &ready)?;

@@ -4,7 +4,7 @@ ghost use Rattle.wiz_cli.specs.Commands.{record_outcome};
 ghost use Rattle.wiz_cli.specs.Outcomes.{IsPut};
 ghost use Rattle.wiz_cli.specs.Output.{GrewByPart};
 ghost use Rattle.wiz_cli.specs.Steps.{AreInBounds, Ends, IsToldBy};
-ghost use Rattle.wiz_cli.specs.World.{world};
+ghost use Rattle.wiz_cli.specs.Environment.{around};
 ghost use Rattle.wiz_words.specs.Texts.{run_with_texts};
 ghost use Rattle.wiz_words.specs.Words.{is_threaded_run};
 ghost use Rattle.wiz_words.specs.declared.command.Command.TheVariants.{Record};
@@ -35,7 +35,7 @@ pub fn record<'a, S: Store, K: Sink, R: Runner>(
 ) -> Result<Report, Failure<'a>>
     requires threads { R.is_threaded ≡ is_threaded_run (run_with_texts run.now) }
     requires runs { R.runs runner.now }
-    ensures { Ends (Record (run_with_texts run.now) prefix.now) (world (S.told store.old) (K.told out.old)) (world (S.told store.new) (K.told out.new)) result }
+    ensures { Ends (Record (run_with_texts run.now) prefix.now) (around S.told K.told store out) result }
 {
     let ready = read_run(alloc, run, store)?;
     let recording = runner.record(alloc, &ready)?;
@@ -53,7 +53,7 @@ fn write<S: Store, K: Sink>(
 ) -> Result<Report, AllocError>
     requires in_bounds { AreInBounds recording.logs }
     requires few { length recording.logs ≤ 64 }
-    ensures told { IsToldBy (record_outcome prefix.now recording) (world (S.told store.old) (K.told out.old)) (world (S.told store.new) (K.told out.new)) result }
+    ensures told { IsToldBy (record_outcome prefix.now recording) (around S.told K.told store out) result }
     ensures reads { (S.told store.new).reads ≡ (S.told store.old).reads }
 {
     match write_files(alloc, prefix, &recording, store) {

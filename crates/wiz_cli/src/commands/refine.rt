@@ -5,7 +5,7 @@ ghost use Rattle.srr_regroup.specs.Regrouping.{refined};
 ghost use Rattle.wiz_cli.specs.Files.{AreWritten};
 ghost use Rattle.wiz_cli.specs.Regroupings.{done_outcome, part_file, part_files, refine_outcome};
 ghost use Rattle.wiz_cli.specs.Steps.{Ends, IsRegroupable, IsStopped, IsToldBy};
-ghost use Rattle.wiz_cli.specs.World.{world};
+ghost use Rattle.wiz_cli.specs.Environment.{around};
 ghost use Rattle.wiz_trace.specs.RegroupTexts.{refined_text};
 ghost use Rattle.wiz_words.specs.declared.command.Command.TheVariants.{Refine};
 
@@ -36,7 +36,7 @@ pub fn refine<'a, S: Store, K: Sink, R: Runner>(
     runner: &R,
 ) -> Result<Report, Failure<'a>>
     requires { R.runs runner.now }
-    ensures { Ends (Refine name.now plan.now prefix.now) (world (S.told store.old) (K.told out.old)) (world (S.told store.new) (K.told out.new)) result }
+    ensures { Ends (Refine name.now plan.now prefix.now) (around S.told K.told store out) result }
 {
     let refinement = read_refinement(alloc, name, plan, store)?;
     let replayed = replay_own(alloc, &refinement.program, &refinement.log, runner)?;
@@ -57,7 +57,7 @@ fn tell_replayed<S: Store, K: Sink>(
     out: &mut K,
 ) -> Result<Report, AllocError>
     requires { IsRegroupable refinement.now.log replayed.events.events }
-    ensures told { IsToldBy (refine_outcome prefix.now refinement.now.log refinement.now.plan replayed) (world (S.told store.old) (K.told out.old)) (world (S.told store.new) (K.told out.new)) result }
+    ensures told { IsToldBy (refine_outcome prefix.now refinement.now.log refinement.now.plan replayed) (around S.told K.told store out) result }
     ensures reads { (S.told store.new).reads ≡ (S.told store.old).reads }
 {
     match of_stands(replayed.ends.as_slice()) {
@@ -81,7 +81,7 @@ fn write_refined<S: Store, K: Sink>(
     requires { IsRegroupable refinement.now.log replayed.events.events }
     ensures told { let log = refinement.now.log in let groups = refinement.now.plan in
         let files = part_files prefix.now log.group (refined log replayed.events.events) 0 groups in
-        IsToldBy (done_outcome files (refined_text log.group groups) (replayed ∷ [])) (world (S.told store.old) (K.told out.old)) (world (S.told store.new) (K.told out.new)) result }
+        IsToldBy (done_outcome files (refined_text log.group groups) (replayed ∷ [])) (around S.told K.told store out) result }
     ensures reads { (S.told store.new).reads ≡ (S.told store.old).reads }
 {
     let text = refined_text(alloc, &refinement.log.group, &refinement.plan)?;
@@ -104,7 +104,7 @@ fn write_parts<S: Store>(
     ensures ok { let log = refinement.now.log in
         OnOk result (AreWritten (S.told store.old).files (S.told store.new).files (part_files prefix.now log.group (refined log replayed.now.events.events) k (drop k refinement.now.plan)) []) }
     ensures stopped { let log = refinement.now.log in
-        IfErr result (λ why. IsStopped (S.told store.old).files (S.told store.new).files (S.told store.old).writes (S.told store.new).writes (part_files prefix.now log.group (refined log replayed.now.events.events) k (drop k refinement.now.plan)) why) }
+        IfErr result (λ why. IsStopped (S.told store.old) (S.told store.new) (part_files prefix.now log.group (refined log replayed.now.events.events) k (drop k refinement.now.plan)) why) }
     ensures reads { (S.told store.new).reads ≡ (S.told store.old).reads }
     ensures later { (S.told store.old).writes ≤ (S.told store.new).writes }
 {
@@ -129,7 +129,7 @@ fn write_part<S: Store>(
     ensures ok { let log = refinement.now.log in
         OnOk result (AreWritten (S.told store.old).files (S.told store.new).files (part_file prefix.now log.group (refined log replayed.now.events.events) k (slice_index_or refinement.now.plan k [])) []) }
     ensures stopped { let log = refinement.now.log in
-        IfErr result (λ why. IsStopped (S.told store.old).files (S.told store.new).files (S.told store.old).writes (S.told store.new).writes (part_file prefix.now log.group (refined log replayed.now.events.events) k (slice_index_or refinement.now.plan k [])) why) }
+        IfErr result (λ why. IsStopped (S.told store.old) (S.told store.new) (part_file prefix.now log.group (refined log replayed.now.events.events) k (slice_index_or refinement.now.plan k [])) why) }
     ensures reads { (S.told store.new).reads ≡ (S.told store.old).reads }
     ensures later { (S.told store.old).writes ≤ (S.told store.new).writes }
 {

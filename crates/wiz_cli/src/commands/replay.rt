@@ -5,7 +5,7 @@ ghost use Rattle.wiz_cli.specs.Outcomes.{IsPut};
 ghost use Rattle.wiz_cli.specs.Output.{GrewByPart};
 ghost use Rattle.wiz_trace.specs.TraceTexts.{trace_text};
 ghost use Rattle.wiz_cli.specs.Steps.{Ends};
-ghost use Rattle.wiz_cli.specs.World.{world};
+ghost use Rattle.wiz_cli.specs.Environment.{around};
 ghost use Rattle.wiz_words.specs.Texts.{replay_with_texts};
 ghost use Rattle.wiz_words.specs.declared.command.Command.TheVariants.{Replay};
 
@@ -30,7 +30,7 @@ pub fn replay<'a, S: Store, K: Sink, R: Runner>(
     runner: &R,
 ) -> Result<Report, Failure<'a>>
     requires { R.runs runner.now }
-    ensures { Ends (Replay (replay_with_texts words.now)) (world (S.told store.old) (K.told out.old)) (world (S.told store.new) (K.told out.new)) result }
+    ensures { Ends (Replay (replay_with_texts words.now)) (around S.told K.told store out) result }
 {
     let subject = read_subject(alloc, words, store)?;
     let text = used_text(&subject.log, &subject.text);

@@ -1,6 +1,6 @@
 //! `show LOG`: the entries of a log are listed.
 ghost use Rattle.wiz_cli.specs.Steps.{Ends};
-ghost use Rattle.wiz_cli.specs.World.{world};
+ghost use Rattle.wiz_cli.specs.Environment.{around};
 ghost use Rattle.wiz_words.specs.declared.command.Command.TheVariants.{Show};
 
 use crate::failure::Failure;
@@ -17,7 +17,7 @@ pub fn show<'a, S: Store, K: Sink>(
     store: &mut S,
     out: &mut K,
 ) -> Result<Report, Failure<'a>>
-    ensures { Ends (Show name.now) (world (S.told store.old) (K.told out.old)) (world (S.told store.new) (K.told out.new)) result }
+    ensures { Ends (Show name.now) (around S.told K.told store out) result }
 {
     let log = read_log_file(alloc, name, store)?;
     let text = show_text(alloc, &log)?;

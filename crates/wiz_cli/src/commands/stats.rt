@@ -1,6 +1,6 @@
 //! `stats LOG`: the entries of a log are counted.
 ghost use Rattle.wiz_cli.specs.Steps.{Ends};
-ghost use Rattle.wiz_cli.specs.World.{world};
+ghost use Rattle.wiz_cli.specs.Environment.{around};
 ghost use Rattle.wiz_words.specs.declared.command.Command.TheVariants.{Stats};
 
 use crate::failure::Failure;
@@ -17,7 +17,7 @@ pub fn stats<'a, S: Store, K: Sink>(
     store: &mut S,
     out: &mut K,
 ) -> Result<Report, Failure<'a>>
-    ensures { Ends (Stats name.now) (world (S.told store.old) (K.told out.old)) (world (S.told store.new) (K.told out.new)) result }
+    ensures { Ends (Stats name.now) (around S.told K.told store out) result }
 {
     let log = read_log_file(alloc, name, store)?;
     let text = stats_text(alloc, &log)?;

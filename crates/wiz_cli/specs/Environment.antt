@@ -1,0 +1,25 @@
+-- The environment of a call: its files and its output, as it meets and leaves them.
+use denote.MutBor.{MutBor}
+use denote.Triple.Both.{Both}
+use Rattle.wiz_io.specs.Files.{FilesTold}
+use Rattle.wiz_io.specs.Output.{OutTold}
+
+pub record Environment : Type 0 where
+  pub store : FilesTold
+  pub out : OutTold
+
+abbrev pub environment : FilesTold → OutTold → Environment
+environment store out = record { store = store; out = out }
+
+-- that of a call before it and after it
+pub record Around : Type 0 where
+  pub before : Environment
+  pub after : Environment
+
+abbrev pub between : Environment → Environment → Around
+between before after = record { before = before; after = after }
+
+-- by what the store and the sink of the call tell
+abbrev pub around : {S K : Type 0} → (S → FilesTold) → (K → OutTold) → Both (MutBor S) (MutBor S) → Both (MutBor K) (MutBor K) → Around
+around store_told out_told store out =
+    between (environment (store_told store.entry.now) (out_told out.entry.now)) (environment (store_told store.exit.now) (out_told out.exit.now))
