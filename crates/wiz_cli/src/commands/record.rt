@@ -78,7 +78,7 @@ fn tell_recording<K: Sink>(
     out: &mut K,
 ) -> Result<Report, AllocError>
     ensures put { IfOk result (λ report. (prefix : List ℕ) → IsPut (record_outcome prefix recording) (K.told out.old) (K.told out.new) report) }
-    ensures short { OnErr result (GrewByPart (K.told out.old).bytes (K.told out.new).bytes (record_text recording.outputs recording.ending)) }
+    ensures err { OnErr result (GrewByPart (K.told out.old).bytes (K.told out.new).bytes (record_text recording.outputs recording.ending)) }
 {
     let text = record_text(alloc, &recording.outputs, &recording.ending)?;
     let done = Done {

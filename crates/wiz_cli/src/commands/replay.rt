@@ -53,7 +53,7 @@ fn tell_replay<K: Sink>(
     out: &mut K,
 ) -> Result<Report, AllocError>
     ensures put { IfOk result (IsPut (replay_outcome replayed) (K.told out.old) (K.told out.new)) }
-    ensures short { OnErr result (GrewByPart (K.told out.old).bytes (K.told out.new).bytes (trace_text replayed)) }
+    ensures err { OnErr result (GrewByPart (K.told out.old).bytes (K.told out.new).bytes (trace_text replayed)) }
 {
     let text = trace_text(alloc, &replayed)?;
     let status = of_stands(replayed.ends.as_slice());
