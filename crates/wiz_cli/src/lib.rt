@@ -4,6 +4,7 @@
 mod accept;
 pub mod commands;
 pub mod failure;
+pub mod finish;
 mod inputs;
 pub mod limits;
 mod message;

@@ -1,7 +1,6 @@
 //! `check PROGRAM PLAN [--serial]`: a run is recorded, and each group is replayed from the bytes of its log.
 ghost use Rattle.std.specs.Prelude.{◌≡◌, [], IfOk, None};
 ghost use Rattle.std.specs.List.{AllByRecursion, AllZip};
-ghost use Rattle.c_types.specs.Checks.{IsProgramOf};
 ghost use Rattle.srr_entry.specs.declared.log.Log.{Log};
 ghost use Rattle.wiz_cli.specs.Commands.{check_outcome};
 ghost use Rattle.wiz_cli.specs.Replayings.{IsReplayOf};

@@ -7,16 +7,16 @@ ghost use Rattle.wiz_cli.specs.Environment.{around};
 ghost use Rattle.wiz_words.specs.declared.command.Command.TheVariants.{Convert};
 
 use crate::failure::Failure;
+use crate::finish::finish;
 use crate::replaying::subject::read_log_file;
-use crate::report::{Report, tell_unwritten};
-use crate::status::Status;
-use replay_model::replayed::Replays;
+use crate::report::{Report, text_alone};
+use crate::writing::write_file;
 use srr_entry::log::Log;
 use srr_log2::write_log2::write_log2;
 use srr_text::write_log::write_log;
 use std::alloc::{AllocError, Global};
 use wiz_base::Bytes;
-use wiz_io::{Sink, Store, WriteFault};
+use wiz_io::{Sink, Store};
 
 /// Writes the log of one file to another: in format 1 where `is_text`, else in format 2.
 pub fn convert<'a, S: Store, K: Sink>(
@@ -58,9 +58,7 @@ fn write<S: Store, K: Sink>(
     ensures told { IsToldBy (convert_outcome file.now bytes.now) (around S.told K.told store out) result }
     ensures reads { (S.told store.new).reads ≡ (S.told store.old).reads }
 {
-    match store.write(file, bytes) {
-        Ok(()) => Ok(Report::new(Status::Done, None, Replays::new(alloc))),
-        Err(WriteFault::Failed) => tell_unwritten(alloc, file, None, Replays::new(alloc), out),
-        Err(WriteFault::NoMemory) => Err(AllocError),
-    }
+    let written = write_file(alloc, file, bytes, store);
+    let done = text_alone(alloc, Bytes::new(alloc));
+    finish(alloc, written, done, out)
 }

@@ -1,6 +1,5 @@
 //! `join LOG OTHER FILE`: two logs are replayed, each alone, and the log of both groups together is written.
-ghost use Rattle.std.specs.Prelude.{◌≡◌, ◌∷◌, [], IfOk};
-ghost use Rattle.srr_regroup.specs.Joining.{CanJoin};
+ghost use Rattle.std.specs.Prelude.{◌≡◌, ◌∷◌, []};
 ghost use Rattle.srr_regroup.specs.Regrouping.{both_groups, joined};
 ghost use Rattle.wiz_cli.specs.Regroupings.{done_outcome, join_outcome, log_file};
 ghost use Rattle.wiz_cli.specs.Steps.{AreJoinable, Ends, IsToldBy};
@@ -9,10 +8,11 @@ ghost use Rattle.wiz_trace.specs.RegroupTexts.{joined_text};
 ghost use Rattle.wiz_words.specs.declared.command.Command.TheVariants.{Join};
 
 use crate::failure::Failure;
+use crate::finish::finish;
 use crate::regrouping::make::{replay_own, two_replays};
 use crate::regrouping::subject::{Pair, read_pair};
-use crate::regrouping::tell::{tell_traces, tell_written};
-use crate::report::Report;
+use crate::regrouping::tell::tell_traces;
+use crate::report::{Report, text_of_replays};
 use crate::runner::Runner;
 use crate::status::{Status, of_both};
 use crate::writing::write_file;
@@ -88,5 +88,6 @@ fn write_joined<S: Store, K: Sink>(
     let bytes = write_log2(alloc, &made)?;
     let replays = two_replays(alloc, first, second)?;
     let written = write_file(alloc, file, bytes.as_slice(), store);
-    tell_written(alloc, written, text, replays, out)
+    let done = text_of_replays(text, Status::Done, replays);
+    finish(alloc, written, done, out)
 }

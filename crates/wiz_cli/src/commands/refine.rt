@@ -10,11 +10,12 @@ ghost use Rattle.wiz_trace.specs.RegroupTexts.{refined_text};
 ghost use Rattle.wiz_words.specs.declared.command.Command.TheVariants.{Refine};
 
 use crate::failure::Failure;
+use crate::finish::finish;
 use crate::regrouping::make::{groups_rise, replay_own};
 use crate::regrouping::subject::{Refinement, read_refinement};
-use crate::regrouping::tell::{tell_traces, tell_written};
+use crate::regrouping::tell::tell_traces;
 use crate::replaying::make::one_replay;
-use crate::report::Report;
+use crate::report::{Report, text_of_replays};
 use crate::runner::Runner;
 use crate::status::{Status, of_stands};
 use crate::writing::{Unwritten, write_log_file};
@@ -87,7 +88,8 @@ fn write_refined<S: Store, K: Sink>(
     let text = refined_text(alloc, &refinement.log.group, &refinement.plan)?;
     let written = write_parts(alloc, prefix, 0, refinement, &replayed, store);
     let replays = one_replay(alloc, replayed)?;
-    tell_written(alloc, written, text, replays, out)
+    let done = text_of_replays(text, Status::Done, replays);
+    finish(alloc, written, done, out)
 }
 
 /// Writes the log of each plan group from `k` on that lies in the log's group.

@@ -12,7 +12,7 @@ ghost use Rattle.wiz_words.specs.declared.command.Command.TheVariants.{Replay};
 use crate::failure::Failure;
 use crate::replaying::make::{one_replay, replay_text};
 use crate::replaying::subject::{read_subject, used_text};
-use crate::report::{Done, Report, tell};
+use crate::report::{Report, tell, text_of_replays};
 use crate::runner::Runner;
 use crate::status::of_stands;
 use replay_model::replayed::Replayed;
@@ -58,11 +58,5 @@ fn tell_replay<K: Sink>(
     let text = trace_text(alloc, &replayed)?;
     let status = of_stands(replayed.ends.as_slice());
     let replays = one_replay(alloc, replayed)?;
-    let done = Done {
-        text,
-        status,
-        run: None,
-        replays,
-    };
-    tell(done, out)
+    tell(text_of_replays(text, status, replays), out)
 }
