@@ -3,9 +3,9 @@ use crate::programs::{BAD_RANK, CHAIN, CYCLE, DEMO, FIRST};
 use crate::serial::{answers, files};
 use run_model::history::History;
 use std::alloc::Global;
-use wiz_cli::report::Report;
 use wiz_cli::top::wiz_serial;
 use wiz_io::{MemorySink, MemoryStore};
+use wiz_tool::report::Report;
 
 const CHECK: &[&str] = &["check", "P", "Q", "--serial"];
 

@@ -3,9 +3,9 @@ use crate::programs::{CYCLE, FIRST, TWO_SENDERS};
 use crate::serial::{answers, files};
 use std::alloc::{AllocError, Global};
 use wiz_base::{Bytes, push_decimal, push_text};
-use wiz_cli::report::Report;
 use wiz_cli::top::wiz_serial;
 use wiz_io::MemorySink;
+use wiz_tool::report::Report;
 
 const SERIAL: &[&str] = &["races", "P", "Q", "--serial"];
 

@@ -9,7 +9,7 @@ use Rattle.mpi_call.specs.declared.limits.TheConstants.{GREATEST_TAG, MOST_EVENT
 use Rattle.msg_races.specs.Names.{most_others}
 use Rattle.srr_text.specs.declared.limits.TheConstants.{GREATEST_NUMBER, MOST_ENTRIES, MOST_PROGRAM_BYTES}
 use Rattle.wiz_words.specs.Limits.{fewest_ranks, fewest_rounds, greatest_call, greatest_rank, greatest_seed, most_ranks, most_rounds}
-use Rattle.wiz_cli.specs.Inputs.{order_limit, text_limit}
+use Rattle.wiz_tool.specs.Inputs.{order_limit, text_limit}
 
 pub record AreTheLimits : Type 0 where
   -- an input file: the most bytes of a program or a plan

@@ -1,21 +1,23 @@
 //! `advise PROGRAM PLAN K [--order FILE] [--serial]`: a run is recorded, and the blocks of ranks are told whose logs keep the fewest ints.
 ghost use Rattle.std.specs.Prelude.{◌≡◌, ◌<◌, [], IfOk, true};
 ghost use Rattle.wiz_cli.specs.Commands.{TellsAdvice};
-ghost use Rattle.wiz_cli.specs.Steps.{Ends, IsMade, outcome_of};
-ghost use Rattle.wiz_cli.specs.Environment.{around};
+ghost use Rattle.wiz_cli.specs.inside.Ends.{Ends};
+ghost use Rattle.wiz_cli.specs.inside.Recording.{IsMade};
+ghost use Rattle.wiz_tool.specs.inside.Told.{outcome_of};
+ghost use Rattle.wiz_tool.specs.Environment.{around};
 ghost use Rattle.wiz_words.specs.Texts.{run_with_texts};
 ghost use Rattle.wiz_words.specs.Words.{is_threaded_run};
 ghost use Rattle.wiz_words.specs.declared.command.Command.TheVariants.{Advise};
 
-use crate::failure::Failure;
 use crate::recording::ready::{Ready, read_run};
-use crate::report::{Done, Report, tell, text_of_run};
 use crate::runner::Runner;
-use crate::status::of_ending;
 use plan_advice::{every_cutting_costs, one_advice, plan_cost};
 use srr_record::Recording;
 use std::alloc::{AllocError, Global};
 use wiz_io::{Sink, Store};
+use wiz_tool::failure::Failure;
+use wiz_tool::report::{Done, Report, tell, text_of_run};
+use wiz_tool::status::of_ending;
 use wiz_trace::advice::advice_text;
 use wiz_words::command::RunWords;
 

@@ -2,21 +2,22 @@
 ghost use Rattle.std.specs.Prelude.{◌≡◌, IfOk};
 ghost use Rattle.srr_text.specs.Bounds.{IsInBounds};
 ghost use Rattle.wiz_cli.specs.Commands.{convert_outcome, converted};
-ghost use Rattle.wiz_cli.specs.Steps.{Ends, IsToldBy};
-ghost use Rattle.wiz_cli.specs.Environment.{around};
+ghost use Rattle.wiz_cli.specs.inside.Ends.{Ends};
+ghost use Rattle.wiz_tool.specs.inside.Told.{IsToldBy};
+ghost use Rattle.wiz_tool.specs.Environment.{around};
 ghost use Rattle.wiz_words.specs.declared.command.Command.TheVariants.{Convert};
 
-use crate::failure::Failure;
-use crate::finish::finish;
 use crate::replaying::subject::read_log_file;
-use crate::report::{Report, text_alone};
-use crate::writing::write_file;
 use srr_entry::log::Log;
 use srr_log2::write_log2::write_log2;
 use srr_text::write_log::write_log;
 use std::alloc::{AllocError, Global};
 use wiz_base::Bytes;
 use wiz_io::{Sink, Store};
+use wiz_tool::failure::Failure;
+use wiz_tool::finish::finish;
+use wiz_tool::report::{Report, text_alone};
+use wiz_tool::writing::write_file;
 
 /// Writes the log of one file to another: in format 1 where `is_text`, else in format 2.
 pub fn convert<'a, S: Store, K: Sink>(

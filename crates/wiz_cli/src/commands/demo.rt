@@ -1,16 +1,16 @@
 //! `demo SEED ROUNDS`: a program of sixteen ranks is checked on one thread.
 ghost use Rattle.std.specs.Prelude.{◌≡◌, false};
-ghost use Rattle.wiz_cli.specs.Steps.{Ends};
-ghost use Rattle.wiz_cli.specs.Environment.{around};
+ghost use Rattle.wiz_cli.specs.inside.Ends.{Ends};
+ghost use Rattle.wiz_tool.specs.Environment.{around};
 ghost use Rattle.wiz_words.specs.declared.command.Command.TheVariants.{Demo};
 
 use crate::commands::check::run_and_replay;
-use crate::failure::Failure;
 use crate::recording::ready::accept_run;
-use crate::report::{Report, tell};
 use crate::runner::Runner;
 use std::alloc::Global;
 use wiz_io::{Sink, Store};
+use wiz_tool::failure::Failure;
+use wiz_tool::report::{Report, tell};
 use wiz_trace::demo::{demo_program, demo_text};
 
 /// Four groups of four ranks.

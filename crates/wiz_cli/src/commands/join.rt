@@ -2,25 +2,27 @@
 ghost use Rattle.std.specs.Prelude.{◌≡◌, ◌∷◌, []};
 ghost use Rattle.srr_regroup.specs.Regrouping.{both_groups, joined};
 ghost use Rattle.wiz_cli.specs.Regroupings.{done_outcome, join_outcome, log_file};
-ghost use Rattle.wiz_cli.specs.Steps.{AreJoinable, Ends, IsToldBy};
-ghost use Rattle.wiz_cli.specs.Environment.{around};
+ghost use Rattle.wiz_cli.specs.inside.Ends.{Ends};
+ghost use Rattle.wiz_cli.specs.inside.Regrouping.{AreJoinable};
+ghost use Rattle.wiz_tool.specs.inside.Told.{IsToldBy};
+ghost use Rattle.wiz_tool.specs.Environment.{around};
 ghost use Rattle.wiz_trace.specs.RegroupTexts.{joined_text};
 ghost use Rattle.wiz_words.specs.declared.command.Command.TheVariants.{Join};
 
-use crate::failure::Failure;
-use crate::finish::finish;
 use crate::regrouping::make::{replay_own, two_replays};
 use crate::regrouping::subject::{Pair, read_pair};
 use crate::regrouping::tell::tell_traces;
-use crate::report::{Report, text_of_replays};
 use crate::runner::Runner;
-use crate::status::{Status, of_both};
-use crate::writing::write_file;
 use log_bounds::ints32::replies_fit;
 use replay_model::replayed::Replayed;
 use srr_log2::write_log2::write_log2;
 use std::alloc::{AllocError, Global};
 use wiz_io::{Sink, Store};
+use wiz_tool::failure::Failure;
+use wiz_tool::finish::finish;
+use wiz_tool::report::{Report, text_of_replays};
+use wiz_tool::status::{Status, of_both};
+use wiz_tool::writing::write_file;
 use wiz_trace::regroup::joined_text;
 
 /// Joins two logs: `runner` runs the ranks.

@@ -1,25 +1,26 @@
 //! `races PROGRAM PLAN [--order FILE] [--serial]`: a run is recorded, and for each wildcard receive the messages are told that it could have
 //! taken.
 ghost use Rattle.std.specs.Prelude.{◌≡◌, [], IfOk, true};
-ghost use Rattle.wiz_cli.specs.Commands.{TellsRaces};
-ghost use Rattle.wiz_cli.specs.Messages.{races_over_text};
-ghost use Rattle.wiz_cli.specs.Steps.{Ends, IsMade, outcome_of};
-ghost use Rattle.wiz_cli.specs.Environment.{around};
+ghost use Rattle.wiz_cli.specs.Commands.{TellsRaces, races_over_text};
+ghost use Rattle.wiz_cli.specs.inside.Ends.{Ends};
+ghost use Rattle.wiz_cli.specs.inside.Recording.{IsMade};
+ghost use Rattle.wiz_tool.specs.inside.Told.{outcome_of};
+ghost use Rattle.wiz_tool.specs.Environment.{around};
 ghost use Rattle.wiz_words.specs.Texts.{run_with_texts};
 ghost use Rattle.wiz_words.specs.Words.{is_threaded_run};
 ghost use Rattle.wiz_words.specs.declared.command.Command.TheVariants.{Races};
 
-use crate::failure::Failure;
 use crate::recording::ready::{Ready, read_run};
-use crate::report::{Done, Report, tell, text_of_run};
 use crate::runner::Runner;
-use crate::status::{Status, of_ending};
 use msg_races::fault::{MOST_OTHERS, RaceFault};
 use msg_races::laws::one_list;
 use srr_record::Recording;
 use std::alloc::{AllocError, Global};
 use wiz_base::{Bytes, push_decimal, push_text};
 use wiz_io::{Sink, Store};
+use wiz_tool::failure::Failure;
+use wiz_tool::report::{Done, Report, tell, text_of_run};
+use wiz_tool::status::{Status, of_ending};
 use wiz_trace::races::races_text;
 use wiz_words::command::RunWords;
 

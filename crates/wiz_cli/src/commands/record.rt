@@ -1,22 +1,24 @@
 //! `record PROGRAM PLAN PREFIX [--order FILE] [--serial]`: a run is recorded, and the log of each group and the order are written.
 ghost use Rattle.std.specs.Prelude.{◌≡◌, ◌≤◌, length};
 ghost use Rattle.wiz_cli.specs.Commands.{record_outcome};
-ghost use Rattle.wiz_cli.specs.Steps.{AreInBounds, Ends, IsToldBy};
-ghost use Rattle.wiz_cli.specs.Environment.{around};
+ghost use Rattle.wiz_cli.specs.inside.Ends.{Ends};
+ghost use Rattle.wiz_cli.specs.inside.Recording.{AreInBounds};
+ghost use Rattle.wiz_tool.specs.inside.Told.{IsToldBy};
+ghost use Rattle.wiz_tool.specs.Environment.{around};
 ghost use Rattle.wiz_words.specs.Texts.{run_with_texts};
 ghost use Rattle.wiz_words.specs.Words.{is_threaded_run};
 ghost use Rattle.wiz_words.specs.declared.command.Command.TheVariants.{Record};
 
 use crate::commands::record_files::write_files;
-use crate::failure::Failure;
-use crate::finish::finish;
 use crate::recording::ready::read_run;
-use crate::report::{Report, text_of_run};
 use crate::runner::Runner;
-use crate::status::of_ending;
 use srr_record::Recording;
 use std::alloc::{AllocError, Global};
 use wiz_io::{Sink, Store};
+use wiz_tool::failure::Failure;
+use wiz_tool::finish::finish;
+use wiz_tool::report::{Report, text_of_run};
+use wiz_tool::status::of_ending;
 use wiz_trace::recording::record_text;
 use wiz_words::command::RunWords;
 

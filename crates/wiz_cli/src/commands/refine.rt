@@ -2,28 +2,30 @@
 ghost use Rattle.std.specs.Prelude.{◌≡◌, ◌≤◌, ◌<◌, ◌∷◌, [], IfErr, OnOk, drop, length};
 ghost use Rattle.std.specs.List.{slice_index_or};
 ghost use Rattle.srr_regroup.specs.Regrouping.{refined};
-ghost use Rattle.wiz_cli.specs.Files.{AreWritten};
+ghost use Rattle.wiz_tool.specs.Files.{AreWritten};
 ghost use Rattle.wiz_cli.specs.Regroupings.{done_outcome, part_file, part_files, refine_outcome};
-ghost use Rattle.wiz_cli.specs.Steps.{Ends, IsRegroupable, IsStopped, IsToldBy};
-ghost use Rattle.wiz_cli.specs.Environment.{around};
+ghost use Rattle.wiz_cli.specs.inside.Ends.{Ends};
+ghost use Rattle.wiz_cli.specs.inside.Regrouping.{IsRegroupable};
+ghost use Rattle.wiz_tool.specs.inside.Told.{IsStopped, IsToldBy};
+ghost use Rattle.wiz_tool.specs.Environment.{around};
 ghost use Rattle.wiz_trace.specs.RegroupTexts.{refined_text};
 ghost use Rattle.wiz_words.specs.declared.command.Command.TheVariants.{Refine};
 
-use crate::failure::Failure;
-use crate::finish::finish;
 use crate::regrouping::make::{groups_rise, replay_own};
 use crate::regrouping::subject::{Refinement, read_refinement};
 use crate::regrouping::tell::tell_traces;
 use crate::replaying::make::one_replay;
-use crate::report::{Report, text_of_replays};
 use crate::runner::Runner;
-use crate::status::{Status, of_stands};
-use crate::writing::{Unwritten, write_log_file};
 use log_bounds::ints32::replies_fit;
 use replay_model::replayed::Replayed;
 use srr_regroup::are_within;
 use std::alloc::{AllocError, Global};
 use wiz_io::{Sink, Store};
+use wiz_tool::failure::Failure;
+use wiz_tool::finish::finish;
+use wiz_tool::report::{Report, text_of_replays};
+use wiz_tool::status::{Status, of_stands};
+use wiz_tool::writing::{Unwritten, write_log_file};
 use wiz_trace::regroup::refined_text;
 
 /// Refines a log by a plan: `runner` runs the ranks.

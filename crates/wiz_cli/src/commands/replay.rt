@@ -1,23 +1,23 @@
 //! `replay LOG [--program FILE] [--break R:C] [--serial]`: the group of a log is replayed.
 ghost use Rattle.std.specs.Prelude.{IfOk, OnErr};
 ghost use Rattle.wiz_cli.specs.Commands.{replay_outcome};
-ghost use Rattle.wiz_cli.specs.Outcomes.{IsPut};
-ghost use Rattle.wiz_cli.specs.Output.{GrewByPart};
+ghost use Rattle.wiz_tool.specs.Outcomes.{IsPut};
+ghost use Rattle.wiz_tool.specs.Output.{GrewByPart};
 ghost use Rattle.wiz_trace.specs.TraceTexts.{trace_text};
-ghost use Rattle.wiz_cli.specs.Steps.{Ends};
-ghost use Rattle.wiz_cli.specs.Environment.{around};
+ghost use Rattle.wiz_cli.specs.inside.Ends.{Ends};
+ghost use Rattle.wiz_tool.specs.Environment.{around};
 ghost use Rattle.wiz_words.specs.Texts.{replay_with_texts};
 ghost use Rattle.wiz_words.specs.declared.command.Command.TheVariants.{Replay};
 
-use crate::failure::Failure;
 use crate::replaying::make::{one_replay, replay_text};
 use crate::replaying::subject::{read_subject, used_text};
-use crate::report::{Report, tell, text_of_replays};
 use crate::runner::Runner;
-use crate::status::of_stands;
 use replay_model::replayed::Replayed;
 use std::alloc::{AllocError, Global};
 use wiz_io::{Sink, Store};
+use wiz_tool::failure::Failure;
+use wiz_tool::report::{Report, tell, text_of_replays};
+use wiz_tool::status::of_stands;
 use wiz_trace::trace::trace_text;
 use wiz_words::command::ReplayWords;
 

@@ -1,13 +1,13 @@
 //! `show LOG`: the entries of a log are listed.
-ghost use Rattle.wiz_cli.specs.Steps.{Ends};
-ghost use Rattle.wiz_cli.specs.Environment.{around};
+ghost use Rattle.wiz_cli.specs.inside.Ends.{Ends};
+ghost use Rattle.wiz_tool.specs.Environment.{around};
 ghost use Rattle.wiz_words.specs.declared.command.Command.TheVariants.{Show};
 
-use crate::failure::Failure;
 use crate::replaying::subject::read_log_file;
-use crate::report::{Report, tell, text_alone};
 use std::alloc::Global;
 use wiz_io::{Sink, Store};
+use wiz_tool::failure::Failure;
+use wiz_tool::report::{Report, tell, text_alone};
 use wiz_trace::show::show_text;
 
 /// Lists the log of this file.

@@ -1,13 +1,13 @@
 //! `stats LOG`: the entries of a log are counted.
-ghost use Rattle.wiz_cli.specs.Steps.{Ends};
-ghost use Rattle.wiz_cli.specs.Environment.{around};
+ghost use Rattle.wiz_cli.specs.inside.Ends.{Ends};
+ghost use Rattle.wiz_tool.specs.Environment.{around};
 ghost use Rattle.wiz_words.specs.declared.command.Command.TheVariants.{Stats};
 
-use crate::failure::Failure;
 use crate::replaying::subject::read_log_file;
-use crate::report::{Report, tell, text_alone};
 use std::alloc::Global;
 use wiz_io::{Sink, Store};
+use wiz_tool::failure::Failure;
+use wiz_tool::report::{Report, tell, text_alone};
 use wiz_trace::stats::stats_text;
 
 /// Counts the entries of the log of this file.

@@ -1,0 +1,31 @@
+-- What is replayed, and the replay of it.
+use Rattle.std.specs.Prelude.{◌≡◌, List, Option, Some, None}
+use Rattle.clap.specs.Words.{Text}
+use Rattle.c_program.specs.declared.program.CProgram.{CProgram}
+use Rattle.c_program.specs.Program.{next_of, output_of, variables_of}
+use Rattle.c_types.specs.Checks.{IsProgramOf}
+use Rattle.replay_model.specs.declared.replayed.Replayed.{Replayed}
+use Rattle.replay_model.specs.Laws.{IsReplayOfEveryRun}
+use Rattle.replay_model.specs.Replays.{Breakpoint}
+use Rattle.replay_model.specs.Stands.{IsReplayed}
+use Rattle.srr_entry.specs.declared.log.Log.{Log}
+use Rattle.srr_replay.specs.Rounds.{IsReplayable}
+use Rattle.wiz_cli.specs.declared.replaying.subject.Subject.{Subject}
+use Rattle.wiz_cli.specs.Commands.{IsLogOf, program_text}
+
+-- the text of the program with which a log is replayed
+abbrev pub used_text : Log → Option Text → Text
+used_text log None = log.program
+used_text log (Some text) = text
+
+-- it is the log that the texts of files hold, which can be replayed, and the program for it
+pub record IsSubjectOf (texts : List Text) (subject : Subject) : Type 0 where
+  pub is_log : IsLogOf texts subject.log
+  pub replayable : IsReplayable subject.log
+  pub is_text : used_text subject.log subject.text ≡ program_text texts subject.log
+  pub is_program : IsProgramOf (used_text subject.log subject.text) subject.program
+
+-- a whole replay of a log's group with a program, beside every run of the program with that log
+pub record IsReplayBy (program : CProgram) (log : Log) (stop : Breakpoint) (replayed : Replayed) : Type 0 where
+  pub replay : IsReplayed (next_of program) (output_of program) (variables_of program) log stop replayed
+  pub runs : IsReplayOfEveryRun (next_of program) (output_of program) log stop replayed

@@ -1,0 +1,9 @@
+pub mod Environment
+pub mod Files
+pub mod Inputs
+pub mod LogFiles
+pub mod Messages
+pub mod Outcomes
+pub mod Output
+pub mod Statuses
+pub mod inside
