@@ -1,6 +1,7 @@
 -- The input files of a command, read in order.
 use Rattle.std.specs.Prelude.{◌≡◌, ◌<◌, ◌≤◌, ◌⊎◌, ℕ, List, [], ◌∷◌, Option, Some, None, IfSome, length}
 use Rattle.wiz_io.specs.Files.{Files, FilesTold, HasRisen}
+use Rattle.wiz_tool.specs.declared.inputs.TheConstants.{ORDER_LIMIT, TEXT_LIMIT}
 use Rattle.wiz_tool.specs.declared.refusal.Refusal.{Refusal}
 use Rattle.wiz_tool.specs.declared.refusal.Refusal.TheVariants.{Missing, ReadFault, TooLong}
 
@@ -11,10 +12,10 @@ pub record Input : Type 0 where
 
 -- the most bytes of a program and of a plan, and of an order; that of a log is `log_limit`
 abbrev pub text_limit : ℕ
-text_limit = 65536
+text_limit = TEXT_LIMIT
 
 abbrev pub order_limit : ℕ
-order_limit = 8388608
+order_limit = ORDER_LIMIT
 
 abbrev pub input : ℕ → List ℕ → Input
 input limit name = record { name = name; limit = limit }
