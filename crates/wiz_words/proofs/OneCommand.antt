@@ -4,7 +4,7 @@ use Rattle.wiz_base.specs.Decimals.{decimal_text}
 use Rattle.wiz_base.proofs.DecimalLaws.{decimal_text-and_rest, decimal_text_injective}
 use Rattle.clap.specs.Words.{Row, Text, matches_of}
 use Rattle.wiz_words.specs.declared.command.Command.{Command}
-use Rattle.wiz_words.specs.declared.command.Command.TheVariants.{Record, Check, Races, Advise, Demo, Replay, Show, Stats, Convert, Refine, Join}
+use Rattle.wiz_words.specs.declared.command.Command.TheVariants.{Record, Check, Races, Advise, Demo, Replay, Show, Stats, Convert, Refine, Join, Diff, Waits}
 use Rattle.wiz_words.specs.declared.command.ReplayWords.{ReplayWords}
 use Rattle.wiz_words.specs.declared.command.RunWords.{RunWords}
 use Rattle.wiz_words.specs.declared.command.Verb.{Verb}
@@ -80,6 +80,8 @@ one_said given (Refine log plan prefix) (Refine other groups front) same a b =
     refine_is _ _ _ _ _ _ (one_text _ _ _ a.0 b.0) (one_text _ _ _ a.1 b.1) (one_text _ _ _ a.2 b.2)
 one_said given (Join one other file) (Join first second name) same a b =
     join_is _ _ _ _ _ _ (one_text _ _ _ a.0 b.0) (one_text _ _ _ a.1 b.1) (one_text _ _ _ a.2 b.2)
+one_said given (Diff one other) (Diff first second) same a b = ap₂ Diff (one_text _ _ _ a.0 b.0) (one_text _ _ _ a.1 b.1)
+one_said given (Waits r) (Waits s) same a b = ap Waits (one_run given _ r s a b)
 one_said given one other same a b = absurd (cc)
 
 pub one_command : AskForOneThing

@@ -3,7 +3,7 @@ use Rattle.std.proofs.Common.{◌≡◌, ap, refl, Option, Some, None, Bor, is_s
 use Rattle.std.specs.Prelude.{◌&&◌, Bool, not, option_map}
 use Rattle.clap.specs.Words.{Text}
 use Rattle.wiz_words.specs.declared.command.Command.{Command}
-use Rattle.wiz_words.specs.declared.command.Command.TheVariants.{Record, Check, Races, Advise, Demo, Replay, Show, Stats, Convert, Refine, Join}
+use Rattle.wiz_words.specs.declared.command.Command.TheVariants.{Record, Check, Races, Advise, Demo, Replay, Show, Stats, Convert, Refine, Join, Diff, Waits}
 use Rattle.wiz_words.specs.declared.command.RunWords.{RunWords}
 use Rattle.wiz_words.specs.Texts.{run_with_texts, with_texts}
 use Rattle.wiz_words.specs.Words.{is_threaded, is_threaded_run}
@@ -27,3 +27,5 @@ is_threaded-with_texts (Stats log) = refl
 is_threaded-with_texts (Convert log file is_text) = refl
 is_threaded-with_texts (Refine log plan prefix) = refl
 is_threaded-with_texts (Join one other file) = refl
+is_threaded-with_texts (Diff one other) = refl
+is_threaded-with_texts (Waits run) = run_is_threaded-texts run

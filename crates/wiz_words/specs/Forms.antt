@@ -4,7 +4,7 @@ use Rattle.std.specs.Str.{bytes_eq}
 use Rattle.clap.specs.Words.{App, Rule, Text, new_app, new_rule, with_rule}
 use Rattle.clap.specs.declared.builder.action.ArgAction.TheVariants.{SetTrue}
 use Rattle.wiz_words.specs.declared.command.Verb.{Verb}
-use Rattle.wiz_words.specs.declared.command.Verb.TheVariants.{Record, Check, Races, Advise, Demo, Replay, Show, Stats, Convert, Refine, Join}
+use Rattle.wiz_words.specs.declared.command.Verb.TheVariants.{Record, Check, Races, Advise, Demo, Replay, Show, Stats, Convert, Refine, Join, Diff, Waits}
 
 -- the first word of each command
 abbrev pub name_of : Verb → Text
@@ -19,9 +19,11 @@ name_of Stats = codes "stats"
 name_of Convert = codes "convert"
 name_of Refine = codes "refine"
 name_of Join = codes "join"
+name_of Diff = codes "diff"
+name_of Waits = codes "waits"
 
 abbrev pub verbs : List Verb
-verbs = Record ∷ Check ∷ Races ∷ Advise ∷ Demo ∷ Replay ∷ Show ∷ Stats ∷ Convert ∷ Refine ∷ Join ∷ []
+verbs = Record ∷ Check ∷ Races ∷ Advise ∷ Demo ∷ Replay ∷ Show ∷ Stats ∷ Convert ∷ Refine ∷ Join ∷ Diff ∷ Waits ∷ []
 
 -- the command of a name
 abbrev pub verb_named : Text → Option Verb
@@ -39,12 +41,16 @@ option name = record (new_rule name) { long = Some name }
 abbrev pub flag : Text → Rule
 flag name = record (new_rule name) { long = Some name; action = Some SetTrue }
 
+-- the arguments of a command that records a run and tells of it
+abbrev pub arguments_of_run : List Rule
+arguments_of_run = positional (codes "PROGRAM") ∷ positional (codes "PLAN") ∷ option (codes "order") ∷ flag (codes "serial") ∷ []
+
 -- the arguments of each command, those by place in their order
 abbrev pub arguments_of : Verb → List Rule
 arguments_of Record =
     positional (codes "PROGRAM") ∷ positional (codes "PLAN") ∷ positional (codes "PREFIX") ∷ option (codes "order") ∷ flag (codes "serial") ∷ []
 arguments_of Check = positional (codes "PROGRAM") ∷ positional (codes "PLAN") ∷ flag (codes "serial") ∷ []
-arguments_of Races = positional (codes "PROGRAM") ∷ positional (codes "PLAN") ∷ option (codes "order") ∷ flag (codes "serial") ∷ []
+arguments_of Races = arguments_of_run
 arguments_of Advise =
     positional (codes "PROGRAM") ∷ positional (codes "PLAN") ∷ positional (codes "K") ∷ option (codes "order") ∷ flag (codes "serial") ∷ []
 arguments_of Demo = positional (codes "SEED") ∷ positional (codes "ROUNDS") ∷ []
@@ -54,6 +60,8 @@ arguments_of Stats = positional (codes "LOG") ∷ []
 arguments_of Convert = positional (codes "LOG") ∷ positional (codes "FILE") ∷ flag (codes "text") ∷ []
 arguments_of Refine = positional (codes "LOG") ∷ positional (codes "PLAN") ∷ positional (codes "PREFIX") ∷ []
 arguments_of Join = positional (codes "LOG") ∷ positional (codes "OTHER") ∷ positional (codes "FILE") ∷ []
+arguments_of Diff = positional (codes "LOG") ∷ positional (codes "OTHER") ∷ []
+arguments_of Waits = arguments_of_run
 
 -- the clap command that reads the arguments of a command: its name and its arguments, and no other setting
 abbrev pub form_of : Verb → App

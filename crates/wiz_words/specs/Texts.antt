@@ -4,7 +4,7 @@ use Rattle.std.specs.Borrow.{Bor}
 use Rattle.std.specs.Option.{option_map}
 use Rattle.clap.specs.Words.{Text}
 use Rattle.wiz_words.specs.declared.command.Command.{Command}
-use Rattle.wiz_words.specs.declared.command.Command.TheVariants.{Record, Check, Races, Advise, Demo, Replay, Show, Stats, Convert, Refine, Join}
+use Rattle.wiz_words.specs.declared.command.Command.TheVariants.{Record, Check, Races, Advise, Demo, Replay, Show, Stats, Convert, Refine, Join, Diff, Waits}
 use Rattle.wiz_words.specs.declared.command.ReplayWords.{ReplayWords}
 use Rattle.wiz_words.specs.declared.command.RunWords.{RunWords}
 
@@ -31,3 +31,5 @@ with_texts (Stats log) = Stats log.now
 with_texts (Convert log file is_text) = Convert log.now file.now is_text
 with_texts (Refine log plan prefix) = Refine log.now plan.now prefix.now
 with_texts (Join one other file) = Join one.now other.now file.now
+with_texts (Diff one other) = Diff one.now other.now
+with_texts (Waits run) = Waits (run_with_texts run)

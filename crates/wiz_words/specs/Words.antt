@@ -3,7 +3,7 @@ use Rattle.std.specs.Prelude.{◌≡◌, ◌&&◌, List, [], Bool, false, not, i
 use Rattle.std.specs.Borrow.{Bor}
 use Rattle.clap.specs.Words.{Row, Text, fault_of, matches_of}
 use Rattle.wiz_words.specs.declared.command.Command.{Command}
-use Rattle.wiz_words.specs.declared.command.Command.TheVariants.{Record, Check, Races, Advise, Demo, Replay, Show, Stats, Convert, Refine, Join}
+use Rattle.wiz_words.specs.declared.command.Command.TheVariants.{Record, Check, Races, Advise, Demo, Replay, Show, Stats, Convert, Refine, Join, Diff, Waits}
 use Rattle.wiz_words.specs.declared.command.ReplayWords.{ReplayWords}
 use Rattle.wiz_words.specs.declared.command.RunWords.{RunWords}
 use Rattle.wiz_words.specs.declared.command.Verb.{Verb}
@@ -26,6 +26,8 @@ verb_of (Stats log) = verb.Stats
 verb_of (Convert log file is_text) = verb.Convert
 verb_of (Refine log plan prefix) = verb.Refine
 verb_of (Join one other file) = verb.Join
+verb_of (Diff one other) = verb.Diff
+verb_of (Waits run) = verb.Waits
 
 -- what is given are the arguments of a run with that file for its order; an order and `--serial` exclude each other
 pub record AreRunWords (given : List Row) (file : Option Text) (run : RunWords Text) : Type 0 where
@@ -60,6 +62,8 @@ AreWordsOf given (Refine log plan prefix) =
     (value_in given (codes "LOG") ≡ Some log) × (value_in given (codes "PLAN") ≡ Some plan) × (value_in given (codes "PREFIX") ≡ Some prefix)
 AreWordsOf given (Join one other file) =
     (value_in given (codes "LOG") ≡ Some one) × (value_in given (codes "OTHER") ≡ Some other) × (value_in given (codes "FILE") ≡ Some file)
+AreWordsOf given (Diff one other) = (value_in given (codes "LOG") ≡ Some one) × (value_in given (codes "OTHER") ≡ Some other)
+AreWordsOf given (Waits run) = AreRunWords given (value_in given (codes "order")) run
 
 -- what was found is the command of this name with the arguments that are given; nothing, where they are out of form
 abbrev pub IsCommandIn : List Row → Verb → Option (Command (Bor Text)) → Type 0
@@ -97,3 +101,5 @@ is_threaded (Stats log) = false
 is_threaded (Convert log file is_text) = false
 is_threaded (Refine log plan prefix) = false
 is_threaded (Join one other file) = false
+is_threaded (Diff one other) = false
+is_threaded (Waits run) = is_threaded_run run

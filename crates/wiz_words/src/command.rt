@@ -15,6 +15,8 @@ pub enum Verb {
     Convert,
     Refine,
     Join,
+    Diff,
+    Waits,
 }
 
 /// The program and the plan of a run, and how its ranks take their turns. With neither an order nor `is_serial` each rank
@@ -66,6 +68,10 @@ pub enum Command<T> {
     Refine { log: T, plan: T, prefix: T },
     /// Writes the log of the groups of two logs together.
     Join { one: T, other: T, file: T },
+    /// Compares what the ranks of the groups of two logs saw.
+    Diff { one: T, other: T },
+    /// Records a run and tells, where it is stuck, who waits for whom.
+    Waits(RunWords<T>),
 }
 
 impl<T> Command<T> {
@@ -79,10 +85,12 @@ impl<T> Command<T> {
             Command::Record { run, .. }
             | Command::Check(run)
             | Command::Races(run)
+            | Command::Waits(run)
             | Command::Advise { run, .. } => { !run.is_serial && run.order.is_none() }
             Command::Replay(replay) => !replay.is_serial,
             Command::Demo { .. } | Command::Show(_) | Command::Stats(_) => false,
-            Command::Convert { .. } | Command::Refine { .. } | Command::Join { .. } => false,
+            Command::Convert { .. } | Command::Refine { .. } => false,
+            Command::Join { .. } | Command::Diff { .. } => false,
         }
     }
 }

@@ -1,5 +1,5 @@
 //! The commands by name, and one clap command for each.
-ghost use Rattle.std.specs.Prelude.{◌≡◌, IfOk, codes, fold, map};
+ghost use Rattle.std.specs.Prelude.{◌≡◌, [], ◌∷◌, IfOk, codes, fold, map};
 ghost use Rattle.clap.specs.Words.{app_of, new_app, with_rule};
 ghost use Rattle.wiz_words.specs.Forms.{flag, form_of, option, positional, verb_named};
 ghost use Rattle.wiz_words.specs.Texts.{texts};
@@ -24,6 +24,8 @@ pub fn verb_named(name: &str) -> Option<Verb>
         "convert" => Some(Verb::Convert),
         "refine" => Some(Verb::Refine),
         "join" => Some(Verb::Join),
+        "diff" => Some(Verb::Diff),
+        "waits" => Some(Verb::Waits),
         _ => None,
     }
 }
@@ -41,10 +43,7 @@ pub fn form_of<'a>(alloc: Global, verb: Verb) -> Result<Command<'a>, AllocError>
             let form = form_named(alloc, "check", &["PROGRAM", "PLAN"])?;
             with_flag(alloc, form, "serial")
         }
-        Verb::Races => {
-            let form = form_named(alloc, "races", &["PROGRAM", "PLAN"])?;
-            with_turns(alloc, form)
-        }
+        Verb::Races => run_form(alloc, "races"),
         Verb::Advise => {
             let form = form_named(alloc, "advise", &["PROGRAM", "PLAN", "K"])?;
             with_turns(alloc, form)
@@ -64,7 +63,17 @@ pub fn form_of<'a>(alloc: Global, verb: Verb) -> Result<Command<'a>, AllocError>
         }
         Verb::Refine => form_named(alloc, "refine", &["LOG", "PLAN", "PREFIX"]),
         Verb::Join => form_named(alloc, "join", &["LOG", "OTHER", "FILE"]),
+        Verb::Diff => form_named(alloc, "diff", &["LOG", "OTHER"]),
+        Verb::Waits => run_form(alloc, "waits"),
     }
+}
+
+/// The form of a command that records a run and tells of it.
+fn run_form<'a>(alloc: Global, name: &'a str) -> Result<Command<'a>, AllocError>
+    ensures { IfOk result (λ form. app_of form ≡ fold with_rule (new_app name.entry.now) (positional (codes "PROGRAM") ∷ positional (codes "PLAN") ∷ option (codes "order") ∷ flag (codes "serial") ∷ [])) }
+{
+    let form = form_named(alloc, name, &["PROGRAM", "PLAN"])?;
+    with_turns(alloc, form)
 }
 
 /// The form of this name with these values that have to be there, each by its place.

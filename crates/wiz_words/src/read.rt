@@ -1,12 +1,12 @@
 //! Which command the arguments ask for.
-ghost use Rattle.std.specs.Prelude.{IfOk, MatchOption};
+ghost use Rattle.std.specs.Prelude.{IfOk, MatchOption, codes};
 ghost use Rattle.std.specs.Option.{option_map};
 ghost use Rattle.clap.specs.Words.{Text};
 ghost use Rattle.wiz_words.specs.declared.command.ReplayWords.{ReplayWords};
 ghost use Rattle.wiz_words.specs.declared.command.RunWords.{RunWords};
 ghost use Rattle.wiz_words.specs.declared.command.Verb.TheVariants as verb;
 ghost use Rattle.wiz_words.specs.Texts.{replay_with_texts, run_with_texts, texts, with_texts};
-ghost use Rattle.wiz_words.specs.Values.{given_by};
+ghost use Rattle.wiz_words.specs.Values.{given_by, value_in};
 ghost use Rattle.wiz_words.specs.Words.{AreReplayWords, AreRunWords, AskFor, AskForNothing, AskForOneThing, IsCommandIn};
 
 use crate::command::{Command, ReplayWords, RunWords, Verb};
@@ -63,10 +63,7 @@ fn command_from<'a>(verb: Verb, matches: &ArgMatches<'a>) -> Option<Command<&'a 
     match verb {
         Verb::Record => record_from(matches),
         Verb::Check => Some(Command::Check(run_words(matches, None)?)),
-        Verb::Races => {
-            let run = run_words(matches, value_in(matches, "order"))?;
-            Some(Command::Races(run))
-        }
+        Verb::Races => Some(Command::Races(ordered_run(matches)?)),
         Verb::Advise => advise_from(matches),
         Verb::Demo => demo_from(matches),
         Verb::Replay => Some(Command::Replay(replay_words(matches)?)),
@@ -75,13 +72,15 @@ fn command_from<'a>(verb: Verb, matches: &ArgMatches<'a>) -> Option<Command<&'a 
         Verb::Convert => convert_from(matches),
         Verb::Refine => refine_from(matches),
         Verb::Join => join_from(matches),
+        Verb::Diff => diff_from(matches),
+        Verb::Waits => Some(Command::Waits(ordered_run(matches)?)),
     }
 }
 
 fn record_from<'a>(matches: &ArgMatches<'a>) -> Option<Command<&'a str>>
     ensures { IsCommandIn (given_by matches.now) verb.Record result }
 {
-    let run = run_words(matches, value_in(matches, "order"))?;
+    let run = ordered_run(matches)?;
     let prefix = value_in(matches, "PREFIX")?;
     Some(Command::Record { run, prefix })
 }
@@ -89,7 +88,7 @@ fn record_from<'a>(matches: &ArgMatches<'a>) -> Option<Command<&'a str>>
 fn advise_from<'a>(matches: &ArgMatches<'a>) -> Option<Command<&'a str>>
     ensures { IsCommandIn (given_by matches.now) verb.Advise result }
 {
-    let run = run_words(matches, value_in(matches, "order"))?;
+    let run = ordered_run(matches)?;
     let most = number_in(matches, "K", FEWEST_RANKS, MOST_RANKS)?;
     Some(Command::Advise {
         run,
@@ -130,6 +129,23 @@ fn join_from<'a>(matches: &ArgMatches<'a>) -> Option<Command<&'a str>>
     let other = value_in(matches, "OTHER")?;
     let file = value_in(matches, "FILE")?;
     Some(Command::Join { one, other, file })
+}
+
+fn diff_from<'a>(matches: &ArgMatches<'a>) -> Option<Command<&'a str>>
+    ensures { IsCommandIn (given_by matches.now) verb.Diff result }
+{
+    let one = value_in(matches, "LOG")?;
+    let other = value_in(matches, "OTHER")?;
+    Some(Command::Diff { one, other })
+}
+
+/// The arguments of a run that may have an order.
+fn ordered_run<'a>(matches: &ArgMatches<'a>) -> Option<RunWords<&'a str>>
+    ensures { let given = given_by matches.now in let order = value_in given (codes "order")
+        in MatchOption result ((run : RunWords Text) → AreRunWords given order run → ⊥)
+        (λ run. AreRunWords given order (run_with_texts run)) }
+{
+    run_words(matches, value_in(matches, "order"))
 }
 
 /// The arguments of a run with this file for its order; nothing where an order and `--serial` are given together.
