@@ -2,7 +2,7 @@
 ghost use Rattle.std.specs.Prelude.{◌≡◌, ◌<◌, ◌⊎◌, ⊤, MatchOption, length};
 
 /// How many commands there are.
-const COMMANDS: usize = 11;
+const COMMANDS: usize = 13;
 
 /// The forms, in the order of docs/COMMANDS.md.
 static FORMS: [&'static str; COMMANDS] = [
@@ -17,6 +17,8 @@ static FORMS: [&'static str; COMMANDS] = [
     "wiz convert LOG FILE [--text]\n    writes a log to FILE in format 2, or in format 1 with --text\n",
     "wiz refine LOG PLAN PREFIX\n    writes the logs of the plan's groups that lie in the group of a log\n",
     "wiz join LOG LOG FILE\n    writes the log of two groups together\n",
+    "wiz diff LOG LOG\n    replays two logs and tells where what their ranks saw parts\n",
+    "wiz waits PROGRAM PLAN [--order FILE] [--serial]\n    runs a program and tells, where it is stuck, who waits for whom\n",
 ];
 
 /// The form of the command that the first argument names, or all forms. Each ends with a newline.
@@ -48,6 +50,8 @@ fn row_of(name: &str) -> Option<usize>
         "convert" => Some(8),
         "refine" => Some(9),
         "join" => Some(10),
+        "diff" => Some(11),
+        "waits" => Some(12),
         _ => None,
     }
 }
