@@ -21,6 +21,7 @@ use crate::commands::refine::refine;
 use crate::commands::replay::replay;
 use crate::commands::show::show;
 use crate::commands::stats::stats;
+use crate::commands::waits::waits;
 use crate::limits::limits_are;
 use crate::recording::make::record_on_threads;
 use crate::recording::ready::Ready;
@@ -201,5 +202,6 @@ fn answer<'a, S: Store, K: Sink, R: Runner>(
             refine(alloc, log, plan, prefix, store, out, runner)
         }
         Command::Join { one, other, file } => { join(alloc, one, other, file, store, out, runner) }
+        Command::Waits(run) => waits(alloc, &run, store, out, runner),
     }
 }
