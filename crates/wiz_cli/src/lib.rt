@@ -3,6 +3,7 @@
 
 mod accept;
 pub mod commands;
+pub mod comparing;
 pub mod limits;
 pub mod ranks;
 pub mod recording;

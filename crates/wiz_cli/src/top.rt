@@ -14,6 +14,7 @@ use crate::commands::advise::advise;
 use crate::commands::check::check;
 use crate::commands::convert::convert;
 use crate::commands::demo::demo;
+use crate::commands::diff::diff;
 use crate::commands::join::join;
 use crate::commands::races::races;
 use crate::commands::record::record;
@@ -202,6 +203,7 @@ fn answer<'a, S: Store, K: Sink, R: Runner>(
             refine(alloc, log, plan, prefix, store, out, runner)
         }
         Command::Join { one, other, file } => { join(alloc, one, other, file, store, out, runner) }
+        Command::Diff { one, other } => diff(alloc, one, other, store, out, runner),
         Command::Waits(run) => waits(alloc, &run, store, out, runner),
     }
 }

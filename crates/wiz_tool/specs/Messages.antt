@@ -10,11 +10,13 @@ use Rattle.srr_log.specs.declared.fault.LogWhy.{LogWhy}
 use Rattle.srr_log.specs.declared.fault.LogWhy.TheVariants.{BadHead, BadNumber, BadGroup, BadEntry, Short, Extra, BadVersion, Digest, NoMemory}
 use Rattle.srr_regroup.specs.declared.join_fault.JoinFault.{JoinFault}
 use Rattle.srr_regroup.specs.declared.join_fault.JoinFault.TheVariants.{Ranks as LogRanks, Programs, Shared}
+use Rattle.view_diff.specs.declared.compare_fault.CompareFault.{CompareFault}
+use Rattle.view_diff.specs.declared.compare_fault.CompareFault.TheVariants as compare
 use Rattle.srr_regroup.specs.declared.refine_fault.RefineFault.{RefineFault}
 use Rattle.srr_regroup.specs.declared.refine_fault.RefineFault.TheVariants.{Ranks as PlanRanks, Crosses}
 use Rattle.wiz_base.specs.Decimals.{decimal_text}
 use Rattle.wiz_tool.specs.declared.refusal.Refusal.{Refusal}
-use Rattle.wiz_tool.specs.declared.refusal.Refusal.TheVariants.{Words, Missing, ReadFault, Program, Plan, Order, Log as LogRefused, TooLong, Refine, Join}
+use Rattle.wiz_tool.specs.declared.refusal.Refusal.TheVariants.{Words, Missing, ReadFault, Program, Plan, Order, Log as LogRefused, TooLong, Refine, Join, Compare}
 
 -- what is wrong with a log
 abbrev pub why_text : LogWhy → List ℕ
@@ -68,6 +70,12 @@ join_message (LogRanks one two) = codes "ranks " ++ decimal_text one ++ codes " 
 join_message Programs = codes "programs differ\n"
 join_message (Shared rank) = codes "shared rank " ++ decimal_text rank ++ codes "\n"
 
+-- why two logs cannot be compared
+abbrev pub compare_message : CompareFault → List ℕ
+compare_message (compare.Ranks one other) = codes "ranks " ++ decimal_text one ++ codes " " ++ decimal_text other ++ codes "\n"
+compare_message compare.Groups = codes "groups differ\n"
+compare_message compare.Programs = codes "programs differ\n"
+
 -- its message
 abbrev pub message_text : Refusal → List ℕ → List ℕ
 message_text Words name = codes "refused words\n"
@@ -81,6 +89,7 @@ message_text (LogRefused fault) name = codes "log " ++ decimal_text fault.at ++ 
 message_text TooLong name = codes "too long " ++ name ++ codes "\n"
 message_text (Refine fault) name = refine_message fault
 message_text (Join fault) name = join_message fault
+message_text (Compare fault) name = compare_message fault
 
 -- the message of a file that was not written
 abbrev pub unwritten_text : List ℕ → List ℕ

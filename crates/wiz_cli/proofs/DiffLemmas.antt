@@ -1,0 +1,149 @@
+-- Two logs that are compared: the ranks of a replay, and what the comparison says beside runs with the logs.
+use Rattle.std.proofs.Common.{◌≡◌, ◌≢◌, ◌∙◌, ◌<◌, ◌++◌, ◌||◌, inl, inr, ap, refl, sym, ℕ, List, [], ◌∷◌, None, All, Bool, false, if◌then◌else◌}
+use Rattle.std.specs.List.{list_any}
+use Rattle.std.proofs.lemmas.List.Elements.{All-append, All-nil, All-push}
+use Rattle.c_program.specs.declared.program.CProgram.{CProgram}
+use Rattle.c_program.specs.Program.{next_of, output_of}
+use Rattle.c_types.specs.Checks.{IsProgramOf}
+use Rattle.causes.specs.Clocks.{AreOfRanks}
+use Rattle.mpi_call.specs.Lists.{IsIn}
+use Rattle.replay_model.specs.declared.replayed.Replayed.{Replayed}
+use Rattle.replay_model.specs.Laws.{IsDone, IsRunWith}
+use Rattle.replay_model.specs.Replays.{Breakpoint, IsStep, Replays}
+use Rattle.run_model.specs.declared.event.Event.{Event}
+use Rattle.run_model.specs.Views.{Next}
+use Rattle.run_model.proofs.Along.{Along-keeps}
+use Rattle.srr_entry.specs.declared.log.Log.{Log}
+use Rattle.srr_replay.specs.Rounds.{IsReplayable}
+use Rattle.srr_replay.proofs.LogLemmas.{below_at}
+use Rattle.view_diff.specs.declared.compared.Compared.{Compared}
+use Rattle.view_diff.specs.declared.compared.Way.{Way}
+use Rattle.view_diff.specs.declared.compared.Way.TheVariants.{Alike, First, Follows}
+use Rattle.view_diff.specs.Compared.{AreCompared, IsWay, comes_first, is_first_way}
+use Rattle.view_diff.specs.Comparing.{CanCompare}
+use Rattle.view_diff.specs.Partings.{PartAt}
+use Rattle.view_diff.proofs.ReplayLaws.{one_run_does_not_part, parts_by_a_reply, parts_by_a_reply_alone}
+use Rattle.wiz_words.specs.declared.command.Command.TheVariants.{Diff}
+use Rattle.wiz_cli.specs.declared.comparing.subject.TwoRuns.{TwoRuns}
+use Rattle.wiz_tool.specs.declared.status.Status.{Status}
+use Rattle.wiz_tool.specs.declared.status.Status.TheVariants.{Done}
+use Rattle.wiz_tool.specs.Environment.{Environment}
+use Rattle.wiz_tool.specs.Inputs.{AreHeld}
+use Rattle.wiz_tool.specs.Outcomes.{Outcome}
+use Rattle.wiz_cli.specs.Commands.{IsDoneFor, join_inputs}
+use Rattle.wiz_tool.specs.Statuses.{of_stands}
+use Rattle.wiz_cli.specs.Comparisons.{Compares, compared_outcome, diff_outcome, diff_outcome_by}
+use Rattle.wiz_cli.specs.Replayings.{IsReplayOf}
+use Rattle.wiz_cli.specs.inside.Comparing.{AreReplayedRuns, AreTwoRunsOf}
+use Rattle.wiz_cli.proofs.LogLemmas.{IsReplayable-text}
+use Rattle.wiz_cli.proofs.RegroupLemmas.{done_stands, lawful}
+
+-- ---- replays
+
+-- the events of a replay are of ranks of its log
+pub replay_ranks : (next : Next) (log : Log) (stop : Breakpoint) (events : List Event) → IsReplayable log → Replays next log stop events
+    → AreOfRanks log.ranks events
+replay_ranks next log stop events is all =
+    Along-keeps (IsStep next log stop) (λ (before : List Event). AreOfRanks log.ranks before)
+    (λ before event holds step. All-push (λ (e : Event). e.rank < log.ranks) before event holds (below_at log.ranks log.group event.rank is.below step.member))
+    [] events (All-nil (λ (e : Event). e.rank < log.ranks)) all
+
+pub first_ranks : (runs : TwoRuns) (first second : Replayed) → AreReplayedRuns runs first second → AreOfRanks runs.one.ranks first.events.events
+first_ranks runs first second are =
+    replay_ranks (next_of runs.program) runs.one None first.events.events are.replayable (are.first_replay.shows runs.program are.is_program).whole.replays
+
+other_program : (one other : Log) (program : CProgram) → CanCompare one other → IsProgramOf one.program program → IsProgramOf other.program program
+other_program one other program can is = rw can.program is
+
+-- logs that are compared can be replayed
+pub runs_replayable : (texts : List (List ℕ)) (runs : TwoRuns) → AreTwoRunsOf texts runs → IsReplayable runs.one × IsReplayable runs.other
+runs_replayable [] runs is = absurd is.are_logs
+runs_replayable (bytes ∷ []) runs is = absurd is.are_logs
+runs_replayable (bytes ∷ others ∷ more) runs is =
+    (IsReplayable-text bytes runs.one is.are_logs.0, IsReplayable-text others runs.other is.are_logs.1)
+
+pub other_is_program : (texts : List (List ℕ)) (runs : TwoRuns) → AreTwoRunsOf texts runs → IsProgramOf runs.other.program runs.program
+other_is_program texts runs is = other_program runs.one runs.other runs.program is.can_compare is.is_program
+
+pub replayed_runs : (texts : List (List ℕ)) (runs : TwoRuns) (first second : Replayed) → AreTwoRunsOf texts runs
+    → IsReplayOf runs.one.program runs.one None first → IsReplayOf runs.other.program runs.other None second → AreReplayedRuns runs first second
+replayed_runs texts runs first second is of too = record {
+  can_compare = is.can_compare;
+  is_program = is.is_program;
+  replayable = (runs_replayable texts runs is).0;
+  first_replay = of;
+  second_replay = too;
+}
+
+-- ---- what is compared
+
+-- where nothing parts, nothing parts first
+none_first : (n : ℕ) (group : List ℕ) (one other : List Event) (ranks : List Compared)
+    → ((rank : Compared) → IsIn rank ranks → IsWay n group one other rank.rank rank.same rank.way)
+    → ((rank number : ℕ) → PartAt group one other rank number → ⊥) → list_any comes_first ranks ≡ false
+none_first n group one other [] each never = refl
+none_first n group one other (rank ∷ ranks) each never =
+    rw (head rank.way (each rank (inl refl)), none_first n group one other ranks (λ r at. each r (inr at)) never) refl
+  where
+    head : (way : Way) → IsWay n group one other rank.rank rank.same way → is_first_way way ≡ false
+    head Alike is = refl
+    head First is = absurd (never rank.rank rank.same is.parts)
+    head Follows is = refl
+
+-- where both replays are done the comparison is told
+told_whole : (first second : Replayed) (ranks : List Compared) (outcome : Outcome) → All IsDone first.ends → All IsDone second.ends
+    → outcome ≡ diff_outcome first second ranks → outcome ≡ compared_outcome first second ranks
+told_whole first second ranks outcome done too is =
+    is ∙ ap (λ (status : Status). diff_outcome_by status first second ranks)
+    (done_stands (first.ends ++ second.ends) (All-append IsDone first.ends second.ends done too))
+
+same_status : (first second : Replayed) (ranks : List Compared) (outcome : Outcome) → outcome ≡ compared_outcome first second ranks
+    → list_any comes_first ranks ≡ false → outcome.status ≡ Done
+same_status first second ranks outcome is none = rw (is, none) refl
+
+pub compares : (runs : TwoRuns) (first second : Replayed) (ranks : List Compared) (outcome : Outcome) → AreReplayedRuns runs first second
+    → AreCompared runs.one.ranks runs.one.group first.events.events second.events.events ranks → outcome ≡ diff_outcome first second ranks
+    → Compares runs.one runs.other outcome
+compares runs first second ranks outcome are compared is =
+    let one : Log = runs.one in
+    let other : Log = runs.other in
+    let can : CanCompare one other = are.can_compare in
+    let told : (program : CProgram) (run other_run : List Event) → IsProgramOf one.program program → IsRunWith (next_of program) one run
+    → IsRunWith (next_of program) other other_run → outcome ≡ compared_outcome first second ranks =
+    λ program run other_run is_program with with_other.
+    told_whole first second ranks outcome (((are.first_replay.shows program is_program).runs run with).ends refl)
+    (((are.second_replay.shows program (other_program one other program can is_program)).runs other_run with_other).ends refl) is in
+    record {
+      can_compare = can;
+      first = first;
+      second = second;
+      first_replay = are.first_replay;
+      second_replay = are.second_replay;
+      ranks = ranks;
+      compared = compared;
+      is_outcome = is;
+      parts = λ program is_program.
+          let shows = are.first_replay.shows program is_program in
+          let others = are.second_replay.shows program (other_program one other program can is_program) in (
+            parts_by_a_reply (next_of program) one other None first.events.events second.events.events shows.whole.replays others.whole.replays can.ranks,
+            parts_by_a_reply_alone (next_of program) one other None first.events.events second.events.events shows.whole.replays others.whole.replays can.ranks,
+          );
+      of_runs = told;
+      of_one_run = λ program run is_program with too.
+          let shows = are.first_replay.shows program is_program in
+          let others = are.second_replay.shows program (other_program one other program can is_program) in
+          same_status first second ranks outcome (told program run run is_program with too)
+          (none_first one.ranks one.group first.events.events second.events.events ranks compared.each
+          (one_run_does_not_part (next_of program) (output_of program) one other run first.events.events second.events.events (lawful program) can.group with too
+          shows.whole others.whole));
+    }
+
+pub diff_done : (name others : List ℕ) (before : Environment) (texts : List (List ℕ)) (runs : TwoRuns) (outcome : Outcome)
+    → AreHeld before.store.files (join_inputs name others) texts → AreTwoRunsOf texts runs → Compares runs.one runs.other outcome
+    → IsDoneFor (Diff name others) before outcome
+diff_done name others before texts runs outcome held is compares = (texts, held, (runs.one, runs.other, is.are_logs, compares))
+
+-- the text of the comparison, or the traces, with the status of the stands
+pub is_diff : (status : Status) (first second : Replayed) (ranks : List Compared) (outcome : Outcome)
+    → status ≡ of_stands (first.ends ++ second.ends) → outcome ≡ diff_outcome_by status first second ranks → outcome ≡ diff_outcome first second ranks
+is_diff status first second ranks outcome same is = is ∙ ap (λ (s : Status). diff_outcome_by s first second ranks) same

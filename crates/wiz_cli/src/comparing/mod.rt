@@ -1,0 +1,2 @@
+//! What is compared, of two runs.
+pub mod subject;
