@@ -177,11 +177,7 @@ static ANSWERED: Row = Row {
         (2, Seen::End),
         (0, Seen::Stuck(1)),
     ],
-    ranks: &[
-        (0, 2, Way::Follows),
-        (1, 2, Way::Alike),
-        (2, 1, Way::First),
-    ],
+    ranks: &[(0, 2, Way::Follows), (1, 2, Way::Alike), (2, 1, Way::First)],
     text: b"rank 0 same 2 follows\n2 take all 1\n< took 0=2.1 tag=9 data=7\n> stopped stuck\nrank 1 same 2\n\
 rank 2 same 1 first\n1 take all 0\nstart 0 post comm=0 from=any tag=9 room=1\n< took 0=0.0 tag=9 data=7\n\
 > took 0=1.0 tag=9 data=7\n< any 0.0\n> any 1.0\nparts 2:1\n",

@@ -1,5 +1,5 @@
 -- Worked examples, by computing.
-use Rattle.std.proofs.Common.{◌≡◌, ℕ, ℤ, List, [], ◌∷◌, Some, None, true, false, refl, pos}
+use Rattle.std.proofs.Common.{◌≡◌, ℕ, List, [], ◌∷◌, Option, Some, None, true, false, ap, arith, refl, pos}
 use Rattle.mpi_call.specs.declared.call.Call.{Call}
 use Rattle.mpi_call.specs.declared.call.Call.TheVariants.{Send, Post, Take, End}
 use Rattle.mpi_call.specs.declared.call.Halt.TheVariants.{Aborted, Stuck}
@@ -11,7 +11,7 @@ use Rattle.mpi_call.specs.declared.reply.Got.TheVariants.{Message, Made}
 use Rattle.mpi_call.specs.declared.reply.Reply.{Reply}
 use Rattle.mpi_call.specs.declared.reply.Reply.TheVariants.{Done, Took, Stopped}
 use Rattle.run_model.specs.Views.{View}
-use Rattle.view_diff.specs.Bare.{bare, bares}
+use Rattle.view_diff.specs.Bare.{bare}
 use Rattle.view_diff.specs.Firsts.{is_told}
 use Rattle.view_diff.specs.Opens.{got_from, open_at}
 use Rattle.view_diff.specs.Partings.{AreAlike, IsParting}
@@ -43,8 +43,16 @@ early = (any_source, Done) ∷ (take_first, one 0 (message 0 2)) ∷ (End, Done)
 abbrev late : View
 late = (any_source, Done) ∷ (take_first, one 0 (message 1 0)) ∷ (End, Done) ∷ []
 
+abbrev sender_in : Got → ℕ
+sender_in (Message source start tag ints) = source
+sender_in got = 64
+
+abbrev first_sender : Option Reply → ℕ
+first_sender (Some (Took (item ∷ items))) = sender_in item.got
+first_sender reply = 64
+
 parts_at_a_reply : IsParting early late 1
-parts_at_a_reply = record { alike = refl; differ = λ same. absurd (cc) }
+parts_at_a_reply = record { alike = refl; differ = λ same. (let senders : 0 ≡ 1 = ap first_sender same in absurd (omega (arith, senders))) }
 
 -- one view has no call more
 parts_at_an_end : IsParting early ((any_source, Done) ∷ []) 1

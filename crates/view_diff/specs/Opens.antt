@@ -1,11 +1,12 @@
 -- The receives from any source around a parting.
-use Rattle.std.specs.Prelude.{ℕ, suc, List, [], ◌∷◌, ◌++◌, Option, Some, None, Bool, true, false, not, ◌&&◌, if◌then◌else◌, drop, slice_get, slice_index, take}
+use Rattle.std.specs.Prelude.{ℕ, suc, List, [], ◌∷◌, ◌++◌, Option, Some, None, Bool, true, false, not, ◌&&◌, if◌then◌else◌, drop, flat_map, slice_get, slice_index, take}
 use Rattle.mpi_call.specs.declared.call.Call.{Call}
 use Rattle.mpi_call.specs.declared.call.Call.TheVariants.{Post}
 use Rattle.mpi_call.specs.declared.call.Source.TheVariants.{Any}
 use Rattle.mpi_call.specs.declared.reply.Got.{Got}
 use Rattle.mpi_call.specs.declared.reply.Got.TheVariants.{Message}
 use Rattle.mpi_call.specs.declared.reply.Item.{Item}
+use Rattle.mpi_call.specs.declared.reply.Reply.{Reply}
 use Rattle.mpi_call.specs.declared.reply.Reply.TheVariants.{Took}
 use Rattle.mpi_call.specs.Calls.{listed_by}
 use Rattle.mpi_call.specs.Members.{is_member}
@@ -44,12 +45,11 @@ names_in starts listed (item ∷ items) =
     if is_wildcard_start (slice_get starts (slice_index listed item.index)) then name_in item.got ++ names_in starts listed items
     else names_in starts listed items
 
--- the same, of these calls with their replies
-abbrev pub names_got : List Call → View → List Name
-names_got starts [] = []
-names_got starts ((call, Took items) ∷ view) = names_in starts (listed_by call) items ++ names_got starts view
-names_got starts ((call, reply) ∷ view) = names_got starts view
+-- the same, of a call with its reply
+abbrev pub names_by : List Call → Call × Reply → List Name
+names_by starts (call, Took items) = names_in starts (listed_by call) items
+names_by starts (call, reply) = []
 
 -- the messages that a rank's receives from any source got from a call on, in the order in which it took them
 abbrev pub got_from : View → ℕ → List Name
-got_from own number = names_got (starts_of own) (drop number own)
+got_from own number = flat_map (names_by (starts_of own)) (drop number own)

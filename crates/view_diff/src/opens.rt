@@ -1,8 +1,8 @@
 //! The receives from any source around a parting.
-ghost use Rattle.std.specs.Prelude.{◌≡◌, ◌++◌, ◌∷◌, [], IfOk, OnOk, map, slice_get, slice_index, take};
+ghost use Rattle.std.specs.Prelude.{◌≡◌, ◌++◌, ◌∷◌, [], IfOk, OnOk, drop, false, flat_map, length, map, replicate, slice_get, slice_index, take};
 ghost use Rattle.run_model.specs.Views.{items_taken, starts_of, taken_of};
-ghost use Rattle.view_diff.specs.Marking.{unmarked_from, with_mark, with_marks};
-ghost use Rattle.view_diff.specs.Opens.{got_from, is_wildcard, is_wildcard_start, name_in, names_got, names_in, open_at};
+ghost use Rattle.view_diff.specs.Marking.{unmarked_from, with_mark, with_marks, with_taken};
+ghost use Rattle.view_diff.specs.Opens.{got_from, is_wildcard, is_wildcard_start, name_in, names_by, names_in, open_at};
 
 use mpi_call::call::{Call, Source};
 use mpi_call::reply::{Got, Item, Reply};
@@ -26,14 +26,11 @@ pub fn open_at<'a>(
     own: &[&'a Event],
     number: usize,
 ) -> Result<Vec<Start<'a>>, AllocError>
-    ensures { IfOk result (λ open. map (λ start. (start.number, start.call.now)) open.items ≡ open_at (map (λ event. (event.now.call, event.now.reply)) own.now) number) }
+    ensures { IfOk result (λ starts. map (λ start. (start.number, start.call.now)) starts.items ≡ open_at (map (λ event. (event.now.call, event.now.reply)) own.now) number) }
 {
-    let before = first_of(own, number);
+    let before = up_to(own, number);
     let starts = starts_of(alloc, before)?;
-    let mut marks = Vec::new(alloc);
-    marks.resize(starts.len(), false)?;
-    mark_taken(&mut marks, before);
-    unmarked(alloc, &marks, &starts)
+    open_among(alloc, &starts, before)
 }
 
 /// The messages that a rank's receives from any source got from a call on, in the order in which it took them.
@@ -41,24 +38,29 @@ pub fn got_from(alloc: Global, own: &[&Event], number: usize) -> Result<Names, A
     ensures { IfOk result (λ names. names ≡ got_from (map (λ event. (event.now.call, event.now.reply)) own.now) number) }
 {
     let starts = starts_of(alloc, own)?;
-    let mut names = Names::new(alloc);
-    let mut next = number;
-    while next < own.len() {
-        let event = own[next];
-        add_reply(&mut names, &starts, &event.call, &event.reply)?;
-        next += 1;
-    }
-    Ok(names)
+    names_of(alloc, &starts, from_on(own, number))
 }
 
-/// The first of some events, so many if there are as many.
-fn first_of<'a, 'b>(own: &'b [&'a Event], number: usize) -> &'b [&'a Event]
+/// The events before a number, or all.
+fn up_to<'a, 'b>(own: &'b [&'a Event], number: usize) -> &'b [&'a Event]
     ensures { result.now ≡ take number own.now }
 {
     if number < own.len() {
-        return &own[..number];
+        &own[..number]
+    } else {
+        own
     }
-    own
+}
+
+/// The events from a number on, or none.
+fn from_on<'a, 'b>(own: &'b [&'a Event], number: usize) -> &'b [&'a Event]
+    ensures { result.now ≡ drop number own.now }
+{
+    if number < own.len() {
+        &own[number..]
+    } else {
+        &[]
+    }
 }
 
 /// The calls of a rank's starts, by number.
@@ -76,9 +78,24 @@ fn starts_of<'a>(alloc: Global, own: &[&'a Event]) -> Result<Vec<&'a Call>, Allo
     Ok(starts)
 }
 
+/// The receives from any source among these starts that these events did not complete.
+fn open_among<'a>(
+    alloc: Global,
+    starts: &[&'a Call],
+    own: &[&Event],
+) -> Result<Vec<Start<'a>>, AllocError>
+    ensures { IfOk result (λ found. map (λ start. (start.number, start.call.now)) found.items
+        ≡ unmarked_from 0 (map (λ call. call.now) starts.now) (with_taken (replicate (length starts.now) false) (map (λ event. (event.now.call, event.now.reply)) own.now))) }
+{
+    let mut marks = Vec::new(alloc);
+    marks.resize(starts.len(), false)?;
+    mark_taken(&mut marks, own);
+    unmarked(alloc, starts, &marks)
+}
+
 /// Marks the starts that these events completed.
 fn mark_taken(marks: &mut [bool], own: &[&Event])
-    ensures { marks.new ≡ with_marks marks.old (taken_of (map (λ event. (event.now.call, event.now.reply)) own.now)) }
+    ensures { marks.new ≡ with_taken marks.old (map (λ event. (event.now.call, event.now.reply)) own.now) }
 {
     let mut rest = own;
     while let [event, after @ ..] = rest {
@@ -126,21 +143,27 @@ fn mark(marks: &mut [bool], number: u32)
 /// The receives from any source without a mark.
 fn unmarked<'a>(
     alloc: Global,
-    marks: &[bool],
     starts: &[&'a Call],
+    marks: &[bool],
 ) -> Result<Vec<Start<'a>>, AllocError>
-    ensures { IfOk result (λ open. map (λ start. (start.number, start.call.now)) open.items ≡ unmarked_from 0 marks.now (map (λ call. call.now) starts.now)) }
+    ensures { IfOk result (λ found. map (λ start. (start.number, start.call.now)) found.items ≡ unmarked_from 0 (map (λ call. call.now) starts.now) marks.now) }
 {
-    let mut open = Vec::new(alloc);
+    let mut found = Vec::new(alloc);
     let mut number = 0;
-    while number < marks.len() && number < starts.len() {
-        let call = starts[number];
-        if is_wildcard(call) && !marks[number] {
-            open.push(Start { number, call })?;
+    let mut rest = starts;
+    let mut left = marks;
+    while let [call, after @ ..] = rest {
+        let [mark, others @ ..] = left else {
+            return Ok(found);
+        };
+        if is_wildcard(call) && !*mark {
+            found.push(Start { number, call })?;
         }
         number += 1;
+        rest = after;
+        left = others;
     }
-    Ok(open)
+    Ok(found)
 }
 
 /// Whether a call is a receive from any source.
@@ -166,6 +189,19 @@ fn is_wildcard_start(starts: &[&Call], number: u32) -> bool
     }
 }
 
+/// The messages that receives from any source got in some events.
+fn names_of(alloc: Global, starts: &[&Call], events: &[&Event]) -> Result<Names, AllocError>
+    ensures { IfOk result (λ names. names ≡ flat_map (names_by (map (λ call. call.now) starts.now)) (map (λ event. (event.now.call, event.now.reply)) events.now)) }
+{
+    let mut names = Names::new(alloc);
+    let mut rest = events;
+    while let [event, after @ ..] = rest {
+        add_reply(&mut names, starts, &event.call, &event.reply)?;
+        rest = after;
+    }
+    Ok(names)
+}
+
 /// Adds the messages that receives from any source got by a reply.
 fn add_reply(
     names: &mut Names,
@@ -173,7 +209,7 @@ fn add_reply(
     call: &Call,
     reply: &Reply,
 ) -> Result<(), AllocError>
-    ensures { OnOk result (names.new ≡ names.old ++ names_got (map (λ call. call.now) starts.now) ((call.now, reply.now) ∷ [])) }
+    ensures { OnOk result (names.new ≡ names.old ++ names_by (map (λ call. call.now) starts.now) (call.now, reply.now)) }
 {
     match reply {
         Reply::Took(items) => add_items(names, starts, listed_by(call), items.as_slice()),

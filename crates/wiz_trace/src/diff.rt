@@ -128,12 +128,7 @@ fn push_parting(
 }
 
 /// The call, of the first view that has it.
-fn push_at(
-    out: &mut Bytes,
-    own: &[&Event],
-    other: &[&Event],
-    number: u32,
-) -> Result<(), AllocError>
+fn push_at(out: &mut Bytes, own: &[&Event], other: &[&Event], number: u32) -> Result<(), AllocError>
     ensures { let mine = map (λ event. (event.now.call, event.now.reply)) own.now in
         let others = map (λ event. (event.now.call, event.now.reply)) other.now in
         OnOk result (out.new ≡ out.old ++ at_text number (slice_get mine number) (slice_get others number)) }
@@ -166,8 +161,8 @@ fn push_opens(
 ) -> Result<(), AllocError>
     ensures { OnOk result (out.new ≡ out.old ++ flat_map open_text (open_at (map (λ event. (event.now.call, event.now.reply)) own.now) number)) }
 {
-    let open = open_at(alloc, own, number)?;
-    push_starts(out, &open)
+    let starts = open_at(alloc, own, number)?;
+    push_starts(out, &starts)
 }
 
 fn push_starts(out: &mut Bytes, starts: &[Start]) -> Result<(), AllocError>
