@@ -1,5 +1,5 @@
 //! Tests that cross the crates of matching and recording: calls and histories, who meets whom, starts, a machine's runs,
-//! recordings, and races of recorded runs and advice on them.
+//! recordings, races of recorded runs, advice on them, and where two of them part.
 #![tactic(auto)]
 
 #[cfg(test)]
@@ -16,6 +16,8 @@ mod histories;
 mod machines;
 #[cfg(test)]
 mod matching;
+#[cfg(test)]
+mod partings;
 #[cfg(test)]
 mod races;
 #[cfg(test)]

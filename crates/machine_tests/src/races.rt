@@ -19,7 +19,7 @@ use std::rt::HostRuntime;
 use std::test::Fail;
 
 /// Whether each event's rank is below a number.
-fn are_of_ranks(ranks: u8, events: &[Event]) -> bool
+pub fn are_of_ranks(ranks: u8, events: &[Event]) -> bool
     ensures { result ≡ true → AreOfRanks ranks events.now }
 {
     events.iter().all(|event| event.rank < ranks)

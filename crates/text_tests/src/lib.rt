@@ -12,6 +12,8 @@ mod bytes;
 #[cfg(test)]
 mod checks;
 #[cfg(test)]
+mod diffs;
+#[cfg(test)]
 mod entries;
 #[cfg(test)]
 mod listings;

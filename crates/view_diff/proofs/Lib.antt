@@ -1,0 +1,9 @@
+mod AlikeLemmas
+mod PartLemmas
+mod Bared
+mod Lists
+mod FirstLemmas
+mod MarkLemmas
+mod ReplayLaws
+mod OpenLemmas
+mod WorkedExamples
