@@ -34,3 +34,5 @@ mod starting;
 mod steps;
 #[cfg(test)]
 mod synchronous;
+#[cfg(test)]
+mod waits;

@@ -1,0 +1,47 @@
+-- The first message of a sender that nobody has received.
+use Rattle.std.proofs.Common.{◌≡◌, ◌<◌, ◌≤◌, ◌-◌, ◌+◌, ◌∙◌, ◌∷◌, [], ℕ, zero, suc, List, Option, Some, None, ap, arith, drop, is_some, length, refl, slice_get, subst, sym, take}
+use Rattle.mpi_call.specs.declared.call.Call.{Call}
+use Rattle.run_model.specs.declared.event.Event.{Event}
+use Rattle.run_model.specs.Pairs.{pairs_of, partner_of}
+use Rattle.wait_graph.specs.declared.message.Open.{Open}
+use Rattle.wait_graph.specs.Opens.{open_at, open_from, or_open}
+
+drop-at : (calls : List Call) (k : ℕ) (call : Call) → slice_get calls k ≡ Some call → drop k calls ≡ call ∷ drop (suc k) calls
+drop-at [] k call h = absurd (cc)
+drop-at (c ∷ calls) zero call h = (let same : c ≡ call = cc in ap (λ x. x ∷ calls) same)
+drop-at (c ∷ calls) (suc k) call h = drop-at calls k call h
+
+drop-past : (calls : List Call) (k : ℕ) → slice_get calls k ≡ None → drop k calls ≡ []
+drop-past [] zero h = refl
+drop-past [] (suc k) h = refl
+drop-past (c ∷ calls) zero h = absurd (cc)
+drop-past (c ∷ calls) (suc k) h = drop-past calls k h
+
+take-none : (k : ℕ) → take k ([] : List Call) ≡ []
+take-none zero = refl
+take-none (suc k) = refl
+
+module _ (G : List Event) (sender receiver : ℕ) (calls : List Call) where
+  -- what is open among the starts from one number up to another
+  abbrev pub left : ℕ → ℕ → Option Open
+  left start below = open_from G sender receiver start (take (below - start) (drop start calls))
+
+  -- one start
+  abbrev pub here : ℕ → Call → Option Open
+  here start call = open_at (is_some (partner_of (pairs_of G) (sender, start))) receiver (record { rank = sender; start = start }) call
+
+  pub left_here : (start below : ℕ) (call : Call) → start < below → slice_get calls start ≡ Some call → left start below ≡ or_open (here start call) (left (start + 1) below)
+  left_here start below call low there =
+      let few : below - start ≡ suc (below - (start + 1)) = omega (arith, low) in
+      let next : suc start ≡ start + 1 = omega arith in
+      ap (λ l. open_from G sender receiver start (take (below - start) l)) (drop-at calls start call there)
+      ∙ ap (λ k. open_from G sender receiver start (take k (call ∷ drop (suc start) calls))) few
+      ∙ ap (λ k. or_open (here start call) (open_from G sender receiver k (take (below - (start + 1)) (drop k calls)))) next
+
+  pub left_past : (start below : ℕ) → slice_get calls start ≡ None → left start below ≡ None
+  left_past start below none =
+      ap (λ l. open_from G sender receiver start (take (below - start) l)) (drop-past calls start none)
+      ∙ ap (open_from G sender receiver start) (take-none (below - start))
+
+  pub left_none : (start below : ℕ) → below ≤ start → left start below ≡ None
+  left_none start below high = (let none : below - start ≡ 0 = omega (arith, high) in ap (λ k. open_from G sender receiver start (take k (drop start calls))) none)
