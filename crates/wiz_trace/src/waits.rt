@@ -77,7 +77,14 @@ fn push_graph(
     ensures { OnOk result ((events : List Event) → IsRegister n events register.now → out.new ≡ out.old ++ graph_text n events graph.now) }
 {
     let ranks = all_ranks(alloc, n)?;
-    push_all_blocked(alloc, out, n, ranks.as_slice(), register, graph.blocked.as_slice())?;
+    push_all_blocked(
+        alloc,
+        out,
+        n,
+        ranks.as_slice(),
+        register,
+        graph.blocked.as_slice(),
+    )?;
     push_cycles(out, graph.cycles.as_slice())?;
     push_hopeless(out, graph.hopeless.as_slice())
 }
@@ -120,7 +127,14 @@ fn push_blocked(
     push_text(out, b" ")?;
     push_call(out, &blocked.call)?;
     push_text(out, b"\n")?;
-    push_waits(out, ranks, register, blocked.rank, opens.as_slice(), blocked.waits.as_slice())
+    push_waits(
+        out,
+        ranks,
+        register,
+        blocked.rank,
+        opens.as_slice(),
+        blocked.waits.as_slice(),
+    )
 }
 
 /// What a rank waits for.
@@ -330,12 +344,7 @@ fn push_open(
 }
 
 /// A word for each part that does not agree.
-fn push_differences(
-    out: &mut Bytes,
-    comm: bool,
-    source: bool,
-    tag: bool,
-) -> Result<(), AllocError>
+fn push_differences(out: &mut Bytes, comm: bool, source: bool, tag: bool) -> Result<(), AllocError>
     ensures { OnOk result (out.new ≡ out.old ++ flat_map difference_text (unless comm ByComm ++ (unless source BySource ++ unless tag ByTag))) }
 {
     if !comm {
