@@ -19,6 +19,7 @@ const SERIAL: &[&str] = &["record", "P", "Q", "A", "--serial"];
 const ORDERED: &[&str] = &["record", "P", "Q", "A", "--order", "F"];
 
 /// A log: its file, its lines up to the length of the program, and its lists.
+#[derive(Clone, Copy)]
 struct LogFile<'a> {
     name: &'a str,
     head: &'a [u8],
@@ -54,7 +55,8 @@ pub fn joined(alloc: Global, parts: &[&[u8]]) -> Option<Bytes> {
 fn log_text(alloc: Global, program: &[u8], log: &LogFile<'_>) -> Option<Bytes> {
     let mut text = joined(alloc, &[log.head])?;
     push_decimal(&mut text, program.len() as u64).ok()?;
-    for part in [b"\n".as_slice(), program, b"\n", log.lists] {
+    let newline: &[u8] = b"\n";
+    for part in [newline, program, newline, log.lists] {
         push_text(&mut text, part).ok()?;
     }
     Some(text)

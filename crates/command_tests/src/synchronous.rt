@@ -21,6 +21,7 @@ const TESTED: &[u8] =
     b"int main(void){int r,x=0,y=0,f=0;MPI_Status s;MPI_Request q[2];MPI_Comm c;MPI_Comm_rank(MPI_COMM_WORLD,&r);if(r==0){MPI_Issend(&x,1,MPI_INT,1,5,MPI_COMM_WORLD,&q[0]);MPI_Test(&q[0],&f,MPI_STATUS_IGNORE);MPI_Wait(&q[0],MPI_STATUS_IGNORE);}if(r==1)MPI_Recv(&x,1,MPI_INT,0,5,MPI_COMM_WORLD,MPI_STATUS_IGNORE);return 0;}";
 
 /// A program that both ranks run in one group, and its recording.
+#[derive(Clone, Copy)]
 struct Row<'a> {
     name: &'a str,
     program: &'a [u8],

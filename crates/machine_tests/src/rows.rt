@@ -12,7 +12,6 @@ use srr_entry::log::Log;
 use srr_record::{Recording, finish_record, record_serial};
 use std::alloc::{AllocError, Global};
 use std::process::Abort;
-use std::rt::HostRuntime;
 use std::test::Fail;
 use wiz_base::bytes::Bytes;
 

@@ -1,8 +1,8 @@
 //! The texts of checks and of the demo, worked out by hand.
 use crate::memory::pushed;
-use crate::traces::{add, outputs, replay};
+use crate::traces::{add, replay};
 use bstr::BStr;
-use group_plan::{Plan, read_plan};
+use group_plan::read_plan;
 use mpi_call::call::{Call, Halt};
 use mpi_call::reply::Reply;
 use replay_model::replayed::{Replayed, Replays, Stand, Stands};
@@ -11,7 +11,6 @@ use run_model::history::History;
 use std::alloc::Global;
 use std::rt::HostRuntime;
 use std::test::Fail;
-use wiz_base::Bytes;
 use wiz_trace::check::check_text;
 use wiz_trace::demo::{demo_program, demo_text};
 
