@@ -86,7 +86,7 @@ fn first_run(alloc: Global) -> Result<History, Fail> {
 }
 
 /// What each rank printed.
-pub fn outputs(alloc: Global, printed: &[&[u8]]) -> Result<Outputs, Fail> {
+fn outputs(alloc: Global, printed: &[&[u8]]) -> Result<Outputs, Fail> {
     let mut outputs = Outputs::new(alloc);
     for bytes in printed {
         pushed(outputs.push(Bytes::from_slice(alloc, bytes)?))?;
