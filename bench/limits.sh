@@ -1,6 +1,7 @@
 #!/usr/bin/env bash
 # Runs at the limits of a run, each at a quarter, at half and whole: recorded on one thread, and its first group replayed from
-# its log on one thread. Then three runs of messages alone, recorded. Needs `rt` and GNU time (`apt-get install time`). A row gives
+# its log on one thread. Then three runs of messages alone, recorded, and the races of two runs of 64 ranks, and advice on their groups.
+# Needs `rt` and GNU time (`apt-get install time`). A row gives
 # wall-clock seconds from start to end (the least of five runs), the growth against the row above, peak memory in MB, and the
 # bytes of all logs, without the program's text in them, for each event. `bench/limits.sh NAME` does the rows of one name alone.
 . "$(dirname "$0")/idle.sh"
@@ -62,6 +63,16 @@ all_to_one() {
   program '0-63\n' '' "if(r==0){for(i=0;i<$(($1 / 63))*(n-1);i++){MPI_Recv(&y,1,MPI_INT,MPI_ANY_SOURCE,1,MPI_COMM_WORLD,MPI_STATUS_IGNORE);x=x+y;}}else for(i=0;i<$(($1 / 63));i++)MPI_Send(&r,1,MPI_INT,0,1,MPI_COMM_WORLD);"
 }
 
+# Each rank of 64 sends to the next with the tag of the round, and receives from any.
+rounds() {
+  program '0-63\n' '' "for(i=0;i<$(($1 / 192));i++){MPI_Send(&r,1,MPI_INT,(r+1)%n,i,MPI_COMM_WORLD);MPI_Recv(&x,1,MPI_INT,MPI_ANY_SOURCE,i,MPI_COMM_WORLD,MPI_STATUS_IGNORE);}"
+}
+
+# Each rank of 64 gets the sum of the ranks up to itself, again and again.
+scans() {
+  program '0-63\n' '' "for(i=0;i<$(($1 / 128));i++)MPI_Scan(&r,&x,1,MPI_INT,MPI_SUM,MPI_COMM_WORLD);"
+}
+
 # The least of five wall-clock times of a command in seconds, and its peak memory in MB; its last line is to be this one.
 measure() {
   local want=$1
@@ -109,6 +120,18 @@ recording() {
   printf '%-10s %8d messages %8s s %6d MB\n' "$name" "$size" "$seconds" "$memory"
 }
 
+# A run recorded, its races, and advice on blocks of at most eight ranks, each command with the recording in it.
+explained() {
+  local name=$1 command seconds memory
+  [ -z "$only" ] || [ "$only" = "$name" ] || return 0
+  "$name" "$2"
+  rm -f run.*
+  for command in 'record program plan run' 'races program plan' 'advise program plan 8'; do
+    read -r seconds memory <<<"$(measure finished $command --serial)"
+    printf '%-10s %8d events %-8s %8s s %6d MB\n' "$name" "$(wc -l <run.order)" "${command%% *}" "$seconds" "$memory"
+  done
+}
+
 echo "$(nproc) processors, load $(cut -d' ' -f1 /proc/loadavg) before the run"
 printf '%-10s %8s %8s %8s %7s %6s %9s %7s %6s %9s\n' what size events 'record s' growth MB 'replay s' growth MB 'bytes/ev'
 rows events 999000
@@ -123,3 +146,6 @@ echo 'recorded on one thread'
 recording events 100000 300000
 recording ring 80000 80000
 recording all_to_one 94000 94000
+echo 'races, and advice on blocks of 8 ranks'
+explained rounds 299520
+explained scans 299520

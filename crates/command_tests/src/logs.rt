@@ -1,6 +1,6 @@
 //! What logs hold, listed and counted: `show` and `stats`.
 use crate::programs::FIRST;
-use crate::serial::{answers, files};
+use crate::serial::{check, files};
 
 #[test]
 fn logs_are_shown_and_counted(rt: HostRuntime) {
@@ -48,9 +48,6 @@ fn logs_are_shown_and_counted(rt: HostRuntime) {
         (&["show", "B.order"], 8, b"log 0 bad head\n"),
     ];
     for (words, status, printed) in rows {
-        assert!(&rt;
-            answers(alloc, &mut store, words, status, printed),
-            "{words:?}"
-        );
+        check(&rt, &words, &mut store, words, (status, printed));
     }
 }

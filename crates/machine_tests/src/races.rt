@@ -40,14 +40,16 @@ struct Want<'a> {
 /// What the ranks do by turns, and the races of this.
 #[derive(Clone, Copy)]
 struct Row<'a> {
+    name: &'a str,
     steps: [&'a [Step]; 3],
     turns: &'a [u8],
     receives: &'a [Want<'a>],
 }
 
 static ROWS: [Row; 2] = [
-    // A send after a completion is an other, as long as it doesn't come after the completion by a path of messages.
+    // The send is an other, as long as it doesn't come after the completion by a path of messages.
     Row {
+        name: "a send after a completion",
         steps: [
             &[Step::Send(2, 9)],
             &[Step::Send(2, 9)],
@@ -73,8 +75,9 @@ static ROWS: [Row; 2] = [
         ],
     },
 
-    // An answer to what was sent after a completion comes after it.
+    // The answer comes after the completion.
     Row {
+        name: "an answer to what was sent after a completion",
         steps: [
             &[Step::Post(NINE, 1), Step::Take(ALL, 0), Step::Send(2, 9)],
             &[Step::Send(2, 9)],
@@ -114,9 +117,10 @@ fn name_of(name: (u8, u32)) -> Name {
     }
 }
 
-/// The receive is as wanted.
+/// The receive is as the row wants it.
 fn check_receive(
     rt: &(impl Abort + AllocGlobal),
+    row: &Row,
     receive: &Receive,
     want: &Want,
 ) -> Result<(), Fail> {
@@ -124,12 +128,12 @@ fn check_receive(
         rank: receive.rank,
         start: receive.start,
     };
-    assert_eq!(rt; name, name_of(want.receive));
-    assert_eq!(rt; receive.took, name_of(want.took));
+    assert_eq!(rt; name, name_of(want.receive), "{}", row.name);
+    assert_eq!(rt; receive.took, name_of(want.took), "{}", row.name);
     let others = receive.others.as_slice();
-    assert_eq!(rt; others.len(), want.others.len());
+    assert_eq!(rt; others.len(), want.others.len(), "{}", row.name);
     for (other, wanted) in others.iter().zip(want.others.iter()) {
-        assert_eq!(rt; *other, name_of(*wanted));
+        assert_eq!(rt; *other, name_of(*wanted), "{}", row.name);
     }
     Ok(())
 }
@@ -140,10 +144,15 @@ fn check_row(rt: &(impl Abort + AllocGlobal), row: &Row) -> Result<(), Fail> {
     let plan = read_plan(rt.alloc(), b"0-2\n").expect(rt, "a plan");
     let recording = record(rt.alloc(), &script, &plan, row.turns)?;
     assert!(rt; are_of_ranks(3, recording.history.as_slice()));
-    let receives = races(rt.alloc(), 3, &recording.history).expect(rt, "races");
-    assert_eq!(rt; receives.as_slice().len(), row.receives.len());
+    let receives = races(rt.alloc(), 3, &recording.history).expect(rt, row.name);
+    assert_eq!(rt;
+        receives.as_slice().len(),
+        row.receives.len(),
+        "{}",
+        row.name
+    );
     for (receive, want) in receives.as_slice().iter().zip(row.receives.iter()) {
-        check_receive(rt, receive, want)?;
+        check_receive(rt, row, receive, want)?;
     }
     Ok(())
 }

@@ -1,5 +1,6 @@
 //! Plans and orders worked out by hand.
-use group_plan::{OrderFault, Plan, PlanFault, one_reading, read_order, read_plan};
+use bstr::BStr;
+use group_plan::{OrderFault, Plan, PlanFault, read_order, read_plan};
 use std::alloc::Global;
 use std::process::Abort;
 use std::rt::HostRuntime;
@@ -57,7 +58,7 @@ fn plans_are_read(rt: HostRuntime) {
             Ok(ranks) => Ok(ranks.as_slice()),
             Err(fault) => Err(*fault),
         };
-        assert_eq!(rt; found, *expected);
+        assert_eq!(rt; found, *expected, "{:?}", BStr::new(text));
     }
 }
 
@@ -98,7 +99,6 @@ fn orders_are_read(rt: HostRuntime) {
             Ok(ranks) => Ok(ranks.as_slice()),
             Err(fault) => Err(*fault),
         };
-        assert_eq!(rt; found, *expected);
+        assert_eq!(rt; found, *expected, "{:?}", BStr::new(text));
     }
-    one_reading();
 }

@@ -1,5 +1,6 @@
 //! The texts of runs and replays worked out by hand.
 use crate::memory::pushed;
+use bstr::BStr;
 use group_plan::read_order;
 use mpi_call::call::{Call, Fault, Halt, Source, Tag, TakeMode};
 use mpi_call::lists::{Ints, Ranks, Starts};
@@ -85,7 +86,7 @@ fn first_run(alloc: Global) -> Result<History, Fail> {
 }
 
 /// What each rank printed.
-pub fn outputs(alloc: Global, printed: &[&[u8]]) -> Result<Outputs, Fail> {
+fn outputs(alloc: Global, printed: &[&[u8]]) -> Result<Outputs, Fail> {
     let mut outputs = Outputs::new(alloc);
     for bytes in printed {
         pushed(outputs.push(Bytes::from_slice(alloc, bytes)?))?;
@@ -100,26 +101,29 @@ fn first_order(alloc: Global) -> Result<Bytes, Fail> {
 #[test]
 fn orders_are_written_and_read_back(rt: HostRuntime) -> Result<(), Fail> {
     let text = first_order(rt.alloc())?;
-    assert!(&rt; text.as_slice() == b"0\n1\n0\n1\n1\n".as_slice());
+    assert_eq!(&rt; BStr::new(text.as_slice()), BStr::new(b"0\n1\n0\n1\n1\n"));
     let ranks = read_order(rt.alloc(), text.as_slice(), 2)?;
-    assert!(&rt; ranks.as_slice() == [0, 1, 0, 1, 1].as_slice());
+    assert_eq!(&rt; ranks.as_slice(), [0, 1, 0, 1, 1].as_slice());
     Ok(())
 }
 
-/// What each rank printed, how the run ended, and the text of both.
-static RECORDS: [(&[&[u8]], Ending, &[u8]); 6] = [
+/// The name, what each rank printed, how the run ended, and the text of both.
+static RECORDS: [(&str, &[&[u8]], Ending, &[u8]); 6] = [
     (
+        "finished",
         &[b"", b"7\n"],
         Ending::Finished,
         b"rank 0 output 0\n\nrank 1 output 2\n7\n\nfinished\n",
     ),
     (
+        "truncated",
         &[b"", b""],
         Ending::Halted(Halt::Truncated { rank: 1, start: 0 }),
         b"rank 0 output 0\n\nrank 1 output 0\n\nhalted truncated rank 1 start 0\n",
     ),
-    (&[], Ending::Halted(Halt::Stuck), b"halted stuck\n"),
+    ("stuck", &[], Ending::Halted(Halt::Stuck), b"halted stuck\n"),
     (
+        "trapped",
         &[],
         Ending::Halted(Halt::Trapped {
             rank: 0,
@@ -128,11 +132,13 @@ static RECORDS: [(&[&[u8]], Ending, &[u8]); 6] = [
         b"halted trapped rank 0 divide by zero\n",
     ),
     (
+        "aborted",
         &[],
         Ending::Halted(Halt::Aborted { rank: 0, code: 3 }),
         b"halted aborted rank 0 code 3\n",
     ),
     (
+        "mismatched",
         &[],
         Ending::Halted(Halt::Mismatched { rank: 1 }),
         b"halted mismatched rank 1\n",
@@ -141,9 +147,9 @@ static RECORDS: [(&[&[u8]], Ending, &[u8]); 6] = [
 
 #[test]
 fn records_are_told(rt: HostRuntime) -> Result<(), Fail> {
-    for (printed, ending, expected) in &RECORDS {
+    for (name, printed, ending, expected) in &RECORDS {
         let text = record_text(rt.alloc(), &outputs(rt.alloc(), printed)?, ending)?;
-        assert!(&rt; text.as_slice() == *expected);
+        assert_eq!(&rt; BStr::new(text.as_slice()), BStr::new(expected), "{name}");
     }
     Ok(())
 }
@@ -169,7 +175,8 @@ fn check_trace(
     replayed: &Replayed,
     expected: &[u8],
 ) -> Result<(), Fail> {
-    assert!(rt; trace_text(rt.alloc(), replayed)?.as_slice() == expected);
+    let text = trace_text(rt.alloc(), replayed)?;
+    assert_eq!(rt; BStr::new(text.as_slice()), BStr::new(expected));
     Ok(())
 }
 
@@ -268,9 +275,8 @@ fn replays_are_traced_in_order(rt: HostRuntime) -> Result<(), Fail> {
     assert!(&rt; traces_text(alloc, &replays)?.is_empty());
     pushed(replays.push(standing(alloc, Stand::LogEnded)?))?;
     pushed(replays.push(standing(alloc, Stand::Ended)?))?;
-    assert!(&rt;
-        traces_text(alloc, &replays)?.as_slice()
-            == b"rank 1\noutput 0\n\nlog ended\nrank 1\noutput 0\n\nended\n".as_slice()
-    );
+    let text = traces_text(alloc, &replays)?;
+    let expected = b"rank 1\noutput 0\n\nlog ended\nrank 1\noutput 0\n\nended\n";
+    assert_eq!(&rt; BStr::new(text.as_slice()), BStr::new(expected));
     Ok(())
 }

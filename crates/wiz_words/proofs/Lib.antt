@@ -1,4 +1,3 @@
 pub mod FormLemmas
 pub mod BreakpointLemmas
 pub mod OneCommand
-pub mod TextLemmas
