@@ -107,11 +107,10 @@ fn check_open(rt: &(impl Abort + AllocGlobal), opens: &[Open]) -> Result<(), Fai
 }
 
 /// Rank 0 took rank 1's first message at call 1, and its second one is open.
-fn check_messages(
-    rt: &(impl Abort + AllocGlobal),
-    register: &Register,
-) -> Result<(), Fail> {
-    let taken = register.taken_last(0, 0, &Tag::Is(9), 1).expect(rt, "a message");
+fn check_messages(rt: &(impl Abort + AllocGlobal), register: &Register) -> Result<(), Fail> {
+    let taken = register
+        .taken_last(0, 0, &Tag::Is(9), 1)
+        .expect(rt, "a message");
     assert_eq!(rt; taken.name, Name { rank: 1, start: 0 });
     assert_eq!(rt; taken.call, 1);
     assert!(rt; register.taken_last(0, 0, &Tag::Any, 1).is_some());
