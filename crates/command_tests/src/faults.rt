@@ -35,8 +35,13 @@ const RECORDING: &[&str] = &["A.0.srr", "A.1.srr", "A.order"];
 
 const RACES: &[u8] = b"receives 0 raced 0\nfinished\n";
 
+const FINISHED: &[u8] = b"finished\n";
+
+/// The first log and itself.
+pub const SAME: &[u8] = b"rank 0 same 2\nrank 1 same 3\nsame\n";
+
 /// Each command that reads, writes or prints, on threads and on one thread.
-fn commands() -> [Row<'static>; 20] {
+fn commands() -> [Row<'static>; 24] {
     [
         Row {
             words: &["record", "P", "Q", "A"],
@@ -103,6 +108,30 @@ fn commands() -> [Row<'static>; 20] {
             read: ORDERED,
             written: NONE,
             printed: FIRST_ADVISED,
+        },
+        Row {
+            words: &["waits", "P", "Q"],
+            read: RUN,
+            written: NONE,
+            printed: FINISHED,
+        },
+        Row {
+            words: &["waits", "P", "Q", "--serial"],
+            read: RUN,
+            written: NONE,
+            printed: FINISHED,
+        },
+        Row {
+            words: &["waits", "P", "Q", "--order", "F"],
+            read: ORDERED,
+            written: NONE,
+            printed: FINISHED,
+        },
+        Row {
+            words: &["diff", "L", "L"],
+            read: &["L", "L"],
+            written: NONE,
+            printed: SAME,
         },
         Row {
             words: &["demo", "0", "1"],

@@ -42,7 +42,7 @@ fn words_in_form_ask_for_a_command(rt: HostRuntime) {
         ..serial_replay
     };
     // The arguments, whether they ask for threads, and the command.
-    let table: [(&[&str], bool, Command<&str>); 33] = [
+    let table: [(&[&str], bool, Command<&str>); 38] = [
         (
             &["record", "P", "Q", "A"],
             true,
@@ -235,6 +235,33 @@ fn words_in_form_ask_for_a_command(rt: HostRuntime) {
                 file: "F",
             },
         ),
+        (
+            &["diff", "L", "M"],
+            false,
+            Command::Diff {
+                one: "L",
+                other: "M",
+            },
+        ),
+        (
+            &["diff", "--", "L", "--serial"],
+            false,
+            Command::Diff {
+                one: "L",
+                other: "--serial",
+            },
+        ),
+        (&["waits", "P", "Q"], true, Command::Waits(RUN)),
+        (
+            &["waits", "P", "--serial", "Q"],
+            false,
+            Command::Waits(serial_run),
+        ),
+        (
+            &["waits", "--order", "F", "P", "Q"],
+            false,
+            Command::Waits(ordered_run),
+        ),
     ];
     for (words, threads, wanted) in table {
         let found = read_command(rt.alloc(), words).expect(&rt, "memory");
@@ -245,7 +272,7 @@ fn words_in_form_ask_for_a_command(rt: HostRuntime) {
 
 #[test]
 fn words_out_of_form_ask_for_nothing(rt: HostRuntime) {
-    let table: [&[&str]; 54] = [
+    let table: [&[&str]; 60] = [
         &[],
         &[""],
         &["play"],
@@ -253,6 +280,12 @@ fn words_out_of_form_ask_for_nothing(rt: HostRuntime) {
         &["--help"],
         &["replay", "--help"],
         &["replay", "L", "-h"],
+        &["diff", "L"],
+        &["diff", "L", "M", "F"],
+        &["diff", "L", "M", "--serial"],
+        &["waits", "P"],
+        &["waits", "P", "Q", "A"],
+        &["waits", "P", "Q", "--serial", "--order", "F"],
         &["record", "P", "Q"],
         &["record", "P", "Q", "A", "B"],
         &["record", "P", "Q", "A", "--order"],
