@@ -19,6 +19,7 @@ apart_from x (y ∷ ys) none =
     )
 
 distinct_keys : (xs : List ℕ) → is_distinct xs ≡ true → IsDistinct ◌==◌ xs
+unfolding IsDistinct
 distinct_keys [] distinct = tt
 distinct_keys (x ∷ xs) distinct = elim (test_cases (is_member xs x)) [
   | inl t ↦ absurd (let no : false ≡ true = rw t at distinct in cc)

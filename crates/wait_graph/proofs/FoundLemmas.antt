@@ -54,8 +54,8 @@ found_at n G rank number call copied waits slice ranks next no_hope numbered sam
     }
 
 -- the ranks so far
-pub record IsFoundSoFar (n : ℕ) (events : List Event) (ranks rest : List ℕ) (blocked : List Blocked) (nexts : List (Option ℕ)) (hopeless : List ℕ) : Type 0 where
-  pub blocked : blocked ++ blocked_in n events rest ≡ blocked_in n events ranks
+pub record IsFoundSoFar (n : ℕ) (events : List Event) (ranks rest : List ℕ) (told : List Blocked) (nexts : List (Option ℕ)) (hopeless : List ℕ) : Type 0 where
+  pub blocked : told ++ blocked_in n events rest ≡ blocked_in n events ranks
   pub next : nexts ++ map (next_of n events) rest ≡ map (next_of n events) ranks
   pub vain : hopeless ++ filter (is_hopeless n events) rest ≡ filter (is_hopeless n events) ranks
 

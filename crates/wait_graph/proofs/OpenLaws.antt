@@ -60,7 +60,9 @@ open_is G sender receiver start (Send comm dest tag ints sync ∷ calls) found h
     let paired : Bool = is_some (partner_of (pairs_of G) (sender, start)) in
     elim (test_cases ((dest == receiver) && not paired)) [
       | inl t ↦ (
-          let one : Some (record { name = record { rank = sender; start = start }; comm = comm; tag = tag }) ≡ Some found = rw t at h in
+          let mine : Open = record { name = record { rank = sender; start = start }; comm = comm; tag = tag } in
+          let one : Some mine ≡ Some found = rw t at h in
+          let same : mine ≡ found = cc in
           let parts = and_parts (dest == receiver) (not paired) t in
           let to = eqb-true dest receiver parts.0 in
           let F : ℕ → Type 0 = λ i. partner_of (pairs_of G) (sender, i) ≡ None in
@@ -68,15 +70,16 @@ open_is G sender receiver start (Send comm dest tag ints sync ∷ calls) found h
             | inl u ↦ absurd (let no : false ≡ true = rw u at parts.1 in cc)
             | inr u ↦ u
           ]) in
-          record {
+          let At : Open → Type 0 = λ o. IsOpenAt G sender receiver start (Send comm dest tag ints sync ∷ calls) o in
+          subst At same (record {
             k = 0;
             ints = ints;
             sync = sync;
-            there = cc;
-            rank = cc;
-            number = (let n : found.name.start ≡ start = cc in omega (arith, n));
+            there = ap (λ d. Some (Send comm d tag ints sync)) to;
+            rank = refl;
+            number = omega arith;
             free = subst F (omega arith) (none_or (partner_of (pairs_of G) (sender, start)) alone);
-          })
+          }))
       | inr t ↦ later G sender receiver start (Send comm dest tag ints sync) calls found (open_is G sender receiver (suc start) calls found (rw t at h))
     ]
 open_is G sender receiver start (Post comm source tag room ∷ calls) found h = later G sender receiver start (Post comm source tag room) calls found (open_is G sender receiver (suc start) calls found h)
@@ -168,30 +171,31 @@ unpaired n G me k comm room Null tag h = absurd (cc)
 
 start_differs : (n : ℕ) (G : List Event) (me : ℕ) (found : Open) (call : Call) → IsMatched G → IsOpenTo n G me found → ((comm : ℕ) (source : Source) (tag : Tag) (wait : Bool) → call ≡ Peek comm source tag wait → ⊥)
     → IsUnready n G me call → DiffersFrom found call
-start_differs n G me found (Post comm source tag room) matched open no_probe is =
-    none_fits G (me, is.k) (found.name.rank, found.name.start) comm room found.comm found.tag source tag open.ints open.sync matched
-    is.made (unpaired n G me is.k comm room source tag is.unready) open.sent open.free
-start_differs n G me found (Peek comm source tag wait) matched open no_probe is = absurd (no_probe comm source tag wait refl)
-start_differs n G me found (Send comm dest tag ints sync) matched open no_probe is = tt
-start_differs n G me found (Enter comm kind root op count ints) matched open no_probe is = tt
-start_differs n G me found (Take starts mode) matched open no_probe is = tt
-start_differs n G me found (Abort code) matched open no_probe is = tt
-start_differs n G me found (Trap fault) matched open no_probe is = tt
-start_differs n G me found End matched open no_probe is = tt
+start_differs n G me found (Post comm source tag room) matched is_open no_probe is =
+    none_fits G (me, is.k) (found.name.rank, found.name.start) comm room found.comm found.tag source tag is_open.ints is_open.sync matched
+    is.made (unpaired n G me is.k comm room source tag is.unready) is_open.sent is_open.free
+start_differs n G me found (Peek comm source tag wait) matched is_open no_probe is = absurd (no_probe comm source tag wait refl)
+start_differs n G me found (Send comm dest tag ints sync) matched is_open no_probe is = tt
+start_differs n G me found (Enter comm kind root op count ints) matched is_open no_probe is = tt
+start_differs n G me found (Take starts mode) matched is_open no_probe is = tt
+start_differs n G me found (Abort code) matched is_open no_probe is = tt
+start_differs n G me found (Trap fault) matched is_open no_probe is = tt
+start_differs n G me found End matched is_open no_probe is = tt
 
 -- a start is a call that starts something
+first_starting : (seen : Call × Reply) (calls : List Call) (k : ℕ) (call : Call) → is_start seen ≡ true
+    → ((j : ℕ) → slice_get calls j ≡ Some call → is_starting call ≡ true) → slice_get (seen.0 ∷ calls) k ≡ Some call → is_starting call ≡ true
+first_starting (made, reply) calls zero call t rest h =
+    let same : made ≡ call = cc in
+    ap is_starting (sym same) ∙ (and_parts (is_starting made) (is_done reply) t).0
+first_starting (made, reply) calls (suc k) call t rest h = rest k h
+
 starting : (view : View) (k : ℕ) (call : Call) → slice_get (starts_of view) k ≡ Some call → is_starting call ≡ true
 starting [] k call h = absurd (cc)
 starting (seen ∷ view) k call h = elim (test_cases (is_start seen)) [
-  | inl t ↦ first seen view k call t (rw t at h)
+  | inl t ↦ first_starting seen (starts_of view) k call t (λ j there. starting view j call there) (rw t at h)
   | inr t ↦ starting view k call (rw t at h)
 ]
-  where
-    first : (seen : Call × Reply) (view : View) (k : ℕ) (call : Call) → is_start seen ≡ true → slice_get (seen.0 ∷ starts_of view) k ≡ Some call → is_starting call ≡ true
-    first (made, reply) view zero call t h =
-        let same : made ≡ call = cc in
-        ap is_starting (sym same) ∙ (and_parts (is_starting made) (is_done reply) t).0
-    first (made, reply) view (suc k) call t h = starting view k call h
 
 no_probe : (n : ℕ) (G : List Event) (me : ℕ) (call : Call) → IsUnready n G me call → (comm : ℕ) (source : Source) (tag : Tag) (wait : Bool) → call ≡ Peek comm source tag wait → ⊥
 no_probe n G me call is comm source tag wait e =
@@ -202,13 +206,13 @@ no_probe n G me call is comm source tag wait e =
 -- a blocked rank's call
 call_differs : (n : ℕ) (G : List Event) (me : ℕ) (call : Call) (wait : Wait) (found : Open) → IsMatched G → can_go n G me (view_of G me) call ≡ false
     → IsIn wait (waits_at n G me call) → IsOpenTo n G me found → DiffersFrom found wait.call
-call_differs n G me (Take starts mode) wait found matched held among open =
+call_differs n G me (Take starts mode) wait found matched held among is_open =
     let is = wait_is n G me starts wait among in
-    start_differs n G me found wait.call matched open (no_probe n G me wait.call is) is
-call_differs n G me (Peek comm source tag waits) wait found matched held among open =
+    start_differs n G me found wait.call matched is_open (no_probe n G me wait.call is) is
+call_differs n G me (Peek comm source tag waits) wait found matched held among is_open =
     let parts = or_parts (is_some (due n G me (view_of G me) (Peek comm source tag waits))) (is_prompt n G me (view_of G me) (Peek comm source tag waits)) held in
     let nothing = or_parts (not waits) (has_open n G me comm source tag) parts.1 in
-    let differs = none_found n G me comm found.comm found.tag (found.name.rank, found.name.start) source tag open.ints open.sync nothing.1 open.below open.sent open.free in
+    let differs = none_found n G me comm found.comm found.tag (found.name.rank, found.name.start) source tag is_open.ints is_open.sync nothing.1 is_open.below is_open.sent is_open.free in
     elim among [
       | inl same ↦ (
           let is : Peek comm source tag waits ≡ wait.call = ap (λ (w : Wait). w.call) same in
@@ -216,18 +220,18 @@ call_differs n G me (Peek comm source tag waits) wait found matched held among o
           subst D is differs)
       | inr none ↦ absurd none
     ]
-call_differs n G me (Send comm dest tag ints sync) wait found matched held among open = absurd among
-call_differs n G me (Post comm source tag room) wait found matched held among open = absurd among
-call_differs n G me (Enter comm kind root op count ints) wait found matched held among open = absurd among
-call_differs n G me (Abort code) wait found matched held among open = absurd among
-call_differs n G me (Trap fault) wait found matched held among open = absurd among
-call_differs n G me End wait found matched held among open = absurd among
+call_differs n G me (Send comm dest tag ints sync) wait found matched held among is_open = absurd among
+call_differs n G me (Post comm source tag room) wait found matched held among is_open = absurd among
+call_differs n G me (Enter comm kind root op count ints) wait found matched held among is_open = absurd among
+call_differs n G me (Abort code) wait found matched held among is_open = absurd among
+call_differs n G me (Trap fault) wait found matched held among is_open = absurd among
+call_differs n G me End wait found matched held among is_open = absurd among
 
 pub opens_differ : (next : Next) (n : ℕ) → Lawful next → OpensDiffer next n
-opens_differ next n lawful events is stuck rank call below live wait found among open =
+opens_differ next n lawful events is stuck rank call below live wait found among is_open =
     let G : List Event = going events in
     let F : List Event → Type 0 = λ l. IsRun next n l in
     let run : IsRun next n G = IsRun-front next n G (halting events) (subst F (sym (parts_are events)) is.is_run) in
     let dead : IsDead next n G = (stuck_exactly next n events is).0 stuck in
     call_differs n G rank call wait found (kept_run next n G lawful run).matched (dead.stuck rank call below live) among
-    (listed_is n G (world n 0) rank found (below_all n (world n 0) refl) open)
+    (listed_is n G (world n 0) rank found (below_all n (world n 0) refl) is_open)

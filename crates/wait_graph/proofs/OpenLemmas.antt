@@ -17,9 +17,10 @@ drop-past [] (suc k) h = refl
 drop-past (c ∷ calls) zero h = absurd (cc)
 drop-past (c ∷ calls) (suc k) h = drop-past calls k h
 
-take-none : (k : ℕ) → take k ([] : List Call) ≡ []
-take-none zero = refl
-take-none (suc k) = refl
+take-none : (k : ℕ) (calls : List Call) → calls ≡ [] → take k calls ≡ []
+take-none zero calls h = refl
+take-none (suc k) [] h = refl
+take-none (suc k) (c ∷ calls) h = absurd (cc)
 
 module _ (G : List Event) (sender receiver : ℕ) (calls : List Call) where
   -- what is open among the starts from one number up to another
@@ -40,8 +41,30 @@ module _ (G : List Event) (sender receiver : ℕ) (calls : List Call) where
 
   pub left_past : (start below : ℕ) → slice_get calls start ≡ None → left start below ≡ None
   left_past start below none =
-      ap (λ l. open_from G sender receiver start (take (below - start) l)) (drop-past calls start none)
-      ∙ ap (open_from G sender receiver start) (take-none (below - start))
+      ap (open_from G sender receiver start) (take-none (below - start) (drop start calls) (drop-past calls start none))
 
   pub left_none : (start below : ℕ) → below ≤ start → left start below ≡ None
   left_none start below high = (let none : below - start ≡ 0 = omega (arith, high) in ap (λ k. open_from G sender receiver start (take k (drop start calls))) none)
+
+or_some : (found other : Option Open) → is_some found ≡ true → or_open found other ≡ found
+or_some None other h = absurd (cc)
+or_some (Some x) other h = refl
+
+or_none : (found other : Option Open) → is_some found ≡ false → or_open found other ≡ other
+or_none None other h = refl
+or_none (Some x) other h = absurd (cc)
+
+-- a start that is open is the first
+pub found_here : (G : List Event) (sender receiver : ℕ) (calls : List Call) (start below : ℕ) (call : Call) (found all : Option Open) → start < below
+    → slice_get calls start ≡ Some call → found ≡ here G sender receiver calls start call → is_some found ≡ true → left G sender receiver calls start below ≡ all → found ≡ all
+found_here G sender receiver calls start below call found all low there is some so_far =
+    let rest : Option Open = left G sender receiver calls (start + 1) below in
+    sym (or_some found rest some) ∙ ap (λ f. or_open f rest) is ∙ sym (left_here G sender receiver calls start below call low there) ∙ so_far
+
+-- one that is not is passed
+pub none_here : (G : List Event) (sender receiver : ℕ) (calls : List Call) (start below : ℕ) (call : Call) (found all : Option Open) → start < below
+    → slice_get calls start ≡ Some call → found ≡ here G sender receiver calls start call → is_some found ≡ false → left G sender receiver calls start below ≡ all
+    → left G sender receiver calls (start + 1) below ≡ all
+none_here G sender receiver calls start below call found all low there is none so_far =
+    let rest : Option Open = left G sender receiver calls (start + 1) below in
+    sym (or_none found rest none) ∙ ap (λ f. or_open f rest) is ∙ sym (left_here G sender receiver calls start below call low there) ∙ so_far

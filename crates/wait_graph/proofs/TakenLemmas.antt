@@ -1,18 +1,20 @@
 -- The messages that a rank took last, with one more call.
-use Rattle.std.proofs.Common.{◌≡◌, ◌∙◌, ◌&&◌, ◌++◌, ◌∷◌, ◌==◌, [], ℕ, List, Option, Some, None, Bool, true, false, inl, inr, ap, append-nil, append_assoc, if◌then◌else◌, length, nat_eq, refl, sym}
+use Rattle.std.proofs.Common.{◌≡◌, ◌<◌, ◌≤◌, ◌-◌, ◌∙◌, ◌&&◌, ◌++◌, ◌∷◌, ◌==◌, [], ℕ, zero, suc, List, Option, Some, None, Bool, true, false, inl, inr, ap, append-nil, append_assoc, arith, drop, get_or, if◌then◌else◌, length, nat_eq, refl, slice_index, sym, take}
 use Rattle.std.proofs.lemmas.Bool.{eq-eqb, eqb-true}
 use Rattle.std.specs.Map.{lookup}
 use Rattle.std.specs.Option.{option_eq}
 use Rattle.mpi_call.specs.declared.call.Call.{Call}
 use Rattle.mpi_call.specs.declared.call.Tag.{Tag}
+use Rattle.mpi_call.specs.declared.call.Tag.TheVariants.{Any as AnyTag, Is}
+use Rattle.mpi_call.specs.declared.reply.Item.{Item}
 use Rattle.mpi_call.specs.declared.reply.Reply.{Reply}
 use Rattle.mpi_call.specs.Acceptance.{tag_agrees}
-use Rattle.msg_races.specs.Ways.{tag_of}
-use Rattle.run_model.specs.Views.{View}
+use Rattle.msg_races.specs.Ways.{tag_named, tag_of}
+use Rattle.run_model.specs.Views.{View, start_at}
 use Rattle.run_model.proofs.Views.{test_cases}
 use Rattle.wait_graph.specs.declared.message.Taken.{Taken}
 use Rattle.wait_graph.specs.declared.taken.Way.{Way}
-use Rattle.wait_graph.specs.Taken.{AreTaken, after_reply, same_way, taken_from, taken_last}
+use Rattle.wait_graph.specs.Taken.{AreTaken, after_got, after_items, after_reply, same_way, taken_from, taken_last}
 
 taken_both : (comm : ℕ) (tag : Tag) (sender : ℕ) (before xs ys : View) (known : Option Taken)
     → taken_from comm tag sender before (xs ++ ys) known ≡ taken_from comm tag sender (before ++ xs) ys (taken_from comm tag sender before xs known)
@@ -55,12 +57,37 @@ ifs_tag true false t x y = refl
 ifs_tag false true t x y = refl
 ifs_tag false false t x y = refl
 
+-- one item
+pub items_step : (comm : ℕ) (tag : Tag) (sender number : ℕ) (own : View) (starts : List ℕ) (rest : List Item) (d : Item) (old new all : Option Taken) → 1 ≤ length rest
+    → new ≡ after_got comm tag sender number (start_at own (slice_index starts (get_or rest 0 d).index)) (get_or rest 0 d).got old
+    → after_items comm tag sender number own starts rest old ≡ all
+    → after_items comm tag sender number own starts (take (length rest - 1) (drop 1 rest)) new ≡ all
+items_step comm tag sender number own starts [] d old new all some is so_far = absurd (omega (arith, some))
+items_step comm tag sender number own starts (x ∷ xs) d old new all some is so_far =
+    let tail : take (length (x ∷ xs) - 1) xs ≡ xs = take-items xs (length (x ∷ xs) - 1) (omega arith) in
+    ap (λ l. after_items comm tag sender number own starts l new) tail ∙ ap (after_items comm tag sender number own starts xs) is ∙ so_far
+  where
+    take-items : (ys : List Item) (k : ℕ) → length ys ≤ k → take k ys ≡ ys
+    take-items [] zero h = refl
+    take-items [] (suc k) h = refl
+    take-items (y ∷ ys) zero h = absurd (omega (arith, h))
+    take-items (y ∷ ys) (suc k) h = ap (λ l. y ∷ l) (take-items ys k (omega (arith, h)))
+
+pub items_end : (comm : ℕ) (tag : Tag) (sender number : ℕ) (own : View) (starts : List ℕ) (rest : List Item) (old all : Option Taken) → length rest < 1
+    → after_items comm tag sender number own starts rest old ≡ all → old ≡ all
+items_end comm tag sender number own starts [] old all none so_far = so_far
+items_end comm tag sender number own starts (x ∷ xs) old all none so_far = absurd (omega (arith, none))
+
+pub tag_back : (tag : Tag) → tag_of (tag_named tag) ≡ tag
+tag_back AnyTag = refl
+tag_back (Is tag) = refl
+
 -- a message is added for its tag and for any tag
-pub added : (sender comm tag : ℕ) (way : Way) (taken : Taken) (known : Option Taken)
-    → (if same_way (record { sender = sender; comm = comm; tag = Some tag }) way then Some taken
-    else if same_way (record { sender = sender; comm = comm; tag = None }) way then Some taken else known)
-    ≡ (if (comm == way.comm) && ((sender == way.sender) && tag_agrees (tag_of way.tag) tag) then Some taken else known)
-added sender comm tag (record { sender = s; comm = c; tag = None }) taken known = ifs_any (sender == s) (comm == c) (Some taken) known
-added sender comm tag (record { sender = s; comm = c; tag = Some t }) taken known =
+pub added : (sender comm tag s c : ℕ) (t : Option ℕ) (taken : Taken) (known : Option Taken)
+    → (if (sender == s) && ((comm == c) && option_eq nat_eq (Some tag) t) then Some taken
+    else if (sender == s) && ((comm == c) && option_eq nat_eq None t) then Some taken else known)
+    ≡ (if (comm == c) && ((sender == s) && tag_agrees (tag_of t) tag) then Some taken else known)
+added sender comm tag s c None taken known = ifs_any (sender == s) (comm == c) (Some taken) known
+added sender comm tag s c (Some t) taken known =
     ap (λ b. if (sender == s) && ((comm == c) && b) then Some taken else if (sender == s) && ((comm == c) && false) then Some taken else known) (flip-eq tag t)
     ∙ ifs_tag (sender == s) (comm == c) (t == tag) (Some taken) known

@@ -23,15 +23,15 @@ use Rattle.wait_graph.specs.Opens.{differences, first_open, opens_to}
 use Rattle.wait_graph.specs.Taken.{taken_last}
 use Rattle.wait_graph.specs.Waits.{senders, waits_at}
 
-event_of : ℕ → Call → Reply → Option ℕ → Event
+abbrev event_of : ℕ → Call → Reply → Option ℕ → Event
 event_of rank call reply mate = record { rank = rank; call = call; reply = reply; mate = mate }
 
 -- 1. rank 0 receives from any rank and then from rank 2; ranks 1 and 2 send it a message each and end. It took that of rank 2.
 
-took : Reply
+abbrev took : Reply
 took = Took (record { index = 0; got = Message 2 0 1 [] } ∷ [])
 
-eaten : List Event
+abbrev eaten : List Event
 eaten =
     event_of 2 (Send 0 0 1 [] false) Done None
     ∷ event_of 0 (Post 0 Any (Is 1) 0) Done (Some 0)
@@ -42,7 +42,7 @@ eaten =
     ∷ event_of 0 (Post 0 (From 2) AnyTag 0) Done None
     ∷ []
 
-stuck : List Event
+abbrev stuck : List Event
 stuck = eaten ++ event_of 0 (Take (1 ∷ []) All) (Stopped Stuck) None ∷ []
 
 before_the_halt : going stuck ≡ eaten
@@ -57,7 +57,7 @@ not_stopped = refl
 has_ended : is_live 3 eaten 2 ≡ false
 has_ended = refl
 
-wait : Wait
+abbrev wait : Wait
 wait = record { start = Some 1; call = Post 0 (From 2) AnyTag 0; awaited = 2 ∷ [] }
 
 -- the first receive is ready and is not told
@@ -88,10 +88,10 @@ by_all = refl
 
 -- 2. ranks 0 and 1 wait in a barrier, rank 2 for a message of rank 0
 
-barrier : Call
+abbrev barrier : Call
 barrier = Enter 0 Barrier None None 0 []
 
-apart : List Event
+abbrev apart : List Event
 apart =
     event_of 0 barrier Done None
     ∷ event_of 1 barrier Done None
@@ -116,7 +116,7 @@ none_in_vain = refl
 
 -- 3. cycles by their least ranks
 
-next : ℕ → Option ℕ
+abbrev next : ℕ → Option ℕ
 next zero = Some 2
 next (suc zero) = Some 1
 next (suc (suc zero)) = Some 0

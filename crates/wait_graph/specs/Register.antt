@@ -14,6 +14,7 @@ use Rattle.wait_graph.specs.declared.register.Register.{Register}
 use Rattle.wait_graph.specs.declared.own.Own.{Own}
 use Rattle.msg_races.specs.declared.names.Name.{Name as StartName}
 use Rattle.msg_races.specs.Names.{same_start}
+use Rattle.wait_graph.specs.Taken.{AreTaken}
 
 -- what is kept of a rank that has seen this
 pub record IsOwn (n : ℕ) (view : View) (own : Own) : Type 0 where

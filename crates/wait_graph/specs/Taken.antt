@@ -18,11 +18,15 @@ use Rattle.msg_races.specs.Ways.{tag_of}
 use Rattle.wait_graph.specs.declared.message.Taken.{Taken}
 use Rattle.wait_graph.specs.declared.taken.Way.{Way}
 
--- the message of a sender on a communicator, with a tag, that is known as taken last, after a start gave this at call `number`
+-- the message of a sender on a communicator, with a tag, that is known as taken last, after a receive on communicator c gave this at call `number`
+abbrev pub after_message : ℕ → Tag → ℕ → ℕ → ℕ → Got → Option Taken → Option Taken
+after_message comm tag sender number c (Message from start sent ints) known =
+    if (c == comm) && ((from == sender) && tag_agrees tag sent) then Some (record { name = record { rank = from; start = start }; call = number }) else known
+after_message comm tag sender number c got known = known
+
+-- the same, after a start with this call gave it
 abbrev pub after_got : ℕ → Tag → ℕ → ℕ → Option Call → Got → Option Taken → Option Taken
-after_got comm tag sender number (Some (Post c source asked room)) (Message from start sent ints) known =
-    if (c == comm) && ((from == sender) && tag_agrees tag sent)
-    then Some (record { name = record { rank = from; start = start }; call = number }) else known
+after_got comm tag sender number (Some (Post c source asked room)) got known = after_message comm tag sender number c got known
 after_got comm tag sender number start got known = known
 
 -- the same, after these items of a call that lists these starts

@@ -144,17 +144,24 @@ impl<'a> Register<'a> {
             let Some(call) = self.start(sender, start) else {
                 return None;
             };
-            let name = Name {
-                rank: sender,
-                start,
-            };
-            let found = open_at(self.is_paired(sender, start), receiver, name, call);
+            let found = self.open_here(sender, receiver, start, call);
             if found.is_some() {
                 return found;
             }
             start += 1;
         }
         None
+    }
+
+    /// A start of a rank, with this number and call, where it is a Send to another rank that nobody has received.
+    fn open_here(&self, sender: u8, receiver: u8, start: u32, call: &Call) -> Option<Open>
+        ensures { (n : ℕ) (events : List EventSpec) → IsRegister n events self.now → result ≡ open_at (is_some (partner_of (pairs_of events) (sender, start))) receiver (record { rank = sender; start = start }) call.now }
+    {
+        let name = Name {
+            rank: sender,
+            start,
+        };
+        open_at(self.is_paired(sender, start), receiver, name, call)
     }
 
     /// How many calls a rank has made.

@@ -1,12 +1,13 @@
 //! The messages that a rank took last.
 ghost use Rattle.std.specs.Map.{lookup};
-ghost use Rattle.std.specs.Prelude.{◌≡◌, ◌<◌, ◌^◌, ◌++◌, ◌∷◌, [], OnOk, ℕ, None, Some, if◌then◌else◌, length, option_map};
+ghost use Rattle.std.specs.Prelude.{◌≡◌, ◌&&◌, ◌==◌, ◌<◌, ◌^◌, ◌++◌, ◌∷◌, [], OnOk, ℕ, None, Some, if◌then◌else◌, length, option_map, slice_index};
+ghost use Rattle.mpi_call.specs.Acceptance.{tag_agrees};
 ghost use Rattle.mpi_call.specs.Calls.{listed_by};
 ghost use Rattle.msg_races.specs.Ways.{tag_named, tag_of};
-ghost use Rattle.run_model.specs.Views.{View};
+ghost use Rattle.run_model.specs.Views.{View, start_at};
 ghost use Rattle.srr_entry.specs.Known.{IsKnownOf};
 ghost use Rattle.wait_graph.specs.declared.taken.Way.{Way as WaySpec};
-ghost use Rattle.wait_graph.specs.Taken.{AreTaken, after_got, after_items, after_reply, same_way, taken_last};
+ghost use Rattle.wait_graph.specs.Taken.{AreTaken, after_got, after_items, after_message, after_reply, same_way, taken_last};
 
 use crate::message::Taken;
 use indexmap::IndexMap;
@@ -77,15 +78,52 @@ impl LastTaken {
     pub fn get(&self, comm: Comm, tag: &Tag, sender: u8) -> Option<Taken>
         ensures { (own : View) → AreTaken own self.now → result ≡ taken_last own comm tag.now sender }
     {
-        let way = Way {
+        self.last(&Way {
             sender,
             comm,
             tag: tag_named(tag),
-        };
-        self.values.get(&way).copied()
+        })
     }
 
-    /// Adds a message that came with this tag.
+    fn last(&self, way: &Way) -> Option<Taken>
+        ensures { result ≡ lookup (same_way way.now) self.now }
+    {
+        self.values.get(way).copied()
+    }
+
+    /// Adds a message for any tag.
+    fn add_any(&mut self, comm: Comm, sender: u8, taken: Taken) -> Result<(), AllocError>
+        ensures { OnOk result ((way : WaySpec) → lookup (same_way way) self.new ≡ (if same_way (record { sender = sender; comm = comm; tag = None }) way then Some taken else lookup (same_way way) self.old)) }
+    {
+        let way = Way {
+            sender,
+            comm,
+            tag: None,
+        };
+        self.values.insert(way, taken)?;
+        Ok(())
+    }
+
+    /// Adds a message for its tag.
+    fn add_tagged(
+        &mut self,
+        comm: Comm,
+        sender: u8,
+        tag: u32,
+        taken: Taken,
+    ) -> Result<(), AllocError>
+        ensures { OnOk result ((way : WaySpec) → lookup (same_way way) self.new ≡ (if same_way (record { sender = sender; comm = comm; tag = Some tag }) way then Some taken else lookup (same_way way) self.old)) }
+    {
+        let way = Way {
+            sender,
+            comm,
+            tag: Some(tag),
+        };
+        self.values.insert(way, taken)?;
+        Ok(())
+    }
+
+    /// Adds a message for its tag and for any.
     fn add_message(
         &mut self,
         comm: Comm,
@@ -93,49 +131,68 @@ impl LastTaken {
         tag: u32,
         taken: Taken,
     ) -> Result<(), AllocError>
-        ensures { OnOk result ((way : WaySpec) → lookup (same_way way) self.new ≡ (if same_way (record { sender = sender; comm = comm; tag = Some tag }) way then Some taken
-            else if same_way (record { sender = sender; comm = comm; tag = None }) way then Some taken else lookup (same_way way) self.old)) }
+        ensures { OnOk result ((way : WaySpec) → lookup (same_way way) self.new ≡ (if (comm == way.comm) && ((sender == way.sender) && tag_agrees (tag_of way.tag) tag) then Some taken else lookup (same_way way) self.old)) }
     {
-        let any = Way {
-            sender,
-            comm,
-            tag: None,
-        };
-        self.values.insert(any, taken)?;
-        self.values.insert(
-            Way {
-                tag: Some(tag),
-                ..any
-            },
-            taken,
-        )?;
-        Ok(())
+        self.add_any(comm, sender, taken)?;
+        self.add_tagged(comm, sender, tag, taken)
+    }
+
+    /// Adds what a receive on a communicator gave at a call.
+    fn add_received(&mut self, number: u32, comm: Comm, got: &Got) -> Result<(), AllocError>
+        ensures { OnOk result ((way : WaySpec) → lookup (same_way way) self.new ≡ after_message way.comm (tag_of way.tag) way.sender number comm got.now (lookup (same_way way) self.old)) }
+    {
+        match got {
+            Got::Message {
+                source,
+                start,
+                tag,
+                ..
+            } => {
+                let name = Name {
+                    rank: *source,
+                    start: *start,
+                };
+                self.add_message(comm, *source, *tag, Taken { name, call: number })
+            }
+            _ => Ok(()),
+        }
+    }
+
+    /// Adds what a start with this call gave.
+    fn add_by_call(&mut self, number: u32, call: &Call, got: &Got) -> Result<(), AllocError>
+        ensures { OnOk result ((way : WaySpec) → lookup (same_way way) self.new ≡ after_got way.comm (tag_of way.tag) way.sender number (Some call.now) got.now (lookup (same_way way) self.old)) }
+    {
+        match call {
+            Call::Post { comm, .. } => self.add_received(number, *comm, got),
+            _ => Ok(()),
+        }
     }
 
     /// Adds what a start gave at a call.
     fn add_got(&mut self, number: u32, start: Option<&Call>, got: &Got) -> Result<(), AllocError>
         ensures { OnOk result ((way : WaySpec) → lookup (same_way way) self.new ≡ after_got way.comm (tag_of way.tag) way.sender number (option_map (λ call. call.now) start.entry) got.now (lookup (same_way way) self.old)) }
     {
-        let Some(Call::Post { comm, .. }) = start else {
-            return Ok(());
-        };
-        let Got::Message {
-            source,
-            start: sent,
-            tag,
-            ..
-        } = got
-        else {
-            return Ok(());
-        };
-        let name = Name {
-            rank: *source,
-            start: *sent,
-        };
-        self.add_message(*comm, *source, *tag, Taken { name, call: number })
+        match start {
+            Some(call) => self.add_by_call(number, call, got),
+            None => Ok(()),
+        }
     }
 
-    /// Adds what a rank's starts gave at a call. An index past the list reads 0.
+    /// Adds what one of these starts gave at a call.
+    fn add_item(
+        &mut self,
+        known: &Known,
+        number: u32,
+        starts: &[u32],
+        item: &Item,
+    ) -> Result<(), AllocError>
+        ensures { OnOk result ((n : ℕ) (own : View) → IsKnownOf n own known.now → (way : WaySpec) → lookup (same_way way) self.new ≡ after_got way.comm (tag_of way.tag) way.sender number (start_at own (slice_index starts.now item.now.index)) item.now.got (lookup (same_way way) self.old)) }
+    {
+        let start = listed_start(starts, item.index);
+        self.add_got(number, known.start(start), &item.got)
+    }
+
+    /// Adds what a rank's starts gave at a call.
     fn add_items(
         &mut self,
         known: &Known,
@@ -147,8 +204,7 @@ impl LastTaken {
     {
         let mut rest = items;
         while let [item, after @ ..] = rest {
-            let start = starts.get(item.index as usize).copied().unwrap_or(0);
-            self.add_got(number, known.start(start), &item.got)?;
+            self.add_item(known, number, starts, item)?;
             rest = after;
         }
         Ok(())
@@ -186,6 +242,16 @@ impl LastTaken {
         ensures { OnOk result ((n : ℕ) (own : View) → IsKnownOf n own known.now → number ≡ length own → AreTaken own self.old → AreTaken (own ++ (call.now, reply.now) ∷ []) self.new) }
     {
         self.add_reply(known, number, call, reply)
+    }
+}
+
+/// The start with an index in a list. An index past the list reads 0.
+fn listed_start(starts: &[u32], index: u32) -> u32
+    ensures { result ≡ slice_index starts.now index }
+{
+    match starts.get(index as usize) {
+        Some(start) => *start,
+        None => 0,
     }
 }
 

@@ -41,10 +41,14 @@ ended_text false = codes " ended"
 abbrev pub awaited_text : ℕ → List Event → ℕ → List ℕ
 awaited_text n G rank = codes " " ++ decimal_text rank ++ ended_text (is_live n G rank)
 
--- from Q Q ended .. · from none
+-- from Q Q ended ..
+abbrev pub from_ranks_text : ℕ → List Event → List ℕ → List ℕ
+from_ranks_text n G ranks = codes "from" ++ flat_map (awaited_text n G) ranks ++ codes "\n"
+
+-- the same; from none, where there is nobody
 abbrev pub from_text : ℕ → List Event → List ℕ → List ℕ
 from_text n G [] = codes "from none\n"
-from_text n G (rank ∷ ranks) = codes "from" ++ flat_map (awaited_text n G) (rank ∷ ranks) ++ codes "\n"
+from_text n G (rank ∷ ranks) = from_ranks_text n G (rank ∷ ranks)
 
 -- taken S.K at R:C, where a message of the sender was taken
 abbrev pub taken_text : ℕ → Option Taken → List ℕ
@@ -52,10 +56,13 @@ taken_text me None = []
 taken_text me (Some taken) =
     codes "taken " ++ name_text taken.name.rank taken.name.start ++ codes " at " ++ decimal_text me ++ codes ":" ++ decimal_text taken.call ++ codes "\n"
 
--- of each sender that the source names the message that rank me took last
+-- the message of a sender that rank me took last, where the source names the sender
+abbrev pub taken_text_from : View → ℕ → ℕ → Source → Tag → ℕ → List ℕ
+taken_text_from own me comm source tag sender = if source_agrees source sender then taken_text me (taken_last own comm tag sender) else []
+
+-- the same of each sender
 abbrev pub taken_texts : View → ℕ → ℕ → Source → Tag → List ℕ → List ℕ
-taken_texts own me comm source tag senders =
-    flat_map (λ sender. if source_agrees source sender then taken_text me (taken_last own comm tag sender) else []) senders
+taken_texts own me comm source tag senders = flat_map (taken_text_from own me comm source tag) senders
 
 abbrev pub difference_text : Difference → List ℕ
 difference_text Comm = codes " comm"
@@ -84,20 +91,28 @@ abbrev pub wait_text : ℕ → List Event → ℕ → List Open → Wait → Lis
 wait_text n G me opens wait =
     start_text wait.start wait.call ++ from_text n G wait.awaited ++ call_messages_text n G me opens wait.call
 
--- rank R call K CALL, and what it waits for there
+-- rank R call K CALL
+abbrev pub head_text : Blocked → List ℕ
+head_text blocked =
+    codes "rank " ++ decimal_text blocked.rank ++ codes " call " ++ decimal_text blocked.number ++ codes " " ++ call_text blocked.call ++ codes "\n"
+
+-- a blocked rank, and what it waits for
 abbrev pub blocked_text : ℕ → List Event → Blocked → List ℕ
 blocked_text n G blocked =
-    codes "rank " ++ decimal_text blocked.rank ++ codes " call " ++ decimal_text blocked.number ++ codes " " ++ call_text blocked.call ++ codes "\n"
-    ++ flat_map (wait_text n G blocked.rank (opens_to n G blocked.rank)) blocked.waits
+    head_text blocked ++ flat_map (wait_text n G blocked.rank (opens_to n G blocked.rank)) blocked.waits
 
 -- cycle R R ..
 abbrev pub cycle_text : List ℕ → List ℕ
 cycle_text ranks = codes "cycle" ++ group_text ranks ++ codes "\n"
 
--- hopeless R R .., where there are any
+-- hopeless R R ..
+abbrev pub hopeless_ranks_text : List ℕ → List ℕ
+hopeless_ranks_text ranks = codes "hopeless" ++ group_text ranks ++ codes "\n"
+
+-- the same, where there are any
 abbrev pub hopeless_text : List ℕ → List ℕ
 hopeless_text [] = []
-hopeless_text (rank ∷ ranks) = codes "hopeless" ++ group_text (rank ∷ ranks) ++ codes "\n"
+hopeless_text (rank ∷ ranks) = hopeless_ranks_text (rank ∷ ranks)
 
 -- the ranks that wait, the cycles and the hopeless ranks
 abbrev pub graph_text : ℕ → List Event → Graph → List ℕ

@@ -9,7 +9,7 @@ ghost use Rattle.wait_graph.specs.declared.difference.Difference.TheVariants.{Co
 ghost use Rattle.wait_graph.specs.Opens.{differences, opens_to, unless};
 ghost use Rattle.wait_graph.specs.Register.{IsRegister};
 ghost use Rattle.wait_graph.specs.Taken.{taken_last};
-ghost use Rattle.wiz_trace.specs.WaitsTexts.{awaited_text, blocked_text, call_messages_text, cycle_text, difference_text, ended_text, from_text, graph_text, hopeless_text, messages_text, open_text, start_text, stuck_text, taken_text, taken_texts, wait_text, waits_text};
+ghost use Rattle.wiz_trace.specs.WaitsTexts.{awaited_text, blocked_text, call_messages_text, cycle_text, difference_text, ended_text, from_ranks_text, from_text, graph_text, head_text, hopeless_ranks_text, hopeless_text, messages_text, open_text, start_text, stuck_text, taken_text, taken_text_from, taken_texts, wait_text, waits_text};
 
 use crate::call_text::{push_call, push_name};
 use crate::recording::push_ending;
@@ -120,13 +120,7 @@ fn push_blocked(
     ensures { OnOk result ((events : List Event) → IsRegister n events register.now → ranks.now ≡ world n 0 → out.new ≡ out.old ++ blocked_text n events blocked.now) }
 {
     let opens = register.opens_to(alloc, n, blocked.rank)?;
-    push_text(out, b"rank ")?;
-    push_decimal(out, blocked.rank as u64)?;
-    push_text(out, b" call ")?;
-    push_decimal(out, blocked.number as u64)?;
-    push_text(out, b" ")?;
-    push_call(out, &blocked.call)?;
-    push_text(out, b"\n")?;
+    push_head(out, blocked)?;
     push_waits(
         out,
         ranks,
@@ -135,6 +129,18 @@ fn push_blocked(
         opens.as_slice(),
         blocked.waits.as_slice(),
     )
+}
+
+fn push_head(out: &mut Bytes, blocked: &Blocked) -> Result<(), AllocError>
+    ensures { OnOk result (out.new ≡ out.old ++ head_text blocked.now) }
+{
+    push_text(out, b"rank ")?;
+    push_decimal(out, blocked.rank as u64)?;
+    push_text(out, b" call ")?;
+    push_decimal(out, blocked.number as u64)?;
+    push_text(out, b" ")?;
+    push_call(out, &blocked.call)?;
+    push_text(out, b"\n")
 }
 
 /// What a rank waits for.
@@ -190,9 +196,15 @@ fn push_start(out: &mut Bytes, start: Option<u32>, call: &Call) -> Result<(), Al
 fn push_from(out: &mut Bytes, register: &Register, awaited: &[u8]) -> Result<(), AllocError>
     ensures { OnOk result ((n : ℕ) (events : List Event) → IsRegister n events register.now → out.new ≡ out.old ++ from_text n events awaited.now) }
 {
-    if awaited.is_empty() {
-        return push_text(out, b"from none\n");
+    match awaited {
+        [] => push_text(out, b"from none\n"),
+        _ => push_from_ranks(out, register, awaited),
     }
+}
+
+fn push_from_ranks(out: &mut Bytes, register: &Register, awaited: &[u8]) -> Result<(), AllocError>
+    ensures { OnOk result ((n : ℕ) (events : List Event) → IsRegister n events register.now → out.new ≡ out.old ++ from_ranks_text n events awaited.now) }
+{
     push_text(out, b"from")?;
     push_awaited(out, register, awaited)?;
     push_text(out, b"\n")
@@ -203,12 +215,18 @@ fn push_awaited(out: &mut Bytes, register: &Register, awaited: &[u8]) -> Result<
 {
     let mut rest = awaited;
     while let [rank, after @ ..] = rest {
-        push_text(out, b" ")?;
-        push_decimal(out, *rank as u64)?;
-        push_ended(out, register.is_live(*rank))?;
+        push_awaited_rank(out, register, *rank)?;
         rest = after;
     }
     Ok(())
+}
+
+fn push_awaited_rank(out: &mut Bytes, register: &Register, rank: u8) -> Result<(), AllocError>
+    ensures { OnOk result ((n : ℕ) (events : List Event) → IsRegister n events register.now → out.new ≡ out.old ++ awaited_text n events rank) }
+{
+    push_text(out, b" ")?;
+    push_decimal(out, rank as u64)?;
+    push_ended(out, register.is_live(rank))
 }
 
 fn push_ended(out: &mut Bytes, is_live: bool) -> Result<(), AllocError>
@@ -278,10 +296,26 @@ fn push_all_taken(
 {
     let mut rest = senders;
     while let [sender, after @ ..] = rest {
-        if is_source_of(source, *sender) {
-            push_taken(out, me, register.taken_last(me, comm, tag, *sender))?;
-        }
+        push_taken_from(out, *sender, register, me, comm, source, tag)?;
         rest = after;
+    }
+    Ok(())
+}
+
+/// The same of one sender.
+fn push_taken_from(
+    out: &mut Bytes,
+    sender: u8,
+    register: &Register,
+    me: u8,
+    comm: Comm,
+    source: &Source,
+    tag: &Tag,
+) -> Result<(), AllocError>
+    ensures { OnOk result ((n : ℕ) (events : List Event) → IsRegister n events register.now → out.new ≡ out.old ++ taken_text_from (view_of events me) me comm source.now tag.now sender) }
+{
+    if is_source_of(source, sender) {
+        return push_taken(out, me, register.taken_last(me, comm, tag, sender));
     }
     Ok(())
 }
@@ -365,21 +399,33 @@ fn push_cycles(out: &mut Bytes, cycles: &[Ranks]) -> Result<(), AllocError>
 {
     let mut rest = cycles;
     while let [cycle, after @ ..] = rest {
-        push_text(out, b"cycle")?;
-        push_group(out, cycle.as_slice())?;
-        push_text(out, b"\n")?;
+        push_cycle(out, cycle.as_slice())?;
         rest = after;
     }
     Ok(())
+}
+
+fn push_cycle(out: &mut Bytes, cycle: &[u8]) -> Result<(), AllocError>
+    ensures { OnOk result (out.new ≡ out.old ++ cycle_text cycle.now) }
+{
+    push_text(out, b"cycle")?;
+    push_group(out, cycle)?;
+    push_text(out, b"\n")
 }
 
 /// The hopeless ranks, if there are any.
 fn push_hopeless(out: &mut Bytes, hopeless: &[u8]) -> Result<(), AllocError>
     ensures { OnOk result (out.new ≡ out.old ++ hopeless_text hopeless.now) }
 {
-    if hopeless.is_empty() {
-        return Ok(());
+    match hopeless {
+        [] => Ok(()),
+        _ => push_hopeless_ranks(out, hopeless),
     }
+}
+
+fn push_hopeless_ranks(out: &mut Bytes, hopeless: &[u8]) -> Result<(), AllocError>
+    ensures { OnOk result (out.new ≡ out.old ++ hopeless_ranks_text hopeless.now) }
+{
     push_text(out, b"hopeless")?;
     push_group(out, hopeless)?;
     push_text(out, b"\n")
