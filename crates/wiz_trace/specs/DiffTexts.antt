@@ -50,13 +50,20 @@ abbrev pub any_text : List ℕ → List Name → List ℕ
 any_text sign [] = []
 any_text sign (name ∷ names) = sign ++ codes " any" ++ named_text (name ∷ names) ++ codes "\n"
 
--- what two views have around the call at which they part: the call, the open receives from any source, the replies (`<` in the first
--- view, `>` in the other), and the messages that receives from any source got from there on
+-- the replies to a call: `<` in the first view, `>` in the other
+abbrev pub answers_text : View → View → ℕ → List ℕ
+answers_text own other number =
+    codes "<" ++ answer_text (slice_get own number) ++ codes ">" ++ answer_text (slice_get other number)
+
+-- the messages that receives from any source got from a call on
+abbrev pub gots_text : View → View → ℕ → List ℕ
+gots_text own other number = any_text (codes "<") (got_from own number) ++ any_text (codes ">") (got_from other number)
+
+-- what two views have around the call at which they part: the call, the open receives from any source, the replies, and the messages
 abbrev pub parting_text : View → View → ℕ → List ℕ
 parting_text own other number =
     at_text number (slice_get own number) (slice_get other number) ++ flat_map open_text (open_at own number)
-    ++ codes "<" ++ answer_text (slice_get own number) ++ codes ">" ++ answer_text (slice_get other number)
-    ++ any_text (codes "<") (got_from own number) ++ any_text (codes ">") (got_from other number)
+    ++ answers_text own other number ++ gots_text own other number
 
 -- the end of a rank's line, and what follows it
 abbrev pub way_text : View → View → ℕ → Way → List ℕ

@@ -1,7 +1,7 @@
 //! The diff text of two histories of one program.
 ghost use Rattle.std.specs.Prelude.{◌≡◌, ◌++◌, OnOk, IfOk, flat_map, map, slice_get};
 ghost use Rattle.view_diff.specs.Opens.{got_from, open_at};
-ghost use Rattle.wiz_trace.specs.DiffTexts.{answer_text, any_text, at_text, diff_text, first_text, given_text, made_text, named_text, open_text, parting_text, parts_text, rank_text, way_text};
+ghost use Rattle.wiz_trace.specs.DiffTexts.{answer_text, answers_text, any_text, at_text, diff_text, first_text, given_text, gots_text, made_text, named_text, open_text, parting_text, parts_text, rank_text, way_text};
 
 use crate::call_text::{push_call, push_reply};
 use crate::races::push_names;
@@ -75,7 +75,8 @@ fn push_rank(
         other.get(rank.rank),
         rank.same,
         rank.way,
-    )
+    )?;
+    Ok(())
 }
 
 /// The end of a rank's line, and what follows it.
@@ -95,11 +96,13 @@ fn push_way(
         Way::Alike => push_text(out, b"\n"),
         Way::First => {
             push_text(out, b" first\n")?;
-            push_parting(alloc, out, own, other, number)
+            push_parting(alloc, out, own, other, number)?;
+            Ok(())
         }
         Way::Follows => {
             push_text(out, b" follows\n")?;
-            push_parting(alloc, out, own, other, number)
+            push_parting(alloc, out, own, other, number)?;
+            Ok(())
         }
     }
 }
@@ -119,12 +122,44 @@ fn push_parting(
     let place = number as usize;
     push_at(out, own, other, number)?;
     push_opens(alloc, out, own, place)?;
+    push_answers(out, own, other, place)?;
+    push_gots(alloc, out, own, other, place)?;
+    Ok(())
+}
+
+/// The replies to a call in both views.
+fn push_answers(
+    out: &mut Bytes,
+    own: &[&Event],
+    other: &[&Event],
+    number: usize,
+) -> Result<(), AllocError>
+    ensures { let mine = map (λ event. (event.now.call, event.now.reply)) own.now in
+        let others = map (λ event. (event.now.call, event.now.reply)) other.now in
+        OnOk result (out.new ≡ out.old ++ answers_text mine others number) }
+{
     push_text(out, b"<")?;
-    push_answer(out, own, place)?;
+    push_answer(out, own, number)?;
     push_text(out, b">")?;
-    push_answer(out, other, place)?;
-    push_got(alloc, out, b"<", own, place)?;
-    push_got(alloc, out, b">", other, place)
+    push_answer(out, other, number)?;
+    Ok(())
+}
+
+/// The messages that receives from any source got from a call on, in both views.
+fn push_gots(
+    alloc: Global,
+    out: &mut Bytes,
+    own: &[&Event],
+    other: &[&Event],
+    number: usize,
+) -> Result<(), AllocError>
+    ensures { let mine = map (λ event. (event.now.call, event.now.reply)) own.now in
+        let others = map (λ event. (event.now.call, event.now.reply)) other.now in
+        OnOk result (out.new ≡ out.old ++ gots_text mine others number) }
+{
+    push_got(alloc, out, b"<", own, number)?;
+    push_got(alloc, out, b">", other, number)?;
+    Ok(())
 }
 
 /// The call, of the first view that has it.
