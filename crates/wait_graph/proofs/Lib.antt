@@ -1,0 +1,15 @@
+mod Given
+mod TakenLemmas
+mod RegisterLemmas
+mod Gathered
+mod Fitting
+mod OpenLemmas
+mod ReadLemmas
+mod CycleLemmas
+mod FoundLemmas
+mod Halting
+mod FewRanks
+mod Cycles
+mod Reasons
+mod WorkedExamples
+mod OpenLaws

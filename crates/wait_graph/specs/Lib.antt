@@ -1,0 +1,10 @@
+pub mod Going
+pub mod Waits
+pub mod Graph
+pub mod Laws
+pub mod Names
+pub mod Taken
+pub mod Register
+pub mod Reading
+pub mod Found
+pub mod Opens
