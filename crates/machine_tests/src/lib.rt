@@ -32,3 +32,5 @@ mod starting;
 mod steps;
 #[cfg(test)]
 mod synchronous;
+#[cfg(test)]
+mod waits;

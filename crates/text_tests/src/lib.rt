@@ -31,3 +31,5 @@ mod run_entries;
 mod stores;
 #[cfg(test)]
 mod traces;
+#[cfg(test)]
+mod waits;
