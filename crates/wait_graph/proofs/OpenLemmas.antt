@@ -1,10 +1,10 @@
 -- The first message of a sender that nobody has received.
-use Rattle.std.proofs.Common.{◌≡◌, ◌<◌, ◌≤◌, ◌-◌, ◌+◌, ◌∙◌, ◌∷◌, [], ℕ, zero, suc, List, Option, Some, None, ap, arith, drop, is_some, length, refl, slice_get, subst, sym, take}
+use Rattle.std.proofs.Common.{◌≡◌, ◌<◌, ◌≤◌, ◌-◌, ◌+◌, ◌∙◌, ◌++◌, ◌∷◌, [], ℕ, zero, suc, List, Option, Some, None, true, false, ap, append-nil, append_assoc, arith, drop, get_or, is_some, length, refl, slice_get, sym, take}
 use Rattle.mpi_call.specs.declared.call.Call.{Call}
 use Rattle.run_model.specs.declared.event.Event.{Event}
 use Rattle.run_model.specs.Pairs.{pairs_of, partner_of}
 use Rattle.wait_graph.specs.declared.message.Open.{Open}
-use Rattle.wait_graph.specs.Opens.{open_at, open_from, or_open}
+use Rattle.wait_graph.specs.Opens.{first_open, listed_open, open_at, open_from, opens_of, or_open}
 
 drop-at : (calls : List Call) (k : ℕ) (call : Call) → slice_get calls k ≡ Some call → drop k calls ≡ call ∷ drop (suc k) calls
 drop-at [] k call h = absurd (cc)
@@ -68,3 +68,23 @@ pub none_here : (G : List Event) (sender receiver : ℕ) (calls : List Call) (st
 none_here G sender receiver calls start below call found all low there is none so_far =
     let rest : Option Open = left G sender receiver calls (start + 1) below in
     sym (or_none found rest none) ∙ ap (λ f. or_open f rest) is ∙ sym (left_here G sender receiver calls start below call low there) ∙ so_far
+
+-- one sender more
+pub opens_step : (G : List Event) (receiver : ℕ) (rest : List ℕ) (d : ℕ) (opens new all : List Open) → 1 ≤ length rest
+    → new ≡ opens ++ listed_open (first_open G (get_or rest 0 d) receiver) → opens ++ opens_of G rest receiver ≡ all
+    → new ++ opens_of G (take (length rest - 1) (drop 1 rest)) receiver ≡ all
+opens_step G receiver [] d opens new all some made so_far = absurd (omega (arith, some))
+opens_step G receiver (x ∷ xs) d opens new all some made so_far =
+    let tail : take (length (x ∷ xs) - 1) xs ≡ xs = take-ranks xs (length (x ∷ xs) - 1) (omega arith) in
+    ap (λ l. new ++ opens_of G l receiver) tail ∙ ap (λ l. l ++ opens_of G xs receiver) made
+    ∙ append_assoc opens (listed_open (first_open G x receiver)) (opens_of G xs receiver) ∙ so_far
+  where
+    take-ranks : (ys : List ℕ) (k : ℕ) → length ys ≤ k → take k ys ≡ ys
+    take-ranks [] zero h = refl
+    take-ranks [] (suc k) h = refl
+    take-ranks (y ∷ ys) zero h = absurd (omega (arith, h))
+    take-ranks (y ∷ ys) (suc k) h = ap (λ l. y ∷ l) (take-ranks ys k (omega (arith, h)))
+
+pub opens_end : (G : List Event) (receiver : ℕ) (rest : List ℕ) (opens all : List Open) → length rest < 1 → opens ++ opens_of G rest receiver ≡ all → opens ≡ all
+opens_end G receiver [] opens all none so_far = sym (append-nil opens) ∙ so_far
+opens_end G receiver (x ∷ xs) opens all none so_far = absurd (omega (arith, none))

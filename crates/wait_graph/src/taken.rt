@@ -1,8 +1,7 @@
 //! The messages that a rank took last.
 ghost use Rattle.std.specs.Map.{lookup};
-ghost use Rattle.std.specs.Prelude.{◌≡◌, ◌&&◌, ◌==◌, ◌<◌, ◌^◌, ◌++◌, ◌∷◌, [], OnOk, ℕ, None, Some, if◌then◌else◌, length, option_map, slice_index};
+ghost use Rattle.std.specs.Prelude.{◌≡◌, ◌&&◌, ◌==◌, ◌++◌, ◌∷◌, [], OnOk, ℕ, None, Some, if◌then◌else◌, length, option_map, slice_index};
 ghost use Rattle.mpi_call.specs.Acceptance.{tag_agrees};
-ghost use Rattle.mpi_call.specs.Calls.{listed_by};
 ghost use Rattle.msg_races.specs.Ways.{tag_named, tag_of};
 ghost use Rattle.run_model.specs.Views.{View, start_at};
 ghost use Rattle.srr_entry.specs.Known.{IsKnownOf};

@@ -2,8 +2,11 @@ use Rattle.std.proofs.Common.{◌≡◌, ◌<◌, ◌∙◌, ◌++◌, ◌∷◌
 use Rattle.run_model.specs.declared.event.Event.{Event}
 use Rattle.wait_graph.specs.Register.{IsRegister}
 use Rattle.wait_graph.specs.Going.{stops}
-use Rattle.wait_graph.proofs.ReadLemmas.{read_end, read_more}
+use Rattle.wait_graph.proofs.ReadLemmas.{read_end, read_first, read_more}
 use Rattle.wait_graph.proofs.reading.read.Goals as goal
+
+pub loop-rest-init : goal.loop-rest-init
+loop-rest-init c = read_first c.args.n c.args.events.now _ c.in_ok-register.ensures c.requires.ranks
 
 pub loop-rest-preserved : goal.loop-rest-preserved
 loop-rest-preserved c =
