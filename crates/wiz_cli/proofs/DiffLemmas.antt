@@ -1,5 +1,5 @@
 -- Two logs that are compared: the ranks of a replay, and what the comparison says beside runs with the logs.
-use Rattle.std.proofs.Common.{◌≡◌, ◌≢◌, ◌∙◌, ◌<◌, ◌++◌, ◌||◌, inl, inr, ap, refl, sym, ℕ, List, [], ◌∷◌, None, All, Bool, false, if◌then◌else◌}
+use Rattle.std.proofs.Common.{◌≡◌, ◌∙◌, ◌<◌, ◌++◌, inl, inr, ap, refl, sym, ℕ, List, [], ◌∷◌, None, All, false, slice_get, subst, true}
 use Rattle.std.specs.List.{list_any}
 use Rattle.std.proofs.lemmas.List.Elements.{All-append, All-nil, All-push}
 use Rattle.c_program.specs.declared.program.CProgram.{CProgram}
@@ -7,9 +7,11 @@ use Rattle.c_program.specs.Program.{next_of, output_of}
 use Rattle.c_types.specs.Checks.{IsProgramOf}
 use Rattle.causes.specs.Clocks.{AreOfRanks}
 use Rattle.mpi_call.specs.Lists.{IsIn}
+use Rattle.mpi_call.specs.Members.{is_member}
 use Rattle.replay_model.specs.declared.replayed.Replayed.{Replayed}
 use Rattle.replay_model.specs.Laws.{IsDone, IsRunWith}
-use Rattle.replay_model.specs.Replays.{Breakpoint, IsStep, Replays}
+use Rattle.replay_model.specs.Replays.{Breakpoint, IsStep, IsWholeReplay, Replays}
+use Rattle.replay_model.proofs.Cut.{HasAllOf-whole}
 use Rattle.run_model.specs.declared.event.Event.{Event}
 use Rattle.run_model.specs.Views.{Next}
 use Rattle.run_model.proofs.Along.{Along-keeps}
@@ -19,10 +21,11 @@ use Rattle.srr_replay.proofs.LogLemmas.{below_at}
 use Rattle.view_diff.specs.declared.compared.Compared.{Compared}
 use Rattle.view_diff.specs.declared.compared.Way.{Way}
 use Rattle.view_diff.specs.declared.compared.Way.TheVariants.{Alike, First, Follows}
+use Rattle.view_diff.specs.Bare.{bares}
 use Rattle.view_diff.specs.Compared.{AreCompared, IsWay, comes_first, is_first_way}
 use Rattle.view_diff.specs.Comparing.{CanCompare}
 use Rattle.view_diff.specs.Partings.{PartAt}
-use Rattle.view_diff.proofs.ReplayLaws.{one_run_does_not_part, parts_by_a_reply, parts_by_a_reply_alone}
+use Rattle.view_diff.proofs.ReplayLaws.{parts_by_a_reply, parts_by_a_reply_alone}
 use Rattle.wiz_words.specs.declared.command.Command.TheVariants.{Diff}
 use Rattle.wiz_cli.specs.declared.comparing.subject.TwoRuns.{TwoRuns}
 use Rattle.wiz_tool.specs.declared.status.Status.{Status}
@@ -90,6 +93,17 @@ none_first n group one other (rank ∷ ranks) each never =
     head First is = absurd (never rank.rank rank.same is.parts)
     head Follows is = refl
 
+-- whole replays of one run do not part
+one_run_does_not_part : (program : CProgram) (first second : Log) (run one other : List Event) → second.group ≡ first.group
+    → IsRunWith (next_of program) first run → IsRunWith (next_of program) second run → IsWholeReplay (next_of program) first None one
+    → IsWholeReplay (next_of program) second None other → (rank number : ℕ) → PartAt first.group one other rank number → ⊥
+one_run_does_not_part program first second run one other group is too whole others rank number part =
+    let here = HasAllOf-whole (next_of program) (output_of program) first None run one refl (lawful program) is whole in
+    let there = HasAllOf-whole (next_of program) (output_of program) second None run other refl (lawful program) too others in
+    let F : List ℕ → Type 0 = λ group. is_member group rank ≡ true in
+    let same = here.views rank part.member ∙ sym (there.views rank (subst F (sym group) part.member)) in
+    part.parting.differ (ap (λ view. slice_get (bares view) number) same)
+
 -- where both replays are done the comparison is told
 told_whole : (first second : Replayed) (ranks : List Compared) (outcome : Outcome) → All IsDone first.ends → All IsDone second.ends
     → outcome ≡ diff_outcome first second ranks → outcome ≡ compared_outcome first second ranks
@@ -134,7 +148,7 @@ compares runs first second ranks outcome are compared is =
           let others = are.second_replay.shows program (other_program one other program can is_program) in
           same_status first second ranks outcome (told program run run is_program with too)
           (none_first one.ranks one.group first.events.events second.events.events ranks compared.each
-          (one_run_does_not_part (next_of program) (output_of program) one other run first.events.events second.events.events (lawful program) can.group with too
+          (one_run_does_not_part program one other run first.events.events second.events.events can.group with too
           shows.whole others.whole));
     }
 
