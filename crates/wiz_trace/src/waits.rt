@@ -198,7 +198,7 @@ fn push_from(out: &mut Bytes, register: &Register, awaited: &[u8]) -> Result<(),
 {
     match awaited {
         [] => push_text(out, b"from none\n"),
-        _ => push_from_ranks(out, register, awaited),
+        [_, ..] => push_from_ranks(out, register, awaited),
     }
 }
 
