@@ -1,9 +1,6 @@
 //! Runs that are recorded, and advice on their groups: `advise`.
-use crate::forged::replaced;
-use crate::programs::{
-    CYCLE, FIRST, FIRST_ADVISED, FIRST_TOGETHER, SUM, SUM_PLAN, SUM_SIZE, TWO_SENDERS,
-};
-use crate::serial::{Row, check, check_row, files};
+use crate::programs::{CYCLE, FIRST, FIRST_ADVISED, FIRST_TOGETHER, SUM, SUM_PLAN, TWO_SENDERS};
+use crate::serial::{answers, files};
 use wiz_cli::top::wiz_serial;
 use wiz_io::MemorySink;
 
@@ -13,130 +10,89 @@ const ALONE: &[&str] = &["advise", "P", "Q", "1", "--serial"];
 const SUM_ADVISED: &[u8] =
     b"advice cost 1280 given 1280\n0-2\n3-4\n5-7\nbound 0 0\nbound 1 1792\nbound 2 1536\nbound 3 1280\nbound 4 1280\nbound 5 1280\nbound 6 1280\nbound 7 1280\nbound 8 1280\nfinished\n";
 
-/// The same, where each sends 65,536 ints.
-const LARGE_SUM_ADVISED: &[u8] =
-    b"advice cost 327680 given 327680\n0-2\n3-4\n5-7\nbound 0 0\nbound 1 458752\nbound 2 393216\nbound 3 327680\nbound 4 327680\nbound 5 327680\nbound 6 327680\nbound 7 327680\nbound 8 327680\nfinished\n";
-
 #[test]
 fn runs_are_advised_on(rt: HostRuntime) {
-    let rows: [Row<'_>; 12] = [
-        Row {
-            name: "two ranks, a rank for a block",
-            program: FIRST,
-            plan: b"0\n1",
-            words: ALONE,
-            status: 0,
-            printed: FIRST_ADVISED,
-        },
-        Row {
-            name: "two ranks, both in a block",
-            program: FIRST,
-            plan: b"0\n1",
-            words: &["advise", "P", "Q", "2", "--serial"],
-            status: 0,
-            printed: FIRST_TOGETHER,
-        },
-        Row {
-            name: "blocks of more ranks than there are",
-            program: FIRST,
-            plan: b"0\n1",
-            words: &["advise", "P", "Q", "64", "--serial"],
-            status: 0,
-            printed: FIRST_TOGETHER,
-        },
-        Row {
-            name: "256 ints from each of seven ranks to one",
-            program: SUM,
-            plan: SUM_PLAN,
-            words: &["advise", "P", "Q", "3", "--serial"],
-            status: 0,
-            printed: SUM_ADVISED,
-        },
-        Row {
-            name: "a plan whose groups are no blocks, and an order",
-            program: TWO_SENDERS,
-            plan: b"0 2\n1",
-            words: &["advise", "P", "Q", "2", "--order", "F"],
-            status: 0,
-            printed: b"advice cost 1 given 1\n0\n1-2\nbound 0 0\nbound 1 0\nbound 2 0\nbound 3 1\nfinished\n",
-        },
-        Row {
-            name: "a run that is stuck",
-            program: CYCLE,
-            plan: b"0 1",
-            words: ALONE,
-            status: 7,
-            printed: b"advice cost 0 given 0\n0\n1\nbound 0 0\nbound 1 0\nbound 2 0\nhalted stuck\n",
-        },
-        Row {
-            name: "blocks of no rank",
-            program: FIRST,
-            plan: b"0 1",
-            words: &["advise", "P", "Q", "0", "--serial"],
-            status: 1,
-            printed: b"refused words\n",
-        },
-        Row {
-            name: "threads where there are none",
-            program: FIRST,
-            plan: b"0 1",
-            words: &["advise", "P", "Q", "1"],
-            status: 1,
-            printed: b"refused words\n",
-        },
-        Row {
-            name: "no plan",
-            program: FIRST,
-            plan: b"0 1",
-            words: &["advise", "P", "R", "1", "--serial"],
-            status: 2,
-            printed: b"no file R\n",
-        },
-        Row {
-            name: "a program that is none",
-            program: b"int x;",
-            plan: b"0 1",
-            words: ALONE,
-            status: 5,
-            printed: b"program 1:6 unexpected\n",
-        },
-        Row {
-            name: "a rank twice in the plan",
-            program: FIRST,
-            plan: b"0 0",
-            words: ALONE,
-            status: 6,
-            printed: b"plan repeated 0\n",
-        },
-        Row {
-            name: "an order with rank 1 of one rank",
-            program: FIRST,
-            plan: b"0",
-            words: &["advise", "P", "Q", "1", "--order", "F"],
-            status: 6,
-            printed: b"order line 1\n",
-        },
-    ];
-    for row in rows {
-        check_row(&rt, &row, b"1\n");
-    }
-}
-
-/// The same run with the greatest messages that there are: each cost and each bound is 256 times as large.
-#[test]
-fn runs_of_large_messages_are_advised_on(rt: HostRuntime) {
     let alloc = rt.alloc();
-    let program = replaced(alloc, SUM, SUM_SIZE.0, SUM_SIZE.1, b"65536").expect(&rt, "a program");
-    let named: [(&str, &[u8]); 2] = [("P", program.as_slice()), ("Q", SUM_PLAN)];
-    let mut store = files(alloc, &named).expect(&rt, "files");
-    let words: &[&str] = &["advise", "P", "Q", "3", "--serial"];
-    check(
-        &rt,
-        &"65,536 ints",
-        &mut store,
-        words,
-        (0, LARGE_SUM_ADVISED),
-    );
+    // The program, the plan, the arguments, the status, and what is printed.
+    let rows: [(&[u8], &[u8], &[&str], u8, &[u8]); 12] = [
+        (FIRST, b"0\n1", ALONE, 0, FIRST_ADVISED),
+        (
+            FIRST,
+            b"0\n1",
+            &["advise", "P", "Q", "2", "--serial"],
+            0,
+            FIRST_TOGETHER,
+        ),
+        // More than there are ranks.
+        (
+            FIRST,
+            b"0\n1",
+            &["advise", "P", "Q", "64", "--serial"],
+            0,
+            FIRST_TOGETHER,
+        ),
+        (
+            SUM,
+            SUM_PLAN,
+            &["advise", "P", "Q", "3", "--serial"],
+            0,
+            SUM_ADVISED,
+        ),
+        // A plan whose groups are no blocks; an order.
+        (
+            TWO_SENDERS,
+            b"0 2\n1",
+            &["advise", "P", "Q", "2", "--order", "F"],
+            0,
+            b"advice cost 1 given 1\n0\n1-2\nbound 0 0\nbound 1 0\nbound 2 0\nbound 3 1\nfinished\n",
+        ),
+        (
+            CYCLE,
+            b"0 1",
+            ALONE,
+            7,
+            b"advice cost 0 given 0\n0\n1\nbound 0 0\nbound 1 0\nbound 2 0\nhalted stuck\n",
+        ),
+        (
+            FIRST,
+            b"0 1",
+            &["advise", "P", "Q", "0", "--serial"],
+            1,
+            b"refused words\n",
+        ),
+        (
+            FIRST,
+            b"0 1",
+            &["advise", "P", "Q", "1"],
+            1,
+            b"refused words\n",
+        ),
+        (
+            FIRST,
+            b"0 1",
+            &["advise", "P", "R", "1", "--serial"],
+            2,
+            b"no file R\n",
+        ),
+        (b"int x;", b"0 1", ALONE, 5, b"program 1:6 unexpected\n"),
+        (FIRST, b"0 0", ALONE, 6, b"plan repeated 0\n"),
+        // Rank 1 of one rank.
+        (
+            FIRST,
+            b"0",
+            &["advise", "P", "Q", "1", "--order", "F"],
+            6,
+            b"order line 1\n",
+        ),
+    ];
+    for (program, plan, words, status, printed) in rows {
+        let named: [(&str, &[u8]); 3] = [("P", program), ("Q", plan), ("F", b"1\n")];
+        let mut store = files(alloc, &named).expect(&rt, "files");
+        assert!(&rt;
+            answers(alloc, &mut store, words, status, printed),
+            "{printed:?}"
+        );
+    }
 }
 
 #[test]

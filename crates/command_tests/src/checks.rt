@@ -1,9 +1,8 @@
 //! Runs that are recorded and replayed at once: `check` and `demo`.
 use crate::programs::{BAD_RANK, CHAIN, CYCLE, DEMO, FIRST};
-use crate::serial::{Row, check_ended, check_row, files};
-use bstr::BStr;
+use crate::serial::{answers, files};
 use run_model::history::History;
-use std::process::Abort;
+use std::alloc::Global;
 use wiz_cli::top::wiz_serial;
 use wiz_io::{MemorySink, MemoryStore};
 use wiz_tool::report::Report;
@@ -12,82 +11,61 @@ const CHECK: &[&str] = &["check", "P", "Q", "--serial"];
 
 #[test]
 fn runs_are_checked(rt: HostRuntime) {
-    let rows: [Row<'_>; 9] = [
-        Row {
-            name: "a message inside a group",
-            program: FIRST,
-            plan: b"0 1",
-            words: CHECK,
-            status: 0,
-            printed: b"rank 0 group 0 calls 2 output 0 same\nrank 1 group 0 calls 3 output 2 same\nfinished\n",
-        },
-        Row {
-            name: "a message between groups that are not in the order of their ranks",
-            program: FIRST,
-            plan: b"1\n0\n",
-            words: &["check", "--serial", "P", "Q"],
-            status: 0,
-            printed: b"rank 0 group 1 calls 2 output 0 same\nrank 1 group 0 calls 3 output 2 same\nfinished\n",
-        },
-        Row {
-            name: "a rank that waits for another group",
-            program: CHAIN,
-            plan: b"0 1\n2",
-            words: CHECK,
-            status: 0,
-            printed: b"rank 0 group 0 calls 3 output 0 same\nrank 1 group 0 calls 2 output 0 same\nrank 2 group 1 calls 4 output 0 same\nfinished\n",
-        },
-        Row {
-            name: "a run that is stuck",
-            program: CYCLE,
-            plan: b"0 1",
-            words: CHECK,
-            status: 7,
-            printed: b"rank 0 group 0 calls 2 output 0 same\nrank 1 group 0 calls 2 output 0 same\nhalted stuck\n",
-        },
-        Row {
-            name: "a run with a trap",
-            program: BAD_RANK,
-            plan: b"0\n1",
-            words: CHECK,
-            status: 7,
-            printed: b"rank 0 group 0 calls 1 output 0 same\nrank 1 group 1 calls 1 output 0 same\nhalted trapped rank 0 bad rank\n",
-        },
-        Row {
-            name: "a program that is none, and a rank twice in the plan",
-            program: b"int x;",
-            plan: b"0 0",
-            words: CHECK,
-            status: 5,
-            printed: b"program 1:6 unexpected\n",
-        },
-        Row {
-            name: "a rank twice in the plan",
-            program: FIRST,
-            plan: b"0 0",
-            words: CHECK,
-            status: 6,
-            printed: b"plan repeated 0\n",
-        },
-        Row {
-            name: "no plan",
-            program: FIRST,
-            plan: b"0 1",
-            words: &["check", "P", "R", "--serial"],
-            status: 2,
-            printed: b"no file R\n",
-        },
-        Row {
-            name: "threads where there are none",
-            program: FIRST,
-            plan: b"0 1",
-            words: &["check", "P", "Q"],
-            status: 1,
-            printed: b"refused words\n",
-        },
+    let alloc = rt.alloc();
+    // The program, the plan, the arguments, the status, and what is printed.
+    let rows: [(&[u8], &[u8], &[&str], u8, &[u8]); 9] = [
+        (
+            FIRST,
+            b"0 1",
+            CHECK,
+            0,
+            b"rank 0 group 0 calls 2 output 0 same\nrank 1 group 0 calls 3 output 2 same\nfinished\n",
+        ),
+        (
+            FIRST,
+            b"1\n0\n",
+            &["check", "--serial", "P", "Q"],
+            0,
+            b"rank 0 group 1 calls 2 output 0 same\nrank 1 group 0 calls 3 output 2 same\nfinished\n",
+        ),
+        (
+            CHAIN,
+            b"0 1\n2",
+            CHECK,
+            0,
+            b"rank 0 group 0 calls 3 output 0 same\nrank 1 group 0 calls 2 output 0 same\nrank 2 group 1 calls 4 output 0 same\nfinished\n",
+        ),
+        (
+            CYCLE,
+            b"0 1",
+            CHECK,
+            7,
+            b"rank 0 group 0 calls 2 output 0 same\nrank 1 group 0 calls 2 output 0 same\nhalted stuck\n",
+        ),
+        (
+            BAD_RANK,
+            b"0\n1",
+            CHECK,
+            7,
+            b"rank 0 group 0 calls 1 output 0 same\nrank 1 group 1 calls 1 output 0 same\nhalted trapped rank 0 bad rank\n",
+        ),
+        (b"int x;", b"0 0", CHECK, 5, b"program 1:6 unexpected\n"),
+        (FIRST, b"0 0", CHECK, 6, b"plan repeated 0\n"),
+        (
+            FIRST,
+            b"0 1",
+            &["check", "P", "R", "--serial"],
+            2,
+            b"no file R\n",
+        ),
+        (FIRST, b"0 1", &["check", "P", "Q"], 1, b"refused words\n"),
     ];
-    for row in rows {
-        check_row(&rt, &row, b"");
+    for (program, plan, words, status, printed) in rows {
+        let mut store = files(alloc, &[("P", program), ("Q", plan)]).expect(&rt, "files");
+        assert!(&rt;
+            answers(alloc, &mut store, words, status, printed),
+            "{printed:?}"
+        );
     }
 }
 
@@ -129,70 +107,53 @@ fn a_check_replays_each_group_in_an_order_of_its_own(rt: HostRuntime) {
     assert!(&rt; has_orders(&report, run, &[0, 1, 0, 1, 0], &[2, 2, 2, 2]));
 }
 
-/// A demo of one round: its arguments, how many events it has, what its rank 0 prints, and what the command prints.
-#[derive(Clone, Copy)]
-struct Demo<'a> {
-    name: &'a str,
-    words: &'a [&'a str],
-    events: u32,
-    total: &'a [u8],
-    printed: &'a [u8],
+/// Whether a demo prints this, has so many events, and its rank 0 prints `total`. It comes to no file: a read or a write would fail.
+fn demonstrates(alloc: Global, words: &[&str], events: u32, total: &[u8], printed: &[u8]) -> bool {
+    let mut store = MemoryStore::new(alloc);
+    if store.fail(0).is_err() {
+        return false;
+    }
+    let mut out = MemorySink::new(alloc);
+    let report = wiz_serial(alloc, words, &mut store, &mut out);
+    report.status == 0
+        && out.bytes() == printed
+        && matches!(&report.run, Some(run) if run.len() == events)
+        && has_first_output(&report, total)
 }
 
-/// A demo prints what it is to print. It comes to no file: a read or a write would fail.
-fn check_demo<R: AllocGlobal + Abort>(rt: &R, demo: &Demo<'_>) {
-    let mut store = MemoryStore::new(rt.alloc());
-    store.fail(0).expect(rt, demo.name);
-    let mut out = MemorySink::new(rt.alloc());
-    let report = wiz_serial(rt.alloc(), demo.words, &mut store, &mut out);
-    check_ended(rt, &demo.name, report.status, &out, (0, demo.printed));
-    let has_run = matches!(&report.run, Some(run) if run.len() == demo.events);
-    assert!(rt; has_run, "{}: {} events", demo.name, demo.events);
-    assert_eq!(rt;
-        first_output(&report),
-        Some(BStr::new(demo.total)),
-        "{}",
-        demo.name
-    );
-}
-
-/// What the first rank of the first group printed when it was replayed.
-fn first_output(report: &Report) -> Option<BStr<'_>> {
+/// Whether the first rank of the first group printed this when it was replayed.
+fn has_first_output(report: &Report, printed: &[u8]) -> bool {
     let [replayed, ..] = report.replayed.as_slice() else {
-        return None;
+        return false;
     };
     match replayed.outputs.as_slice() {
-        [output, ..] => Some(BStr::new(output.as_slice())),
-        [] => None,
+        [output, ..] => output.as_slice() == printed,
+        [] => false,
     }
 }
 
 #[test]
 fn demos_are_checked(rt: HostRuntime) {
-    let demos: [Demo<'_>; 3] = [
-        Demo {
-            name: "a gather",
-            words: &["demo", "7", "1"],
-            events: 61,
-            total: b"rank 0 total 120\n",
-            printed: b"demo 7 1\nevents 61\nrank 0 group 0 calls 31 output 17 same\nrank 1 group 0 calls 2 output 15 same\nrank 2 group 0 calls 2 output 15 same\nrank 3 group 0 calls 2 output 15 same\nrank 4 group 1 calls 2 output 15 same\nrank 5 group 1 calls 2 output 15 same\nrank 6 group 1 calls 2 output 15 same\nrank 7 group 1 calls 2 output 15 same\nrank 8 group 2 calls 2 output 15 same\nrank 9 group 2 calls 2 output 15 same\nrank 10 group 2 calls 2 output 16 same\nrank 11 group 2 calls 2 output 16 same\nrank 12 group 3 calls 2 output 16 same\nrank 13 group 3 calls 2 output 16 same\nrank 14 group 3 calls 2 output 16 same\nrank 15 group 3 calls 2 output 16 same\nfinished\n",
-        },
-        Demo {
-            name: "a ring",
-            words: &["demo", "0", "1"],
-            events: 64,
-            total: b"rank 0 total 15\n",
-            printed: DEMO,
-        },
-        Demo {
-            name: "a split",
-            words: &["demo", "2147483647", "1"],
-            events: 80,
-            total: b"rank 0 total 24\n",
-            printed: b"demo 2147483647 1\nevents 80\nrank 0 group 0 calls 5 output 16 same\nrank 1 group 0 calls 5 output 16 same\nrank 2 group 0 calls 5 output 16 same\nrank 3 group 0 calls 5 output 16 same\nrank 4 group 1 calls 5 output 16 same\nrank 5 group 1 calls 5 output 16 same\nrank 6 group 1 calls 5 output 16 same\nrank 7 group 1 calls 5 output 16 same\nrank 8 group 2 calls 5 output 16 same\nrank 9 group 2 calls 5 output 16 same\nrank 10 group 2 calls 5 output 17 same\nrank 11 group 2 calls 5 output 17 same\nrank 12 group 3 calls 5 output 17 same\nrank 13 group 3 calls 5 output 17 same\nrank 14 group 3 calls 5 output 17 same\nrank 15 group 3 calls 5 output 17 same\nfinished\n",
-        },
+    // One round each: a gather, a ring and a split.
+    let rows: [(&[&str], u32, &[u8], &[u8]); 3] = [
+        (
+            &["demo", "7", "1"],
+            61,
+            b"rank 0 total 120\n",
+            b"demo 7 1\nevents 61\nrank 0 group 0 calls 31 output 17 same\nrank 1 group 0 calls 2 output 15 same\nrank 2 group 0 calls 2 output 15 same\nrank 3 group 0 calls 2 output 15 same\nrank 4 group 1 calls 2 output 15 same\nrank 5 group 1 calls 2 output 15 same\nrank 6 group 1 calls 2 output 15 same\nrank 7 group 1 calls 2 output 15 same\nrank 8 group 2 calls 2 output 15 same\nrank 9 group 2 calls 2 output 15 same\nrank 10 group 2 calls 2 output 16 same\nrank 11 group 2 calls 2 output 16 same\nrank 12 group 3 calls 2 output 16 same\nrank 13 group 3 calls 2 output 16 same\nrank 14 group 3 calls 2 output 16 same\nrank 15 group 3 calls 2 output 16 same\nfinished\n",
+        ),
+        (&["demo", "0", "1"], 64, b"rank 0 total 15\n", DEMO),
+        (
+            &["demo", "2147483647", "1"],
+            80,
+            b"rank 0 total 24\n",
+            b"demo 2147483647 1\nevents 80\nrank 0 group 0 calls 5 output 16 same\nrank 1 group 0 calls 5 output 16 same\nrank 2 group 0 calls 5 output 16 same\nrank 3 group 0 calls 5 output 16 same\nrank 4 group 1 calls 5 output 16 same\nrank 5 group 1 calls 5 output 16 same\nrank 6 group 1 calls 5 output 16 same\nrank 7 group 1 calls 5 output 16 same\nrank 8 group 2 calls 5 output 16 same\nrank 9 group 2 calls 5 output 16 same\nrank 10 group 2 calls 5 output 17 same\nrank 11 group 2 calls 5 output 17 same\nrank 12 group 3 calls 5 output 17 same\nrank 13 group 3 calls 5 output 17 same\nrank 14 group 3 calls 5 output 17 same\nrank 15 group 3 calls 5 output 17 same\nfinished\n",
+        ),
     ];
-    for demo in demos {
-        check_demo(&rt, &demo);
+    for (words, events, total, printed) in rows {
+        assert!(&rt;
+            demonstrates(rt.alloc(), words, events, total, printed),
+            "{words:?}"
+        );
     }
 }

@@ -3,9 +3,8 @@ use crate::programs::FIRST_LOG;
 use crate::replays::{
     ALONE, DIVERGED, ENDS_AT_ONCE, FIRST_TRACE, NO_ENTRY, REFUSED, SHORT, STARVED,
 };
-use crate::serial::{check, check_file, check_missing, files, lines_of};
-use bstr::BStr;
-use std::process::Abort;
+use crate::serial::{answers, files, lines_of};
+use std::alloc::Global;
 use wiz_cli::top::wiz_serial;
 use wiz_io::{MemorySink, MemoryStore};
 
@@ -21,6 +20,14 @@ pub const SHOWN: &[u8] =
 /// What is counted in it.
 pub const COUNTED: &[u8] =
     b"rank 0 entries 2 inner 0 outer 0 ints 0 notyet 0\nrank 1 entries 3 inner 1 outer 0 ints 0 notyet 0\ntotal entries 5 inner 1 outer 0 ints 0 notyet 0\n";
+
+/// Whether a file has these bytes.
+fn has(store: &MemoryStore, name: &str, bytes: &[u8]) -> bool {
+    match store.file(name) {
+        Some(found) => found.as_slice() == bytes,
+        None => false,
+    }
+}
 
 #[test]
 fn the_first_log_is_converted_there_and_back(rt: HostRuntime) {
@@ -38,68 +45,61 @@ fn the_first_log_is_converted_there_and_back(rt: HostRuntime) {
         (&["convert", "L", "L"], b""),
     ];
     for (words, printed) in rows {
-        check(&rt, &words, &mut store, words, (0, printed));
+        assert!(&rt; answers(alloc, &mut store, words, 0, printed), "{words:?}");
     }
-    for file in ["L", "M", "N"] {
-        check_file(&rt, &"in format 2", &store, file, FIRST_BYTES);
+    for name in ["L", "M", "N"] {
+        assert!(&rt; has(&store, name, FIRST_BYTES), "{name}");
     }
-    for file in ["T", "U"] {
-        check_file(&rt, &"in format 1", &store, file, FIRST_LOG);
+    for name in ["T", "U"] {
+        assert!(&rt; has(&store, name, FIRST_LOG), "{name}");
     }
 }
 
-/// A log, converted, is converted back, and has one replay in both formats.
-fn check_log<R: AllocGlobal + Abort>(rt: &R, name: &str, log: &[u8]) {
-    let mut store = files(rt.alloc(), &[("L", log)]).expect(rt, name);
-    check(rt, &name, &mut store, &["convert", "L", "M"], (0, b""));
-    let back = lines_of(rt, &name, &mut store, "M");
-    assert_eq!(rt; BStr::new(back), BStr::new(log), "{name}");
-    let mut out = MemorySink::new(rt.alloc());
-    let replay: &[&str] = &["replay", "L", "--serial"];
-    let status = wiz_serial(rt.alloc(), replay, &mut store, &mut out).status;
-    let converted: &[&str] = &["replay", "M", "--serial"];
-    check(rt, &name, &mut store, converted, (status, out.bytes()));
+/// Whether a log, converted, is converted back, and has one replay in both formats.
+fn is_one_log(alloc: Global, log: &[u8]) -> Option<bool> {
+    let mut store = files(alloc, &[("L", log)])?;
+    let converted = answers(alloc, &mut store, &["convert", "L", "M"], 0, b"");
+    let back = lines_of(alloc, &mut store, "M")? == log;
+    let mut out = MemorySink::new(alloc);
+    let report = wiz_serial(alloc, &["replay", "L", "--serial"], &mut store, &mut out);
+    let replay: &[&str] = &["replay", "M", "--serial"];
+    Some(converted && back && answers(alloc, &mut store, replay, report.status, out.bytes()))
 }
 
 #[test]
 fn forged_logs_are_converted_too(rt: HostRuntime) {
-    let logs: [(&str, &[u8]); 8] = [
-        ("the first log", FIRST_LOG),
-        ("a send to another rank", DIVERGED),
-        ("a rank that ends at once", ENDS_AT_ONCE),
-        ("a message that is not sent", STARVED),
-        ("one rank", ALONE),
-        ("no entry", NO_ENTRY),
-        ("a program that is refused", REFUSED),
-        ("a program without a call", SHORT),
+    let logs: [&[u8]; 8] = [
+        FIRST_LOG,
+        DIVERGED,
+        ENDS_AT_ONCE,
+        STARVED,
+        ALONE,
+        NO_ENTRY,
+        REFUSED,
+        SHORT,
     ];
-    for (name, log) in logs {
-        check_log(&rt, name, log);
+    for log in logs {
+        assert!(&rt; is_one_log(rt.alloc(), log).unwrap_or(false));
     }
 }
 
 #[test]
 fn what_is_no_log_is_not_converted(rt: HostRuntime) {
     let alloc = rt.alloc();
-    // The name, what the file `L` holds, and the message.
-    let rows: [(&str, &[u8], &[u8]); 6] = [
-        ("an order", b"0\n", b"log 0 bad head\n"),
-        ("a third version", b"srr 3\n", b"log 0 bad version\n"),
-        (
-            "lines in format 2",
-            b"srr 2\nranks 2\n",
-            b"log 6 bad number\n",
-        ),
-        ("format 1 cut off", &FIRST_LOG[..270], b"log 270 short\n"),
-        ("format 2 cut off", &FIRST_BYTES[..286], b"log 286 short\n"),
-        ("half of a head", &FIRST_BYTES[..5], b"log 5 short\n"),
+    // What the file L holds, and the message.
+    let rows: [(&[u8], &[u8]); 6] = [
+        (b"0\n", b"log 0 bad head\n"),
+        (b"srr 3\n", b"log 0 bad version\n"),
+        (b"srr 2\nranks 2\n", b"log 6 bad number\n"),
+        (&FIRST_LOG[..270], b"log 270 short\n"),
+        (&FIRST_BYTES[..286], b"log 286 short\n"),
+        (&FIRST_BYTES[..5], b"log 5 short\n"),
     ];
-    let words: &[&str] = &["convert", "L", "M"];
-    for (name, log, message) in rows {
-        let mut store = files(alloc, &[("L", log)]).expect(&rt, name);
-        check(&rt, &name, &mut store, words, (8, message));
-        check_missing(&rt, &name, &store, "M");
+    for (log, message) in rows {
+        let mut store = files(alloc, &[("L", log)]).expect(&rt, "files");
+        assert!(&rt; answers(alloc, &mut store, &["convert", "L", "M"], 8, message));
+        assert!(&rt; store.file("M").is_none());
     }
     let mut store = MemoryStore::new(alloc);
-    check(&rt, &"no file", &mut store, words, (2, b"no file L\n"));
+    assert!(&rt; answers(alloc, &mut store, &["convert", "L", "M"], 2, b"no file L\n"));
 }

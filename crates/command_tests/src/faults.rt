@@ -5,23 +5,16 @@ use crate::programs::{
 };
 use crate::replays::FIRST_TRACE;
 use crate::rows::joined;
-use crate::serial::{check, check_ended, check_missing, files};
+use crate::serial::{answers, files};
 use crate::tool;
 use std::alloc::Global;
-use std::process::Abort;
 use std::sync::Wait;
 use std::thread::Threads;
 use wiz_cli::top::wiz_serial;
 use wiz_io::{MemorySink, MemoryStore};
 
-/// A command, which its arguments name: the files that it reads, those that it then writes, and what it prints.
-#[derive(Clone, Copy)]
-struct Row<'a> {
-    words: &'a [&'a str],
-    read: &'a [&'a str],
-    written: &'a [&'a str],
-    printed: &'a [u8],
-}
+/// A command: its arguments, the files that it reads, those that it then writes, and what it prints.
+type Row<'a> = (&'a [&'a str], &'a [&'a str], &'a [&'a str], &'a [u8]);
 
 const NONE: &[&str] = &[];
 
@@ -38,155 +31,70 @@ const RACES: &[u8] = b"receives 0 raced 0\nfinished\n";
 const FINISHED: &[u8] = b"finished\n";
 
 /// The first log and itself.
-pub const SAME: &[u8] = b"rank 0 same 2\nrank 1 same 3\nsame\n";
+const SAME: &[u8] = b"rank 0 same 2\nrank 1 same 3\nsame\n";
 
 /// Each command that reads, writes or prints, on threads and on one thread.
 fn commands() -> [Row<'static>; 24] {
     [
-        Row {
-            words: &["record", "P", "Q", "A"],
-            read: RUN,
-            written: RECORDING,
-            printed: FIRST_RECORDED,
-        },
-        Row {
-            words: &["record", "P", "Q", "A", "--serial"],
-            read: RUN,
-            written: RECORDING,
-            printed: FIRST_RECORDED,
-        },
-        Row {
-            words: &["record", "P", "Q", "A", "--order", "F"],
-            read: ORDERED,
-            written: RECORDING,
-            printed: FIRST_RECORDED,
-        },
-        Row {
-            words: &["check", "P", "Q"],
-            read: RUN,
-            written: NONE,
-            printed: FIRST_CHECKED,
-        },
-        Row {
-            words: &["check", "P", "Q", "--serial"],
-            read: RUN,
-            written: NONE,
-            printed: FIRST_CHECKED,
-        },
-        Row {
-            words: &["races", "P", "Q"],
-            read: RUN,
-            written: NONE,
-            printed: RACES,
-        },
-        Row {
-            words: &["races", "P", "Q", "--serial"],
-            read: RUN,
-            written: NONE,
-            printed: RACES,
-        },
-        Row {
-            words: &["races", "P", "Q", "--order", "F"],
-            read: ORDERED,
-            written: NONE,
-            printed: RACES,
-        },
-        Row {
-            words: &["advise", "P", "Q", "1"],
-            read: RUN,
-            written: NONE,
-            printed: FIRST_ADVISED,
-        },
-        Row {
-            words: &["advise", "P", "Q", "1", "--serial"],
-            read: RUN,
-            written: NONE,
-            printed: FIRST_ADVISED,
-        },
-        Row {
-            words: &["advise", "P", "Q", "1", "--order", "F"],
-            read: ORDERED,
-            written: NONE,
-            printed: FIRST_ADVISED,
-        },
-        Row {
-            words: &["waits", "P", "Q"],
-            read: RUN,
-            written: NONE,
-            printed: FINISHED,
-        },
-        Row {
-            words: &["waits", "P", "Q", "--serial"],
-            read: RUN,
-            written: NONE,
-            printed: FINISHED,
-        },
-        Row {
-            words: &["waits", "P", "Q", "--order", "F"],
-            read: ORDERED,
-            written: NONE,
-            printed: FINISHED,
-        },
-        Row {
-            words: &["diff", "L", "L"],
-            read: &["L", "L"],
-            written: NONE,
-            printed: SAME,
-        },
-        Row {
-            words: &["demo", "0", "1"],
-            read: NONE,
-            written: NONE,
-            printed: DEMO,
-        },
-        Row {
-            words: &["replay", "L"],
-            read: &["L"],
-            written: NONE,
-            printed: FIRST_TRACE,
-        },
-        Row {
-            words: &["replay", "L", "--serial"],
-            read: &["L"],
-            written: NONE,
-            printed: FIRST_TRACE,
-        },
-        Row {
-            words: &["replay", "L", "--program", "P"],
-            read: &["L", "P"],
-            written: NONE,
-            printed: FIRST_TRACE,
-        },
-        Row {
-            words: &["replay", "L", "--program", "P", "--serial"],
-            read: &["L", "P"],
-            written: NONE,
-            printed: FIRST_TRACE,
-        },
-        Row {
-            words: &["show", "L"],
-            read: &["L"],
-            written: NONE,
-            printed: SHOWN,
-        },
-        Row {
-            words: &["stats", "L"],
-            read: &["L"],
-            written: NONE,
-            printed: COUNTED,
-        },
-        Row {
-            words: &["convert", "L", "M"],
-            read: &["L"],
-            written: &["M"],
-            printed: b"",
-        },
-        Row {
-            words: &["convert", "L", "M", "--text"],
-            read: &["L"],
-            written: &["M"],
-            printed: b"",
-        },
+        (&["record", "P", "Q", "A"], RUN, RECORDING, FIRST_RECORDED),
+        (
+            &["record", "P", "Q", "A", "--serial"],
+            RUN,
+            RECORDING,
+            FIRST_RECORDED,
+        ),
+        (
+            &["record", "P", "Q", "A", "--order", "F"],
+            ORDERED,
+            RECORDING,
+            FIRST_RECORDED,
+        ),
+        (&["check", "P", "Q"], RUN, NONE, FIRST_CHECKED),
+        (&["check", "P", "Q", "--serial"], RUN, NONE, FIRST_CHECKED),
+        (&["races", "P", "Q"], RUN, NONE, RACES),
+        (&["races", "P", "Q", "--serial"], RUN, NONE, RACES),
+        (&["races", "P", "Q", "--order", "F"], ORDERED, NONE, RACES),
+        (&["waits", "P", "Q"], RUN, NONE, FINISHED),
+        (&["waits", "P", "Q", "--serial"], RUN, NONE, FINISHED),
+        (
+            &["waits", "P", "Q", "--order", "F"],
+            ORDERED,
+            NONE,
+            FINISHED,
+        ),
+        (&["diff", "L", "L"], &["L", "L"], NONE, SAME),
+        (&["advise", "P", "Q", "1"], RUN, NONE, FIRST_ADVISED),
+        (
+            &["advise", "P", "Q", "1", "--serial"],
+            RUN,
+            NONE,
+            FIRST_ADVISED,
+        ),
+        (
+            &["advise", "P", "Q", "1", "--order", "F"],
+            ORDERED,
+            NONE,
+            FIRST_ADVISED,
+        ),
+        (&["demo", "0", "1"], NONE, NONE, DEMO),
+        (&["replay", "L"], &["L"], NONE, FIRST_TRACE),
+        (&["replay", "L", "--serial"], &["L"], NONE, FIRST_TRACE),
+        (
+            &["replay", "L", "--program", "P"],
+            &["L", "P"],
+            NONE,
+            FIRST_TRACE,
+        ),
+        (
+            &["replay", "L", "--program", "P", "--serial"],
+            &["L", "P"],
+            NONE,
+            FIRST_TRACE,
+        ),
+        (&["show", "L"], &["L"], NONE, SHOWN),
+        (&["stats", "L"], &["L"], NONE, COUNTED),
+        (&["convert", "L", "M"], &["L"], &["M"], b""),
+        (&["convert", "L", "M", "--text"], &["L"], &["M"], b""),
     ]
 }
 
@@ -208,82 +116,88 @@ fn failing_at(alloc: Global, call: usize) -> Option<MemoryStore> {
     Some(store)
 }
 
-/// Of the files that a command writes the first so many are there, and no other.
-fn check_first<R: Abort>(rt: &R, row: &Row<'_>, store: &MemoryStore, count: usize) {
-    for (at, file) in row.written.iter().enumerate() {
-        assert_eq!(rt;
-            store.file(file).is_some(),
-            at < count,
-            "{:?}: {file}",
-            row.words
-        );
+/// Whether of these files the first so many are there, and no other.
+fn are_first(store: &MemoryStore, names: &[&str], count: usize) -> bool {
+    for (at, name) in names.iter().enumerate() {
+        if store.file(name).is_some() != (at < count) {
+            return false;
+        }
     }
+    true
 }
 
 #[test]
 fn each_read_and_write_of_a_command_fails_in_turn(rt: HostRuntime) {
     for row in commands() {
-        check_each_fault(&rt, &row);
-        check_no_more_calls(&rt, &row);
+        let words = row.0;
+        assert!(&rt; tells_each_fault(&rt, &row).unwrap_or(false), "{words:?}");
+        assert!(&rt;
+            makes_no_more_calls(&rt, &row).unwrap_or(false),
+            "{words:?}"
+        );
     }
 }
 
-/// A command tells each of its reads and writes that fails, with the files written before it.
-fn check_each_fault<R: Threads + Wait + Sync + AllocGlobal + Abort>(rt: &R, row: &Row<'_>) {
-    for (call, file) in row.read.iter().chain(row.written.iter()).enumerate() {
-        let (status, front): (u8, &[u8]) = if call < row.read.len() {
+/// Whether a command tells each of its reads and writes that fails, with the files written before it.
+fn tells_each_fault<R: Threads + Wait + Sync + AllocGlobal>(rt: &R, row: &Row<'_>) -> Option<bool> {
+    let (words, read, written, _) = row;
+    for (call, name) in read.iter().chain(written.iter()).enumerate() {
+        let (status, front): (u8, &[u8]) = if call < read.len() {
             (3, b"cannot read ")
         } else {
             (4, b"cannot write ")
         };
-        let message = joined(rt.alloc(), &[front, file.as_bytes(), b"\n"]).expect(rt, "a message");
-        let mut store = failing_at(rt.alloc(), call).expect(rt, "files");
-        let name = (row.words, call);
-        tool::check(
-            rt,
-            &name,
-            &mut store,
-            row.words,
-            (status, message.as_slice()),
-        );
-        check_first(rt, row, &store, call.saturating_sub(row.read.len()));
+        let message = joined(rt.alloc(), &[front, name.as_bytes(), b"\n"])?;
+        let mut store = failing_at(rt.alloc(), call)?;
+        if !tool::answers(rt, &mut store, words, status, message.as_slice()) {
+            return Some(false);
+        }
+        if !are_first(&store, written, call.saturating_sub(read.len())) {
+            return Some(false);
+        }
     }
+    Some(true)
 }
 
-/// A command makes no other reads and writes: one that is to fail after them does not matter.
-fn check_no_more_calls<R: Threads + Wait + Sync + AllocGlobal + Abort>(rt: &R, row: &Row<'_>) {
-    let calls = row
-        .read
-        .len()
-        .checked_add(row.written.len())
-        .expect(rt, "a number");
-    let mut store = failing_at(rt.alloc(), calls).expect(rt, "files");
-    tool::check(rt, &row.words, &mut store, row.words, (0, row.printed));
-    check_first(rt, row, &store, row.written.len());
+/// Whether a command makes no other reads and writes: one that is to fail after them does not matter.
+fn makes_no_more_calls<R: Threads + Wait + Sync + AllocGlobal>(
+    rt: &R,
+    row: &Row<'_>,
+) -> Option<bool> {
+    let (words, read, written, printed) = row;
+    let mut store = failing_at(rt.alloc(), read.len().checked_add(written.len())?)?;
+    let so = tool::answers(rt, &mut store, words, 0, printed);
+    Some(so && are_first(&store, written, written.len()))
 }
 
 #[test]
 fn each_put_of_a_command_fails_in_turn(rt: HostRuntime) {
     for row in commands() {
+        let words = row.0;
         // One put has all that is printed.
-        check_put(&rt, &row, 0);
-        check_put(&rt, &row, 1);
+        assert!(&rt; ends_at_put(&rt, &row, 0).unwrap_or(false), "{words:?}");
+        assert!(&rt; ends_at_put(&rt, &row, 1).unwrap_or(false), "{words:?}");
     }
 }
 
-/// A command whose put of this number fails writes its files, puts nothing more out, and tells the fault by its status.
-fn check_put<R: Threads + Wait + Sync + AllocGlobal + Abort>(rt: &R, row: &Row<'_>, put: u32) {
-    let wanted: (u8, &[u8]) = if put == 0 && !row.printed.is_empty() {
+/// Whether a command whose put of this number fails writes its files, puts nothing more out, and tells the fault by its status.
+fn ends_at_put<R: Threads + Wait + Sync + AllocGlobal>(
+    rt: &R,
+    row: &Row<'_>,
+    put: u32,
+) -> Option<bool> {
+    let (words, _, written, printed) = row;
+    let (status, front): (u8, &[u8]) = if put == 0 && !printed.is_empty() {
         (4, b"")
     } else {
-        (0, row.printed)
+        (0, printed)
     };
-    let mut store = inputs(rt.alloc(), FIRST).expect(rt, "files");
+    let mut store = inputs(rt.alloc(), FIRST)?;
     let mut full = MemorySink::new(rt.alloc());
-    full.fail(put).expect(rt, "a put");
-    let status = tool::run(rt, &mut store, row.words, &mut full);
-    check_ended(rt, &(row.words, put), status, &full, wanted);
-    check_first(rt, row, &store, row.written.len());
+    full.fail(put).ok()?;
+    let found = tool::run(rt, &mut store, words, &mut full);
+    let so = found == status && full.bytes() == front;
+    Some(so && are_first(&store, written, written.len()))
 }
 
 #[test]
@@ -312,8 +226,11 @@ fn a_put_that_fails_leaves_a_message_out(rt: HostRuntime) {
         let mut full = MemorySink::new(alloc);
         full.fail(0).expect(&rt, "a put");
         let report = wiz_serial(alloc, words, &mut store, &mut full);
-        check_ended(&rt, &words, report.status, &full, (status, b""));
-        check_missing(&rt, &words, &store, "M");
+        assert!(&rt;
+            report.status == status && full.bytes().is_empty(),
+            "{words:?}"
+        );
+        assert!(&rt; store.file("M").is_none());
     }
 }
 
@@ -335,6 +252,6 @@ fn long_texts_are_refused(rt: HostRuntime) {
     for (words, message) in rows {
         let mut store = inputs(alloc, FIRST).expect(&rt, "files");
         store.add("P.c", long.as_slice()).expect(&rt, "a file");
-        check(&rt, &words, &mut store, words, (12, message));
+        assert!(&rt; answers(alloc, &mut store, words, 12, message), "{words:?}");
     }
 }

@@ -8,8 +8,6 @@ mod checks;
 #[cfg(test)]
 mod conversions;
 #[cfg(test)]
-mod diffs;
-#[cfg(test)]
 mod faults;
 #[cfg(test)]
 mod forged;
@@ -35,7 +33,5 @@ mod synchronous;
 mod threads;
 #[cfg(test)]
 mod tool;
-#[cfg(test)]
-mod waits;
 #[cfg(test)]
 mod words;

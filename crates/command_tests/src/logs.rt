@@ -1,6 +1,6 @@
 //! What logs hold, listed and counted: `show` and `stats`.
 use crate::programs::FIRST;
-use crate::serial::{check, files};
+use crate::serial::{answers, files};
 
 #[test]
 fn logs_are_shown_and_counted(rt: HostRuntime) {
@@ -48,6 +48,9 @@ fn logs_are_shown_and_counted(rt: HostRuntime) {
         (&["show", "B.order"], 8, b"log 0 bad head\n"),
     ];
     for (words, status, printed) in rows {
-        check(&rt, &words, &mut store, words, (status, printed));
+        assert!(&rt;
+            answers(alloc, &mut store, words, status, printed),
+            "{words:?}"
+        );
     }
 }

@@ -1,6 +1,6 @@
 //! Runs that are recorded, and their message races: `races`.
 use crate::programs::{CYCLE, FIRST, TWO_SENDERS};
-use crate::serial::{Row, check_ended, check_ends, check_row, files};
+use crate::serial::{answers, files};
 use std::alloc::{AllocError, Global};
 use wiz_base::{Bytes, push_decimal, push_text};
 use wiz_cli::top::wiz_serial;
@@ -17,66 +17,40 @@ const ANSWERED: &[u8] =
 
 #[test]
 fn races_are_listed(rt: HostRuntime) {
-    let rows: [Row<'_>; 7] = [
-        Row {
-            name: "a send after a completion that is not ordered by it",
-            program: TWO_SENDERS,
-            plan: b"0-2",
-            words: ORDERED,
-            status: 0,
-            printed: b"receive 2.0 took 1.0 others 0.0\nreceive 2.1 took 0.0 others 1.0\nreceives 2 raced 2\nfinished\n",
-        },
-        Row {
-            name: "a send that comes after a completion",
-            program: ANSWERED,
-            plan: b"0-2",
-            words: SERIAL,
-            status: 0,
-            printed: b"receive 2.0 took 1.0 others none\nreceive 2.2 took 0.1 others 1.0\nreceives 2 raced 1\nfinished\n",
-        },
-        Row {
-            name: "a run that is stuck, without a wildcard",
-            program: CYCLE,
-            plan: b"0-2",
-            words: SERIAL,
-            status: 7,
-            printed: b"receives 0 raced 0\nhalted stuck\n",
-        },
-        Row {
-            name: "threads where there are none",
-            program: FIRST,
-            plan: b"0-2",
-            words: &["races", "P", "Q"],
-            status: 1,
-            printed: b"refused words\n",
-        },
-        Row {
-            name: "no plan",
-            program: FIRST,
-            plan: b"0-2",
-            words: &["races", "P", "R", "--serial"],
-            status: 2,
-            printed: b"no file R\n",
-        },
-        Row {
-            name: "a program that is none",
-            program: b"int x;",
-            plan: b"0-2",
-            words: SERIAL,
-            status: 5,
-            printed: b"program 1:6 unexpected\n",
-        },
-        Row {
-            name: "a rank twice in the plan",
-            program: FIRST,
-            plan: b"0-2",
-            words: &["races", "P", "F", "--serial"],
-            status: 6,
-            printed: b"plan repeated 2\n",
-        },
+    let alloc = rt.alloc();
+    // The program, the arguments, the status, and what is printed.
+    let rows: [(&[u8], &[&str], u8, &[u8]); 7] = [
+        // A send after a completion that is not ordered by it.
+        (
+            TWO_SENDERS,
+            ORDERED,
+            0,
+            b"receive 2.0 took 1.0 others 0.0\nreceive 2.1 took 0.0 others 1.0\nreceives 2 raced 2\nfinished\n",
+        ),
+        (
+            ANSWERED,
+            SERIAL,
+            0,
+            b"receive 2.0 took 1.0 others none\nreceive 2.2 took 0.1 others 1.0\nreceives 2 raced 1\nfinished\n",
+        ),
+        (CYCLE, SERIAL, 7, b"receives 0 raced 0\nhalted stuck\n"),
+        (FIRST, &["races", "P", "Q"], 1, b"refused words\n"),
+        (FIRST, &["races", "P", "R", "--serial"], 2, b"no file R\n"),
+        (b"int x;", SERIAL, 5, b"program 1:6 unexpected\n"),
+        (
+            FIRST,
+            &["races", "P", "F", "--serial"],
+            6,
+            b"plan repeated 2\n",
+        ),
     ];
-    for row in rows {
-        check_row(&rt, &row, b"1\n2\n2\n");
+    for (program, words, status, printed) in rows {
+        let named: [(&str, &[u8]); 3] = [("P", program), ("Q", b"0-2"), ("F", b"1\n2\n2\n")];
+        let mut store = files(alloc, &named).expect(&rt, "files");
+        assert!(&rt;
+            answers(alloc, &mut store, words, status, printed),
+            "{printed:?}"
+        );
     }
 }
 
@@ -135,9 +109,18 @@ fn a_million_races_are_listed(rt: HostRuntime) {
     let mut out = MemorySink::new(alloc);
     let report = flooded(alloc, 1000, b"", &mut out).expect(&rt, "memory");
     assert!(&rt; report.status == 0 && keeps_its_run(&report, 3002));
-    let front = b"receive 0.0 took 1.0 others 1.1 1.2 1.3 ";
-    let back = b" 1.997 1.998\nreceives 1000 raced 1000\nfinished\n";
-    check_ends(&rt, &"1000 receives", out.bytes(), front, back);
+    assert!(&rt;
+        out.bytes()
+            .starts_with(b"receive 0.0 took 1.0 others 1.1 1.2 1.3 ")
+    );
+    assert!(&rt;
+        out.bytes().ends_with(
+            b" 1.997 1.998
+receives 1000 raced 1000
+finished
+"
+        )
+    );
 }
 
 #[test]
@@ -145,14 +128,13 @@ fn more_races_are_too_many(rt: HostRuntime) {
     let alloc = rt.alloc();
     let mut out = MemorySink::new(alloc);
     let report = flooded(alloc, 1001, b"", &mut out).expect(&rt, "memory");
-    check_ended(
-        &rt,
-        &"1001 receives",
-        report.status,
-        &out,
-        (14, b"races over 1000000\n"),
+    assert!(&rt; report.status == 14 && keeps_its_run(&report, 3005));
+    assert!(&rt;
+        out.bytes()
+            == b"races over 1000000
+"
+                .as_slice()
     );
-    assert!(&rt; keeps_its_run(&report, 3005));
 }
 
 /// Neither a halt nor a failed put takes the place of status 14.

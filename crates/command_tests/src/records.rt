@@ -1,8 +1,7 @@
 //! Recordings of files in memory: status, files and what is printed.
-use crate::programs::{BAD_RANK, CYCLE, FIRST, FIRST_RECORDED};
-use crate::serial::{check, check_ends, check_file, check_missing, files, lines_of};
+use crate::programs::{BAD_RANK, CYCLE, FIRST};
+use crate::serial::{answers, files, lines_of};
 use std::alloc::Global;
-use std::process::Abort;
 use wiz_io::MemoryStore;
 
 const SERIAL: &[&str] = &["record", "P", "Q", "A", "--serial"];
@@ -14,195 +13,103 @@ fn inputs(alloc: Global, program: &[u8], plan: &[u8], order: &[u8]) -> Option<Me
     files(alloc, &[("P", program), ("Q", plan), ("F", order)])
 }
 
-/// A recording: the program and the plan, the arguments, the status, what is printed, how a log ends, and the order that is written.
-#[derive(Clone, Copy)]
-struct Recorded<'a> {
-    name: &'a str,
-    program: &'a [u8],
-    plan: &'a [u8],
-    words: &'a [&'a str],
-    status: u8,
-    printed: &'a [u8],
-    log: &'a str,
-    lists: &'a [u8],
-    order: &'a [u8],
-}
-
-/// A recording has its status and output, and has written its files.
-fn check_recorded<R: AllocGlobal + Abort>(rt: &R, row: &Recorded<'_>) {
-    let mut store = inputs(rt.alloc(), row.program, row.plan, b"1\n1\n").expect(rt, row.name);
-    check(
-        rt,
-        &row.name,
-        &mut store,
-        row.words,
-        (row.status, row.printed),
-    );
-    check_file(rt, &row.name, &store, "A.order", row.order);
-    let lines = lines_of(rt, &row.name, &mut store, row.log);
-    check_ends(rt, &row.name, lines, b"", row.lists);
+/// Whether a file ends so.
+fn ends_with(store: &MemoryStore, name: &str, tail: &[u8]) -> bool {
+    match store.file(name) {
+        Some(bytes) => bytes.as_slice().ends_with(tail),
+        None => false,
+    }
 }
 
 #[test]
 fn runs_are_recorded(rt: HostRuntime) {
-    let rows: [Recorded<'_>; 5] = [
-        Recorded {
-            name: "groups of one rank",
-            program: FIRST,
-            plan: b"0\n1\n",
-            words: SERIAL,
-            status: 0,
-            printed: FIRST_RECORDED,
-            log: "A.1.srr",
-            lists: b"\nrank 1 3\np\nt 0=0.0.5:7\nz\nend\n",
-            order: b"0\n1\n0\n1\n1\n",
-        },
-        Recorded {
-            name: "one group, and an order",
-            program: FIRST,
-            plan: b"0 1",
-            words: ORDERED,
-            status: 0,
-            printed: FIRST_RECORDED,
-            log: "A.0.srr",
-            lists: b"\nrank 0 2\ns\nz\nrank 1 3\np\nt 0=0.0\nz\nend\n",
-            order: b"1\n0\n1\n0\n1\n",
-        },
-        Recorded {
-            name: "an order before the other arguments",
-            program: FIRST,
-            plan: b"0 1",
-            words: &["record", "--order", "F", "P", "Q", "A"],
-            status: 0,
-            printed: FIRST_RECORDED,
-            log: "A.0.srr",
-            lists: b"\nrank 0 2\ns\nz\nrank 1 3\np\nt 0=0.0\nz\nend\n",
-            order: b"1\n0\n1\n0\n1\n",
-        },
-        Recorded {
-            name: "a run that is stuck",
-            program: CYCLE,
-            plan: b"0 1",
-            words: SERIAL,
-            status: 7,
-            printed: b"rank 0 output 0\n\nrank 1 output 0\n\nhalted stuck\n",
-            log: "A.0.srr",
-            lists: b"\nrank 0 2\np\nx 7\nrank 1 2\np\nx 7\nend\n",
-            order: b"0\n1\n1\n0\n",
-        },
-        Recorded {
-            name: "a run with a trap",
-            program: BAD_RANK,
-            plan: b"0 1",
-            words: SERIAL,
-            status: 7,
-            printed: b"rank 0 output 0\n\nrank 1 output 0\n\nhalted trapped rank 0 bad rank\n",
-            log: "A.0.srr",
-            lists: b"\nrank 0 1\nx 2 0 3\nrank 1 1\nx 2 0 3\nend\n",
-            order: b"0\n1\n",
-        },
+    let alloc = rt.alloc();
+    let rows: [(&[u8], &[u8], &[&str], u8, &[u8], &str, &[u8], &[u8]); 5] = [
+        (
+            FIRST,
+            b"0\n1\n",
+            SERIAL,
+            0,
+            b"rank 0 output 0\n\nrank 1 output 2\n7\n\nfinished\n",
+            "A.1.srr",
+            b"\nrank 1 3\np\nt 0=0.0.5:7\nz\nend\n",
+            b"0\n1\n0\n1\n1\n",
+        ),
+        (
+            FIRST,
+            b"0 1",
+            ORDERED,
+            0,
+            b"rank 0 output 0\n\nrank 1 output 2\n7\n\nfinished\n",
+            "A.0.srr",
+            b"\nrank 0 2\ns\nz\nrank 1 3\np\nt 0=0.0\nz\nend\n",
+            b"1\n0\n1\n0\n1\n",
+        ),
+        (
+            FIRST,
+            b"0 1",
+            &["record", "--order", "F", "P", "Q", "A"],
+            0,
+            b"rank 0 output 0\n\nrank 1 output 2\n7\n\nfinished\n",
+            "A.0.srr",
+            b"\nrank 0 2\ns\nz\nrank 1 3\np\nt 0=0.0\nz\nend\n",
+            b"1\n0\n1\n0\n1\n",
+        ),
+        (
+            CYCLE,
+            b"0 1",
+            SERIAL,
+            7,
+            b"rank 0 output 0\n\nrank 1 output 0\n\nhalted stuck\n",
+            "A.0.srr",
+            b"\nrank 0 2\np\nx 7\nrank 1 2\np\nx 7\nend\n",
+            b"0\n1\n1\n0\n",
+        ),
+        (
+            BAD_RANK,
+            b"0 1",
+            SERIAL,
+            7,
+            b"rank 0 output 0\n\nrank 1 output 0\n\nhalted trapped rank 0 bad rank\n",
+            "A.0.srr",
+            b"\nrank 0 1\nx 2 0 3\nrank 1 1\nx 2 0 3\nend\n",
+            b"0\n1\n",
+        ),
     ];
-    for row in rows {
-        check_recorded(&rt, &row);
+    for (program, plan, words, status, printed, name, tail, order) in rows {
+        let mut store = inputs(alloc, program, plan, b"1\n1\n").expect(&rt, "files");
+        assert!(&rt; answers(alloc, &mut store, words, status, printed));
+        assert!(&rt; ends_with(&store, "A.order", order));
+        let lines = lines_of(alloc, &mut store, name).expect(&rt, "a log");
+        assert!(&rt; lines.ends_with(tail));
     }
-}
-
-/// A recording that is refused: the program, the plan and the order, the status, and the message.
-#[derive(Clone, Copy)]
-struct Refused<'a> {
-    name: &'a str,
-    program: &'a [u8],
-    plan: &'a [u8],
-    order: &'a [u8],
-    status: u8,
-    message: &'a [u8],
 }
 
 #[test]
 fn inputs_are_refused(rt: HostRuntime) {
-    let rows: [Refused<'_>; 8] = [
-        Refused {
-            name: "a text that is no program, with a plan and an order that are none",
-            program: b"int x;",
-            plan: b"2-1",
-            order: b"2",
-            status: 5,
-            message: b"program 1:6 unexpected\n",
-        },
-        Refused {
-            name: "a program with what is left out",
-            program: b"float f;",
-            plan: b"",
-            order: b"",
-            status: 5,
-            message: b"program 1:1 left out\n",
-        },
-        Refused {
-            name: "a plan without rank 3",
-            program: FIRST,
-            plan: b"0-2,4",
-            order: b"2",
-            status: 6,
-            message: b"plan gap 3\n",
-        },
-        Refused {
-            name: "a plan with a rank twice",
-            program: FIRST,
-            plan: b"0 0",
-            order: b"2",
-            status: 6,
-            message: b"plan repeated 0\n",
-        },
-        Refused {
-            name: "a plan without ranks",
-            program: FIRST,
-            plan: b"",
-            order: b"2",
-            status: 6,
-            message: b"plan empty\n",
-        },
-        Refused {
-            name: "a plan with ranks that fall",
-            program: FIRST,
-            plan: b"2-1",
-            order: b"2",
-            status: 6,
-            message: b"plan line 1\n",
-        },
-        Refused {
-            name: "a plan of 65 ranks",
-            program: FIRST,
-            plan: b"0-64",
-            order: b"2",
-            status: 6,
-            message: b"plan too many ranks\n",
-        },
-        Refused {
-            name: "an order with rank 2 of two ranks",
-            program: FIRST,
-            plan: b"0 1",
-            order: b"1\n2",
-            status: 6,
-            message: b"order line 2\n",
-        },
+    let alloc = rt.alloc();
+    let rows: [(&[u8], &[u8], &[u8], u8, &[u8]); 8] = [
+        (b"int x;", b"2-1", b"2", 5, b"program 1:6 unexpected\n"),
+        (b"float f;", b"", b"", 5, b"program 1:1 left out\n"),
+        (FIRST, b"0-2,4", b"2", 6, b"plan gap 3\n"),
+        (FIRST, b"0 0", b"2", 6, b"plan repeated 0\n"),
+        (FIRST, b"", b"2", 6, b"plan empty\n"),
+        (FIRST, b"2-1", b"2", 6, b"plan line 1\n"),
+        (FIRST, b"0-64", b"2", 6, b"plan too many ranks\n"),
+        (FIRST, b"0 1", b"1\n2", 6, b"order line 2\n"),
     ];
-    for row in rows {
-        let mut store = inputs(rt.alloc(), row.program, row.plan, row.order).expect(&rt, row.name);
-        check(
-            &rt,
-            &row.name,
-            &mut store,
-            ORDERED,
-            (row.status, row.message),
-        );
-        check_missing(&rt, &row.name, &store, "A.order");
+    for (program, plan, order, status, message) in rows {
+        let mut store = inputs(alloc, program, plan, order).expect(&rt, "files");
+        assert!(&rt; answers(alloc, &mut store, ORDERED, status, message));
+        assert!(&rt; store.file("A.order").is_none());
     }
 }
 
 #[test]
 fn a_missing_program_and_arguments_against_each_other_are_told(rt: HostRuntime) {
-    let mut store = MemoryStore::new(rt.alloc());
-    check(&rt, &SERIAL, &mut store, SERIAL, (2, b"no file P\n"));
+    let alloc = rt.alloc();
+    let mut store = MemoryStore::new(alloc);
+    assert!(&rt; answers(alloc, &mut store, SERIAL, 2, b"no file P\n"));
     let both: &[&str] = &["record", "P", "Q", "A", "--order", "F", "--serial"];
-    check(&rt, &both, &mut store, both, (1, b"refused words\n"));
+    assert!(&rt; answers(alloc, &mut store, both, 1, b"refused words\n"));
 }

@@ -1,7 +1,7 @@
 //! Logs refined and joined: the files, what is printed, and what is refused.
 use crate::programs::{FIRST, FIRST_LOG, TWO_SENDERS};
 use crate::replays::{DIVERGED, REFUSED, STARVED};
-use crate::serial::{check, check_ended, check_ends, check_missing, check_same, files, lines_of};
+use crate::serial::{answers, files, lines_of};
 use std::alloc::Global;
 use wiz_cli::top::wiz_serial;
 use wiz_io::{MemorySink, MemoryStore};
@@ -47,6 +47,14 @@ fn recorded(alloc: Global) -> Option<MemoryStore> {
     Some(store)
 }
 
+/// Whether two files are there and have the same bytes.
+fn are_same(store: &MemoryStore, one: &str, other: &str) -> bool {
+    match (store.file(one), store.file(other)) {
+        (Some(one), Some(other)) => one.as_slice() == other.as_slice(),
+        _ => false,
+    }
+}
+
 #[test]
 fn a_log_is_refined_and_joined_again(rt: HostRuntime) {
     let alloc = rt.alloc();
@@ -66,7 +74,7 @@ fn a_log_is_refined_and_joined_again(rt: HostRuntime) {
         (&["join", "I.2.srr", "I.0.srr", "J"], b"joined 0 2\n"),
     ];
     for (words, printed) in rows {
-        check(&rt, &words, &mut store, words, (0, printed));
+        assert!(&rt; answers(alloc, &mut store, words, 0, printed), "{words:?}");
     }
     // Files that have the same bytes.
     let same: [(&str, &str); 8] = [
@@ -80,25 +88,39 @@ fn a_log_is_refined_and_joined_again(rt: HostRuntime) {
         ("J", "B.0.srr"),
     ];
     for (one, other) in same {
-        check_same(&rt, &store, one, other);
+        assert!(&rt; are_same(&store, one, other), "{one} {other}");
     }
-    check_missing(&rt, &"no rank of the log", &store, "I.1.srr");
+    assert!(&rt; store.file("I.1.srr").is_none());
 }
 
 #[test]
 fn messages_between_the_parts_keep_their_ints(rt: HostRuntime) {
     let alloc = rt.alloc();
     let mut store = recorded(alloc).expect(&rt, "files");
-    let refine: &[&str] = &["refine", "A.0.srr", "R", "C"];
-    check(&rt, &refine, &mut store, refine, (0, REFINED));
+    assert!(&rt;
+        answers(
+            alloc,
+            &mut store,
+            &["refine", "A.0.srr", "R", "C"],
+            0,
+            REFINED
+        )
+    );
     let parted = b"\nrank 0 2\ns\nz\nrank 2 5\np\nt 0=1.0.9:1\np\nt 0=0.0\nz\nend\n";
-    let lines = lines_of(&rt, &refine, &mut store, "C.0.srr");
-    check_ends(&rt, &refine, lines, b"", parted);
-    let join: &[&str] = &["join", "C.0.srr", "C.1.srr", "D"];
-    check(&rt, &join, &mut store, join, (0, JOINED));
+    let lines = lines_of(alloc, &mut store, "C.0.srr").expect(&rt, "a log");
+    assert!(&rt; lines.ends_with(parted));
+    assert!(&rt;
+        answers(
+            alloc,
+            &mut store,
+            &["join", "C.0.srr", "C.1.srr", "D"],
+            0,
+            JOINED
+        )
+    );
     let together = b"\nrank 0 2\ns\nz\nrank 1 2\ns\nz\nrank 2 5\np\nt 0=1.0\np\nt 0=0.0\nz\nend\n";
-    let lines = lines_of(&rt, &join, &mut store, "D");
-    check_ends(&rt, &join, lines, b"", together);
+    let lines = lines_of(alloc, &mut store, "D").expect(&rt, "a log");
+    assert!(&rt; lines.ends_with(together));
 }
 
 #[test]
@@ -145,9 +167,11 @@ fn what_cannot_be_regrouped_is_refused(rt: HostRuntime) {
         let mut store = recorded(alloc).expect(&rt, "files");
         store.add("V", b"0\n").expect(&rt, "a file");
         store.add("W", crate::replays::SHORT).expect(&rt, "a file");
-        check(&rt, &words, &mut store, words, (status, message));
-        check_missing(&rt, &words, &store, "C");
-        check_missing(&rt, &words, &store, "C.0.srr");
+        assert!(&rt;
+            answers(alloc, &mut store, words, status, message),
+            "{words:?}"
+        );
+        assert!(&rt; store.file("C").is_none() && store.file("C.0.srr").is_none());
     }
 }
 
@@ -177,14 +201,12 @@ fn logs_of_no_run_are_told_by_their_traces(rt: HostRuntime) {
     for (words, status, printed, replays) in rows {
         let mut out = MemorySink::new(alloc);
         let report = wiz_serial(alloc, words, &mut store, &mut out);
-        check_ended(&rt, &words, report.status, &out, (status, printed));
-        assert_eq!(&rt;
-            report.replayed.as_slice().len(),
-            replays,
-            "{words:?}: replays"
+        assert!(&rt;
+            report.status == status && out.bytes() == printed,
+            "{words:?}"
         );
-        check_missing(&rt, &words, &store, "C");
-        check_missing(&rt, &words, &store, "C.0.srr");
+        assert!(&rt; report.replayed.as_slice().len() == replays);
+        assert!(&rt; store.file("C").is_none() && store.file("C.0.srr").is_none());
     }
 }
 
@@ -211,16 +233,14 @@ fn faults_of_files_are_told(rt: HostRuntime) {
         store.fail(CALLS + call).expect(&rt, "a call");
         let mut out = MemorySink::new(alloc);
         let report = wiz_serial(alloc, words, &mut store, &mut out);
-        check_ended(&rt, &(words, call), report.status, &out, (status, printed));
-        let found = (
-            report.replayed.as_slice().len(),
-            store.file("C.0.srr").is_some(),
-            store.file("C.1.srr").is_some(),
+        assert!(&rt;
+            report.status == status && out.bytes() == printed,
+            "{call} {words:?}"
         );
-        assert_eq!(&rt;
-            found,
-            (replays, is_written, status == 0 && is_written),
-            "{words:?}: {call}"
+        assert!(&rt; report.replayed.as_slice().len() == replays);
+        assert!(&rt;
+            store.file("C.0.srr").is_some() == is_written
+                && store.file("C.1.srr").is_some() == (status == 0 && is_written)
         );
     }
     // The output fails at its first put, and the files are written.
@@ -229,7 +249,7 @@ fn faults_of_files_are_told(rt: HostRuntime) {
         let mut full = MemorySink::new(alloc);
         full.fail(0).expect(&rt, "a put");
         let report = wiz_serial(alloc, words, &mut store, &mut full);
-        check_ended(&rt, &words, report.status, &full, (4, b""));
-        assert!(&rt; store.file(file).is_some(), "{words:?}: {file}");
+        assert!(&rt; report.status == 4 && full.bytes().is_empty());
+        assert!(&rt; store.file(file).is_some());
     }
 }

@@ -1,24 +1,24 @@
-//! Logs replayed, on one thread and on threads: the status, and the trace or the message.
+//! Commands over files in memory: arguments, status and what is printed.
 ghost use Rattle.std.specs.Prelude.{[], IfOk};
 ghost use Rattle.srr_replay.specs.Rounds.{IsReplayable, RunAll};
 
 use crate::programs::{FIRST, FIRST_LOG, NOT_SENT, SENT_TO_SELF};
 use crate::serial::files;
-use crate::tool;
-use bstr::BStr;
 use c_eval::rank::EvalRank;
 use c_program::CProgram;
 use c_types::read_program;
+use rank_threads::OpenGate;
 use replay_model::replayed::Replayed;
 use srr_entry::log::Log;
 use srr_log2::read_either::read_either;
 use srr_replay::serial::replay_serial;
 use std::alloc::{AllocError, Global};
-use std::process::Abort;
 use std::sync::Wait;
 use std::thread::Threads;
 use wiz_base::Bytes;
 use wiz_cli::ranks::start_group;
+use wiz_cli::top::wiz;
+use wiz_io::{MemorySink, MemoryStore};
 use wiz_trace::trace::trace_text;
 
 /// The trace of the first log.
@@ -33,7 +33,7 @@ const STOPPED_TRACE: &[u8] =
 pub const DIVERGED: &[u8] =
     b"srr 1\nranks 2\ngroup 0 1\nprogram 209\nint main(void){int r,x=7;MPI_Comm_rank(MPI_COMM_WORLD,&r);if(r==0)MPI_Send(&x,1,MPI_INT,0,5,MPI_COMM_WORLD);if(r==1){x=0;MPI_Recv(&x,1,MPI_INT,0,5,MPI_COMM_WORLD,MPI_STATUS_IGNORE);printf(\"%d\\n\",x);}return 0;}\nrank 0 2\ns\nz\nrank 1 3\np\nt 0=0.0\nz\nend\n";
 
-pub const DIVERGED_TRACE: &[u8] =
+const DIVERGED_TRACE: &[u8] =
     b"rank 0\n0 send comm=0 to=0 tag=5 data=7 -> done\n1 end -> done\noutput 0\n\nended\nrank 1\n0 post comm=0 from=0 tag=5 room=1 -> done\noutput 0\n\ndiverged call 1 entry t 0=0.0 made take all 0 found 0.0 send comm=0 to=0 tag=5 data=7\n";
 
 /// The first log, but rank 0 ends at once.
@@ -79,220 +79,58 @@ const CUT_OFF: &[u8] =
 pub const SHORT: &[u8] =
     b"srr 1\nranks 1\ngroup 0\nprogram 25\nint main(void){return 0;}\nrank 0 0\nend\n";
 
-/// A replay: the arguments, the log `L` and the program `G`, the status, and what is printed.
-#[derive(Clone, Copy)]
-struct Row<'a> {
-    name: &'a str,
-    words: &'a [&'a str],
-    log: &'a [u8],
-    program: &'a [u8],
+/// Runs a command over files with these names and bytes, and compares its status and output.
+fn answers<R: Threads + Wait + Sync + AllocGlobal>(
+    rt: &R,
+    words: &[&str],
+    named: &[(&str, &[u8])],
     status: u8,
-    printed: &'a [u8],
-}
-
-/// The command of a row ends as the row says.
-fn check_row<R: Threads + Wait + Sync + AllocGlobal + Abort>(rt: &R, row: &Row<'_>) {
-    let named: [(&str, &[u8]); 2] = [("L", row.log), ("G", row.program)];
-    let mut store = files(rt.alloc(), &named).expect(rt, row.name);
-    tool::check(
-        rt,
-        &row.name,
-        &mut store,
-        row.words,
-        (row.status, row.printed),
-    );
-}
-
-const SERIAL: &[&str] = &["replay", "L", "--serial"];
-
-const THREADS: &[&str] = &["replay", "L"];
-
-/// Logs that are replayed with their own program, or refused.
-fn own_rows() -> [Row<'static>; 20] {
-    [
-        Row {
-            name: "the first log on threads",
-            words: THREADS,
-            log: FIRST_LOG,
-            program: b"",
-            status: 0,
-            printed: FIRST_TRACE,
-        },
-        Row {
-            name: "a send to another rank on threads",
-            words: THREADS,
-            log: DIVERGED,
-            program: b"",
-            status: 9,
-            printed: DIVERGED_TRACE,
-        },
-        Row {
-            name: "a message that is not sent on threads",
-            words: THREADS,
-            log: STARVED,
-            program: b"",
-            status: 10,
-            printed: STARVED_TRACE,
-        },
-        Row {
-            name: "the first log",
-            words: SERIAL,
-            log: FIRST_LOG,
-            program: b"",
-            status: 0,
-            printed: FIRST_TRACE,
-        },
-        Row {
-            name: "an option before the log",
-            words: &["replay", "--serial", "L"],
-            log: FIRST_LOG,
-            program: b"",
-            status: 0,
-            printed: FIRST_TRACE,
-        },
-        Row {
-            name: "a send to another rank",
-            words: SERIAL,
-            log: DIVERGED,
-            program: b"",
-            status: 9,
-            printed: DIVERGED_TRACE,
-        },
-        Row {
-            name: "a message that is not sent",
-            words: SERIAL,
-            log: STARVED,
-            program: b"",
-            status: 10,
-            printed: STARVED_TRACE,
-        },
-        Row {
-            name: "one rank",
-            words: SERIAL,
-            log: ALONE,
-            program: b"",
-            status: 0,
-            printed: ALONE_TRACE,
-        },
-        Row {
-            name: "no entry",
-            words: SERIAL,
-            log: NO_ENTRY,
-            program: b"",
-            status: 0,
-            printed: NO_ENTRY_TRACE,
-        },
-        Row {
-            name: "no entry, and a program without a call",
-            words: SERIAL,
-            log: SHORT,
-            program: b"",
-            status: 0,
-            printed: NO_ENTRY_TRACE,
-        },
-        Row {
-            name: "a name that is unknown",
-            words: SERIAL,
-            log: REFUSED,
-            program: b"",
-            status: 5,
-            printed: b"program 1:23 unknown\n",
-        },
-        Row {
-            name: "a declaration outside of a function",
-            words: SERIAL,
-            log: UNEXPECTED,
-            program: b"",
-            status: 5,
-            printed: b"program 1:6 unexpected\n",
-        },
-        Row {
-            name: "a type that is left out",
-            words: SERIAL,
-            log: LEFT_OUT,
-            program: b"",
-            status: 5,
-            printed: b"program 1:1 left out\n",
-        },
-        Row {
-            name: "a number that is no int",
-            words: SERIAL,
-            log: BAD_LITERAL,
-            program: b"",
-            status: 5,
-            printed: b"program 1:23 bad literal\n",
-        },
-        Row {
-            name: "a program without main",
-            words: SERIAL,
-            log: NO_MAIN,
-            program: b"",
-            status: 5,
-            printed: b"program 1:1 no main\n",
-        },
-        Row {
-            name: "a name declared twice",
-            words: SERIAL,
-            log: TWICE,
-            program: b"",
-            status: 5,
-            printed: b"program 1:26 twice\n",
-        },
-        Row {
-            name: "a program cut off",
-            words: SERIAL,
-            log: CUT_OFF,
-            program: b"",
-            status: 5,
-            printed: b"program 1:24 unexpected\n",
-        },
-        Row {
-            name: "a log cut off",
-            words: SERIAL,
-            log: &FIRST_LOG[..270],
-            program: b"",
-            status: 8,
-            printed: b"log 270 short\n",
-        },
-        Row {
-            name: "a third version",
-            words: SERIAL,
-            log: b"srr 3\n",
-            program: b"",
-            status: 8,
-            printed: b"log 0 bad version\n",
-        },
-        Row {
-            name: "lines in format 2",
-            words: SERIAL,
-            log: b"srr 2\nranks 2\n",
-            program: b"",
-            status: 8,
-            printed: b"log 6 bad number\n",
-        },
-    ]
+    printed: &[u8],
+) -> bool {
+    let Some(mut store) = files(rt.alloc(), named) else {
+        return false;
+    };
+    let mut out = MemorySink::new(rt.alloc());
+    let report = wiz(rt, rt.alloc(), words, &mut store, &mut out, &OpenGate);
+    report.status == status && out.bytes() == printed
 }
 
 #[test]
-fn logs_have_their_status_and_trace(rt: HostRuntime) {
-    for row in own_rows() {
-        check_row(&rt, &row);
-    }
-}
-
-#[test]
-fn a_missing_log_and_arguments_out_of_form_are_told(rt: HostRuntime) {
-    // The arguments, the status, and the message.
-    let rows: [(&[&str], u8, &[u8]); 5] = [
-        (&["replay", "L9"], 2, b"no file L9\n"),
-        (&["replay", "L9", "--serial"], 2, b"no file L9\n"),
-        (&[], 1, b"refused words\n"),
-        (&["play"], 1, b"refused words\n"),
-        (&["replay"], 1, b"refused words\n"),
+fn commands_have_their_status_and_output(rt: HostRuntime) {
+    let replay: &[&str] = &["replay", "L", "--serial"];
+    let on_threads: &[&str] = &["replay", "L"];
+    let table: [(&[&str], &[u8], u8, &[u8]); 25] = [
+        (on_threads, FIRST_LOG, 0, FIRST_TRACE),
+        (on_threads, DIVERGED, 9, DIVERGED_TRACE),
+        (on_threads, STARVED, 10, STARVED_TRACE),
+        (&["replay", "L9"], FIRST_LOG, 2, b"no file L9\n"),
+        (replay, FIRST_LOG, 0, FIRST_TRACE),
+        (replay, DIVERGED, 9, DIVERGED_TRACE),
+        (replay, STARVED, 10, STARVED_TRACE),
+        (replay, ALONE, 0, ALONE_TRACE),
+        (replay, NO_ENTRY, 0, NO_ENTRY_TRACE),
+        (replay, REFUSED, 5, b"program 1:23 unknown\n"),
+        (replay, UNEXPECTED, 5, b"program 1:6 unexpected\n"),
+        (replay, LEFT_OUT, 5, b"program 1:1 left out\n"),
+        (replay, BAD_LITERAL, 5, b"program 1:23 bad literal\n"),
+        (replay, NO_MAIN, 5, b"program 1:1 no main\n"),
+        (replay, TWICE, 5, b"program 1:26 twice\n"),
+        (replay, CUT_OFF, 5, b"program 1:24 unexpected\n"),
+        (replay, SHORT, 0, b"rank 0\noutput 0\n\nlog ended\n"),
+        (replay, &FIRST_LOG[..270], 8, b"log 270 short\n"),
+        (replay, b"srr 3\n", 8, b"log 0 bad version\n"),
+        (replay, b"srr 2\nranks 2\n", 8, b"log 6 bad number\n"),
+        (&["replay", "L9", "--serial"], FIRST_LOG, 2, b"no file L9\n"),
+        (&[], FIRST_LOG, 1, b"refused words\n"),
+        (&["play"], FIRST_LOG, 1, b"refused words\n"),
+        (&["replay"], FIRST_LOG, 1, b"refused words\n"),
+        (&["replay", "--serial", "L"], FIRST_LOG, 0, FIRST_TRACE),
     ];
-    let mut store = files(rt.alloc(), &[("L", FIRST_LOG)]).expect(&rt, "files");
-    for (words, status, message) in rows {
-        tool::check(&rt, &words, &mut store, words, (status, message));
+    for (words, log, status, printed) in table {
+        assert!(&rt;
+            answers(&rt, words, &[("L", log)], status, printed),
+            "{words:?}"
+        );
     }
 }
 
@@ -300,82 +138,34 @@ fn a_missing_log_and_arguments_out_of_form_are_told(rt: HostRuntime) {
 fn a_log_is_replayed_with_another_program(rt: HostRuntime) {
     let replay: &[&str] = &["replay", "L", "--program", "G", "--serial"];
     let on_threads: &[&str] = &["replay", "--program=G", "L"];
-    let rows: [Row<'_>; 9] = [
-        Row {
-            name: "a send to another rank",
-            words: replay,
-            log: FIRST_LOG,
-            program: SENT_TO_SELF,
-            status: 9,
-            printed: DIVERGED_TRACE,
-        },
-        Row {
-            name: "a send to another rank on threads",
-            words: on_threads,
-            log: FIRST_LOG,
-            program: SENT_TO_SELF,
-            status: 9,
-            printed: DIVERGED_TRACE,
-        },
-        Row {
-            name: "a message that is not sent",
-            words: replay,
-            log: ENDS_AT_ONCE,
-            program: NOT_SENT,
-            status: 10,
-            printed: STARVED_TRACE,
-        },
-        Row {
-            name: "a message that is not sent on threads",
-            words: on_threads,
-            log: ENDS_AT_ONCE,
-            program: NOT_SENT,
-            status: 10,
-            printed: STARVED_TRACE,
-        },
-        Row {
-            name: "the same program",
-            words: replay,
-            log: FIRST_LOG,
-            program: FIRST,
-            status: 0,
-            printed: FIRST_TRACE,
-        },
-        Row {
-            name: "the text in the log is not looked at",
-            words: replay,
-            log: REFUSED,
-            program: b"int main(void){return 0;}",
-            status: 0,
-            printed: NO_ENTRY_TRACE,
-        },
-        Row {
-            name: "a program that is none",
-            words: replay,
-            log: FIRST_LOG,
-            program: b"int x;",
-            status: 5,
-            printed: b"program 1:6 unexpected\n",
-        },
-        Row {
-            name: "a log and a program that are none",
-            words: replay,
-            log: b"srr 3\n",
-            program: b"int x;",
-            status: 8,
-            printed: b"log 0 bad version\n",
-        },
-        Row {
-            name: "no program, and a log that is none",
-            words: &["replay", "L", "--program", "H", "--serial"],
-            log: b"srr 2\n",
-            program: FIRST,
-            status: 2,
-            printed: b"no file H\n",
-        },
+    // The arguments, the log `L`, the program `G`, the status, and what is printed.
+    let table: [(&[&str], &[u8], &[u8], u8, &[u8]); 9] = [
+        (replay, FIRST_LOG, SENT_TO_SELF, 9, DIVERGED_TRACE),
+        (on_threads, FIRST_LOG, SENT_TO_SELF, 9, DIVERGED_TRACE),
+        (replay, ENDS_AT_ONCE, NOT_SENT, 10, STARVED_TRACE),
+        (on_threads, ENDS_AT_ONCE, NOT_SENT, 10, STARVED_TRACE),
+        (replay, FIRST_LOG, FIRST, 0, FIRST_TRACE),
+        // The text in the log is not looked at.
+        (
+            replay,
+            REFUSED,
+            b"int main(void){return 0;}",
+            0,
+            b"rank 0\noutput 0\n\nlog ended\n",
+        ),
+        (replay, FIRST_LOG, b"int x;", 5, b"program 1:6 unexpected\n"),
+        (replay, b"srr 3\n", b"int x;", 8, b"log 0 bad version\n"),
+        (
+            &["replay", "L", "--program", "H", "--serial"],
+            b"srr 2\n",
+            FIRST,
+            2,
+            b"no file H\n",
+        ),
     ];
-    for row in rows {
-        check_row(&rt, &row);
+    for (words, log, program, status, printed) in table {
+        let named: [(&str, &[u8]); 2] = [("L", log), ("G", program)];
+        assert!(&rt; answers(&rt, words, &named, status, printed), "{words:?}");
     }
 }
 
@@ -441,10 +231,18 @@ pub fn trace_of_both(alloc: Global, log: &[u8], stop: Option<(u8, u32)>) -> Opti
     }
 }
 
+/// Whether a replay of the first log with this breakpoint has this trace, by both evaluators.
+fn stops_with(alloc: Global, stop: (u8, u32), trace: &[u8]) -> bool {
+    match trace_of_both(alloc, FIRST_LOG, Some(stop)) {
+        Some(found) => found.as_slice() == trace,
+        None => false,
+    }
+}
+
 #[test]
 fn a_rank_stops_at_its_breakpoint(rt: HostRuntime) {
-    // The breakpoint, the arguments that ask for it, and the trace, by both evaluators.
-    let rows: [((u8, u32), &[&str], &[u8]); 5] = [
+    // The breakpoint, the arguments that ask for it, and the trace.
+    let table: [((u8, u32), &[&str], &[u8]); 5] = [
         (
             (0, 0),
             &["replay", "L", "--break", "0:0", "--serial"],
@@ -467,10 +265,11 @@ fn a_rank_stops_at_its_breakpoint(rt: HostRuntime) {
             FIRST_TRACE,
         ),
     ];
-    let mut store = files(rt.alloc(), &[("L", FIRST_LOG)]).expect(&rt, "files");
-    for (stop, words, wanted) in rows {
-        let trace = trace_of_both(rt.alloc(), FIRST_LOG, Some(stop)).expect(&rt, "a trace");
-        assert_eq!(&rt; BStr::new(trace.as_slice()), BStr::new(wanted), "{words:?}");
-        tool::check(&rt, &words, &mut store, words, (0, wanted));
+    for (stop, words, trace) in table {
+        assert!(&rt; stops_with(rt.alloc(), stop, trace), "{words:?}");
+        assert!(&rt;
+            answers(&rt, words, &[("L", FIRST_LOG)], 0, trace),
+            "{words:?}"
+        );
     }
 }

@@ -3,25 +3,24 @@ use crate::programs::{
     FIRST, FIRST_ADVISED, FIRST_CHECKED, FIRST_TOGETHER, RING, RING_CHECKED, SUM, SUM_CHECKED,
     SUM_PLAN,
 };
-use crate::serial::{check, check_ends, check_missing, files};
-use crate::tool;
-use std::process::Abort;
+use crate::serial::files;
+use rank_threads::OpenGate;
 use std::sync::Wait;
 use std::thread::Threads;
+use wiz_cli::top::{wiz, wiz_serial};
 use wiz_io::{MemorySink, MemoryStore};
 
-/// A command on threads ends with status 0, and its output begins and ends with these.
-fn check_front_and_back<R: Threads + Wait + Sync + AllocGlobal + Abort>(
+/// Runs a command on threads, and compares its status and the begin and end of its output.
+fn answers<R: Threads + Wait + Sync + AllocGlobal>(
     rt: &R,
     store: &mut MemoryStore,
     words: &[&str],
     front: &[u8],
     back: &[u8],
-) {
+) -> bool {
     let mut out = MemorySink::new(rt.alloc());
-    let status = tool::run(rt, store, words, &mut out);
-    assert_eq!(rt; status, 0, "{words:?}");
-    check_ends(rt, &words, out.bytes(), front, back);
+    let report = wiz(rt, rt.alloc(), words, store, &mut out, &OpenGate);
+    report.status == 0 && out.bytes().starts_with(front) && out.bytes().ends_with(back)
 }
 
 /// The files `P` and `Q`: a program and a plan.
@@ -46,7 +45,7 @@ fn a_message_recorded_on_threads_is_replayed_on_threads(rt: HostRuntime) {
         ),
     ];
     for (words, front, back) in table {
-        check_front_and_back(&rt, &mut store, words, front, back);
+        assert!(&rt; answers(&rt, &mut store, words, front, back));
     }
 }
 
@@ -81,27 +80,24 @@ fn eight_ranks_recorded_on_threads_are_replayed_on_threads(rt: HostRuntime) {
         ),
     ];
     for (words, front, back) in table {
-        check_front_and_back(&rt, &mut store, words, front, back);
+        assert!(&rt; answers(&rt, &mut store, words, front, back));
     }
 }
 
 #[test]
 fn runs_are_checked_on_threads(rt: HostRuntime) {
-    // The name, the program, the plan, and what is printed.
-    let table: [(&str, &[u8], &[u8], &[u8]); 3] = [
-        ("a message between groups", FIRST, b"0\n1\n", FIRST_CHECKED),
-        ("seven senders in three groups", SUM, SUM_PLAN, SUM_CHECKED),
-        (
-            "a ring of synchronous sends",
-            RING,
-            b"0 1\n2 3\n",
-            RING_CHECKED,
-        ),
+    // The program, the plan, and what is printed.
+    let table: [(&[u8], &[u8], &[u8]); 3] = [
+        (FIRST, b"0\n1\n", FIRST_CHECKED),
+        (SUM, SUM_PLAN, SUM_CHECKED),
+        (RING, b"0 1\n2 3\n", RING_CHECKED),
     ];
-    let words: &[&str] = &["check", "P", "Q"];
-    for (name, program, plan, printed) in table {
-        let mut store = inputs(&rt, program, plan).expect(&rt, name);
-        tool::check(&rt, &name, &mut store, words, (0, printed));
+    for (program, plan, printed) in table {
+        let mut store = inputs(&rt, program, plan).expect(&rt, "files");
+        let mut out = MemorySink::new(rt.alloc());
+        let words: &[&str] = &["check", "P", "Q"];
+        let report = wiz(&rt, rt.alloc(), words, &mut store, &mut out, &OpenGate);
+        assert!(&rt; report.status == 0 && out.bytes() == printed, "{printed:?}");
     }
 }
 
@@ -115,7 +111,7 @@ fn a_run_on_threads_is_advised_on_and_its_races_listed(rt: HostRuntime) {
         (&["advise", "P", "Q", "2"], FIRST_TOGETHER),
     ];
     for (words, printed) in table {
-        tool::check(&rt, &words, &mut store, words, (0, printed));
+        assert!(&rt; answers(&rt, &mut store, words, printed, b""));
     }
 }
 
@@ -130,7 +126,9 @@ fn threads_are_refused_where_there_are_none(rt: HostRuntime) {
     ];
     for words in table {
         let mut store = inputs(&rt, FIRST, b"0 1").expect(&rt, "files");
-        check(&rt, &words, &mut store, words, (1, b"refused words\n"));
-        check_missing(&rt, &words, &store, "A.order");
+        let mut out = MemorySink::new(rt.alloc());
+        let report = wiz_serial(rt.alloc(), words, &mut store, &mut out);
+        assert!(&rt; report.status == 1 && out.bytes() == b"refused words\n".as_slice());
+        assert!(&rt; store.file("A.order").is_none());
     }
 }

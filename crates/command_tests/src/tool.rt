@@ -1,8 +1,5 @@
 //! Commands run over files in memory by the tool with threads.
-use crate::serial::check_ended;
 use rank_threads::OpenGate;
-use std::fmt::Debug;
-use std::process::Abort;
 use std::sync::Wait;
 use std::thread::Threads;
 use wiz_cli::top::wiz;
@@ -18,15 +15,14 @@ pub fn run<R: Threads + Wait + Sync + AllocGlobal>(
     wiz(rt, rt.alloc(), words, store, out, &OpenGate).status
 }
 
-/// A command over these files ends with the wanted status and output; else the test ends with the row's name.
-pub fn check<R: Threads + Wait + Sync + AllocGlobal + Abort, N: Debug>(
+/// Runs a command over these files, and compares its status and output.
+pub fn answers<R: Threads + Wait + Sync + AllocGlobal>(
     rt: &R,
-    name: &N,
     store: &mut MemoryStore,
     words: &[&str],
-    wanted: (u8, &[u8]),
-) {
+    status: u8,
+    printed: &[u8],
+) -> bool {
     let mut out = MemorySink::new(rt.alloc());
-    let status = run(rt, store, words, &mut out);
-    check_ended(rt, name, status, &out, wanted);
+    run(rt, store, words, &mut out) == status && out.bytes() == printed
 }

@@ -80,7 +80,7 @@ static FAULTS: [(i32, i32, i32, i32, Fault); 8] = [
 fn check_faults(rt: &impl Abort, state: &RankState, mode: Mode) {
     for &(count, dest, tag, comm, want) in &FAULTS {
         match effect_of(RANK, &send(mode, outgoing(count, dest, tag), comm), state) {
-            Err(fault) => assert_eq!(rt; fault, want, "{count} {dest} {tag} {comm}"),
+            Err(fault) => assert_eq!(rt; fault, want),
             Ok(_) => assert!(rt; false, "{count} {dest} {tag} {comm}"),
         }
     }

@@ -52,11 +52,7 @@ static OPERATIONS: [(Operator, i32, i32, Option<i32>); 10] = [
 #[test]
 fn operators_wrap(rt: HostRuntime) {
     for &(operator, left, right, expected) in &OPERATIONS {
-        assert_eq!(rt;
-            apply(operator, left, right),
-            expected,
-            "{left} {right}"
-        );
+        assert_eq!(rt; apply(operator, left, right), expected);
     }
     assert_eq!(rt; apply_unary(UnaryOperator::Complement, 0), -1);
     assert_eq!(rt; apply_unary(UnaryOperator::Not, 5), 0);

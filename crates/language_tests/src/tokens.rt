@@ -1,5 +1,5 @@
 //! The tokens of small texts, worked out by hand.
-use c_lex::{SourceFault, Token, TokenKind, TokenList, Why, literal_value, tokens};
+use c_lex::{SourceFault, Token, TokenKind, TokenList, Why, literal_value, one_reading, tokens};
 use std::process::Abort;
 use std::test::Fail;
 
@@ -80,7 +80,7 @@ static DEFINE_TOKENS: [(TokenKind, u32, u32); 11] = [
 fn check_define_tokens(rt: &impl Abort, list: &TokenList) {
     assert_eq!(rt; list.as_slice().len(), DEFINE_TOKENS.len());
     for (token, row) in list.as_slice().iter().zip(&DEFINE_TOKENS) {
-        assert_eq!(rt; (token.kind, token.start, token.len), *row, "{}", row.1);
+        assert_eq!(rt; (token.kind, token.start, token.len), *row);
     }
 }
 
@@ -123,7 +123,7 @@ static FAULTS: [(&str, u32, u32, Why); 24] = [
 fn check_fault(rt: &(impl Abort + AllocGlobal), text: &str, fault: SourceFault) {
     assert!(rt; text.len() <= 65536);
     let found = tokens(rt.alloc(), text.as_bytes()).err();
-    assert_eq!(rt; found, Some(fault), "{text}");
+    assert_eq!(rt; found, Some(fault));
 }
 
 #[test]
@@ -147,6 +147,7 @@ static LITERALS: [(&str, Option<u32>); 7] = [
 #[test]
 fn literals_have_values(rt: HostRuntime) {
     for &(word, expected) in &LITERALS {
-        assert_eq!(rt; literal_value(word.as_bytes()), expected, "{word}");
+        assert_eq!(rt; literal_value(word.as_bytes()), expected);
     }
+    one_reading();
 }

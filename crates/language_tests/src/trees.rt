@@ -96,7 +96,7 @@ static PROGRAMS: [(&str, usize); 5] = [(FIRST, 1), (ORDINARY, 2), (DEMO, 3), (EV
 fn programs_are_read(rt: HostRuntime) -> Result<(), Fail> {
     for &(text, externals) in &PROGRAMS {
         let found = read(&rt, text)?.externals.len();
-        assert_eq!(rt; found, externals, "{text}");
+        assert_eq!(rt; found, externals);
     }
     Ok(())
 }
@@ -120,7 +120,7 @@ fn the_first_fault_is_given(rt: HostRuntime) {
             why: Why::Unexpected,
         };
         let found = read(&rt, text).err();
-        assert_eq!(rt; found, Some(fault), "{text}");
+        assert_eq!(rt; found, Some(fault));
     }
 }
 
@@ -165,8 +165,7 @@ fn check_depth(rt: &(impl Abort + AllocGlobal), text: &str, column: u32) {
     let fault = read(rt, text).err();
     assert_eq!(rt;
         fault.map_or((0, Why::TooDeep), |fault| (fault.column, fault.why)),
-        (column, Why::TooDeep),
-        "{text}"
+        (column, Why::TooDeep)
     );
 }
 

@@ -22,7 +22,6 @@ const ALL: TakeMode = TakeMode::All;
 /// the last of which is its cost.
 #[derive(Clone, Copy)]
 struct Row<'a> {
-    name: &'a str,
     steps: [&'a [Step]; 3],
     plan: &'a [u8],
     given: u64,
@@ -62,7 +61,6 @@ const COLLECTIVES: [&[Step]; 3] = [
 
 static ROWS: [Row; 5] = [
     Row {
-        name: "a message, and a rank for a block",
         steps: FIRST,
         plan: b"0\n1",
         given: 1,
@@ -71,7 +69,6 @@ static ROWS: [Row; 5] = [
         bounds: &[0, 0, 1],
     },
     Row {
-        name: "a message, and both ranks in a block",
         steps: FIRST,
         plan: b"0\n1",
         given: 1,
@@ -81,7 +78,6 @@ static ROWS: [Row; 5] = [
     },
     // Without all three ranks each sum comes from outside, and without rank 0 each broadcast too.
     Row {
-        name: "collectives, and two ranks for a block",
         steps: COLLECTIVES,
         plan: b"0 1\n2",
         given: 4,
@@ -90,7 +86,6 @@ static ROWS: [Row; 5] = [
         bounds: &[0, 1, 2, 4],
     },
     Row {
-        name: "collectives, and a rank for a block",
         steps: COLLECTIVES,
         plan: b"0 2\n1",
         given: 4,
@@ -99,7 +94,6 @@ static ROWS: [Row; 5] = [
         bounds: &[0, 1, 3, 5],
     },
     Row {
-        name: "collectives, and all ranks in a block",
         steps: COLLECTIVES,
         plan: b"0-2",
         given: 0,
@@ -133,27 +127,18 @@ fn advice_of(alloc: Global, ends: &[u8], cost: u64, values: &[u64]) -> Result<Ad
 
 fn check_row(rt: &(impl Abort + AllocGlobal), row: &Row) -> Result<(), Fail> {
     let script = script_of(rt.alloc(), row.steps)?;
-    let plan = read_plan(rt.alloc(), row.plan).expect(rt, row.name);
+    let plan = read_plan(rt.alloc(), row.plan).expect(rt, "a plan");
     let history = run_of(rt.alloc(), &script, &plan)?;
-    assert_eq!(rt;
-        plan_cost(rt.alloc(), &history, &plan)?,
-        row.given,
-        "{}",
-        row.name
-    );
+    assert_eq!(rt; plan_cost(rt.alloc(), &history, &plan)?, row.given);
     let n = plan.n();
     if row.most == 0 || row.most > n {
         return Err("a block of no rank, or of too many".into());
     }
     let advice = advise(rt.alloc(), n, &history, row.most)?;
-    assert_eq!(rt; advice.ends.as_slice(), row.ends, "{}", row.name);
-    assert_eq!(rt; advice.bounds.as_slice(), row.bounds, "{}", row.name);
-    assert_eq!(rt; Some(&advice.cost), row.bounds.last(), "{}", row.name);
-    assert!(rt;
-        holds(rt.alloc(), n, &history, row.most, &advice)?,
-        "{}",
-        row.name
-    );
+    assert_eq!(rt; advice.ends.as_slice(), row.ends);
+    assert_eq!(rt; advice.bounds.as_slice(), row.bounds);
+    assert_eq!(rt; Some(&advice.cost), row.bounds.last());
+    assert!(rt; holds(rt.alloc(), n, &history, row.most, &advice)?);
     Ok(())
 }
 

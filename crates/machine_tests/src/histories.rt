@@ -82,7 +82,6 @@ fn take(alloc: Global) -> Result<Call, AllocError> {
 /// A message from rank 0, and whether the receive may give it.
 #[derive(Clone, Copy)]
 struct Message<'a> {
-    name: &'a str,
     tag: u32,
     ints: &'a [i32],
     fit: Fit,
@@ -90,25 +89,21 @@ struct Message<'a> {
 
 static MESSAGES: [Message; 4] = [
     Message {
-        name: "as many ints as there is room",
         tag: 5,
         ints: &[7],
         fit: Fit::Fits,
     },
     Message {
-        name: "no ints",
         tag: 5,
         ints: &[],
         fit: Fit::Fits,
     },
     Message {
-        name: "an int too many",
         tag: 5,
         ints: &[7, 8],
         fit: Fit::Misfits,
     },
     Message {
-        name: "another tag",
         tag: 6,
         ints: &[7],
         fit: Fit::Misfits,
@@ -134,12 +129,7 @@ fn replies_have_the_shape_of_their_calls(rt: HostRuntime) {
     assert!(&rt; view.push((post(), Reply::Done)).is_ok());
     let take = take(rt.alloc()).expect(&rt, "a call");
     for message in &MESSAGES {
-        let reply = took(rt.alloc(), *message).expect(&rt, message.name);
-        assert_eq!(&rt;
-            shape(2, 1, &view, &take, &reply),
-            message.fit,
-            "{}",
-            message.name
-        );
+        let reply = took(rt.alloc(), *message).expect(&rt, "a reply");
+        assert!(&rt; shape(2, 1, &view, &take, &reply) == message.fit);
     }
 }

@@ -40,16 +40,14 @@ struct Want<'a> {
 /// What the ranks do by turns, and the races of this.
 #[derive(Clone, Copy)]
 struct Row<'a> {
-    name: &'a str,
     steps: [&'a [Step]; 3],
     turns: &'a [u8],
     receives: &'a [Want<'a>],
 }
 
 static ROWS: [Row; 2] = [
-    // The send is an other, as long as it doesn't come after the completion by a path of messages.
+    // A send after a completion is an other, as long as it doesn't come after the completion by a path of messages.
     Row {
-        name: "a send after a completion",
         steps: [
             &[Step::Send(2, 9)],
             &[Step::Send(2, 9)],
@@ -75,9 +73,8 @@ static ROWS: [Row; 2] = [
         ],
     },
 
-    // The answer comes after the completion.
+    // An answer to what was sent after a completion comes after it.
     Row {
-        name: "an answer to what was sent after a completion",
         steps: [
             &[Step::Post(NINE, 1), Step::Take(ALL, 0), Step::Send(2, 9)],
             &[Step::Send(2, 9)],
@@ -117,10 +114,9 @@ fn name_of(name: (u8, u32)) -> Name {
     }
 }
 
-/// The receive is as the row wants it.
+/// The receive is as wanted.
 fn check_receive(
     rt: &(impl Abort + AllocGlobal),
-    row: &Row,
     receive: &Receive,
     want: &Want,
 ) -> Result<(), Fail> {
@@ -128,12 +124,12 @@ fn check_receive(
         rank: receive.rank,
         start: receive.start,
     };
-    assert_eq!(rt; name, name_of(want.receive), "{}", row.name);
-    assert_eq!(rt; receive.took, name_of(want.took), "{}", row.name);
+    assert_eq!(rt; name, name_of(want.receive));
+    assert_eq!(rt; receive.took, name_of(want.took));
     let others = receive.others.as_slice();
-    assert_eq!(rt; others.len(), want.others.len(), "{}", row.name);
+    assert_eq!(rt; others.len(), want.others.len());
     for (other, wanted) in others.iter().zip(want.others.iter()) {
-        assert_eq!(rt; *other, name_of(*wanted), "{}", row.name);
+        assert_eq!(rt; *other, name_of(*wanted));
     }
     Ok(())
 }
@@ -144,15 +140,10 @@ fn check_row(rt: &(impl Abort + AllocGlobal), row: &Row) -> Result<(), Fail> {
     let plan = read_plan(rt.alloc(), b"0-2\n").expect(rt, "a plan");
     let recording = record(rt.alloc(), &script, &plan, row.turns)?;
     assert!(rt; are_of_ranks(3, recording.history.as_slice()));
-    let receives = races(rt.alloc(), 3, &recording.history).expect(rt, row.name);
-    assert_eq!(rt;
-        receives.as_slice().len(),
-        row.receives.len(),
-        "{}",
-        row.name
-    );
+    let receives = races(rt.alloc(), 3, &recording.history).expect(rt, "races");
+    assert_eq!(rt; receives.as_slice().len(), row.receives.len());
     for (receive, want) in receives.as_slice().iter().zip(row.receives.iter()) {
-        check_receive(rt, row, receive, want)?;
+        check_receive(rt, receive, want)?;
     }
     Ok(())
 }

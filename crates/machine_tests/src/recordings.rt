@@ -18,9 +18,8 @@ const TRAPPED: Halt = Halt::Trapped {
 const MISMATCHED: Halt = Halt::Mismatched { rank: 1 };
 
 static RUNS: [Row; 14] = [
-    // Rank 1's second turn makes no event.
+    // One message inside a group. Rank 1's second turn makes no event.
     Row {
-        name: "a message inside a group",
         steps: [
             &[Step::Send(1, 5)],
             &[Step::Post(Tag::Is(5), 1), Step::Take(ALL, 0)],
@@ -38,8 +37,9 @@ static RUNS: [Row; 14] = [
         ],
         ending: Ending::Finished,
     },
+
+    // The same message between two groups, without turns.
     Row {
-        name: "a message between two groups, without turns",
         steps: [
             &[Step::Send(1, 5)],
             &[Step::Post(Tag::Is(5), 1), Step::Take(ALL, 0)],
@@ -57,8 +57,9 @@ static RUNS: [Row; 14] = [
         ],
         ending: Ending::Finished,
     },
+
+    // Both receive before anything is sent.
     Row {
-        name: "both receive before anything is sent",
         steps: [
             &[Step::Post(Tag::Is(5), 1), Step::Take(ALL, 0)],
             &[Step::Post(Tag::Is(5), 1), Step::Take(ALL, 0)],
@@ -75,8 +76,9 @@ static RUNS: [Row; 14] = [
         ],
         ending: Ending::Halted(Halt::Stuck),
     },
+
+    // Tags are received against their order.
     Row {
-        name: "tags received against their order",
         steps: [
             &[Step::Send(1, 1), Step::Send(1, 2)],
             &[
@@ -102,8 +104,9 @@ static RUNS: [Row; 14] = [
         ],
         ending: Ending::Finished,
     },
+
+    // A message to oneself.
     Row {
-        name: "a message to oneself",
         steps: [
             &[
                 Step::Send(0, 5),
@@ -124,8 +127,9 @@ static RUNS: [Row; 14] = [
         ],
         ending: Ending::Finished,
     },
+
+    // A send to a rank that is not there.
     Row {
-        name: "a send to a rank that is not there",
         steps: [
             &[Step::Send(2, 5)],
             &[Step::Post(Tag::Is(5), 1), Step::Take(ALL, 0)],
@@ -137,8 +141,9 @@ static RUNS: [Row; 14] = [
         entries: &[Short::Stopped(TRAPPED), Short::Stopped(TRAPPED)],
         ending: Ending::Halted(TRAPPED),
     },
+
+    // A barrier inside a group, then a copy of the world.
     Row {
-        name: "a barrier inside a group, then a copy of the world",
         steps: [
             &[
                 Step::Enter(0, Kind::Barrier),
@@ -171,8 +176,9 @@ static RUNS: [Row; 14] = [
         ],
         ending: Ending::Finished,
     },
+
+    // A barrier across groups.
     Row {
-        name: "a barrier across groups",
         steps: [
             &[Step::Enter(0, Kind::Barrier), Step::Take(ALL, 0)],
             &[Step::Enter(0, Kind::Barrier), Step::Take(ALL, 0)],
@@ -191,8 +197,9 @@ static RUNS: [Row; 14] = [
         ],
         ending: Ending::Finished,
     },
+
+    // Two collectives that do not agree.
     Row {
-        name: "two collectives that do not agree",
         steps: [
             &[Step::Enter(0, Kind::Barrier), Step::Take(ALL, 0)],
             &[Step::Enter(0, Kind::Dup), Step::Take(ALL, 0)],
@@ -208,8 +215,9 @@ static RUNS: [Row; 14] = [
         ],
         ending: Ending::Halted(MISMATCHED),
     },
+
+    // Two wildcard receives of two senders: the later rank sends first.
     Row {
-        name: "two wildcard receives of two senders: the later rank sends first",
         steps: [
             &[
                 Step::Post(Tag::Is(9), 1),
@@ -236,8 +244,9 @@ static RUNS: [Row; 14] = [
         ],
         ending: Ending::Finished,
     },
+
+    // The same in the other order.
     Row {
-        name: "two wildcard receives of two senders in the other order",
         steps: [
             &[
                 Step::Post(Tag::Is(9), 1),
@@ -264,8 +273,9 @@ static RUNS: [Row; 14] = [
         ],
         ending: Ending::Finished,
     },
+
+    // Tests until the message is there.
     Row {
-        name: "tests until the message is there",
         steps: [
             &[
                 Step::Post(Tag::Is(5), 1),
@@ -290,8 +300,9 @@ static RUNS: [Row; 14] = [
         ],
         ending: Ending::Finished,
     },
+
+    // The second of two receives is complete.
     Row {
-        name: "the second of two receives is complete",
         steps: [
             &[
                 Step::Post(Tag::Is(1), 1),
@@ -314,8 +325,9 @@ static RUNS: [Row; 14] = [
         ],
         ending: Ending::Finished,
     },
+
+    // A probe waits for the message and leaves it.
     Row {
-        name: "a probe that waits for the message and leaves it",
         steps: [
             &[
                 Step::Peek(Tag::Is(5), true),

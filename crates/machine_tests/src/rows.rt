@@ -12,6 +12,7 @@ use srr_entry::log::Log;
 use srr_record::{Recording, finish_record, record_serial};
 use std::alloc::{AllocError, Global};
 use std::process::Abort;
+use std::rt::HostRuntime;
 use std::test::Fail;
 use wiz_base::bytes::Bytes;
 
@@ -157,7 +158,6 @@ fn are_printed(outputs: &[Bytes]) -> bool {
 /// What the ranks do by a plan and turns, the order of the events, the entries of each rank in its log, and how the run ends.
 #[derive(Clone, Copy)]
 pub struct Row<'a> {
-    pub name: &'a str,
     pub steps: [&'a [Step]; 3],
     pub plan: &'a [u8],
     pub turns: &'a [u8],
@@ -169,26 +169,26 @@ pub struct Row<'a> {
 /// The recording is as the row says.
 fn check(rt: &(impl Abort + AllocGlobal), recording: &Recording, row: &Row) -> Result<(), Fail> {
     let order = order_of(rt.alloc(), recording)?;
-    assert_eq!(rt; order.as_slice(), row.order, "{}", row.name);
-    check_entries(rt, recording.logs.as_slice(), row)?;
-    assert_eq!(rt; recording.ending, row.ending, "{}", row.name);
-    assert!(rt;
-        are_printed(recording.outputs.as_slice()),
-        "{}: the outputs",
-        row.name
-    );
+    assert_eq!(rt; order.as_slice(), row.order);
+    check_entries(rt, recording.logs.as_slice(), row.entries)?;
+    assert_eq!(rt; recording.ending, row.ending);
+    assert!(rt; are_printed(recording.outputs.as_slice()));
     Ok(())
 }
 
-fn check_entries(rt: &(impl Abort + AllocGlobal), logs: &[Log], row: &Row) -> Result<(), Fail> {
+fn check_entries(
+    rt: &(impl Abort + AllocGlobal),
+    logs: &[Log],
+    want: &[Short],
+) -> Result<(), Fail> {
     let entries = entries_in(rt.alloc(), logs)?;
-    assert_eq!(rt; entries.as_slice(), row.entries, "{}", row.name);
+    assert_eq!(rt; entries.as_slice(), want);
     Ok(())
 }
 
 pub fn check_row(rt: &(impl Abort + AllocGlobal), row: &Row) -> Result<(), Fail> {
     let script = script_of(rt.alloc(), row.steps)?;
-    let plan = read_plan(rt.alloc(), row.plan).expect(rt, row.name);
+    let plan = read_plan(rt.alloc(), row.plan).expect(rt, "a plan");
     check_recordings(rt, &script, &plan, row)
 }
 

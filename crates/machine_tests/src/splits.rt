@@ -16,8 +16,8 @@ const LOW: Short = Short::MadeOutside(2, 0, Some(1));
 const HIGH: Short = Short::MadeOutside(1, 2, None);
 
 static SPLITS: [Row; 4] = [
+    // Rank 1 gets no communicator of a split.
     Row {
-        name: "rank 1 gets no communicator of a split",
         steps: [
             &[Step::Split(1), Step::Take(ALL, 0)],
             &[Step::Split(UNDEFINED), Step::Take(ALL, 0)],
@@ -39,8 +39,9 @@ static SPLITS: [Row; 4] = [
         ],
         ending: Ending::Finished,
     },
+
+    // The same in three groups.
     Row {
-        name: "rank 1 gets no communicator of a split, in three groups",
         steps: [
             &[Step::Split(1), Step::Take(ALL, 0)],
             &[Step::Split(UNDEFINED), Step::Take(ALL, 0)],
@@ -62,8 +63,9 @@ static SPLITS: [Row; 4] = [
         ],
         ending: Ending::Finished,
     },
+
+    // Communicators are numbered by colours, and a barrier on the new one is inside each group.
     Row {
-        name: "communicators numbered by colours, and a barrier on the new one inside each group",
         steps: [
             &[
                 Step::Split(1),
@@ -106,8 +108,9 @@ static SPLITS: [Row; 4] = [
         ],
         ending: Ending::Finished,
     },
+
+    // A broadcast needs its root alone, a sum all.
     Row {
-        name: "a broadcast needs its root alone, a sum all",
         steps: [
             &[
                 Step::Cast(Some(5)),

@@ -11,9 +11,8 @@ const ALL: TakeMode = TakeMode::All;
 const TEST: TakeMode = TakeMode::TestAll;
 
 static SYNCHRONOUS: [Row; 4] = [
-    // No send is matched, and both are stuck.
+    // Both send synchronously before they receive: no send is matched, and both are stuck.
     Row {
-        name: "both send synchronously before they receive",
         steps: [
             &[
                 Step::SyncSend(1, 5),
@@ -41,9 +40,8 @@ static SYNCHRONOUS: [Row; 4] = [
         ending: Ending::Halted(Halt::Stuck),
     },
 
-    // Standard sends are buffered, and both finish.
+    // With standard sends, which are buffered, both finish.
     Row {
-        name: "both send before they receive",
         steps: [
             &[
                 Step::Send(1, 5),
@@ -77,9 +75,8 @@ static SYNCHRONOUS: [Row; 4] = [
         ending: Ending::Finished,
     },
 
-    // The send is complete once the receive has matched it.
+    // One message, by a synchronous send: it is complete once the receive has matched it.
     Row {
-        name: "a message by a synchronous send",
         steps: [
             &[Step::SyncSend(1, 5), Step::Take(ALL, 0)],
             &[Step::Post(Tag::Is(5), 1), Step::Take(ALL, 0)],
@@ -99,9 +96,8 @@ static SYNCHRONOUS: [Row; 4] = [
         ending: Ending::Finished,
     },
 
-    // The test before the receive is answered NotYet; the wait is answered once the receive has matched the send.
+    // A test before the receive is answered NotYet; a wait is answered once the receive has matched the send.
     Row {
-        name: "a test and a wait for a synchronous send",
         steps: [
             &[
                 Step::SyncSend(1, 5),

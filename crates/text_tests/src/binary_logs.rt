@@ -3,11 +3,10 @@ ghost use Rattle.std.specs.Prelude.{IfOk};
 ghost use Rattle.srr_text.specs.Bounds.{IsInBounds};
 
 use crate::logs::{FIRST, read};
-use bstr::BStr;
 use srr_entry::log::Log;
 use srr_log::fault::{LogFault, LogWhy};
-use srr_log2::read_either::read_either;
-use srr_log2::read_log2::read_log2;
+use srr_log2::read_either::{either_has_one_reading, read_either};
+use srr_log2::read_log2::{one_reading, read_log2};
 use srr_log2::write_log2::write_log2;
 use srr_text::write_log::write_log;
 use std::alloc::Global;
@@ -61,9 +60,9 @@ fn to_text(alloc: Global, bytes: &[u8]) -> Result<Bytes, Fail> {
 /// The same log in both formats.
 fn check_log(rt: &(impl Abort + AllocGlobal), text: &[u8], bytes: &[u8]) -> Result<(), Fail> {
     let written = to_bytes(rt.alloc(), text)?;
-    assert_eq!(rt; BStr::new(written.as_slice()), BStr::new(bytes));
+    assert_eq!(rt; written.as_slice(), bytes);
     let back = to_text(rt.alloc(), bytes)?;
-    assert_eq!(rt; BStr::new(back.as_slice()), BStr::new(text));
+    assert_eq!(rt; back.as_slice(), text);
     Ok(())
 }
 
@@ -129,14 +128,9 @@ fn check_record(rt: &(impl Abort + AllocGlobal), line: &str, record: &[u8]) -> R
     expected.extend(b"\0\0\0\0")?;
     let written = to_bytes(rt.alloc(), text.as_bytes())?;
     let before_digest = written.as_slice().len().saturating_sub(32);
-    let found = &written.as_slice()[..before_digest];
-    assert_eq!(rt; BStr::new(found), BStr::new(expected.as_slice()), "{line}");
+    assert_eq!(rt; &written.as_slice()[..before_digest], expected.as_slice());
     let back = to_text(rt.alloc(), written.as_slice())?;
-    assert_eq!(rt;
-        BStr::new(back.as_slice()),
-        BStr::new(text.as_bytes()),
-        "{line}"
-    );
+    assert_eq!(rt; back.as_slice(), text.as_bytes());
     Ok(())
 }
 
@@ -149,8 +143,10 @@ fn entries_have_their_records(rt: HostRuntime) -> Result<(), Fail> {
 }
 
 fn check_fault(rt: &(impl Abort + AllocGlobal), text: &[u8], at: u32, why: LogWhy) {
-    let found = read_bytes(rt.alloc(), text).err();
-    assert_eq!(rt; found, Some(LogFault { at, why }), "{:?}", BStr::new(text));
+    assert_eq!(rt;
+        read_bytes(rt.alloc(), text).err(),
+        Some(LogFault { at, why })
+    );
 }
 
 #[test]
@@ -159,6 +155,7 @@ fn the_first_log_is_read_to_its_end(rt: HostRuntime) {
     for at in 0..287 {
         check_fault(&rt, &FIRST_BYTES[..at as usize], at, LogWhy::Short);
     }
+    one_reading();
 }
 
 /// How many bytes of the first log are kept, what follows them, and the place and the reason of the fault.
@@ -253,7 +250,7 @@ fn the_first_bytes_choose_the_format(rt: HostRuntime) {
         (b"srr 22\n", 0, LogWhy::BadHead),
     ];
     for (text, at, why) in rows {
-        let found = size_in(rt.alloc(), text);
-        assert_eq!(&rt; found, Err(LogFault { at, why }), "{:?}", BStr::new(text));
+        assert_eq!(&rt; size_in(rt.alloc(), text), Err(LogFault { at, why }));
     }
+    either_has_one_reading();
 }

@@ -1,8 +1,7 @@
 //! The texts of checks and of the demo, worked out by hand.
 use crate::memory::pushed;
-use crate::traces::{add, replay};
-use bstr::BStr;
-use group_plan::read_plan;
+use crate::traces::{add, outputs, replay};
+use group_plan::{Plan, read_plan};
 use mpi_call::call::{Call, Halt};
 use mpi_call::reply::Reply;
 use replay_model::replayed::{Replayed, Replays, Stand, Stands};
@@ -11,7 +10,8 @@ use run_model::history::History;
 use std::alloc::Global;
 use std::rt::HostRuntime;
 use std::test::Fail;
-use wiz_trace::check::check_text;
+use wiz_base::Bytes;
+use wiz_trace::check::{check_tells_the_run, check_text};
 use wiz_trace::demo::{demo_program, demo_text};
 
 /// A group: its ranks, which of them makes how many calls in turn, and what each printed.
@@ -66,10 +66,9 @@ const APART: [Group; 2] = [
     (&[0, 2], &[(2, 1), (0, 2)], &[b"", b"two\n"]),
 ];
 
-/// The name, a plan, the replays of its groups, how the run ended, and the check text.
-static CHECKS: [(&str, &[u8], &[Group], Ending, &[u8]); 2] = [
+/// A plan, the replays of its groups, how the run ended, and the check text.
+static CHECKS: [(&[u8], &[Group], Ending, &[u8]); 2] = [
     (
-        "seven senders in three groups",
         b"0-2\n3-5\n6 7 # rest\n",
         &SENDERS,
         Ending::Finished,
@@ -79,7 +78,6 @@ rank 4 group 1 calls 2 output 0 same\nrank 5 group 1 calls 2 output 0 same\n\
 rank 6 group 2 calls 2 output 0 same\nrank 7 group 2 calls 2 output 0 same\nfinished\n",
     ),
     (
-        "groups whose ranks do not stand in order, and a run that is stuck",
         b"1\n0 2\n",
         &APART,
         Ending::Halted(Halt::Stuck),
@@ -90,11 +88,12 @@ rank 2 group 1 calls 1 output 4 same\nhalted stuck\n",
 
 #[test]
 fn checks_are_told(rt: HostRuntime) -> Result<(), Fail> {
-    for (name, lines, groups, ending, expected) in &CHECKS {
+    for (lines, groups, ending, expected) in &CHECKS {
         let plan = read_plan(rt.alloc(), lines)?;
         let text = check_text(rt.alloc(), &plan, &replays(rt.alloc(), groups)?, ending)?;
-        assert_eq!(&rt; BStr::new(text.as_slice()), BStr::new(expected), "{name}");
+        assert!(&rt; text.as_slice() == *expected);
     }
+    check_tells_the_run();
     Ok(())
 }
 
@@ -159,7 +158,7 @@ fn the_demo_is_told(rt: HostRuntime) -> Result<(), Fail> {
     let run = calls(alloc, &[(0, 423)])?;
     let replays = replays(alloc, &DEMO)?;
     let text = demo_text(alloc, 1, 8, &run, &plan, &replays, &Ending::Finished)?;
-    assert_eq!(&rt; BStr::new(text.as_slice()), BStr::new(DEMO_TEXT));
+    assert!(&rt; text.as_slice() == DEMO_TEXT);
     Ok(())
 }
 
@@ -183,12 +182,8 @@ static PROGRAMS: [(u32, u32, usize, &[u8]); 2] = [
 fn the_demo_has_its_program(rt: HostRuntime) -> Result<(), Fail> {
     for (seed, rounds, length, begin) in &PROGRAMS {
         let text = demo_program(rt.alloc(), *seed, *rounds)?;
-        assert_eq!(&rt; text.len(), *length, "{seed} {rounds}");
-        let text = BStr::new(text.as_slice());
-        assert!(&rt;
-            text.as_bytes().starts_with(begin),
-            "{seed} {rounds}: {text:?}"
-        );
+        assert!(&rt; text.len() == *length);
+        assert!(&rt; text.as_slice().starts_with(begin));
     }
     Ok(())
 }

@@ -3,13 +3,12 @@ ghost use Rattle.std.specs.Prelude.{IfOk};
 ghost use Rattle.srr_text.specs.Bounds.{IsInBounds};
 
 use crate::memory::pushed;
-use bstr::BStr;
 use mpi_call::call::{Fault, Halt};
 use mpi_call::lists::{Ints, Ranks};
 use srr_entry::entry::{Entry, Mark, Marked, MarkedItems};
 use srr_entry::log::Log;
 use srr_log::fault::{LogFault, LogWhy};
-use srr_log::read_log::read_log;
+use srr_log::read_log::{one_reading, read_log};
 use srr_text::entry_text::entry_text;
 use srr_text::write_log::write_log;
 use std::alloc::Global;
@@ -22,7 +21,7 @@ use wiz_base::Bytes;
 fn check_entry(rt: &(impl Abort + AllocGlobal), entry: Entry, expected: &str) -> Result<(), Fail> {
     let mut out = Bytes::new(rt.alloc());
     entry_text(rt.alloc(), &mut out, &entry)?;
-    assert_eq!(rt; BStr::new(out.as_slice()), BStr::new(expected.as_bytes()));
+    assert_eq!(rt; out.as_slice(), expected.as_bytes());
     Ok(())
 }
 
@@ -150,8 +149,7 @@ pub fn read(alloc: Global, text: &[u8]) -> Result<Log, LogFault>
 }
 
 fn check_fault(rt: &(impl Abort + AllocGlobal), text: &[u8], at: u32, why: LogWhy) {
-    let found = read(rt.alloc(), text).err();
-    assert_eq!(rt; found, Some(LogFault { at, why }), "{:?}", BStr::new(text));
+    assert_eq!(rt; read(rt.alloc(), text).err(), Some(LogFault { at, why }));
 }
 
 #[test]
@@ -160,6 +158,7 @@ fn the_first_log_is_read_to_its_end(rt: HostRuntime) {
     for at in 0..284 {
         check_fault(&rt, &FIRST[..at as usize], at, LogWhy::Short);
     }
+    one_reading();
 }
 
 /// The kept bytes of a log with others behind them have this fault.
@@ -242,7 +241,7 @@ fn written_back(alloc: Global, text: &[u8]) -> Result<Bytes, Fail> {
 
 fn check_written(rt: &(impl Abort + AllocGlobal), text: &[u8]) -> Result<(), Fail> {
     let written = written_back(rt.alloc(), text)?;
-    assert_eq!(rt; BStr::new(written.as_slice()), BStr::new(text));
+    assert_eq!(rt; written.as_slice(), text);
     Ok(())
 }
 
@@ -256,7 +255,7 @@ fn check_halt(rt: &(impl Abort + AllocGlobal), halt: &str) -> Result<(), Fail> {
     let text = format!(in rt.alloc();
         "srr 1\nranks 3\ngroup 0\nprogram 0\n\nrank 0 1\n{halt}\nend\n"
     )?;
-    assert!(rt; read(rt.alloc(), text.as_bytes()).is_ok(), "{halt}");
+    assert!(rt; read(rt.alloc(), text.as_bytes()).is_ok());
     Ok(())
 }
 

@@ -1,6 +1,5 @@
 //! Plans and orders worked out by hand.
-use bstr::BStr;
-use group_plan::{OrderFault, Plan, PlanFault, read_order, read_plan};
+use group_plan::{OrderFault, Plan, PlanFault, one_reading, read_order, read_plan};
 use std::alloc::Global;
 use std::process::Abort;
 use std::rt::HostRuntime;
@@ -58,7 +57,7 @@ fn plans_are_read(rt: HostRuntime) {
             Ok(ranks) => Ok(ranks.as_slice()),
             Err(fault) => Err(*fault),
         };
-        assert_eq!(rt; found, *expected, "{:?}", BStr::new(text));
+        assert_eq!(rt; found, *expected);
     }
 }
 
@@ -99,6 +98,7 @@ fn orders_are_read(rt: HostRuntime) {
             Ok(ranks) => Ok(ranks.as_slice()),
             Err(fault) => Err(*fault),
         };
-        assert_eq!(rt; found, *expected, "{:?}", BStr::new(text));
+        assert_eq!(rt; found, *expected);
     }
+    one_reading();
 }

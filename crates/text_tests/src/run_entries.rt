@@ -5,7 +5,6 @@ ghost use Rattle.mpi_call.specs.declared.call.TakeMode.TheVariants.{All};
 ghost use Rattle.mpi_call.specs.declared.reply.Reply.TheVariants.{Took};
 ghost use Rattle.srr_entry.specs.Seen.{IsRanksView};
 
-use bstr::BStr;
 use mpi_call::call::{Call, Source, Tag, TakeMode};
 use mpi_call::lists::{Ints, Ranks, Starts};
 use mpi_call::reply::{Got, Item, Items, Reply};
@@ -94,11 +93,7 @@ fn check_entry(
     let entry = entry_of(alloc, 2, &group, 1, view, at)?;
     let mut line = Bytes::new(alloc);
     entry_text(alloc, &mut line, &entry)?;
-    assert_eq!(rt;
-        BStr::new(line.as_slice()),
-        BStr::new(expected.as_bytes()),
-        "{at}"
-    );
+    assert_eq!(rt; line.as_slice(), expected.as_bytes());
     Ok(())
 }
 

@@ -1,6 +1,5 @@
 //! The texts of runs and replays worked out by hand.
 use crate::memory::pushed;
-use bstr::BStr;
 use group_plan::read_order;
 use mpi_call::call::{Call, Fault, Halt, Source, Tag, TakeMode};
 use mpi_call::lists::{Ints, Ranks, Starts};
@@ -86,7 +85,7 @@ fn first_run(alloc: Global) -> Result<History, Fail> {
 }
 
 /// What each rank printed.
-fn outputs(alloc: Global, printed: &[&[u8]]) -> Result<Outputs, Fail> {
+pub fn outputs(alloc: Global, printed: &[&[u8]]) -> Result<Outputs, Fail> {
     let mut outputs = Outputs::new(alloc);
     for bytes in printed {
         pushed(outputs.push(Bytes::from_slice(alloc, bytes)?))?;
@@ -101,29 +100,26 @@ fn first_order(alloc: Global) -> Result<Bytes, Fail> {
 #[test]
 fn orders_are_written_and_read_back(rt: HostRuntime) -> Result<(), Fail> {
     let text = first_order(rt.alloc())?;
-    assert_eq!(&rt; BStr::new(text.as_slice()), BStr::new(b"0\n1\n0\n1\n1\n"));
+    assert!(&rt; text.as_slice() == b"0\n1\n0\n1\n1\n".as_slice());
     let ranks = read_order(rt.alloc(), text.as_slice(), 2)?;
-    assert_eq!(&rt; ranks.as_slice(), [0, 1, 0, 1, 1].as_slice());
+    assert!(&rt; ranks.as_slice() == [0, 1, 0, 1, 1].as_slice());
     Ok(())
 }
 
-/// The name, what each rank printed, how the run ended, and the text of both.
-static RECORDS: [(&str, &[&[u8]], Ending, &[u8]); 6] = [
+/// What each rank printed, how the run ended, and the text of both.
+static RECORDS: [(&[&[u8]], Ending, &[u8]); 6] = [
     (
-        "finished",
         &[b"", b"7\n"],
         Ending::Finished,
         b"rank 0 output 0\n\nrank 1 output 2\n7\n\nfinished\n",
     ),
     (
-        "truncated",
         &[b"", b""],
         Ending::Halted(Halt::Truncated { rank: 1, start: 0 }),
         b"rank 0 output 0\n\nrank 1 output 0\n\nhalted truncated rank 1 start 0\n",
     ),
-    ("stuck", &[], Ending::Halted(Halt::Stuck), b"halted stuck\n"),
+    (&[], Ending::Halted(Halt::Stuck), b"halted stuck\n"),
     (
-        "trapped",
         &[],
         Ending::Halted(Halt::Trapped {
             rank: 0,
@@ -132,13 +128,11 @@ static RECORDS: [(&str, &[&[u8]], Ending, &[u8]); 6] = [
         b"halted trapped rank 0 divide by zero\n",
     ),
     (
-        "aborted",
         &[],
         Ending::Halted(Halt::Aborted { rank: 0, code: 3 }),
         b"halted aborted rank 0 code 3\n",
     ),
     (
-        "mismatched",
         &[],
         Ending::Halted(Halt::Mismatched { rank: 1 }),
         b"halted mismatched rank 1\n",
@@ -147,9 +141,9 @@ static RECORDS: [(&str, &[&[u8]], Ending, &[u8]); 6] = [
 
 #[test]
 fn records_are_told(rt: HostRuntime) -> Result<(), Fail> {
-    for (name, printed, ending, expected) in &RECORDS {
+    for (printed, ending, expected) in &RECORDS {
         let text = record_text(rt.alloc(), &outputs(rt.alloc(), printed)?, ending)?;
-        assert_eq!(&rt; BStr::new(text.as_slice()), BStr::new(expected), "{name}");
+        assert!(&rt; text.as_slice() == *expected);
     }
     Ok(())
 }
@@ -175,8 +169,7 @@ fn check_trace(
     replayed: &Replayed,
     expected: &[u8],
 ) -> Result<(), Fail> {
-    let text = trace_text(rt.alloc(), replayed)?;
-    assert_eq!(rt; BStr::new(text.as_slice()), BStr::new(expected));
+    assert!(rt; trace_text(rt.alloc(), replayed)?.as_slice() == expected);
     Ok(())
 }
 
@@ -275,8 +268,9 @@ fn replays_are_traced_in_order(rt: HostRuntime) -> Result<(), Fail> {
     assert!(&rt; traces_text(alloc, &replays)?.is_empty());
     pushed(replays.push(standing(alloc, Stand::LogEnded)?))?;
     pushed(replays.push(standing(alloc, Stand::Ended)?))?;
-    let text = traces_text(alloc, &replays)?;
-    let expected = b"rank 1\noutput 0\n\nlog ended\nrank 1\noutput 0\n\nended\n";
-    assert_eq!(&rt; BStr::new(text.as_slice()), BStr::new(expected));
+    assert!(&rt;
+        traces_text(alloc, &replays)?.as_slice()
+            == b"rank 1\noutput 0\n\nlog ended\nrank 1\noutput 0\n\nended\n".as_slice()
+    );
     Ok(())
 }

@@ -1,12 +1,10 @@
 //! Logs replayed on threads, as on one.
 use crate::starting::{program_of, read, replay};
-use bstr::BStr;
 use rank_threads::OpenGate;
 use srr_replay::serial::replay_serial;
 use std::alloc::Global;
 use std::sync::Wait;
 use std::thread::Threads;
-use wiz_base::Bytes;
 use wiz_cli::ranks::start_group;
 use wiz_trace::trace::trace_text;
 
@@ -22,36 +20,31 @@ const DIVERGED: &[u8] =
 const CYCLE: &[u8] =
     b"srr 1\nranks 2\ngroup 0 1\nprogram 292\nint main(void){int r,x=0;MPI_Comm_rank(MPI_COMM_WORLD,&r);if(r==0){MPI_Recv(&x,1,MPI_INT,1,5,MPI_COMM_WORLD,MPI_STATUS_IGNORE);MPI_Send(&x,1,MPI_INT,1,5,MPI_COMM_WORLD);}if(r==1){MPI_Recv(&x,1,MPI_INT,0,5,MPI_COMM_WORLD,MPI_STATUS_IGNORE);MPI_Send(&x,1,MPI_INT,0,5,MPI_COMM_WORLD);}return 0;}\nrank 0 4\np\nt 0=1.1\ns\nz\nrank 1 4\np\nt 0=0.1\ns\nz\nend\n";
 
-/// The name, a log, a breakpoint, and the trace.
-type Row<'a> = (&'a str, &'a [u8], Option<(u8, u32)>, &'a [u8]);
+/// A log, a breakpoint, and the trace.
+type Row<'a> = (&'a [u8], Option<(u8, u32)>, &'a [u8]);
 
 static ROWS: [Row<'static>; 5] = [
     (
-        "the first log",
         FIRST,
         None,
         b"rank 0\n0 send comm=0 to=1 tag=5 data=7 -> done\n1 end -> done\noutput 0\n\nended\nrank 1\n0 post comm=0 from=0 tag=5 room=1 -> done\n1 take all 0 -> took 0=0.0 tag=5 data=7\n2 end -> done\noutput 2\n7\n\nended\n",
     ),
     (
-        "a breakpoint before the first call",
         FIRST,
         Some((0, 0)),
         b"rank 0\noutput 0\n\nbreak\nvar 0 r 0\nvar 0 x 7\nrank 1\n0 post comm=0 from=0 tag=5 room=1 -> done\noutput 0\n\nstarved 0.0\n",
     ),
     (
-        "a breakpoint before the second call",
         FIRST,
         Some((1, 1)),
         b"rank 0\n0 send comm=0 to=1 tag=5 data=7 -> done\n1 end -> done\noutput 0\n\nended\nrank 1\n0 post comm=0 from=0 tag=5 room=1 -> done\noutput 0\n\nbreak\nvar 0 r 1\nvar 0 x 0\n",
     ),
     (
-        "a send to another rank",
         DIVERGED,
         None,
         b"rank 0\n0 send comm=0 to=0 tag=5 data=7 -> done\n1 end -> done\noutput 0\n\nended\nrank 1\n0 post comm=0 from=0 tag=5 room=1 -> done\noutput 0\n\ndiverged call 1 entry t 0=0.0 made take all 0 found 0.0 send comm=0 to=0 tag=5 data=7\n",
     ),
     (
-        "a cycle",
         CYCLE,
         None,
         b"rank 0\n0 post comm=0 from=1 tag=5 room=1 -> done\noutput 0\n\nstarved 1.1\nrank 1\n0 post comm=0 from=0 tag=5 room=1 -> done\noutput 0\n\nstarved 0.1\n",
@@ -60,40 +53,51 @@ static ROWS: [Row<'static>; 5] = [
 
 #[test]
 fn logs_have_their_traces(rt: HostRuntime) {
-    for (name, log, stop, wanted) in &ROWS {
-        let trace = trace_on_threads(&rt, log, *stop).expect(&rt, name);
-        assert_eq!(&rt;
-            BStr::new(trace.as_slice()),
-            BStr::new(wanted),
-            "{name}, on threads"
-        );
-        let trace = trace_on_one(rt.alloc(), log, *stop).expect(&rt, name);
-        assert_eq!(&rt;
-            BStr::new(trace.as_slice()),
-            BStr::new(wanted),
-            "{name}, on one thread"
-        );
+    for (log, stop, trace) in &ROWS {
+        assert!(&rt; traces(&rt, log, *stop, trace));
+        assert!(&rt; traces_on_one(rt.alloc(), log, *stop, trace));
     }
 }
 
-/// The trace of a replay on threads.
-fn trace_on_threads<W: Threads + Wait + Sync + AllocGlobal>(
+/// Whether a replay on threads has this trace.
+fn traces<W: Threads + Wait + Sync + AllocGlobal>(
     rt: &W,
     log: &[u8],
     stop: Option<(u8, u32)>,
-) -> Option<Bytes> {
+    trace: &[u8],
+) -> bool {
     let alloc = rt.alloc();
-    let log = read(alloc, log)?;
-    let program = program_of(alloc, log.program.as_slice())?;
-    let replayed = replay(rt, &program, &log, stop, &OpenGate).ok()?;
-    trace_text(alloc, &replayed).ok()
+    let Some(log) = read(alloc, log) else {
+        return false;
+    };
+    let Some(program) = program_of(alloc, log.program.as_slice()) else {
+        return false;
+    };
+    let Ok(replayed) = replay(rt, &program, &log, stop, &OpenGate) else {
+        return false;
+    };
+    match trace_text(alloc, &replayed) {
+        Ok(text) => text.as_slice() == trace,
+        Err(_) => false,
+    }
 }
 
-/// The trace of a replay on one thread.
-fn trace_on_one(alloc: Global, log: &[u8], stop: Option<(u8, u32)>) -> Option<Bytes> {
-    let log = read(alloc, log)?;
-    let program = program_of(alloc, log.program.as_slice())?;
-    let runs = start_group(alloc, &program, &log).ok()?;
-    let replayed = replay_serial(alloc, &program, &log, runs, stop).ok()?;
-    trace_text(alloc, &replayed).ok()
+/// Whether a replay on one thread has this trace.
+fn traces_on_one(alloc: Global, log: &[u8], stop: Option<(u8, u32)>, trace: &[u8]) -> bool {
+    let Some(log) = read(alloc, log) else {
+        return false;
+    };
+    let Some(program) = program_of(alloc, log.program.as_slice()) else {
+        return false;
+    };
+    let Ok(runs) = start_group(alloc, &program, &log) else {
+        return false;
+    };
+    let Ok(replayed) = replay_serial(alloc, &program, &log, runs, stop) else {
+        return false;
+    };
+    match trace_text(alloc, &replayed) {
+        Ok(text) => text.as_slice() == trace,
+        Err(_) => false,
+    }
 }
