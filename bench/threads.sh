@@ -57,6 +57,13 @@ for ranks in 4 16; do
   row sum "allreduce, $ranks ranks"
 done
 
+# Where all threads share one processor, no message crosses from one to another.
+if command -v taskset >/dev/null; then
+  processors=(taskset -c 0)
+  row pong "ping-pong, one processor"
+  row halo "halo exchange, one processor"
+fi
+
 # Each rank computes for most of its time: ten times half a million steps, and a message round the ring after each.
 program work 4 "for(i=0;i<10;i++){for(j=0;j<240000;j++)y=(y*5+j)%1000;x=y;MPI_Send(&x,1,MPI_INT,(r+1)%n,1,MPI_COMM_WORLD);MPI_Recv(&y,1,MPI_INT,(r+n-1)%n,1,MPI_COMM_WORLD,&s);}"
 for count in 1 2 4; do
