@@ -17,6 +17,7 @@ what it has already.
 """
 import argparse
 import collections
+import importlib
 import json
 import multiprocessing
 import os
@@ -28,6 +29,7 @@ import tempfile
 
 TOP = os.path.dirname(os.path.dirname(os.path.abspath(__file__)))
 sys.path.insert(0, os.path.join(TOP, "adapt"))
+command = importlib.import_module("passes.command")
 HEADERS = os.path.join(TOP, "bench", "real_programs")
 PACKAGES = {"mpich": "mpich-", "openmpi": "openmpi-", "simgrid": "simgrid-"}
 LINE = "deb-src http://deb.debian.org/debian bookworm main\n"
@@ -162,8 +164,6 @@ def programs(options, labels=None):
 
 def adapt(path, ranks, more):
     """The adapted text or None, the changes and the refusals."""
-    from passes import command
-
     words = [path, "--ranks", str(ranks), "-I", HEADERS] + more
     options = command.read_arguments(words)
     text, changes, refusals = command.limited(options, SECONDS)
@@ -204,7 +204,7 @@ def end_of(wiz, text, ranks):
     """How a recording ends, and whether it finishes with races."""
     printed = record(wiz, text, ranks, "record")
     end, raced = halt_of(printed), False
-    if end == "finished":
+    if end == "finished" and "MPI_ANY_SOURCE" in text:
         races = record(wiz, text, ranks, "races")
         raced = bool(re.search(r"raced [1-9]", races))
     accepted = re.search(r"(?m)^(finished|halted )", printed)

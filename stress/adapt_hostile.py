@@ -1,7 +1,7 @@
 #!/usr/bin/python3
 """Mutated programs: adapt ends each with a status and a message.
 
-adapt_hostile.py [COUNT (10000)] [SEED (1)] [PROGRAM.c ..]
+adapt_hostile.py [--jobs N] [COUNT (10000)] [SEED (1)] [PROGRAM.c ..]
 
 Mutates programs (those of adapt/tests, and those that are given): bytes,
 lines, words and braces are changed, dropped, doubled or taken from another
@@ -9,11 +9,13 @@ program; some are only bytes. Each run of adapt has to end within 20 seconds
 of the processor and 1 GB, with status 0 and a program, or with status 1, a
 message and nothing written, and never with a traceback. The mutations are
 drawn from the seed; a failing input is kept and named. Runs are made two at
-a time, each by a process that has loaded the tool already. The last lines
-say how long the longest runs took, also by the clock, which counts what
-else the machine does.
+a time, or N, each by a process that has loaded the tool already. The last
+lines say how long the longest runs took, also by the clock, which counts
+what else the machine does.
 """
+import argparse
 import heapq
+import importlib
 import multiprocessing
 import os
 import random
@@ -25,10 +27,10 @@ import time
 
 TOP = os.path.dirname(os.path.dirname(os.path.abspath(__file__)))
 sys.path.insert(0, os.path.join(TOP, "adapt"))
+command = importlib.import_module("passes.command")
 CASES = os.path.join(TOP, "adapt", "tests", "cases")
 SECONDS = 20
 MEMORY = 1 << 30
-JOBS = 2
 SLOWEST = 5
 WORDS = (
     "int char long double unsigned static const struct { } ( ) [ ] ; , * & "
@@ -167,8 +169,6 @@ def run_child(folder, path, arguments):
 
 def become_adapt(words, out, told):
     """Does what adapt.py does with these words, and ends."""
-    from passes import command
-
     status = 70
     try:
         for path, number in ((out, 1), (told, 2)):
@@ -192,20 +192,23 @@ def jobs_of(count, seed, programs):
         yield number, mutated(draw, programs), arguments
 
 
-def main(words):
+def main():
     """Runs all mutations; the status says whether each ended well."""
-    count = int(words[0]) if words else 10000
-    seed = int(words[1]) if len(words) > 1 else 1
+    parser = argparse.ArgumentParser(description=__doc__)
+    parser.add_argument("--jobs", type=int, default=2)
+    parser.add_argument("count", type=int, nargs="?", default=10000)
+    parser.add_argument("seed", type=int, nargs="?", default=1)
+    parser.add_argument("programs", nargs="*")
+    options = parser.parse_args()
+    count, seed = options.count, options.seed
     paths = [
         os.path.join(CASES, name, "input.c")
         for name in sorted(os.listdir(CASES))
-    ] + words[2:]
-    programs = [read(path) for path in paths]
-    from passes import command
-
+    ]
+    programs = [read(path) for path in paths + options.programs]
     assert command.MEMORY == MEMORY
     faults, late, all_times = 0, 0, []
-    with multiprocessing.Pool(JOBS) as pool:
+    with multiprocessing.Pool(options.jobs) as pool:
         todo = jobs_of(count, seed, programs)
         for ended in pool.imap_unordered(attempt, todo, 20):
             number, content, fault, times = ended
@@ -227,4 +230,4 @@ def main(words):
 
 
 if __name__ == "__main__":
-    sys.exit(main(sys.argv[1:]))
+    sys.exit(main())

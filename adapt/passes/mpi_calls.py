@@ -6,6 +6,7 @@ from .mpi_table import (
     DROPPED,
     ERROR_HANDLERS,
     NONBLOCKING,
+    NOT_GIVEN,
     PERSISTENT,
     SAME,
     SIGNATURES,
@@ -84,6 +85,8 @@ class MpiCalls:
             rule(node, given)
         elif name in DROPPED:
             self.report.say(node, f"{name} dropped")
+        elif name in NOT_GIVEN:
+            self.report.note(node, f"{name} dropped: what it gives is not set")
         elif name in ERROR_HANDLERS:
             self.report.note(
                 node, f"{name} dropped: every error stops the run"

@@ -4,11 +4,14 @@ import re
 from pycparser import c_ast, c_parser
 from pycparser.plyparser import ParseError
 
+# Made once, before a translation begins: its tables take time to read.
+PARSER = c_parser.CParser()
+
 
 def parse(text, report):
     """The tree of a preprocessed text."""
     try:
-        return c_parser.CParser().parse(text, report.path)
+        return PARSER.parse(text, report.path)
     except ParseError as error:
         found = re.match(r"(.*?):(\d+):(?:\d+:)? ?(.*)", str(error))
         if found:
