@@ -2,7 +2,7 @@
 """Adapts the MPI programs that others wrote, and counts what comes of it.
 
 real_programs.py [--folder F] [--wiz PATH] [--jobs N] [--every N] [--first N]
-                 [--sources S,S]
+                 [--sources S,S] [--known]
 
 Fetches the source packages of MPICH, Open MPI and SimGrid by apt-get into a
 folder of its own, and makes the programs of the MPI Bugs Initiative there
@@ -13,7 +13,9 @@ listed; programs of the MPI Bugs Initiative also with --synchronous. Prints
 for each source how many are adapted and accepted, the reasons of the rest
 and the notes by count, and tables of the MPI Bugs Initiative by label. What
 each program came to is in rows.json of the folder; a run takes from there
-what it has already.
+what it has already. It goes through the rest of a source in an order by
+chance, so that what a run that was stopped has done is a sample; --known
+tells only that.
 """
 import argparse
 import collections
@@ -21,6 +23,7 @@ import importlib
 import json
 import multiprocessing
 import os
+import random
 import re
 import shutil
 import subprocess
@@ -360,18 +363,21 @@ def main():
     """Fetches, measures and prints."""
     parser = reader(__doc__)
     parser.add_argument("--most", type=int, default=25)
+    parser.add_argument("--known", action="store_true")
     options = parser.parse_args()
     if not shutil.which(options.wiz):
         sys.exit(f"{options.wiz} is not built")
     rows = kept_rows(options)
     jobs = [(*it, options.wiz) for it in programs(options)]
-    todo = [job for job in jobs if job[1] not in rows]
+    todo = [it for it in jobs if it[1] not in rows and not options.known]
+    random.Random(1).shuffle(todo)
+    todo.sort(key=lambda it: options.sources.index(it[0]))
     with multiprocessing.Pool(options.jobs) as pool:
         for number, row in enumerate(pool.imap_unordered(measure, todo)):
             rows[row["path"]] = row
-            if number % 50 == 49 or number + 1 == len(todo):
+            if number % 20 == 19 or number + 1 == len(todo):
                 keep_rows(options, rows)
-    tell([rows[job[1]] for job in jobs], options.most)
+    tell([rows[it[1]] for it in jobs if it[1] in rows], options.most)
 
 
 if __name__ == "__main__":
