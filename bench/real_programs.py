@@ -42,7 +42,7 @@ GENERATORS = "teshsuite/smpi/MBI"
 TEST_LISTS = ("testlist", "testlist.in", "testlist.cvar", "testlist.dtp")
 SECONDS = 600
 AT_ONCE = "is done at once"
-SENDS = re.compile(r"\bMPI_I?send\(")
+SENDS = re.compile(r"\bMPI_(Send|Isend)\(")
 KEPT = "rows.json"
 
 
