@@ -1,32 +1,38 @@
 #!/usr/bin/python3
 """Adapts the MPI programs that others wrote, and counts what comes of it.
 
-real_programs.py [--folder F] [--wiz PATH] [--jobs N] [--every N]
-                 [--sources S,S]
+real_programs.py [--folder F] [--wiz PATH] [--jobs N] [--every N] [--first N]
+                 [--sources S,S] [--known]
 
 Fetches the source packages of MPICH, Open MPI and SimGrid by apt-get into a
 folder of its own, and makes the programs of the MPI Bugs Initiative there
-with the generators that SimGrid's package has. Each program is adapted, with
---blocking only where it is refused without; what is adapted is recorded, and
-if it finishes its races are listed. Prints for each source how many are
-adapted and accepted, the reasons of the rest and the notes by count, and a
-table of the MPI Bugs Initiative by label. What each program came to is in
-rows.json of the folder; a run takes from there what it has already.
+with the generators that SimGrid's package has. Each program is adapted with
+--blocking; what has no note of a call that is done at once is the same
+without. What is adapted is recorded, and if it finishes its races are
+listed; programs of the MPI Bugs Initiative also with --synchronous. Prints
+for each source how many are adapted and accepted, the reasons of the rest
+and the notes by count, and tables of the MPI Bugs Initiative by label. What
+each program came to is in rows.json of the folder; a run takes from there
+what it has already. It goes through the rest of a source in an order by
+chance, so that what a run that was stopped has done is a sample; --known
+tells only that.
 """
 import argparse
 import collections
+import importlib
 import json
 import multiprocessing
 import os
+import random
 import re
 import shutil
 import subprocess
 import sys
 import tempfile
-import threading
 
 TOP = os.path.dirname(os.path.dirname(os.path.abspath(__file__)))
 sys.path.insert(0, os.path.join(TOP, "adapt"))
+command = importlib.import_module("passes.command")
 HEADERS = os.path.join(TOP, "bench", "real_programs")
 PACKAGES = {"mpich": "mpich-", "openmpi": "openmpi-", "simgrid": "simgrid-"}
 LINE = "deb-src http://deb.debian.org/debian bookworm main\n"
@@ -34,9 +40,10 @@ LINE = "deb-src http://deb.debian.org/debian bookworm main\n"
 COPIES = {"openmpi": "/ompi/mca/io", "simgrid": "/mpich3-test"}
 GENERATORS = "teshsuite/smpi/MBI"
 TEST_LISTS = ("testlist", "testlist.in", "testlist.cvar", "testlist.dtp")
-SECONDS = 60
-STACK = 256 << 20
-DEPTH = 12000
+SECONDS = 600
+AT_ONCE = "is done at once"
+SENDS = re.compile(r"\bMPI_(Send|Isend)\(")
+KEPT = "rows.json"
 
 
 def fetch(folder):
@@ -127,49 +134,45 @@ def programs_of_mbi(folder):
 
 def programs_of_package(source, folder):
     """(path, ranks, "") of each file with a main and a call of MPI."""
-    listed, found = {}, []
+    listed = {}
     for at, _, names in os.walk(folder):
-        if COPIES.get(source, "\0") in at:
-            continue
-        for name in names:
-            path = os.path.join(at, name)
-            if name in TEST_LISTS:
-                for line in read(path).split("\n"):
-                    words = line.split()
-                    if len(words) > 1 and words[1].isdigit():
-                        program = os.path.join(at, words[0] + ".c")
-                        listed.setdefault(program, int(words[1]))
-            if name.endswith(".c"):
-                text = read(path)
-                if re.search(r"\bmain *\(", text) and re.search(
-                    r"MPI_|MTest_", text
-                ):
-                    found.append(path)
-    for path in sorted(found):
-        yield path, min(64, listed.get(path, 2)), ""
+        for name in set(names) & set(TEST_LISTS):
+            for line in read(os.path.join(at, name)).split("\n"):
+                words = line.split()
+                if len(words) > 1 and words[1].isdigit():
+                    program = os.path.join(at, words[0] + ".c")
+                    listed.setdefault(program, int(words[1]))
+    words = ["grep", "-rlE", "--include=*.c", r"\bmain *\(", folder]
+    found = subprocess.run(words, capture_output=True, text=True).stdout
+    for path in sorted(found.split("\n")[:-1]):
+        copied = COPIES.get(source, "\0") in os.path.dirname(path)
+        if not copied and re.search(r"MPI_|MTest_", read(path)):
+            yield path, min(64, listed.get(path, 2)), ""
+
+
+def programs(options, labels=None):
+    """(source, path, ranks, label) of what a command asks for."""
+    packages = fetch(options.folder)
+    for source in options.sources.split(","):
+        if source == "mbi":
+            made = generate(packages["simgrid"], options.folder)
+            found = programs_of_mbi(made)
+        else:
+            found = programs_of_package(source, packages[source])
+        found = [it for it in found if labels is None or it[2] in labels]
+        chosen = slice(options.first, None, options.every)
+        for path, ranks, label in found[chosen]:
+            yield source, path, ranks, label
 
 
 def adapt(path, ranks, more):
     """The adapted text or None, the changes and the refusals."""
-    from passes import command
-
     words = [path, "--ranks", str(ranks), "-I", HEADERS] + more
     options = command.read_arguments(words)
-    answer = {"text": None, "report": None, "done": False}
-    sys.setrecursionlimit(DEPTH)
-    threading.stack_size(STACK)
-    worker = threading.Thread(
-        target=command.run, args=(options, words, answer), daemon=True
-    )
-    worker.start()
-    worker.join(SECONDS)
-    report = answer["report"]
-    if not answer["done"]:
-        return None, [], [f"{path}:1: more than {SECONDS} seconds: none"]
-    text = answer["text"]
+    text, changes, refusals = command.limited(options, SECONDS)
     if text is not None:
         text = command.heading(words, options) + text
-    return text, report.change_lines(), report.refusal_lines()
+    return text, changes, refusals
 
 
 def record(wiz, text, ranks, verb):
@@ -200,43 +203,38 @@ def halt_of(printed):
     return re.sub(r" (rank|code|start|over) \d+", "", last)
 
 
+def end_of(wiz, text, ranks):
+    """How a recording ends, and whether it finishes with races."""
+    printed = record(wiz, text, ranks, "record")
+    end, raced = halt_of(printed), False
+    if end == "finished" and "MPI_ANY_SOURCE" in text:
+        races = record(wiz, text, ranks, "races")
+        raced = bool(re.search(r"raced [1-9]", races))
+    accepted = re.search(r"(?m)^(finished|halted )", printed)
+    return bool(accepted), end, raced
+
+
 def measure(job):
     """All that comes of one program."""
     source, path, ranks, label, wiz = job
+    text, changes, refusals = adapt(path, ranks, ["--blocking"])
+    notes = [it.split(": note: ")[1] for it in changes if ": note: " in it]
     row = {
         "source": source,
         "path": path,
         "label": label,
         "ranks": ranks,
-        "blocking": False,
-        "end": None,
-        "raced": False,
+        "notes": notes,
+        "blocking": any(AT_ONCE in note for note in notes),
+        "rest": refusals[0] if refusals else None,
     }
-    text, changes, refusals = adapt(path, ranks, [])
-    row["first"] = refusals[0] if refusals else None
-    if text is None:
-        text, changes, refusals = adapt(path, ranks, ["--blocking"])
-        row["blocking"] = True
-        row["rest"] = refusals[0] if refusals else None
-    row["notes"] = [
-        it.split(": note: ")[1] for it in changes if ": note: " in it
-    ]
     if text is None:
         return row
-    printed = record(wiz, text, ranks, "record")
-    row["end"] = halt_of(printed)
-    row["accepted"] = bool(re.search(r"(?m)^(finished|halted )", printed))
-    if row["end"] == "finished":
-        races = record(wiz, text, ranks, "races")
-        found = re.search(r"receives \d+ raced (\d+)", races)
-        row["raced"] = bool(found and int(found[1]))
-        if label not in ("", "OK") and not row["raced"]:
-            more = ["--synchronous"] + ["--blocking"] * row["blocking"]
-            other = adapt(path, ranks, more)[0]
-            if other is not None:
-                row["synchronous"] = halt_of(
-                    record(wiz, other, ranks, "record")
-                )
+    row["accepted"], row["end"], row["raced"] = end_of(wiz, text, ranks)
+    row["synchronous"] = [row["end"], row["raced"]]
+    if label and SENDS.search(text):
+        text = adapt(path, ranks, ["--blocking", "--synchronous"])[0]
+        row["synchronous"] = end_of(wiz, text, ranks)[1:]
     return row
 
 
@@ -307,66 +305,79 @@ def short_note(note):
 
 
 def tell_labels(rows):
-    """Prints the ends by label, without and with --blocking."""
-    for blocking in (False, True):
-        mine = [it for it in rows if blocking or not it["blocking"]]
-        print("\nlabels and ends" + " (--blocking)" * blocking)
-        labels = sorted({it["label"] for it in mine})
-        for label in labels:
-            ends = collections.Counter(
-                it["end"] + (", raced" if it["raced"] else "")
-                for it in mine
-                if it["label"] == label
-            )
-            shown = "; ".join(
-                f"{end} {count}" for end, count in ends.most_common()
-            )
-            print(f"  {label} {sum(ends.values())}: {shown}")
-        found = collections.Counter(
-            (it["label"], it["synchronous"])
-            for it in mine
-            if it.get("synchronous") not in (None, "finished")
-        )
-        print("  more by --synchronous:", dict(found))
+    """Prints the ends by label, with each choice of switches."""
+    for synchronous in (False, True):
+        for blocking in (False, True):
+            told = " --blocking" * blocking + " --synchronous" * synchronous
+            print(f"\nlabels and ends{told}")
+            mine = [it for it in rows if blocking or not it["blocking"]]
+            for label in sorted({it["label"] for it in mine}):
+                same = [it for it in mine if it["label"] == label]
+                tell_ends(label, [shown_end(it, synchronous) for it in same])
+
+
+def shown_end(row, synchronous):
+    """The end of a program, with its races."""
+    end, raced = row["end"], row["raced"]
+    if synchronous:
+        end, raced = row["synchronous"]
+    return end + " and raced" * raced
+
+
+def tell_ends(label, ends):
+    """Prints the ends of the programs of a label."""
+    counts = collections.Counter(ends).most_common()
+    shown = ", ".join(f"{end} {count}" for end, count in counts)
+    print(f"  {label} {len(ends)}: {shown}")
+
+
+def reader(description):
+    """A reader of the arguments that say which programs are meant."""
+    parser = argparse.ArgumentParser(description=description)
+    folder, wiz = "/tmp/real_programs", os.path.join(TOP, "crates/wiz/out/wiz")
+    parser.add_argument("--folder", type=os.path.abspath, default=folder)
+    parser.add_argument("--wiz", default=wiz)
+    parser.add_argument("--jobs", type=int, default=2)
+    parser.add_argument("--every", type=int, default=1)
+    parser.add_argument("--first", type=int, default=0)
+    parser.add_argument("--sources", default="mbi,mpich,openmpi,simgrid")
+    return parser
+
+
+def kept_rows(options):
+    """What the programs came to in earlier runs, by their paths."""
+    os.makedirs(options.folder, exist_ok=True)
+    kept = os.path.join(options.folder, KEPT)
+    return json.loads(read(kept)) if os.path.exists(kept) else {}
+
+
+def keep_rows(options, rows):
+    """Keeps them for later runs."""
+    kept = os.path.join(options.folder, KEPT)
+    with open(kept + ".new", "w", encoding="ascii") as file:
+        json.dump(rows, file)
+    os.replace(kept + ".new", kept)
 
 
 def main():
     """Fetches, measures and prints."""
-    parser = argparse.ArgumentParser(description=__doc__)
-    parser.add_argument("--folder", default="/tmp/real_programs")
-    parser.add_argument(
-        "--wiz", default=os.path.join(TOP, "crates/wiz/out/wiz")
-    )
-    parser.add_argument("--jobs", type=int, default=2)
-    parser.add_argument("--every", type=int, default=1)
+    parser = reader(__doc__)
     parser.add_argument("--most", type=int, default=25)
-    parser.add_argument("--sources", default="mbi,mpich,openmpi,simgrid")
+    parser.add_argument("--known", action="store_true")
     options = parser.parse_args()
-    options.folder = os.path.abspath(options.folder)
     if not shutil.which(options.wiz):
         sys.exit(f"{options.wiz} is not built")
-    os.makedirs(options.folder, exist_ok=True)
-    packages = fetch(options.folder)
-    jobs = []
-    for source in options.sources.split(","):
-        if source == "mbi":
-            made = generate(packages["simgrid"], options.folder)
-            found = programs_of_mbi(made)
-        else:
-            found = programs_of_package(source, packages[source])
-        jobs += [
-            (source, *it, options.wiz) for it in list(found)[:: options.every]
-        ]
-    kept = os.path.join(options.folder, "rows.json")
-    rows = json.loads(read(kept)) if os.path.exists(kept) else {}
-    todo = [job for job in jobs if job[1] not in rows]
+    rows = kept_rows(options)
+    jobs = [(*it, options.wiz) for it in programs(options)]
+    todo = [it for it in jobs if it[1] not in rows and not options.known]
+    random.Random(1).shuffle(todo)
+    todo.sort(key=lambda it: options.sources.index(it[0]))
     with multiprocessing.Pool(options.jobs) as pool:
         for number, row in enumerate(pool.imap_unordered(measure, todo)):
             rows[row["path"]] = row
-            if number % 50 == 49 or number + 1 == len(todo):
-                with open(kept, "w", encoding="ascii") as file:
-                    json.dump(rows, file)
-    tell([rows[job[1]] for job in jobs], options.most)
+            if number % 20 == 19 or number + 1 == len(todo):
+                keep_rows(options, rows)
+    tell([rows[it[1]] for it in jobs if it[1] in rows], options.most)
 
 
 if __name__ == "__main__":

@@ -1,16 +1,21 @@
 #!/usr/bin/python3
 """Mutated programs: adapt ends each with a status and a message.
 
-adapt_hostile.py [COUNT (10000)] [SEED (1)] [PROGRAM.c ..]
+adapt_hostile.py [--jobs N] [COUNT (10000)] [SEED (1)] [PROGRAM.c ..]
 
 Mutates programs (those of adapt/tests, and those that are given): bytes,
 lines, words and braces are changed, dropped, doubled or taken from another
 program; some are only bytes. Each run of adapt has to end within 20 seconds
-and 1 GB, with status 0 and a program, or with status 1, a message and
-nothing written, and never with a traceback. The mutations are drawn from
-the seed; a failing input is kept and named. Runs are made two at a time,
-each by a process that has loaded the tool already.
+of the processor and 1 GB, with status 0 and a program, or with status 1, a
+message and nothing written, and never with a traceback. The mutations are
+drawn from the seed; a failing input is kept and named. Runs are made two at
+a time, or N, each by a process that has loaded the tool already. The last
+lines say how long the longest runs took, also by the clock, which counts
+what else the machine does.
 """
+import argparse
+import heapq
+import importlib
 import multiprocessing
 import os
 import random
@@ -22,10 +27,11 @@ import time
 
 TOP = os.path.dirname(os.path.dirname(os.path.abspath(__file__)))
 sys.path.insert(0, os.path.join(TOP, "adapt"))
+command = importlib.import_module("passes.command")
 CASES = os.path.join(TOP, "adapt", "tests", "cases")
 SECONDS = 20
 MEMORY = 1 << 30
-JOBS = 2
+SLOWEST = 5
 WORDS = (
     "int char long double unsigned static const struct { } ( ) [ ] ; , * & "
     "-> . ++ += << >> ? : if else for while do switch case default break "
@@ -125,44 +131,44 @@ def changed(draw, text, programs):
 
 
 def attempt(job):
-    """Runs adapt on one input; answers what is wrong, or None."""
+    """Runs adapt on one input; answers what is wrong or None, and times."""
     number, content, arguments = job
     with tempfile.TemporaryDirectory() as folder:
         path = os.path.join(folder, "input.c")
         with open(path, "wb") as file:
             file.write(content)
-        fault = run_child(folder, path, arguments)
-    return number, content, fault
+        fault, times = run_child(folder, path, arguments)
+    return number, content, fault, times
 
 
 def run_child(folder, path, arguments):
-    """Runs adapt in a child; answers what is wrong, or None."""
+    """Runs adapt in a child; answers what is wrong or None, and times."""
     out, told = os.path.join(folder, "out"), os.path.join(folder, "told")
     began = time.monotonic()
     child = os.fork()
     if child == 0:
         become_adapt([path] + arguments, out, told)
     _, ended, usage = os.wait4(child, 0)
-    spent = time.monotonic() - began
+    spent = usage.ru_utime + usage.ru_stime
+    times = (spent, time.monotonic() - began)
     status = os.waitstatus_to_exitcode(ended)
     written, messages = read(out), read(told)
     if spent > SECONDS:
-        return f"{spent:.0f} seconds"
+        return f"{spent:.0f} seconds of the processor", times
     if usage.ru_maxrss > MEMORY >> 10:
-        return f"{usage.ru_maxrss >> 10} MB"
+        return f"{usage.ru_maxrss >> 10} MB", times
     if b"Traceback" in messages:
-        return "a traceback"
+        return "a traceback", times
     if status == 0 and b"int main(void)" in written:
-        return None
+        return None, times
     if status == 1 and not written and messages.strip():
-        return None
-    return f"status {status}, {len(written)} bytes, {messages[-200:]}"
+        return None, times
+    told = f"status {status}, {len(written)} bytes, {messages[-200:]}"
+    return told, times
 
 
 def become_adapt(words, out, told):
     """Does what adapt.py does with these words, and ends."""
-    from passes import command
-
     status = 70
     try:
         for path, number in ((out, 1), (told, 2)):
@@ -186,31 +192,42 @@ def jobs_of(count, seed, programs):
         yield number, mutated(draw, programs), arguments
 
 
-def main(words):
+def main():
     """Runs all mutations; the status says whether each ended well."""
-    count = int(words[0]) if words else 10000
-    seed = int(words[1]) if len(words) > 1 else 1
+    parser = argparse.ArgumentParser(description=__doc__)
+    parser.add_argument("--jobs", type=int, default=2)
+    parser.add_argument("count", type=int, nargs="?", default=10000)
+    parser.add_argument("seed", type=int, nargs="?", default=1)
+    parser.add_argument("programs", nargs="*")
+    options = parser.parse_args()
+    count, seed = options.count, options.seed
     paths = [
         os.path.join(CASES, name, "input.c")
         for name in sorted(os.listdir(CASES))
-    ] + words[2:]
-    programs = [read(path) for path in paths]
-    from passes import command
-
+    ]
+    programs = [read(path) for path in paths + options.programs]
     assert command.MEMORY == MEMORY
-    faults = 0
-    with multiprocessing.Pool(JOBS) as pool:
+    faults, late, all_times = 0, 0, []
+    with multiprocessing.Pool(options.jobs) as pool:
         todo = jobs_of(count, seed, programs)
-        for number, content, fault in pool.imap_unordered(attempt, todo, 20):
+        for ended in pool.imap_unordered(attempt, todo, 20):
+            number, content, fault, times = ended
+            all_times.append((times, number))
+            late += times[1] > SECONDS
             if fault is not None:
                 faults += 1
                 kept = f"adapt-hostile-{seed}-{number}.c"
                 with open(kept, "wb") as file:
                     file.write(content)
                 print(f"{kept}: {fault}", flush=True)
-    print(f"adapt: {count} mutated programs, {faults} faults")
+    for (spent, by_clock), number in heapq.nlargest(SLOWEST, all_times):
+        print(f"{number}: {spent:.1f} s, by the clock {by_clock:.1f} s")
+    print(
+        f"adapt: {count} mutated programs, {faults} faults; by the clock "
+        f"{late} took more than {SECONDS} s"
+    )
     return 1 if faults else 0
 
 
 if __name__ == "__main__":
-    sys.exit(main(sys.argv[1:]))
+    sys.exit(main())

@@ -1,18 +1,20 @@
 #!/usr/bin/python3
 """Compares adapted programs with their originals under real MPI libraries.
 
-adapt_libraries.py [--folder F] [--wiz PATH] [--every N] [--sources S,S]
-                   [--libraries mpich,openmpi] [--cases]
+adapt_libraries.py [--folder F] [--wiz PATH] [--jobs N] [--every N]
+                   [--first N] [--sources S,S] [--libraries mpich,openmpi]
+                   [--cases]
 
-The programs are those of bench/real_programs.py, or with --cases those of
-adapt/tests. An adapted program that finishes when it is recorded, and whose
-output is determined (no receive raced), is compiled with mpicc.mpich and
-mpicc.openmpi and run on as many ranks; what each rank prints has to be what
-the recording says, byte for byte. A line for each that differs; the last
-line counts. Needs the packages mpich, libopenmpi-dev and openmpi-bin.
+The programs are those of bench/real_programs.py (of the MPI Bugs Initiative
+the correct ones), or with --cases those of adapt/tests. An adapted program
+that finishes when it is recorded, and whose output is determined (no receive
+raced), is compiled with mpicc.mpich and mpicc.openmpi and run on as many
+ranks; what each rank prints has to be what the recording says, byte for
+byte. A line for each that differs; the last lines count. Needs the packages
+mpich, libopenmpi-dev and openmpi-bin.
 """
-import argparse
 import collections
+import multiprocessing
 import os
 import re
 import subprocess
@@ -27,7 +29,7 @@ OPTIONS = {
     "mpich": [],
     "openmpi": ["--allow-run-as-root", "--oversubscribe"],
 }
-SECONDS = 30
+SECONDS = 300
 
 
 def outputs_of(printed, ranks):
@@ -117,70 +119,59 @@ def cases():
 
 
 def programs(options, measure):
-    """The programs of the sources that were asked for."""
+    """What is to be compared, without what is known not to finish."""
     if options.cases:
         yield from cases()
         return
-    folder = os.path.abspath(options.folder)
-    packages = measure.fetch(folder)
-    for source in options.sources.split(","):
-        if source == "mbi":
-            made = measure.generate(packages["simgrid"], folder)
-            found = list(measure.programs_of_mbi(made))
-            found = [it for it in found if it[2] == "OK"]
-        else:
-            found = list(measure.programs_of_package(source, packages[source]))
-        for number, (path, ranks, _) in enumerate(found):
-            if number % options.every == options.first:
-                yield source, path, ranks, []
+    rows = measure.kept_rows(options)
+    for source, path, ranks, _ in measure.programs(options, ("", "OK")):
+        row = rows.get(path)
+        if row is None or row.get("end") == "finished":
+            yield source, path, ranks, ["--blocking"]
 
 
-def adapted(measure, path, ranks, more):
-    """The adapted text, with --blocking if that is needed, or None."""
+def examine(job):
+    """What became of one program, with each library."""
+    import real_programs as measure
+
+    source, path, ranks, more, wiz, libraries = job
     text = measure.adapt(path, ranks, more)[0]
     if text is None:
-        text = measure.adapt(path, ranks, more + ["--blocking"])[0]
-    return text
+        return source, path, {}
+    printed = measure.record(wiz, text, ranks, "record")
+    if not printed.endswith("finished"):
+        return source, path, {}
+    races = measure.record(wiz, text, ranks, "races")
+    if re.search(r"raced [1-9]", races):
+        return source, path, {"with neither": "not determined"}
+    wanted = outputs_of(printed, ranks)
+    came = {
+        library: compare(library, path, ranks, wanted, measure.HEADERS)
+        for library in libraries.split(",")
+    }
+    return source, path, came
 
 
 def main():
     """Compares, and prints what differs."""
-    parser = argparse.ArgumentParser(description=__doc__)
-    parser.add_argument("--folder", default="/tmp/real_programs")
-    parser.add_argument(
-        "--wiz", default=os.path.join(TOP, "crates/wiz/out/wiz")
-    )
-    parser.add_argument("--every", type=int, default=1)
-    parser.add_argument("--first", type=int, default=0)
-    parser.add_argument("--sources", default="mbi,mpich,openmpi,simgrid")
+    import real_programs as measure
+
+    parser = measure.reader(__doc__)
     parser.add_argument("--libraries", default="mpich,openmpi")
     parser.add_argument("--cases", action="store_true")
     options = parser.parse_args()
-    import real_programs as measure
-
     count = collections.Counter()
-    for source, path, ranks, more in programs(options, measure):
-        text = adapted(measure, path, ranks, more)
-        if text is None:
-            continue
-        printed = measure.record(options.wiz, text, ranks, "record")
-        if not printed.endswith("finished"):
-            continue
-        races = measure.record(options.wiz, text, ranks, "races")
-        if re.search(r"raced [1-9]", races):
-            count["not determined"] += 1
-            continue
-        wanted = outputs_of(printed, ranks)
-        for library in options.libraries.split(","):
-            came = compare(library, path, ranks, wanted, measure.HEADERS)
-            count[
-                f"{source} {library} {came.split(' differs')[0]}"
-                if came == "same"
-                else f"{source} {library} other"
-            ] += 1
-            if came != "same":
-                print(f"{library} {path}: {came}", flush=True)
-    print(dict(count))
+    last = (options.wiz, options.libraries)
+    jobs = [(*it, *last) for it in programs(options, measure)]
+    with multiprocessing.Pool(options.jobs) as pool:
+        for source, path, came in pool.imap_unordered(examine, jobs):
+            for library, told in came.items():
+                other = told not in ("same", "not determined")
+                count[f"{source} {library} {'other' if other else told}"] += 1
+                if other:
+                    print(f"{library} {path}: {told}", flush=True)
+    for name in sorted(count):
+        print(f"{count[name]:5} {name}")
 
 
 if __name__ == "__main__":

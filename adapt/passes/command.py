@@ -1,10 +1,14 @@
 """The command: its arguments, its limits, its messages."""
 import argparse
+import json
 import os
 import resource
+import select
 import shlex
+import signal
 import sys
 import threading
+import time
 
 from .report import Refused, Report
 from .translator import Translator
@@ -12,7 +16,9 @@ from .translator import Translator
 MOST_RANKS = 64
 ROOM = 4096
 MOST_ROOM = 262144
-SECONDS = 18
+# Of the processor; and of a clock, where the machine has much other work.
+SECONDS = 10
+CLOCK_SECONDS = 15
 MEMORY = 1 << 30
 STACK = 256 << 20
 DEPTH = 12000
@@ -127,21 +133,14 @@ def translate(options, report):
     return None if report.refusals else text
 
 
-def run(options, words, answer):
+def run(options, answer):
     """Translates, and keeps what is to be written and the messages."""
     report = Report(options.file, options.strict)
-    answer["report"] = report
     try:
         answer["text"] = translate(options, report)
-    except (
-        KeyError,
-        IndexError,
-        AttributeError,
-        TypeError,
-        ValueError,
-        AssertionError,
-        OverflowError,
-    ) as error:
+    except Exception as error:
+        if os.environ.get("ADAPT_TRACE"):
+            raise
         report.keep(
             Refused(
                 report.here,
@@ -149,23 +148,91 @@ def run(options, words, answer):
                 "write it in another way",
             )
         )
-        if os.environ.get("ADAPT_TRACE"):
-            raise
-    answer["done"] = True
+    answer["changes"] = report.change_lines()
+    answer["refusals"] = report.refusal_lines()
 
 
-def limited(options, words):
-    """Runs the translation within its limits; answers what it kept."""
-    resource.setrlimit(resource.RLIMIT_AS, (MEMORY, MEMORY))
-    sys.setrecursionlimit(DEPTH)
-    threading.stack_size(STACK)
-    answer = {"text": None, "report": None, "done": False}
-    worker = threading.Thread(
-        target=run, args=(options, words, answer), daemon=True
-    )
-    worker.start()
-    worker.join(SECONDS)
-    return answer
+def serve(options, sink):
+    """Translates within the limits, sends what comes of it, and ends."""
+    try:
+        os.setpgid(0, 0)
+        resource.setrlimit(resource.RLIMIT_AS, (MEMORY, MEMORY))
+        resource.setrlimit(resource.RLIMIT_CPU, (SECONDS, SECONDS + 1))
+        resource.setrlimit(resource.RLIMIT_CORE, (0, 0))
+        sys.setrecursionlimit(DEPTH)
+        threading.stack_size(STACK)
+        answer = {"text": None}
+        worker = threading.Thread(target=run, args=(options, answer))
+        worker.start()
+        worker.join()
+        with open(sink, "wb") as file:
+            file.write(json.dumps(answer).encode("ascii"))
+    finally:
+        os._exit(0)
+
+
+def received(source, seconds):
+    """What a pipe brings until its end, or None if that is late."""
+    late, parts = time.monotonic() + seconds, []
+    while True:
+        left = late - time.monotonic()
+        if left <= 0 or not select.select([source], [], [], left)[0]:
+            return None
+        part = os.read(source, 1 << 16)
+        if not part:
+            return b"".join(parts)
+        parts.append(part)
+
+
+def limited(options, clock_seconds=CLOCK_SECONDS):
+    """The text or None, the changes and the refusals.
+
+    The translation is done by a child, so that its limits hold whatever it
+    does; it and what it has started are ended with it.
+    """
+    source, sink = os.pipe()
+    child = os.fork()
+    if child == 0:
+        os.close(source)
+        serve(options, sink)
+    os.close(sink)
+    try:
+        content = received(source, clock_seconds)
+    finally:
+        os.close(source)
+        end_group(child)
+        status = os.waitstatus_to_exitcode(os.waitpid(child, 0)[1])
+    try:
+        answer = json.loads(content or b"")
+        return answer["text"], answer["changes"], answer["refusals"]
+    except (KeyError, ValueError):
+        late = clock_seconds if content is None else None
+        told = why_ended(late, status)
+        return None, [], [f"{options.file}:1: {told}"]
+
+
+def end_group(child):
+    """Ends a child and what it has started."""
+    for end in (os.killpg, os.kill):
+        try:
+            end(child, signal.SIGKILL)
+        except ProcessLookupError:
+            pass
+
+
+def why_ended(late, status):
+    """What to say of a translation that gave no answer."""
+    if late is not None:
+        return (
+            f"it takes more than {late} seconds: make the program smaller, "
+            "or do it again when the machine has less to do"
+        )
+    if status == -signal.SIGXCPU:
+        return (
+            f"it takes more than {SECONDS} seconds of the processor: make "
+            "the program smaller"
+        )
+    return "not understood: write it in another way"
 
 
 def say(lines):
@@ -198,20 +265,9 @@ def write(text, out):
 def main(words):
     """The command; answers its status."""
     options = read_arguments(words)
-    answer = limited(options, words)
-    if not answer["done"]:
-        say(
-            [
-                f"{options.file}:1: it takes more than {SECONDS} seconds: "
-                "make the program smaller"
-            ]
-        )
-        sys.stderr.flush()
-        os._exit(1)
-    report = answer["report"]
-    if answer["text"] is None:
-        say(report.change_lines())
-        say(report.refusal_lines())
+    text, changes, refusals = limited(options)
+    say(changes)
+    say(refusals)
+    if text is None:
         return 1
-    say(report.change_lines())
-    return write(heading(words, options) + answer["text"], options.out)
+    return write(heading(words, options) + text, options.out)

@@ -142,24 +142,17 @@ class Expressions:
     def value_of_Constant(self, node):
         if node.type == "string":
             self.report.refuse(node, "a text as a value", "use a number")
-        number = self.constant(node)
+        number, type = self.constant(node), self.type_of(node)
+        shown = f"the number {node.value[:40]}"
         if number is None:
-            self.report.refuse(
-                node,
-                f"the number {node.value[:40]}, which is not whole",
-                "use whole numbers",
-            )
-        type = self.type_of(node)
+            why = f"{shown}, which is not whole"
+            self.report.refuse(node, why, "use whole numbers")
         if type in REALS:
             type = "double"
-        if type in LONGS and LEAST <= number <= MOST:
-            return literal(number, type)
-        if not LEAST <= number < 2**32 or type in LONGS:
-            self.report.refuse(
-                node,
-                f"the number {node.value[:40]} has more than 32 bits",
-                "use a smaller one",
-            )
+        most = MOST if type in LONGS else 2**32 - 1
+        if not LEAST <= number <= most:
+            why = f"{shown} has more than 32 bits"
+            self.report.refuse(node, why, "use a smaller one")
         return literal(number, type)
 
     def value_of_ID(self, node):

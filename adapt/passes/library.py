@@ -7,10 +7,11 @@ from .values import BINDS, CHOICE, SIGN, Place, Value, literal, operation
 
 # Calls that do nothing that a run of the language could see.
 DROPPED = set(
-    """free sleep usleep nanosleep srand srandom setbuf setvbuf setlinebuf
-    alarm signal fclose fopen gettimeofday clock_gettime sched_yield
-    setlocale""".split()
+    """free xbt_free sleep usleep nanosleep srand srandom setbuf setvbuf
+    setlinebuf fclose sched_yield setlocale""".split()
 )
+# Calls whose work is not done, with a note.
+NOT_DONE = {"alarm", "signal", "fopen", "gettimeofday", "clock_gettime"}
 TIMES = ("MPI_Wtime", "MPI_Wtick", "time", "clock", "getpid")
 ABORTED = 134
 
@@ -40,7 +41,7 @@ class Library:
         rule = getattr(self, "call_of_" + name.lstrip("_"), None)
         if rule is not None:
             return rule(node, arguments(node)) or literal(0)
-        if name in DROPPED:
+        if name in DROPPED or name in NOT_DONE:
             return self.drop_call(node, name)
         self.report.refuse(
             node,
@@ -53,7 +54,9 @@ class Library:
         for item in arguments(node):
             if self.has_effects(item):
                 self.effect(item)
-        if name != "free":
+        if name in NOT_DONE:
+            self.report.note(node, f"{name} dropped: its work is not done")
+        elif name != "free":
             self.report.say(node, f"{name} dropped")
         return literal(0)
 

@@ -6,6 +6,7 @@ from .mpi_table import (
     DROPPED,
     ERROR_HANDLERS,
     NONBLOCKING,
+    NOT_GIVEN,
     PERSISTENT,
     SAME,
     SIGNATURES,
@@ -84,6 +85,8 @@ class MpiCalls:
             rule(node, given)
         elif name in DROPPED:
             self.report.say(node, f"{name} dropped")
+        elif name in NOT_GIVEN:
+            self.report.note(node, f"{name} dropped: what it gives is not set")
         elif name in ERROR_HANDLERS:
             self.report.note(
                 node, f"{name} dropped: every error stops the run"
@@ -234,11 +237,7 @@ class MpiCalls:
         request = None
         if name in NONBLOCKING:
             if not self.options.blocking:
-                self.report.refuse(
-                    node,
-                    f"{name}: the language has no such call",
-                    "--blocking does it at once",
-                )
+                self.no_such_call(node, name, "--blocking does it at once")
             self.report.note(
                 node, f"{name} is done at once, as {NONBLOCKING[name]}"
             )
@@ -256,15 +255,17 @@ class MpiCalls:
             place = self.address(request)
             self.emit(f"{place.text()} = MPI_REQUEST_NULL;")
 
+    def no_such_call(self, node, name, how):
+        """Refuses a call that the language has not."""
+        why = f"{name}: the language has no such call"
+        self.report.refuse(node, why, how)
+
     def signed_call(self, node, name, given):
         """A call of the table."""
         letters = SIGNATURES.get(name)
         if letters is None:
-            self.report.refuse(
-                node,
-                f"{name}: the language has no such call",
-                "do without it, or use one of docs/LANGUAGE.md",
-            )
+            how = "do without it, or use one of docs/LANGUAGE.md"
+            self.no_such_call(node, name, how)
         if len(given) != len(letters):
             self.report.refuse(
                 node,

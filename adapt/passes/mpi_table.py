@@ -67,16 +67,15 @@ NONBLOCKING = {
 DROPPED = {
     "MPI_Type_commit",
     "MPI_Comm_set_name",
-    "MPI_Comm_get_name",
     "MPI_Buffer_attach",
-    "MPI_Buffer_detach",
     "MPI_Errhandler_free",
     "MPI_Op_free",
     "MPI_Pcontrol",
     "MPI_Info_free",
-    "MPI_Error_string",
     "MPI_Type_set_name",
 }
+# Calls that give what is not there: it stays as it was, with a note.
+NOT_GIVEN = {"MPI_Comm_get_name", "MPI_Error_string", "MPI_Buffer_detach"}
 # Those that choose what happens at an error; here every error stops a run.
 ERROR_HANDLERS = {
     "MPI_Comm_set_errhandler",

@@ -4,11 +4,33 @@ import re
 from pycparser import c_ast, c_parser
 from pycparser.plyparser import ParseError
 
+# Made once, before a translation begins: its tables take time to read.
+PARSER = c_parser.CParser()
+# More than any program has that the language could have.
+MOST_DEPTHS = 500
+TEXT = r'"(?:\\.|[^"\\\n])*"|\'(?:\\.|[^\'\\\n])*\''
+MARK = re.compile(TEXT + r"|[(){}\[\]]")
+
+
+def check_depths(text, report):
+    """Refuses early what would take the parser long."""
+    depth = 0
+    for found in MARK.finditer(text):
+        if found[0] in ("(", "{", "["):
+            depth += 1
+        elif found[0] in (")", "}", "]"):
+            depth -= 1
+        if depth > MOST_DEPTHS:
+            report.refuse(
+                None, "nested too deeply", "use variables for parts"
+            )
+
 
 def parse(text, report):
     """The tree of a preprocessed text."""
+    check_depths(text, report)
     try:
-        return c_parser.CParser().parse(text, report.path)
+        return PARSER.parse(text, report.path)
     except ParseError as error:
         found = re.match(r"(.*?):(\d+):(?:\d+:)? ?(.*)", str(error))
         if found:

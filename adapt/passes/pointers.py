@@ -14,7 +14,7 @@ it is set. What fits none of these is refused.
 """
 from pycparser import c_ast
 
-from .mpi_table import DROPPED
+from .mpi_table import DROPPED, NOT_GIVEN
 from .parsing import arguments, bare, called, nodes
 from .report import Refused
 from .types import element, is_pointer
@@ -99,7 +99,7 @@ class Pointers:
         """Whether a write gives the address of the pointer itself away."""
         node = write.node
         if write.kind == "given":
-            if called(node) in DROPPED:
+            if called(node) in DROPPED | NOT_GIVEN:
                 return False
             node = bare(arguments(node)[write.index])
         return (

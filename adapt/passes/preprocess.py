@@ -12,7 +12,7 @@ MOST_BYTES = 4 << 20
 MOST_OUTPUT = 16 << 20
 MOST_TOLD = 1 << 20
 MOST_HEADERS = 40
-SECONDS = 8
+SECONDS = 4
 MEMORY = 512 << 20
 CPP = [
     "cpp",
@@ -129,8 +129,6 @@ def run(command, report):
     reader = threading.Thread(
         target=lambda: told.append(tool.stderr.read(MOST_TOLD))
     )
-    timer = threading.Timer(SECONDS, tool.kill)
-    timer.start()
     reader.start()
     text = tool.stdout.read(MOST_OUTPUT + 1)
     if len(text) > MOST_OUTPUT:
@@ -139,7 +137,6 @@ def run(command, report):
     if len(told[0]) == MOST_TOLD:
         tool.kill()
     status = tool.wait()
-    timer.cancel()
     if status < 0:
         report.refuse(
             None,
@@ -153,7 +150,7 @@ def run(command, report):
 def limit():
     """The limits of the preprocessor."""
     resource.setrlimit(resource.RLIMIT_AS, (MEMORY, MEMORY))
-    resource.setrlimit(resource.RLIMIT_CORE, (0, 0))
+    resource.setrlimit(resource.RLIMIT_CPU, (SECONDS, SECONDS + 1))
 
 
 def take_empty(name, folder):

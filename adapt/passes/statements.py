@@ -4,7 +4,7 @@ from pycparser import c_ast
 from .handles import NO_TYPE
 from .parsing import names_in
 from .report import Refused
-from .types import is_pointer
+from .types import element, is_pointer
 from .values import SIGN, Value, literal
 
 LOOPS = (c_ast.For, c_ast.While, c_ast.DoWhile)
@@ -493,7 +493,7 @@ class Statements:
         if plan.base is symbol:
             name = self.name_for(symbol)
             length = self.checked_length(plan.length, node)
-            self.emit(f"int {name}[{length}];")
+            self.emit(f"{self.heap_word(symbol)} {name}[{length}];")
             self.report.say(node, f"{symbol.name} is an array of {length}")
         elif plan.kind != "null":
             self.report.say(node, f"{symbol.name} is written as its place")
@@ -514,12 +514,21 @@ class Statements:
             self.assign(node.init)
         self.set_pointer(symbol, init, node)
 
+    def heap_word(self, symbol):
+        """The word of the language for what a pointer's memory holds."""
+        inner = element(symbol.type)
+        return "int" if inner == "void" else self.word_of(inner, symbol)
+
     def clear(self, symbol, call):
         """Sets an array to 0, where calloc gives it."""
         from .parsing import called
 
         if called(call) != "calloc":
             return
+        if self.heap_word(symbol) != "int":
+            self.report.refuse(
+                call, "handles that are cleared again", "set them in a loop"
+            )
         index = self.fresh()
         length = symbol.plan.length
         name = symbol.name_now
