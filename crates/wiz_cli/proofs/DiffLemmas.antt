@@ -3,12 +3,13 @@ use Rattle.std.proofs.Common.{◌≡◌, ◌∙◌, ◌<◌, ◌++◌, inl, inr,
 use Rattle.std.specs.List.{list_any}
 use Rattle.std.proofs.lemmas.List.Elements.{All-append, All-nil, All-push}
 use Rattle.c_program.specs.declared.program.CProgram.{CProgram}
-use Rattle.c_program.specs.Program.{next_of, output_of}
+use Rattle.c_program.specs.Program.{SameMeaning, next_of, output_of}
 use Rattle.c_types.specs.Checks.{IsProgramOf}
 use Rattle.causes.specs.Clocks.{AreOfRanks}
 use Rattle.mpi_call.specs.Lists.{IsIn}
 use Rattle.mpi_call.specs.Members.{is_member}
 use Rattle.replay_model.specs.declared.replayed.Replayed.{Replayed}
+use Rattle.replay_model.specs.declared.replayed.Stand.{Stand}
 use Rattle.replay_model.specs.Laws.{IsDone, IsRunWith}
 use Rattle.replay_model.specs.Replays.{Breakpoint, IsStep, IsWholeReplay, Replays}
 use Rattle.replay_model.proofs.Cut.{HasAllOf-whole}
@@ -25,17 +26,23 @@ use Rattle.view_diff.specs.Bare.{bares}
 use Rattle.view_diff.specs.Compared.{AreCompared, IsWay, comes_first, is_first_way}
 use Rattle.view_diff.specs.Comparing.{CanCompare}
 use Rattle.view_diff.specs.Partings.{PartAt}
-use Rattle.view_diff.proofs.ReplayLaws.{parts_by_a_reply, parts_by_a_reply_alone}
+use Rattle.view_diff.specs.Laws.{PartsByAReply, PartsByAReplyAlone}
 use Rattle.wiz_words.specs.declared.command.Command.TheVariants.{Diff}
 use Rattle.wiz_cli.specs.declared.comparing.subject.TwoRuns.{TwoRuns}
 use Rattle.wiz_tool.specs.declared.status.Status.{Status}
 use Rattle.wiz_tool.specs.declared.status.Status.TheVariants.{Done}
+use Rattle.wiz_tool.specs.declared.status.Status.TheVariants as s
+use Rattle.wiz_tool.specs.declared.report.Done.{Done as Told}
+use Rattle.wiz_tool.specs.inside.Told.{outcome_of}
+use Rattle.wiz_trace.specs.DiffTexts.{diff_text}
+use Rattle.wiz_trace.specs.TraceTexts.{traces_text}
+use Rattle.wiz_cli.specs.Regroupings.{traces_outcome}
 use Rattle.wiz_tool.specs.Environment.{Environment}
 use Rattle.wiz_tool.specs.Inputs.{AreHeld}
 use Rattle.wiz_tool.specs.Outcomes.{Outcome}
 use Rattle.wiz_cli.specs.Commands.{IsDoneFor, join_inputs}
 use Rattle.wiz_tool.specs.Statuses.{of_stands}
-use Rattle.wiz_cli.specs.Comparisons.{Compares, compared_outcome, diff_outcome, diff_outcome_by}
+use Rattle.wiz_cli.specs.Comparisons.{Compares, compared_outcome, diff_outcome, diff_outcome_by, of_comparison}
 use Rattle.wiz_cli.specs.Replayings.{IsReplayOf}
 use Rattle.wiz_cli.specs.inside.Comparing.{AreReplayedRuns, AreTwoRunsOf}
 use Rattle.wiz_cli.proofs.LogLemmas.{IsReplayable-text}
@@ -115,10 +122,21 @@ same_status : (first second : Replayed) (ranks : List Compared) (outcome : Outco
     → list_any comes_first ranks ≡ false → outcome.status ≡ Done
 same_status first second ranks outcome is none = rw (is, none) refl
 
+-- each log was replayed with the program of both
+pub both_replay : (runs : TwoRuns) (first second : Replayed) → AreReplayedRuns runs first second
+    → Replays (next_of runs.program) runs.one None first.events.events × Replays (next_of runs.program) runs.other None second.events.events
+both_replay runs first second are = (
+  (are.first_replay.shows runs.program are.is_program).whole.replays,
+  (are.second_replay.shows runs.program (other_program runs.one runs.other runs.program are.can_compare are.is_program)).whole.replays,
+)
+
 pub compares : (runs : TwoRuns) (first second : Replayed) (ranks : List Compared) (outcome : Outcome) → AreReplayedRuns runs first second
-    → AreCompared runs.one.ranks runs.one.group first.events.events second.events.events ranks → outcome ≡ diff_outcome first second ranks
-    → Compares runs.one runs.other outcome
-compares runs first second ranks outcome are compared is =
+    → AreCompared runs.one.ranks runs.one.group first.events.events second.events.events ranks
+    → ((other : CProgram) → IsProgramOf runs.one.program other → SameMeaning runs.program other)
+    → PartsByAReply (next_of runs.program) runs.one.ranks runs.one.group first.events.events second.events.events
+    → PartsByAReplyAlone (next_of runs.program) runs.one.ranks runs.one.group first.events.events second.events.events
+    → outcome ≡ diff_outcome first second ranks → Compares runs.one runs.other outcome
+compares runs first second ranks outcome are compared same parts alone is =
     let one : Log = runs.one in
     let other : Log = runs.other in
     let can : CanCompare one other = are.can_compare in
@@ -137,10 +155,9 @@ compares runs first second ranks outcome are compared is =
       compared = compared;
       is_outcome = is;
       parts = λ program is_program.
-          let shows = are.first_replay.shows program is_program in
-          let others = are.second_replay.shows program (other_program one other program can is_program) in (
-            parts_by_a_reply (next_of program) one other None first.events.events second.events.events shows.whole.replays others.whole.replays can.ranks,
-            parts_by_a_reply_alone (next_of program) one other None first.events.events second.events.events shows.whole.replays others.whole.replays can.ranks,
+          let next : next_of runs.program ≡ next_of program = λ i n me replies. (same program is_program).next n me replies i in (
+            subst (λ (n : Next). PartsByAReply n one.ranks one.group first.events.events second.events.events) next parts,
+            subst (λ (n : Next). PartsByAReplyAlone n one.ranks one.group first.events.events second.events.events) next alone,
           );
       of_runs = told;
       of_one_run = λ program run is_program with too.
@@ -148,8 +165,7 @@ compares runs first second ranks outcome are compared is =
           let others = are.second_replay.shows program (other_program one other program can is_program) in
           same_status first second ranks outcome (told program run run is_program with too)
           (none_first one.ranks one.group first.events.events second.events.events ranks compared.each
-          (one_run_does_not_part program one other run first.events.events second.events.events can.group with too
-          shows.whole others.whole));
+          (one_run_does_not_part program one other run first.events.events second.events.events can.group with too shows.whole others.whole));
     }
 
 pub diff_done : (name others : List ℕ) (before : Environment) (texts : List (List ℕ)) (runs : TwoRuns) (outcome : Outcome)
@@ -157,7 +173,46 @@ pub diff_done : (name others : List ℕ) (before : Environment) (texts : List (L
     → IsDoneFor (Diff name others) before outcome
 diff_done name others before texts runs outcome held is compares = (texts, held, (runs.one, runs.other, is.are_logs, compares))
 
--- the text of the comparison, or the traces, with the status of the stands
-pub is_diff : (status : Status) (first second : Replayed) (ranks : List Compared) (outcome : Outcome)
-    → status ≡ of_stands (first.ends ++ second.ends) → outcome ≡ diff_outcome_by status first second ranks → outcome ≡ diff_outcome first second ranks
-is_diff status first second ranks outcome same is = is ∙ ap (λ (s : Status). diff_outcome_by s first second ranks) same
+-- ---- how it is told
+
+-- where the ranks of both replays stand
+pub status_is : (first second : Replayed) (ends others : List Stand) (status : Status) → ends ≡ first.ends → others ≡ second.ends
+    → status ≡ of_stands (ends ++ others) → status ≡ of_stands (first.ends ++ second.ends)
+status_is first second ends others status same too is = rw (same, too) at is
+
+not_done : (status : Status) (first second : Replayed) (ranks : List Compared) → (status ≡ s.Done → ⊥)
+    → diff_outcome_by status first second ranks ≡ traces_outcome status (first ∷ second ∷ [])
+not_done s.Done first second ranks apart = absurd (apart refl)
+not_done s.Words first second ranks apart = refl
+not_done s.NoFile first second ranks apart = refl
+not_done s.Unread first second ranks apart = refl
+not_done s.Unwritten first second ranks apart = refl
+not_done s.Program first second ranks apart = refl
+not_done s.Plan first second ranks apart = refl
+not_done s.Halted first second ranks apart = refl
+not_done s.Log first second ranks apart = refl
+not_done s.Diverged first second ranks apart = refl
+not_done s.Starved first second ranks apart = refl
+not_done s.OutOfMemory first second ranks apart = refl
+not_done s.TooLong first second ranks apart = refl
+not_done s.Groups first second ranks apart = refl
+not_done s.TooManyRaces first second ranks apart = refl
+not_done s.Parted first second ranks apart = refl
+
+-- the comparison is told where both replays are done
+pub compared_is : (first second : Replayed) (ranks : List Compared) (both status : Status) (text : List ℕ) (replays : List Replayed) (done : Told) → both ≡ s.Done
+    → both ≡ of_stands (first.ends ++ second.ends) → text ≡ diff_text first.events.events second.events.events ranks → status ≡ of_comparison ranks
+    → replays ≡ first ∷ second ∷ [] → done ≡ record { text = text; status = status; run = None; replays = replays }
+    → outcome_of [] done ≡ diff_outcome first second ranks
+compared_is first second ranks both status text replays done is_done is_both text_is status_is replays_is done_is =
+    let stands : of_stands (first.ends ++ second.ends) ≡ s.Done = sym is_both ∙ is_done in
+    rw (done_is, text_is, status_is, replays_is, stands) refl
+
+-- and else their traces
+pub traces_are : (first second : Replayed) (ranks : List Compared) (status : Status) (text : List ℕ) (replays : List Replayed) (done : Told) → (status ≡ s.Done → ⊥)
+    → status ≡ of_stands (first.ends ++ second.ends) → replays ≡ first ∷ second ∷ [] → text ≡ traces_text replays
+    → done ≡ record { text = text; status = status; run = None; replays = replays } → outcome_of [] done ≡ diff_outcome first second ranks
+traces_are first second ranks status text replays done apart is replays_is text_is done_is =
+    let stands : of_stands (first.ends ++ second.ends) ≡ status = sym is in
+    let told = not_done status first second ranks apart in
+    rw (done_is, text_is, replays_is, stands, told) refl

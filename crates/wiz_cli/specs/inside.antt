@@ -1,4 +1,5 @@
 -- What the inner steps of the crate answer, by subjects.
+pub mod Comparing
 pub mod Ends
 pub mod Recording
 pub mod Refusals

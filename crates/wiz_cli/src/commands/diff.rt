@@ -10,10 +10,12 @@ ghost use Rattle.wiz_words.specs.declared.command.Command.TheVariants.{Diff};
 use crate::comparing::subject::{TwoRuns, read_runs};
 use crate::regrouping::make::{replay_own, two_replays};
 use crate::runner::Runner;
+use c_types::text_fixes_meaning;
 use replay_model::replayed::Replayed;
 use std::alloc::{AllocError, Global};
 use view_diff::compare::compare;
 use view_diff::compared::Comparison;
+use view_diff::laws::parts_by_a_reply;
 use wiz_io::{Sink, Store};
 use wiz_tool::failure::Failure;
 use wiz_tool::report::{Done, Report, tell, text_of_replays};
@@ -51,6 +53,15 @@ fn compared(
     requires { AreReplayedRuns runs.now first second }
     ensures { IfOk result (λ done. Compares runs.now.one runs.now.other (outcome_of [] done)) }
 {
+    // Laws: all programs of a text mean the same, and where two replays part one call is answered in two ways, or one is cut short.
+    text_fixes_meaning(&runs.program, runs.one.program.as_slice());
+    parts_by_a_reply(
+        &runs.program,
+        &runs.one,
+        &runs.other,
+        &first.events,
+        &second.events,
+    );
     let ranks = compare(
         alloc,
         runs.one.ranks,

@@ -1,5 +1,5 @@
 //! `waits PROGRAM PLAN [--order FILE] [--serial]`: a run is recorded, and where it is stuck it is told who waits for whom.
-ghost use Rattle.std.specs.Prelude.{[], IfOk, true};
+ghost use Rattle.std.specs.Prelude.{◌≡◌, [], IfOk, true};
 ghost use Rattle.wiz_cli.specs.Commands.{TellsWaits};
 ghost use Rattle.wiz_cli.specs.inside.Ends.{Ends};
 ghost use Rattle.wiz_cli.specs.inside.Recording.{IsMade};
