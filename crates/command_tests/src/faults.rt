@@ -30,11 +30,8 @@ const RACES: &[u8] = b"receives 0 raced 0\nfinished\n";
 
 const FINISHED: &[u8] = b"finished\n";
 
-/// The first log and itself.
-const SAME: &[u8] = b"rank 0 same 2\nrank 1 same 3\nsame\n";
-
 /// Each command that reads, writes or prints, on threads and on one thread.
-fn commands() -> [Row<'static>; 24] {
+fn commands() -> [Row<'static>; 23] {
     [
         (&["record", "P", "Q", "A"], RUN, RECORDING, FIRST_RECORDED),
         (
@@ -62,7 +59,6 @@ fn commands() -> [Row<'static>; 24] {
             NONE,
             FINISHED,
         ),
-        (&["diff", "L", "L"], &["L", "L"], NONE, SAME),
         (&["advise", "P", "Q", "1"], RUN, NONE, FIRST_ADVISED),
         (
             &["advise", "P", "Q", "1", "--serial"],

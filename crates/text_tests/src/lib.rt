@@ -12,8 +12,6 @@ mod bytes;
 #[cfg(test)]
 mod checks;
 #[cfg(test)]
-mod diffs;
-#[cfg(test)]
 mod entries;
 #[cfg(test)]
 mod listings;
@@ -33,5 +31,3 @@ mod run_entries;
 mod stores;
 #[cfg(test)]
 mod traces;
-#[cfg(test)]
-mod waits;
