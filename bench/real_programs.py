@@ -274,22 +274,25 @@ def tell(rows, most):
             [short(it["rest"]) for it in mine if it.get("rest")],
             most,
         )
-        counted(
-            f"{source}: notes, by programs",
-            [
-                note
-                for it in mine
-                if it.get("accepted")
-                for note in sorted({short_note(n) for n in it["notes"]})
-            ],
-            most,
-        )
+        tell_notes(source, [it for it in mine if it.get("accepted")], most)
         counted(
             f"{source}: ends",
             [it["end"] for it in mine if it.get("accepted")],
             most,
         )
     tell_labels([it for it in rows if it["label"] and it.get("accepted")])
+
+
+def tell_notes(source, rows, most):
+    """Prints how many programs have each note, with each choice."""
+    plain = [it for it in rows if not it["blocking"]]
+    for told, mine in ((" --blocking", rows), ("", plain)):
+        kinds = [{short_note(note) for note in it["notes"]} for it in mine]
+        counted(
+            f"{source}: notes{told}, of {len(mine)} programs",
+            [note for found in kinds for note in sorted(found or {"none"})],
+            most,
+        )
 
 
 def short_note(note):
@@ -344,16 +347,16 @@ def reader(description):
     return parser
 
 
-def kept_rows(options):
+def kept_rows(options, name=KEPT):
     """What the programs came to in earlier runs, by their paths."""
     os.makedirs(options.folder, exist_ok=True)
-    kept = os.path.join(options.folder, KEPT)
+    kept = os.path.join(options.folder, name)
     return json.loads(read(kept)) if os.path.exists(kept) else {}
 
 
-def keep_rows(options, rows):
+def keep_rows(options, rows, name=KEPT):
     """Keeps them for later runs."""
-    kept = os.path.join(options.folder, KEPT)
+    kept = os.path.join(options.folder, name)
     with open(kept + ".new", "w", encoding="ascii") as file:
         json.dump(rows, file)
     os.replace(kept + ".new", kept)

@@ -3,15 +3,18 @@
 
 adapt_libraries.py [--folder F] [--wiz PATH] [--jobs N] [--every N]
                    [--first N] [--sources S,S] [--libraries mpich,openmpi]
-                   [--cases]
+                   [--seconds N] [--cases | --only PROGRAM.c]
 
 The programs are those of bench/real_programs.py (of the MPI Bugs Initiative
 the correct ones), or with --cases those of adapt/tests. An adapted program
 that finishes when it is recorded, and whose output is determined (no receive
 raced), is compiled with mpicc.mpich and mpicc.openmpi and run on as many
 ranks; what each rank prints has to be what the recording says, byte for
-byte. A line for each that differs; the last lines count. Needs the packages
-mpich, libopenmpi-dev and openmpi-bin.
+byte. A line for each that differs, which says so where the libraries differ
+from each other, too; the last lines count. What became of each program is in
+compared.json of the folder; a run takes from there what it has already, so
+that it can be stopped and continued. Needs the packages mpich, libopenmpi-dev
+and openmpi-bin.
 """
 import collections
 import multiprocessing
@@ -30,6 +33,10 @@ OPTIONS = {
     "openmpi": ["--allow-run-as-root", "--oversubscribe"],
 }
 SECONDS = 300
+SECONDS_TO_END = 10
+KEPT = "compared.json"
+SAME = "same"
+APART = "the libraries differ, too; "
 
 
 def outputs_of(printed, ranks):
@@ -54,45 +61,72 @@ def build(library, path, folder, headers):
     return done.returncode == 0
 
 
-def run(library, folder, ranks):
-    """What each rank prints with a library, or None if it does not end."""
+def run(library, folder, ranks, seconds):
+    """What each rank prints with a library, or why it is not known."""
     inner = f'exec "$0" > {folder}/{library}."${RANK[library]}"'
     words = [f"mpirun.{library}"] + OPTIONS[library] + ["-n", str(ranks)]
     words += ["sh", "-c", inner, f"{folder}/{library}"]
+    mpirun = subprocess.Popen(
+        words,
+        cwd=folder,
+        stdin=subprocess.DEVNULL,
+        stdout=subprocess.DEVNULL,
+        stderr=subprocess.DEVNULL,
+    )
     try:
-        subprocess.run(
-            words,
-            cwd=folder,
-            timeout=SECONDS,
-            stdin=subprocess.DEVNULL,
-            stdout=subprocess.DEVNULL,
-            stderr=subprocess.DEVNULL,
-        )
+        mpirun.wait(seconds)
     except subprocess.TimeoutExpired:
-        return None
+        end(mpirun)
+        return f"does not end in {seconds} seconds"
     found = []
     for rank in range(ranks):
         name = f"{folder}/{library}.{rank}"
         if not os.path.exists(name):
-            return None
+            return "does not begin"
         with open(name, "rb") as file:
             found.append(file.read())
     return found
 
 
-def compare(library, path, ranks, wanted, headers):
-    """What became of one program with one library."""
+def end(mpirun):
+    """Ends mpirun, which ends its ranks if it is asked to end."""
+    mpirun.terminate()
+    try:
+        mpirun.wait(SECONDS_TO_END)
+    except subprocess.TimeoutExpired:
+        mpirun.kill()
+        mpirun.wait()
+
+
+def printed_by(library, path, ranks, headers, seconds):
+    """What each rank of a program prints, or why it is not known."""
     with tempfile.TemporaryDirectory() as folder:
         if not build(library, path, folder, headers):
             return "not compiled"
-        found = run(library, folder, ranks)
-    if found is None:
-        return "does not end"
-    for rank in range(ranks):
-        if found[rank] != wanted[rank]:
-            difference = first_difference(wanted[rank], found[rank])
+        return run(library, folder, ranks, seconds)
+
+
+def compared(found, wanted):
+    """How what each rank prints differs from what is wanted."""
+    if isinstance(found, str):
+        return found
+    for rank, (mine, theirs) in enumerate(zip(wanted, found)):
+        if mine != theirs:
+            difference = first_difference(mine, theirs)
             return f"rank {rank} differs: {difference}"
-    return "same"
+    return SAME
+
+
+def all_compared(outputs, wanted):
+    """The same for each library; and whether the libraries differ, too."""
+    known = [it for it in outputs.values() if not isinstance(it, str)]
+    apart = any(it != known[0] for it in known)
+    came = {}
+    for library, found in outputs.items():
+        came[library] = compared(found, wanted)
+        if apart and came[library].startswith("rank "):
+            came[library] = APART + came[library]
+    return came
 
 
 def first_difference(left, right):
@@ -126,6 +160,8 @@ def programs(options, measure):
     rows = measure.kept_rows(options)
     for source, path, ranks, _ in measure.programs(options, ("", "OK")):
         row = rows.get(path)
+        if options.only not in (None, path):
+            continue
         if row is None or row.get("end") == "finished":
             yield source, path, ranks, ["--blocking"]
 
@@ -134,42 +170,67 @@ def examine(job):
     """What became of one program, with each library."""
     import real_programs as measure
 
-    source, path, ranks, more, wiz, libraries = job
+    source, path, ranks, more, options = job
     text = measure.adapt(path, ranks, more)[0]
     if text is None:
         return source, path, {}
-    printed = measure.record(wiz, text, ranks, "record")
+    printed = measure.record(options.wiz, text, ranks, "record")
     if not printed.endswith("finished"):
         return source, path, {}
-    races = measure.record(wiz, text, ranks, "races")
+    races = measure.record(options.wiz, text, ranks, "races")
     if re.search(r"raced [1-9]", races):
         return source, path, {"with neither": "not determined"}
-    wanted = outputs_of(printed, ranks)
-    came = {
-        library: compare(library, path, ranks, wanted, measure.HEADERS)
-        for library in libraries.split(",")
+    outputs = {
+        library: printed_by(
+            library, path, ranks, measure.HEADERS, options.seconds
+        )
+        for library in options.libraries.split(",")
     }
-    return source, path, came
+    return source, path, all_compared(outputs, outputs_of(printed, ranks))
+
+
+def kind_of(told):
+    """What is counted: the same, not determined, not compiled, .."""
+    if told.startswith(APART):
+        return "differs, as the libraries do"
+    return "differs" if told.startswith("rank ") else told
+
+
+def read_arguments(measure):
+    """The options of a command line."""
+    parser = measure.reader(__doc__)
+    parser.add_argument("--libraries", default="mpich,openmpi")
+    parser.add_argument("--seconds", type=int, default=SECONDS)
+    parser.add_argument("--cases", action="store_true")
+    parser.add_argument("--only", type=os.path.abspath)
+    return parser.parse_args()
 
 
 def main():
     """Compares, and prints what differs."""
     import real_programs as measure
 
-    parser = measure.reader(__doc__)
-    parser.add_argument("--libraries", default="mpich,openmpi")
-    parser.add_argument("--cases", action="store_true")
-    options = parser.parse_args()
-    count = collections.Counter()
-    last = (options.wiz, options.libraries)
-    jobs = [(*it, *last) for it in programs(options, measure)]
+    options = read_arguments(measure)
+    keeps = not (options.cases or options.only)
+    kept = measure.kept_rows(options, KEPT) if keeps else {}
+    jobs = [(*it, options) for it in programs(options, measure)]
+    todo = [it for it in jobs if it[1] not in kept]
     with multiprocessing.Pool(options.jobs) as pool:
-        for source, path, came in pool.imap_unordered(examine, jobs):
-            for library, told in came.items():
-                other = told not in ("same", "not determined")
-                count[f"{source} {library} {'other' if other else told}"] += 1
-                if other:
-                    print(f"{library} {path}: {told}", flush=True)
+        for source, path, came in pool.imap_unordered(examine, todo):
+            kept[path] = came
+            if keeps:
+                measure.keep_rows(options, kept, KEPT)
+    tell([(source, path, kept[path]) for source, path, *_ in jobs])
+
+
+def tell(rows):
+    """Prints what differs, and counts."""
+    count = collections.Counter()
+    for source, path, came in rows:
+        for library, told in came.items():
+            count[f"{source} {library} {kind_of(told)}"] += 1
+            if told not in (SAME, "not determined"):
+                print(f"{library} {path}: {told}")
     for name in sorted(count):
         print(f"{count[name]:5} {name}")
 
