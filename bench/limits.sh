@@ -1,6 +1,7 @@
 #!/usr/bin/env bash
 # Runs at the limits of a run, each at a quarter, at half and whole: recorded on one thread, and its first group replayed from
-# its log on one thread. Then three runs of messages alone, recorded, and the races of two runs of 64 ranks, and advice on their groups.
+# its log on one thread. Then three runs of messages alone, recorded, the races of two runs of 64 ranks, and advice on their groups; two runs
+# that part in their last message, compared; and a run of 64 ranks that is stuck at its end, explained.
 # Needs `rt` and GNU time (`apt-get install time`). A row gives
 # wall-clock seconds from start to end (the least of five runs), the growth against the row above, peak memory in MB, and the
 # bytes of all logs, without the program's text in them, for each event. `bench/limits.sh NAME` does the rows of one name alone.
@@ -73,13 +74,17 @@ scans() {
   program '0-63\n' '' "for(i=0;i<$(($1 / 128));i++)MPI_Scan(&r,&x,1,MPI_INT,MPI_SUM,MPI_COMM_WORLD);"
 }
 
-# The least of five wall-clock times of a command in seconds, and its peak memory in MB; its last line is to be this one.
+# The least of five wall-clock times of a command in seconds, and its peak memory in MB; it is to end with this status and this last line.
 measure() {
-  local want=$1
-  shift
+  local status=$1 want=$2 got
+  shift 2
   for _ in 1 2 3 4 5; do
-    /usr/bin/time -o took -f '%e %M' "$wiz" "$@" >printed || { tail -n 1 printed >&2; exit 1; }
-    [ "$(tail -n 1 printed)" = "$want" ] || { echo "$*: $(tail -n 1 printed)" >&2; exit 1; }
+    /usr/bin/time -q -o took -f '%e %M' "$wiz" "$@" >printed
+    got=$?
+    if [ "$got" -ne "$status" ] || [ "$(tail -n 1 printed)" != "$want" ]; then
+      echo "$*: status $got, $(tail -n 1 printed)" >&2
+      exit 1
+    fi
     cat took
   done | sort -n | awk 'NR == 1 { seconds = $1 } $2 > most { most = $2 } END { printf "%s %.0f\n", seconds, most / 1024 }'
 }
@@ -96,8 +101,8 @@ rows() {
   for size in $((whole / 4)) $((whole / 2)) "$whole"; do
     "$name" "$size"
     rm -f run.*
-    recorded=$(measure finished record program plan run --serial)
-    replayed=$(measure ended replay run.0.srr --serial)
+    recorded=$(measure 0 finished record program plan run --serial)
+    replayed=$(measure 0 ended replay run.0.srr --serial)
     events=$(wc -l <run.order)
     text=$(wc -c <program)
     bytes=$(cat run.*.srr | wc -c)
@@ -116,7 +121,7 @@ recording() {
   local name=$1 size=$2 seconds memory
   [ -z "$only" ] || [ "$only" = "$name" ] || return 0
   "$name" "$3"
-  read -r seconds memory <<<"$(measure finished record program plan run --serial)"
+  read -r seconds memory <<<"$(measure 0 finished record program plan run --serial)"
   printf '%-10s %8d messages %8s s %6d MB\n' "$name" "$size" "$seconds" "$memory"
 }
 
@@ -127,8 +132,52 @@ explained() {
   "$name" "$2"
   rm -f run.*
   for command in 'record program plan run' 'races program plan' 'advise program plan 8'; do
-    read -r seconds memory <<<"$(measure finished $command --serial)"
+    read -r seconds memory <<<"$(measure 0 finished $command --serial)"
     printf '%-10s %8d events %-8s %8s s %6d MB\n' "$name" "$(wc -l <run.order)" "${command%% *}" "$seconds" "$memory"
+  done
+}
+
+# An int to and fro, and at the end rank 0 probes in vain, or not: the last message but one may have come by then.
+last_probe() {
+  events "$1"
+  sed -i 's/printf/if(r==0)MPI_Iprobe(1,1,MPI_COMM_WORLD,\&y,MPI_STATUS_IGNORE);if(r==1)MPI_Send(\&x,1,MPI_INT,0,1,MPI_COMM_WORLD);printf/' program
+}
+
+# Two runs of the program that part at rank 0's last call: one in which rank 1 comes last, and one in which it sends first.
+parted() {
+  local size seconds memory replayed last above=0
+  [ -z "$only" ] || [ "$only" = diff ] || return 0
+  for size in $((999000 / 4)) $((999000 / 2)) 999000; do
+    last_probe $((size - 12))
+    rm -f run.* other.*
+    "$wiz" record program plan run --serial >/dev/null
+    # The same turns, but rank 1's last send comes before rank 0's probe.
+    head -n -4 run.order >turns
+    printf '1\n1\n0\n0\n' >>turns
+    "$wiz" record program plan other --order turns >/dev/null
+    read -r replayed memory <<<"$(measure 0 ended replay run.0.srr --serial)"
+    last=$("$wiz" diff run.0.srr other.0.srr | tail -n 1 || true)
+    read -r seconds memory <<<"$(measure 15 "$last" diff run.0.srr other.0.srr)"
+    printf '%-10s %8d events replay %8s s diff %8s s growth %s %6d MB\n' diff "$(wc -l <run.order)" "$replayed" "$seconds" "$(growth "$above" "$seconds")" "$memory"
+    above=$seconds
+  done
+}
+
+# The ranks pass an int on as in `ranks`; then each receives from the next, which sends nothing.
+stuck() {
+  ranks "$1"
+  sed -i 's/printf/MPI_Recv(\&x,1,MPI_INT,(r+1)%n,2,MPI_COMM_WORLD,MPI_STATUS_IGNORE);printf/' program
+}
+
+explained_stuck() {
+  local size recorded seconds memory
+  [ -z "$only" ] || [ "$only" = waits ] || return 0
+  for size in $((900000 / 4)) $((900000 / 2)) 900000; do
+    stuck "$size"
+    rm -f run.*
+    read -r recorded memory <<<"$(measure 7 'halted stuck' record program plan run --serial)"
+    read -r seconds memory <<<"$(measure 7 'halted stuck' waits program plan --serial)"
+    printf '%-10s %8d events record %8s s waits %8s s %6d MB\n' waits "$(wc -l <run.order)" "$recorded" "$seconds" "$memory"
   done
 }
 
@@ -149,3 +198,6 @@ recording all_to_one 94000 94000
 echo 'races, and advice on blocks of 8 ranks'
 explained rounds 299520
 explained scans 299520
+echo 'two runs that part in their last message; who waits for whom at the end of a run'
+parted
+explained_stuck

@@ -32,6 +32,8 @@ STATUSES = {
     "check": {0, 1, 2, 3, 4, 5, 6, 7, 11, 12},
     "races": {0, 1, 2, 3, 4, 5, 6, 7, 11, 12, 14},
     "advise": {0, 1, 2, 3, 4, 5, 6, 7, 11, 12},
+    "diff": READ | {5, 9, 10, 13, 15},
+    "waits": {0, 1, 2, 3, 4, 5, 6, 7, 11, 12},
 }
 
 
@@ -162,6 +164,7 @@ def log_mutations(draw, work, count, table):
     folder = tempfile.mkdtemp(dir=work)
     for name, data in {"two": b"0\n1\n", "three": b"0\n1\n2\n", "four": b"0\n1\n2-3\n"}.items():
         write(folder, name, data)
+    write(folder, "same", race["run.0.srr"])
     write(folder, "race", race["run.1.srr"])
     write(folder, "split", split["run.1.srr"])
     for _ in range(count):
@@ -177,9 +180,14 @@ def log_mutations(draw, work, count, table):
             ["convert", "log", "new"],
             ["refine", "log", draw.choice(["two", "three", "four"]), "new"],
             ["join", "log", draw.choice(["race", "split"]), "new"],
+            ["diff", draw.choice(["same", "race", "split"]), "log"],
         ])
         table.add(words, data, *run(words, folder, made=("new",)))
     table.show("logs")
+
+
+# Turns of the programs that are mutated, some of which pick.
+TURNS = b"0\n1\n1\n2 from 1\n0 index 1\n3\n0 from 2\n0\n1 from 0\n2\n3 index 0\n"
 
 
 def program_mutations(draw, work, count, table):
@@ -196,9 +204,17 @@ def program_mutations(draw, work, count, table):
             ["check", "p.c", "plan", "--serial"],
             ["races", "p.c", "plan", "--serial"],
             ["advise", "p.c", "plan", "2", "--serial"],
+            ["waits", "p.c", "plan", "--serial"],
         ])
         table.add(words, data, *run(words, folder, made=("run.",)))
     table.show("programs")
+    for _ in range(count // 10):
+        write(folder, "p.c", draw.choice(texts))
+        data = mutated(draw, TURNS)
+        write(folder, "turns", data)
+        words = draw.choice([["record", "p.c", "plan", "run"], ["races", "p.c", "plan"], ["waits", "p.c", "plan"]])
+        table.add(words, data, *run(words + ["--order", "turns"], folder, made=("run.",)))
+    table.show("orders")
 
 
 def odd_files(draw, work, table):
@@ -214,19 +230,24 @@ def odd_files(draw, work, table):
         (log, "log", ["stats", "log"]),
         (log, "log", ["convert", "log", "run.new"]),
         (log, "log", ["replay", "log", "--serial"]),
+        (log, "log", ["diff", "log", "log"]),
         (log, "log", ["replay", "log"]),
         (text, "p.c", ["replay", "log", "--program", "p.c", "--serial"]),
         (text, "p.c", ["record", "p.c", "plan", "run", "--serial"]),
         (text, "p.c", ["check", "p.c", "plan"]),
         (text, "p.c", ["races", "p.c", "plan", "--serial"]),
         (text, "p.c", ["advise", "p.c", "plan", "1", "--serial"]),
+        (text, "p.c", ["waits", "p.c", "plan", "--serial"]),
         (text, "plan", ["record", "p.c", "plan", "run", "--serial"]),
         (text, "plan", ["check", "p.c", "plan"]),
         (order, "turns", ["record", "p.c", "plan", "run", "--order", "turns"]),
         (order, "turns", ["races", "p.c", "plan", "--order", "turns"]),
         (order, "turns", ["advise", "p.c", "plan", "1", "--order", "turns"]),
+        (order, "turns", ["waits", "p.c", "plan", "--order", "turns"]),
     ]:
         odd = [b"", bytes(1), bytes(limit), bytes(limit + 1), draw.randbytes(min(limit, 1 << 20)), b"\n" * limit, b"(" * limit, b"0\n" * (limit // 2)]
+        if name == "turns":
+            odd += [b"0 from 1\n" * (limit // 9), b"0 index 999999\n" * (limit // 15), b"0 from " * (limit // 7)]
         if name == "log":
             odd += [b"srr 1\n" + bytes(limit - 6), b"srr 2\n" + bytes(limit - 6), b"srr 2\n" + draw.randbytes(1 << 20)]
         for data in odd:
@@ -254,6 +275,9 @@ def odd_words(work, table):
         (["show", "/dev/null"], {8}),
         (["show", "/dev/zero"], {3, 12}),
         (["replay", "/dev/zero"], {3, 12}),
+        (["diff", "plan", "/dev/zero"], {3, 12}),
+        (["diff", "/dev/null", "/dev/null"], {8}),
+        (["waits", "p.c", "/dev/zero"], {3, 12}),
         (["record", "/dev/zero", "plan", "run"], {3, 12}),
         (["record", "p.c", "/dev/zero", "run"], {3, 12}),
         (["record", "p.c", "plan", "run", "--order", "/dev/zero"], {3, 12}),

@@ -1,8 +1,8 @@
 #!/usr/bin/env python3
 """Memory that is refused: one allocation after another, and from one allocation on.
 
-A program of three ranks in two groups is recorded, and each of its logs replayed, on one thread and on threads. For N = 1, 2, 3 .. the
-N-th allocation of a run is refused, until a run makes fewer; then the same with all allocations from the N-th on; then once all threads.
+A program of three ranks in two groups is recorded, each of its logs replayed, and `check` and `waits` made of it, on one thread and on
+threads; by an order that picks it is recorded on one, and a log of that recording compared with one of the first. For N = 1, 2, 3 .. the N-th allocation of a run is refused, until a run makes fewer; then the same with all allocations from the N-th on; then once all threads.
 Each run has to end within a bounded time, either as it does without a refusal or with status 11, and then what it printed and wrote has
 to be a prefix of that. A library that is loaded before the C library counts and refuses calls of malloc, calloc, realloc, the aligned
 forms, and pthread_create, since a thread's stack is memory too. Needs `rt` and gcc. Arguments: the greatest N that is tried (all)."""
@@ -67,6 +67,10 @@ RECEIVE = 'MPI_Recv(&x,1,MPI_INT,MPI_ANY_SOURCE,9,MPI_COMM_WORLD,MPI_STATUS_IGNO
 PROGRAM = FRONT + "if(r<2)MPI_Send(&r,1,MPI_INT,2,9,MPI_COMM_WORLD);if(r==2){" + 2 * RECEIVE + "}return 0;}"
 FILES = ["new.0.srr", "new.1.srr", "new.order"]
 RECORD = ["record", "program", "plan", "new"]
+# Without it rank 0's message, which was sent first, comes first.
+PICKED = b"0\n1\n2 from 1\n"
+# The commands whose work is done with another status than 0: here two runs part.
+DONE = {"diff": 15}
 
 
 class Folder:
@@ -170,9 +174,9 @@ def refuse_in_turn(folder, shim, words, all_from, most):
         result = folder.run(words)
         if result not in usual:
             usual.append(result)
-    if any(status != 0 for status, *_ in usual):
+    if any(status != DONE.get(words[0], 0) for status, *_ in usual):
         return 0, 0, ["without a refusal: " + str(usual)]
-    rounds = ROUNDS if "--serial" not in words else 1
+    rounds = ROUNDS if "--serial" not in words and "--order" not in words else 1
     number, made_fewer, eleven, failures = 0, 0, 0, []
     while made_fewer < rounds and number < most:
         number += 1
@@ -194,7 +198,7 @@ def refuse_threads(folder, shim, words):
 
 
 def show(words, refused, count, eleven, failures):
-    print(f"{' '.join(words):32} {refused:8} {count:6} {eleven:10} {len(failures):9}")
+    print(f"{' '.join(words):40} {refused:8} {count:6} {eleven:10} {len(failures):9}")
     for failure in failures[:5]:
         print(f"  {failure}")
     return len(failures)
@@ -213,12 +217,16 @@ def main():
         recorded = folder.run(RECORD + ["--serial"])[3]
         for name in FILES[:2]:
             folder.keep(name.replace("new", "old"), recorded[name])
-        commands = [RECORD, ["replay", "old.0.srr"], ["replay", "old.1.srr"], ["check", "program", "plan"]]
-        print(f"{'command':32} {'refused':8} {'runs':>6} {'status 11':>10} {'failures':>9}")
-        for words in [command + end for command in commands for end in [["--serial"], []]]:
+        folder.keep("picks", PICKED)
+        picking = RECORD + ["--order", "picks"]
+        folder.keep("picked.0.srr", folder.run(picking)[3]["new.0.srr"])
+        commands = [RECORD, ["replay", "old.0.srr"], ["replay", "old.1.srr"], ["check", "program", "plan"], ["waits", "program", "plan"]]
+        on_one = [picking, ["diff", "old.0.srr", "picked.0.srr"]]
+        print(f"{'command':40} {'refused':8} {'runs':>6} {'status 11':>10} {'failures':>9}")
+        for words in [command + end for command in commands for end in [["--serial"], []]] + on_one:
             for all_from in [False, True]:
                 failed += show(words, "all from" if all_from else "one", *refuse_in_turn(folder, shim, words, all_from, most))
-            if "--serial" not in words:
+            if "--serial" not in words and words not in on_one:
                 failed += show(words, "threads", *refuse_threads(folder, shim, words))
     print(f"{failed} failures")
     return 1 if failed else 0

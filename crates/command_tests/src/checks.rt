@@ -12,9 +12,10 @@ const CHECK: &[&str] = &["check", "P", "Q", "--serial"];
 #[test]
 fn runs_are_checked(rt: HostRuntime) {
     let alloc = rt.alloc();
-    // The program, the plan, the arguments, the status, and what is printed.
-    let rows: [(&[u8], &[u8], &[&str], u8, &[u8]); 9] = [
+    // By its name, the program, the plan, the arguments, the status, and what is printed.
+    let rows: [(&str, &[u8], &[u8], &[&str], u8, &[u8]); 9] = [
         (
+            "one group",
             FIRST,
             b"0 1",
             CHECK,
@@ -22,6 +23,7 @@ fn runs_are_checked(rt: HostRuntime) {
             b"rank 0 group 0 calls 2 output 0 same\nrank 1 group 0 calls 3 output 2 same\nfinished\n",
         ),
         (
+            "two groups in another order",
             FIRST,
             b"1\n0\n",
             &["check", "--serial", "P", "Q"],
@@ -29,6 +31,7 @@ fn runs_are_checked(rt: HostRuntime) {
             b"rank 0 group 1 calls 2 output 0 same\nrank 1 group 0 calls 3 output 2 same\nfinished\n",
         ),
         (
+            "a message from outside",
             CHAIN,
             b"0 1\n2",
             CHECK,
@@ -36,6 +39,7 @@ fn runs_are_checked(rt: HostRuntime) {
             b"rank 0 group 0 calls 3 output 0 same\nrank 1 group 0 calls 2 output 0 same\nrank 2 group 1 calls 4 output 0 same\nfinished\n",
         ),
         (
+            "mutual receives",
             CYCLE,
             b"0 1",
             CHECK,
@@ -43,28 +47,51 @@ fn runs_are_checked(rt: HostRuntime) {
             b"rank 0 group 0 calls 2 output 0 same\nrank 1 group 0 calls 2 output 0 same\nhalted stuck\n",
         ),
         (
+            "a rank that is none",
             BAD_RANK,
             b"0\n1",
             CHECK,
             7,
             b"rank 0 group 0 calls 1 output 0 same\nrank 1 group 1 calls 1 output 0 same\nhalted trapped rank 0 bad rank\n",
         ),
-        (b"int x;", b"0 0", CHECK, 5, b"program 1:6 unexpected\n"),
-        (FIRST, b"0 0", CHECK, 6, b"plan repeated 0\n"),
         (
+            "no function",
+            b"int x;",
+            b"0 0",
+            CHECK,
+            5,
+            b"program 1:6 unexpected\n",
+        ),
+        (
+            "a rank twice",
+            FIRST,
+            b"0 0",
+            CHECK,
+            6,
+            b"plan repeated 0\n",
+        ),
+        (
+            "no plan",
             FIRST,
             b"0 1",
             &["check", "P", "R", "--serial"],
             2,
             b"no file R\n",
         ),
-        (FIRST, b"0 1", &["check", "P", "Q"], 1, b"refused words\n"),
+        (
+            "no threads",
+            FIRST,
+            b"0 1",
+            &["check", "P", "Q"],
+            1,
+            b"refused words\n",
+        ),
     ];
-    for (program, plan, words, status, printed) in rows {
+    for (name, program, plan, words, status, printed) in rows {
         let mut store = files(alloc, &[("P", program), ("Q", plan)]).expect(&rt, "files");
         assert!(&rt;
             answers(alloc, &mut store, words, status, printed),
-            "{printed:?}"
+            "{name}"
         );
     }
 }

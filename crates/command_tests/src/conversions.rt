@@ -3,7 +3,7 @@ use crate::programs::FIRST_LOG;
 use crate::replays::{
     ALONE, DIVERGED, ENDS_AT_ONCE, FIRST_TRACE, NO_ENTRY, REFUSED, SHORT, STARVED,
 };
-use crate::serial::{answers, files, lines_of};
+use crate::serial::{answers, check_row, files, lines_of};
 use std::alloc::Global;
 use wiz_cli::top::wiz_serial;
 use wiz_io::{MemorySink, MemoryStore};
@@ -68,37 +68,46 @@ fn is_one_log(alloc: Global, log: &[u8]) -> Option<bool> {
 
 #[test]
 fn forged_logs_are_converted_too(rt: HostRuntime) {
-    let logs: [&[u8]; 8] = [
-        FIRST_LOG,
-        DIVERGED,
-        ENDS_AT_ONCE,
-        STARVED,
-        ALONE,
-        NO_ENTRY,
-        REFUSED,
-        SHORT,
+    let logs: [(&str, &[u8]); 8] = [
+        ("the first log", FIRST_LOG),
+        ("one that diverges", DIVERGED),
+        ("one whose rank 0 ends at once", ENDS_AT_ONCE),
+        ("one that starves", STARVED),
+        ("one of one rank", ALONE),
+        ("one without an entry", NO_ENTRY),
+        ("one whose program is refused", REFUSED),
+        ("one whose program makes no call but the last", SHORT),
     ];
-    for log in logs {
-        assert!(&rt; is_one_log(rt.alloc(), log).unwrap_or(false));
+    for (name, log) in logs {
+        check_row(&rt, name, is_one_log(rt.alloc(), log));
     }
 }
 
 #[test]
 fn what_is_no_log_is_not_converted(rt: HostRuntime) {
     let alloc = rt.alloc();
-    // What the file L holds, and the message.
-    let rows: [(&[u8], &[u8]); 6] = [
-        (b"0\n", b"log 0 bad head\n"),
-        (b"srr 3\n", b"log 0 bad version\n"),
-        (b"srr 2\nranks 2\n", b"log 6 bad number\n"),
-        (&FIRST_LOG[..270], b"log 270 short\n"),
-        (&FIRST_BYTES[..286], b"log 286 short\n"),
-        (&FIRST_BYTES[..5], b"log 5 short\n"),
+    // By its name, what the file L holds, and the message.
+    let rows: [(&str, &[u8], &[u8]); 6] = [
+        ("a plan", b"0\n", b"log 0 bad head\n"),
+        ("a later version", b"srr 3\n", b"log 0 bad version\n"),
+        (
+            "lines behind version 2",
+            b"srr 2\nranks 2\n",
+            b"log 6 bad number\n",
+        ),
+        ("a front in format 1", &FIRST_LOG[..270], b"log 270 short\n"),
+        (
+            "a front in format 2",
+            &FIRST_BYTES[..286],
+            b"log 286 short\n",
+        ),
+        ("the version alone", &FIRST_BYTES[..5], b"log 5 short\n"),
     ];
-    for (log, message) in rows {
+    for (name, log, message) in rows {
         let mut store = files(alloc, &[("L", log)]).expect(&rt, "files");
-        assert!(&rt; answers(alloc, &mut store, &["convert", "L", "M"], 8, message));
-        assert!(&rt; store.file("M").is_none());
+        let convert: &[&str] = &["convert", "L", "M"];
+        assert!(&rt; answers(alloc, &mut store, convert, 8, message), "{name}");
+        assert!(&rt; store.file("M").is_none(), "{name}");
     }
     let mut store = MemoryStore::new(alloc);
     assert!(&rt; answers(alloc, &mut store, &["convert", "L", "M"], 2, b"no file L\n"));

@@ -30,8 +30,11 @@ const RACES: &[u8] = b"receives 0 raced 0\nfinished\n";
 
 const FINISHED: &[u8] = b"finished\n";
 
+/// What is told of the first log beside itself.
+const SAME: &[u8] = b"rank 0 same 2\nrank 1 same 3\nsame\n";
+
 /// Each command that reads, writes or prints, on threads and on one thread.
-fn commands() -> [Row<'static>; 23] {
+fn commands() -> [Row<'static>; 24] {
     [
         (&["record", "P", "Q", "A"], RUN, RECORDING, FIRST_RECORDED),
         (
@@ -89,6 +92,7 @@ fn commands() -> [Row<'static>; 23] {
         ),
         (&["show", "L"], &["L"], NONE, SHOWN),
         (&["stats", "L"], &["L"], NONE, COUNTED),
+        (&["diff", "L", "L"], &["L", "L"], NONE, SAME),
         (&["convert", "L", "M"], &["L"], &["M"], b""),
         (&["convert", "L", "M", "--text"], &["L"], &["M"], b""),
     ]
@@ -200,20 +204,24 @@ fn ends_at_put<R: Threads + Wait + Sync + AllocGlobal>(
 fn a_put_that_fails_leaves_a_message_out(rt: HostRuntime) {
     let alloc = rt.alloc();
     // The arguments, and the status: that of a text that is not put out, or that of a message, which stays as it is.
-    let rows: [(&[&str], u8); 14] = [
+    let rows: [(&[&str], u8); 18] = [
         (&["check", "P", "Q", "--serial"], 4),
         (&["races", "P", "Q", "--serial"], 4),
+        (&["waits", "P", "Q", "--serial"], 4),
+        (&["diff", "L", "L"], 4),
         (&["advise", "P", "Q", "1", "--order", "F"], 4),
         (&["record", "P", "Q", "A", "--serial"], 4),
         (&["replay", "L", "--program", "P", "--serial"], 4),
         (&["play"], 1),
         (&["show", "N"], 2),
         (&["convert", "N", "M"], 2),
+        (&["diff", "L", "N"], 2),
         (&["record", "Q", "Q", "A", "--serial"], 5),
         (&["replay", "L", "--program", "Q", "--serial"], 5),
         (&["check", "P", "L", "--serial"], 6),
         (&["record", "P", "Q", "A", "--order", "P"], 6),
         (&["stats", "Q"], 8),
+        (&["diff", "L", "Q"], 8),
         (&["convert", "Q", "M"], 8),
     ];
     for (words, status) in rows {
@@ -226,7 +234,7 @@ fn a_put_that_fails_leaves_a_message_out(rt: HostRuntime) {
             report.status == status && full.bytes().is_empty(),
             "{words:?}"
         );
-        assert!(&rt; store.file("M").is_none());
+        assert!(&rt; store.file("M").is_none(), "{words:?}");
     }
 }
 

@@ -2,7 +2,7 @@
 use crate::programs::{FIRST_LOG, MIXED};
 use crate::replays::FIRST_TRACE;
 use crate::rows::joined;
-use crate::serial::{files, lines_of};
+use crate::serial::{check_row, files, lines_of};
 use crate::tool;
 use std::alloc::Global;
 use std::sync::Wait;
@@ -31,20 +31,61 @@ const MIXED_LOG: &[u8] =
 const MIXED_RECORDED: &[u8] =
     b"rank 0 output 4\n6 1\n\nrank 1 output 4\n6 1\n\nrank 2 output 4\n6 1\n\nfinished\n";
 
-/// A log with a part replaced: where it begins, its length, what stands there instead, the status, and what is printed, in parts.
-type Row<'a> = (&'a [u8], usize, usize, &'a [u8], u8, &'a [&'a [u8]]);
+/// By its name, a log with a part replaced: where it begins, its length, what stands there instead, the status, and what is printed, in parts.
+type Row<'a> = (
+    &'a str,
+    &'a [u8],
+    usize,
+    usize,
+    &'a [u8],
+    u8,
+    &'a [&'a [u8]],
+);
 
 /// Forged logs: the first log as it is, then with one change each, and a cycle.
 fn forged_logs() -> [Row<'static>; 10] {
     [
-        (FIRST_LOG, 0, 0, b"", 0, &[FIRST_TRACE]),
-        // The head, the number of ranks, and the group; a text that begins so is read as one in format 2.
-        (FIRST_LOG, 4, 1, b"2", 8, &[b"log 6 bad number\n"]),
-        (FIRST_LOG, 12, 1, b"0", 8, &[b"log 6 bad number\n"]),
-        (FIRST_LOG, 20, 3, b"1 0", 8, &[b"log 14 bad group\n"]),
-        // Rank 1's second entry: a sender that is none, a message that there is not, a start that was not asked for, and one more.
-        (FIRST_LOG, 270, 7, b"t 0=5.0", 8, &[b"log 270 bad entry\n"]),
+        ("the log as it is", FIRST_LOG, 0, 0, b"", 0, &[FIRST_TRACE]),
+        // A text that begins so is read as one in format 2.
         (
+            "another version",
+            FIRST_LOG,
+            4,
+            1,
+            b"2",
+            8,
+            &[b"log 6 bad number\n"],
+        ),
+        (
+            "no ranks",
+            FIRST_LOG,
+            12,
+            1,
+            b"0",
+            8,
+            &[b"log 6 bad number\n"],
+        ),
+        (
+            "a group that falls",
+            FIRST_LOG,
+            20,
+            3,
+            b"1 0",
+            8,
+            &[b"log 14 bad group\n"],
+        ),
+        // Rank 1's second entry.
+        (
+            "a sender that is none",
+            FIRST_LOG,
+            270,
+            7,
+            b"t 0=5.0",
+            8,
+            &[b"log 270 bad entry\n"],
+        ),
+        (
+            "a message that there is not",
             FIRST_LOG,
             270,
             7,
@@ -53,6 +94,7 @@ fn forged_logs() -> [Row<'static>; 10] {
             &[FIRST_TRACE_HEAD, b"output 0\n\nstarved 0.999999\n"],
         ),
         (
+            "a start that was not asked for",
             FIRST_LOG,
             270,
             7,
@@ -64,6 +106,7 @@ fn forged_logs() -> [Row<'static>; 10] {
             ],
         ),
         (
+            "one start more",
             FIRST_LOG,
             270,
             7,
@@ -74,8 +117,8 @@ fn forged_logs() -> [Row<'static>; 10] {
                 b"output 0\n\ndiverged call 1 entry t 0=0.0 1=0.0 made take all 0\n",
             ],
         ),
-        // Rank 1's last entry.
         (
+            "a halt in place of rank 1's end",
             FIRST_LOG,
             278,
             1,
@@ -88,6 +131,7 @@ fn forged_logs() -> [Row<'static>; 10] {
         ),
         // Each of two ranks rests on what the other sends later.
         (
+            "a cycle",
             CYCLE_LOG,
             0,
             0,
@@ -109,14 +153,13 @@ fn replaced(alloc: Global, log: &[u8], at: usize, length: usize, new: &[u8]) -> 
 #[test]
 fn a_forged_log_is_refused_starves_or_diverges(rt: HostRuntime) {
     for row in forged_logs() {
-        let new = row.3;
-        assert!(&rt; is_so(&rt, &row).unwrap_or(false), "{new:?}");
+        check_row(&rt, row.0, is_so(&rt, &row));
     }
 }
 
 /// Whether a forged log has its status and output, on one thread and on threads.
 fn is_so<R: Threads + Wait + Sync + AllocGlobal>(rt: &R, row: &Row<'_>) -> Option<bool> {
-    let (log, at, length, new, status, parts) = row;
+    let (_, log, at, length, new, status, parts) = row;
     let forged = replaced(rt.alloc(), log, *at, *length, new)?;
     let printed = joined(rt.alloc(), parts)?;
     let mut store = files(rt.alloc(), &[("L", forged.as_slice())])?;

@@ -8,6 +8,8 @@ mod checks;
 #[cfg(test)]
 mod conversions;
 #[cfg(test)]
+mod diffs;
+#[cfg(test)]
 mod faults;
 #[cfg(test)]
 mod forged;
@@ -33,5 +35,7 @@ mod synchronous;
 mod threads;
 #[cfg(test)]
 mod tool;
+#[cfg(test)]
+mod waits;
 #[cfg(test)]
 mod words;

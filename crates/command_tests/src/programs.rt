@@ -31,6 +31,10 @@ pub const BAD_RANK: &[u8] =
 pub const SUM: &[u8] =
     b"#include <stdio.h>\n#include <mpi.h>\n#define N 256\nint main(int argc, char **argv) {\n  int rank, size, i, sum = 0, big[N]; /* one block */\n  MPI_Status st;\n  MPI_Init(&argc, &argv);\n  MPI_Comm_rank(MPI_COMM_WORLD, &rank);\n  MPI_Comm_size(MPI_COMM_WORLD, &size);\n  for (i = 0; i < N; i++) big[i] = rank;\n  if (rank == 0) {\n    for (i = 1; i < size; i++) {\n      MPI_Recv(big, N, MPI_INT, MPI_ANY_SOURCE, 1, MPI_COMM_WORLD, &st);\n      sum += big[N - 1] * st.MPI_SOURCE;\n    }\n    printf(\"sum %d\\n\", sum);\n  } else {\n    MPI_Send(big, N, MPI_INT, 0, 1, MPI_COMM_WORLD);\n  }\n  MPI_Finalize();\n  return 0;\n}\n";
 
+/// The same with the longest arrays that a message takes.
+pub const LONG_SUM: &[u8] =
+    b"#include <stdio.h>\n#include <mpi.h>\n#define N 65536\nint main(int argc, char **argv) {\n  int rank, size, i, sum = 0, big[N]; /* one block */\n  MPI_Status st;\n  MPI_Init(&argc, &argv);\n  MPI_Comm_rank(MPI_COMM_WORLD, &rank);\n  MPI_Comm_size(MPI_COMM_WORLD, &size);\n  for (i = 0; i < N; i++) big[i] = rank;\n  if (rank == 0) {\n    for (i = 1; i < size; i++) {\n      MPI_Recv(big, N, MPI_INT, MPI_ANY_SOURCE, 1, MPI_COMM_WORLD, &st);\n      sum += big[N - 1] * st.MPI_SOURCE;\n    }\n    printf(\"sum %d\\n\", sum);\n  } else {\n    MPI_Send(big, N, MPI_INT, 0, 1, MPI_COMM_WORLD);\n  }\n  MPI_Finalize();\n  return 0;\n}\n";
+
 /// The groups of its eight ranks.
 pub const SUM_PLAN: &[u8] = b"0-2\n3-5\n6 7 # rest\n";
 

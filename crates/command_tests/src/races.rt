@@ -18,38 +18,65 @@ const ANSWERED: &[u8] =
 #[test]
 fn races_are_listed(rt: HostRuntime) {
     let alloc = rt.alloc();
-    // The program, the arguments, the status, and what is printed.
-    let rows: [(&[u8], &[&str], u8, &[u8]); 7] = [
+    // By its name, the program, the arguments, the status, and what is printed.
+    let rows: [(&str, &[u8], &[&str], u8, &[u8]); 7] = [
         // A send after a completion that is not ordered by it.
         (
+            "two senders",
             TWO_SENDERS,
             ORDERED,
             0,
             b"receive 2.0 took 1.0 others 0.0\nreceive 2.1 took 0.0 others 1.0\nreceives 2 raced 2\nfinished\n",
         ),
         (
+            "a sender that is answered",
             ANSWERED,
             SERIAL,
             0,
             b"receive 2.0 took 1.0 others none\nreceive 2.2 took 0.1 others 1.0\nreceives 2 raced 1\nfinished\n",
         ),
-        (CYCLE, SERIAL, 7, b"receives 0 raced 0\nhalted stuck\n"),
-        (FIRST, &["races", "P", "Q"], 1, b"refused words\n"),
-        (FIRST, &["races", "P", "R", "--serial"], 2, b"no file R\n"),
-        (b"int x;", SERIAL, 5, b"program 1:6 unexpected\n"),
         (
+            "mutual receives",
+            CYCLE,
+            SERIAL,
+            7,
+            b"receives 0 raced 0\nhalted stuck\n",
+        ),
+        (
+            "no threads",
+            FIRST,
+            &["races", "P", "Q"],
+            1,
+            b"refused words\n",
+        ),
+        (
+            "no plan",
+            FIRST,
+            &["races", "P", "R", "--serial"],
+            2,
+            b"no file R\n",
+        ),
+        (
+            "no function",
+            b"int x;",
+            SERIAL,
+            5,
+            b"program 1:6 unexpected\n",
+        ),
+        (
+            "a rank twice",
             FIRST,
             &["races", "P", "F", "--serial"],
             6,
             b"plan repeated 2\n",
         ),
     ];
-    for (program, words, status, printed) in rows {
+    for (name, program, words, status, printed) in rows {
         let named: [(&str, &[u8]); 3] = [("P", program), ("Q", b"0-2"), ("F", b"1\n2\n2\n")];
         let mut store = files(alloc, &named).expect(&rt, "files");
         assert!(&rt;
             answers(alloc, &mut store, words, status, printed),
-            "{printed:?}"
+            "{name}"
         );
     }
 }

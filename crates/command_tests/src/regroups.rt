@@ -171,7 +171,8 @@ fn what_cannot_be_regrouped_is_refused(rt: HostRuntime) {
             answers(alloc, &mut store, words, status, message),
             "{words:?}"
         );
-        assert!(&rt; store.file("C").is_none() && store.file("C.0.srr").is_none());
+        let none = store.file("C").is_none() && store.file("C.0.srr").is_none();
+        assert!(&rt; none, "{words:?}");
     }
 }
 
@@ -205,8 +206,9 @@ fn logs_of_no_run_are_told_by_their_traces(rt: HostRuntime) {
             report.status == status && out.bytes() == printed,
             "{words:?}"
         );
-        assert!(&rt; report.replayed.as_slice().len() == replays);
-        assert!(&rt; store.file("C").is_none() && store.file("C.0.srr").is_none());
+        assert!(&rt; report.replayed.as_slice().len() == replays, "{words:?}");
+        let none = store.file("C").is_none() && store.file("C.0.srr").is_none();
+        assert!(&rt; none, "{words:?}");
     }
 }
 
@@ -237,11 +239,11 @@ fn faults_of_files_are_told(rt: HostRuntime) {
             report.status == status && out.bytes() == printed,
             "{call} {words:?}"
         );
-        assert!(&rt; report.replayed.as_slice().len() == replays);
-        assert!(&rt;
-            store.file("C.0.srr").is_some() == is_written
-                && store.file("C.1.srr").is_some() == (status == 0 && is_written)
-        );
+        let replayed = report.replayed.as_slice().len();
+        assert!(&rt; replayed == replays, "{call} {words:?}");
+        let first = store.file("C.0.srr").is_some() == is_written;
+        let second = store.file("C.1.srr").is_some() == (status == 0 && is_written);
+        assert!(&rt; first && second, "{call} {words:?}");
     }
     // The output fails at its first put, and the files are written.
     for (words, file) in [(refine, "C.1.srr"), (join, "C")] {
@@ -249,7 +251,7 @@ fn faults_of_files_are_told(rt: HostRuntime) {
         let mut full = MemorySink::new(alloc);
         full.fail(0).expect(&rt, "a put");
         let report = wiz_serial(alloc, words, &mut store, &mut full);
-        assert!(&rt; report.status == 4 && full.bytes().is_empty());
-        assert!(&rt; store.file(file).is_some());
+        assert!(&rt; report.status == 4 && full.bytes().is_empty(), "{words:?}");
+        assert!(&rt; store.file(file).is_some(), "{words:?}");
     }
 }

@@ -33,7 +33,7 @@ const STOPPED_TRACE: &[u8] =
 pub const DIVERGED: &[u8] =
     b"srr 1\nranks 2\ngroup 0 1\nprogram 209\nint main(void){int r,x=7;MPI_Comm_rank(MPI_COMM_WORLD,&r);if(r==0)MPI_Send(&x,1,MPI_INT,0,5,MPI_COMM_WORLD);if(r==1){x=0;MPI_Recv(&x,1,MPI_INT,0,5,MPI_COMM_WORLD,MPI_STATUS_IGNORE);printf(\"%d\\n\",x);}return 0;}\nrank 0 2\ns\nz\nrank 1 3\np\nt 0=0.0\nz\nend\n";
 
-const DIVERGED_TRACE: &[u8] =
+pub const DIVERGED_TRACE: &[u8] =
     b"rank 0\n0 send comm=0 to=0 tag=5 data=7 -> done\n1 end -> done\noutput 0\n\nended\nrank 1\n0 post comm=0 from=0 tag=5 room=1 -> done\noutput 0\n\ndiverged call 1 entry t 0=0.0 made take all 0 found 0.0 send comm=0 to=0 tag=5 data=7\n";
 
 /// The first log, but rank 0 ends at once.
@@ -44,7 +44,7 @@ pub const ENDS_AT_ONCE: &[u8] =
 pub const STARVED: &[u8] =
     b"srr 1\nranks 2\ngroup 0 1\nprogram 159\nint main(void){int r,x=7;MPI_Comm_rank(MPI_COMM_WORLD,&r);if(r==1){x=0;MPI_Recv(&x,1,MPI_INT,0,5,MPI_COMM_WORLD,MPI_STATUS_IGNORE);printf(\"%d\\n\",x);}return 0;}\nrank 0 1\nz\nrank 1 3\np\nt 0=0.0\nz\nend\n";
 
-const STARVED_TRACE: &[u8] =
+pub const STARVED_TRACE: &[u8] =
     b"rank 0\n0 end -> done\noutput 0\n\nended\nrank 1\n0 post comm=0 from=0 tag=5 room=1 -> done\noutput 0\n\nstarved 0.0\n";
 
 pub const ALONE: &[u8] =
@@ -99,38 +99,145 @@ fn answers<R: Threads + Wait + Sync + AllocGlobal>(
 fn commands_have_their_status_and_output(rt: HostRuntime) {
     let replay: &[&str] = &["replay", "L", "--serial"];
     let on_threads: &[&str] = &["replay", "L"];
-    let table: [(&[&str], &[u8], u8, &[u8]); 25] = [
-        (on_threads, FIRST_LOG, 0, FIRST_TRACE),
-        (on_threads, DIVERGED, 9, DIVERGED_TRACE),
-        (on_threads, STARVED, 10, STARVED_TRACE),
-        (&["replay", "L9"], FIRST_LOG, 2, b"no file L9\n"),
-        (replay, FIRST_LOG, 0, FIRST_TRACE),
-        (replay, DIVERGED, 9, DIVERGED_TRACE),
-        (replay, STARVED, 10, STARVED_TRACE),
-        (replay, ALONE, 0, ALONE_TRACE),
-        (replay, NO_ENTRY, 0, NO_ENTRY_TRACE),
-        (replay, REFUSED, 5, b"program 1:23 unknown\n"),
-        (replay, UNEXPECTED, 5, b"program 1:6 unexpected\n"),
-        (replay, LEFT_OUT, 5, b"program 1:1 left out\n"),
-        (replay, BAD_LITERAL, 5, b"program 1:23 bad literal\n"),
-        (replay, NO_MAIN, 5, b"program 1:1 no main\n"),
-        (replay, TWICE, 5, b"program 1:26 twice\n"),
-        (replay, CUT_OFF, 5, b"program 1:24 unexpected\n"),
-        (replay, SHORT, 0, b"rank 0\noutput 0\n\nlog ended\n"),
-        (replay, &FIRST_LOG[..270], 8, b"log 270 short\n"),
-        (replay, b"srr 3\n", 8, b"log 0 bad version\n"),
-        (replay, b"srr 2\nranks 2\n", 8, b"log 6 bad number\n"),
-        (&["replay", "L9", "--serial"], FIRST_LOG, 2, b"no file L9\n"),
-        (&[], FIRST_LOG, 1, b"refused words\n"),
-        (&["play"], FIRST_LOG, 1, b"refused words\n"),
-        (&["replay"], FIRST_LOG, 1, b"refused words\n"),
-        (&["replay", "--serial", "L"], FIRST_LOG, 0, FIRST_TRACE),
+    // By its name, the arguments, the log `L`, the status, and what is printed.
+    let table: [(&str, &[&str], &[u8], u8, &[u8]); 25] = [
+        (
+            "the first log on threads",
+            on_threads,
+            FIRST_LOG,
+            0,
+            FIRST_TRACE,
+        ),
+        (
+            "a log that diverges, on threads",
+            on_threads,
+            DIVERGED,
+            9,
+            DIVERGED_TRACE,
+        ),
+        (
+            "a log that starves, on threads",
+            on_threads,
+            STARVED,
+            10,
+            STARVED_TRACE,
+        ),
+        (
+            "no log, on threads",
+            &["replay", "L9"],
+            FIRST_LOG,
+            2,
+            b"no file L9\n",
+        ),
+        ("the first log", replay, FIRST_LOG, 0, FIRST_TRACE),
+        ("a log that diverges", replay, DIVERGED, 9, DIVERGED_TRACE),
+        ("a log that starves", replay, STARVED, 10, STARVED_TRACE),
+        ("one rank", replay, ALONE, 0, ALONE_TRACE),
+        ("no entry", replay, NO_ENTRY, 0, NO_ENTRY_TRACE),
+        (
+            "an unknown name",
+            replay,
+            REFUSED,
+            5,
+            b"program 1:23 unknown\n",
+        ),
+        (
+            "no function",
+            replay,
+            UNEXPECTED,
+            5,
+            b"program 1:6 unexpected\n",
+        ),
+        (
+            "a type that is left out",
+            replay,
+            LEFT_OUT,
+            5,
+            b"program 1:1 left out\n",
+        ),
+        (
+            "a number that is too high",
+            replay,
+            BAD_LITERAL,
+            5,
+            b"program 1:23 bad literal\n",
+        ),
+        (
+            "an empty program",
+            replay,
+            NO_MAIN,
+            5,
+            b"program 1:1 no main\n",
+        ),
+        (
+            "a name declared twice",
+            replay,
+            TWICE,
+            5,
+            b"program 1:26 twice\n",
+        ),
+        (
+            "a program that is cut off",
+            replay,
+            CUT_OFF,
+            5,
+            b"program 1:24 unexpected\n",
+        ),
+        (
+            "a program that makes no call but the last",
+            replay,
+            SHORT,
+            0,
+            b"rank 0\noutput 0\n\nlog ended\n",
+        ),
+        (
+            "a log that is cut off",
+            replay,
+            &FIRST_LOG[..270],
+            8,
+            b"log 270 short\n",
+        ),
+        (
+            "a later version",
+            replay,
+            b"srr 3\n",
+            8,
+            b"log 0 bad version\n",
+        ),
+        (
+            "lines behind version 2",
+            replay,
+            b"srr 2\nranks 2\n",
+            8,
+            b"log 6 bad number\n",
+        ),
+        (
+            "no log",
+            &["replay", "L9", "--serial"],
+            FIRST_LOG,
+            2,
+            b"no file L9\n",
+        ),
+        ("no words", &[], FIRST_LOG, 1, b"refused words\n"),
+        ("no command", &["play"], FIRST_LOG, 1, b"refused words\n"),
+        (
+            "no name of a log",
+            &["replay"],
+            FIRST_LOG,
+            1,
+            b"refused words\n",
+        ),
+        (
+            "an option before the log",
+            &["replay", "--serial", "L"],
+            FIRST_LOG,
+            0,
+            FIRST_TRACE,
+        ),
     ];
-    for (words, log, status, printed) in table {
-        assert!(&rt;
-            answers(&rt, words, &[("L", log)], status, printed),
-            "{words:?}"
-        );
+    for (name, words, log, status, printed) in table {
+        let so = answers(&rt, words, &[("L", log)], status, printed);
+        assert!(&rt; so, "{name}");
     }
 }
 
@@ -138,24 +245,68 @@ fn commands_have_their_status_and_output(rt: HostRuntime) {
 fn a_log_is_replayed_with_another_program(rt: HostRuntime) {
     let replay: &[&str] = &["replay", "L", "--program", "G", "--serial"];
     let on_threads: &[&str] = &["replay", "--program=G", "L"];
-    // The arguments, the log `L`, the program `G`, the status, and what is printed.
-    let table: [(&[&str], &[u8], &[u8], u8, &[u8]); 9] = [
-        (replay, FIRST_LOG, SENT_TO_SELF, 9, DIVERGED_TRACE),
-        (on_threads, FIRST_LOG, SENT_TO_SELF, 9, DIVERGED_TRACE),
-        (replay, ENDS_AT_ONCE, NOT_SENT, 10, STARVED_TRACE),
-        (on_threads, ENDS_AT_ONCE, NOT_SENT, 10, STARVED_TRACE),
-        (replay, FIRST_LOG, FIRST, 0, FIRST_TRACE),
+    // By its name, the arguments, the log `L`, the program `G`, the status, and what is printed.
+    let table: [(&str, &[&str], &[u8], &[u8], u8, &[u8]); 9] = [
+        (
+            "another destination",
+            replay,
+            FIRST_LOG,
+            SENT_TO_SELF,
+            9,
+            DIVERGED_TRACE,
+        ),
+        (
+            "another destination, on threads",
+            on_threads,
+            FIRST_LOG,
+            SENT_TO_SELF,
+            9,
+            DIVERGED_TRACE,
+        ),
+        (
+            "nothing is sent",
+            replay,
+            ENDS_AT_ONCE,
+            NOT_SENT,
+            10,
+            STARVED_TRACE,
+        ),
+        (
+            "nothing is sent, on threads",
+            on_threads,
+            ENDS_AT_ONCE,
+            NOT_SENT,
+            10,
+            STARVED_TRACE,
+        ),
+        ("the same program", replay, FIRST_LOG, FIRST, 0, FIRST_TRACE),
         // The text in the log is not looked at.
         (
+            "a log whose own program is refused",
             replay,
             REFUSED,
             b"int main(void){return 0;}",
             0,
             b"rank 0\noutput 0\n\nlog ended\n",
         ),
-        (replay, FIRST_LOG, b"int x;", 5, b"program 1:6 unexpected\n"),
-        (replay, b"srr 3\n", b"int x;", 8, b"log 0 bad version\n"),
         (
+            "no function",
+            replay,
+            FIRST_LOG,
+            b"int x;",
+            5,
+            b"program 1:6 unexpected\n",
+        ),
+        (
+            "a later version",
+            replay,
+            b"srr 3\n",
+            b"int x;",
+            8,
+            b"log 0 bad version\n",
+        ),
+        (
+            "no program",
             &["replay", "L", "--program", "H", "--serial"],
             b"srr 2\n",
             FIRST,
@@ -163,9 +314,9 @@ fn a_log_is_replayed_with_another_program(rt: HostRuntime) {
             b"no file H\n",
         ),
     ];
-    for (words, log, program, status, printed) in table {
+    for (name, words, log, program, status, printed) in table {
         let named: [(&str, &[u8]); 2] = [("L", log), ("G", program)];
-        assert!(&rt; answers(&rt, words, &named, status, printed), "{words:?}");
+        assert!(&rt; answers(&rt, words, &named, status, printed), "{name}");
     }
 }
 

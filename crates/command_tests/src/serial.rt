@@ -1,5 +1,6 @@
 //! Files in memory, and commands run over them on one thread.
 use std::alloc::Global;
+use std::process::Abort;
 use wiz_cli::top::wiz_serial;
 use wiz_io::{MemorySink, MemoryStore};
 
@@ -32,4 +33,9 @@ pub fn lines_of<'a>(alloc: Global, store: &'a mut MemoryStore, name: &str) -> Op
         return None;
     }
     Some(store.file("lines")?.as_slice())
+}
+
+/// The row with this name is as it says. Nothing is found where memory or a file is missing.
+pub fn check_row(rt: &impl Abort, name: &str, found: Option<bool>) {
+    assert_eq!(rt; found, Some(true), "{name}");
 }

@@ -45,7 +45,7 @@ fn a_message_recorded_on_threads_is_replayed_on_threads(rt: HostRuntime) {
         ),
     ];
     for (words, front, back) in table {
-        assert!(&rt; answers(&rt, &mut store, words, front, back));
+        assert!(&rt; answers(&rt, &mut store, words, front, back), "{words:?}");
     }
 }
 
@@ -80,24 +80,24 @@ fn eight_ranks_recorded_on_threads_are_replayed_on_threads(rt: HostRuntime) {
         ),
     ];
     for (words, front, back) in table {
-        assert!(&rt; answers(&rt, &mut store, words, front, back));
+        assert!(&rt; answers(&rt, &mut store, words, front, back), "{words:?}");
     }
 }
 
 #[test]
 fn runs_are_checked_on_threads(rt: HostRuntime) {
-    // The program, the plan, and what is printed.
-    let table: [(&[u8], &[u8], &[u8]); 3] = [
-        (FIRST, b"0\n1\n", FIRST_CHECKED),
-        (SUM, SUM_PLAN, SUM_CHECKED),
-        (RING, b"0 1\n2 3\n", RING_CHECKED),
+    // The program by its name, the plan, and what is printed.
+    let table: [(&str, &[u8], &[u8], &[u8]); 3] = [
+        ("the first program", FIRST, b"0\n1\n", FIRST_CHECKED),
+        ("a sum of eight ranks", SUM, SUM_PLAN, SUM_CHECKED),
+        ("a ring of four ranks", RING, b"0 1\n2 3\n", RING_CHECKED),
     ];
-    for (program, plan, printed) in table {
+    for (name, program, plan, printed) in table {
         let mut store = inputs(&rt, program, plan).expect(&rt, "files");
         let mut out = MemorySink::new(rt.alloc());
         let words: &[&str] = &["check", "P", "Q"];
         let report = wiz(&rt, rt.alloc(), words, &mut store, &mut out, &OpenGate);
-        assert!(&rt; report.status == 0 && out.bytes() == printed, "{printed:?}");
+        assert!(&rt; report.status == 0 && out.bytes() == printed, "{name}");
     }
 }
 
@@ -111,24 +111,28 @@ fn a_run_on_threads_is_advised_on_and_its_races_listed(rt: HostRuntime) {
         (&["advise", "P", "Q", "2"], FIRST_TOGETHER),
     ];
     for (words, printed) in table {
-        assert!(&rt; answers(&rt, &mut store, words, printed, b""));
+        assert!(&rt; answers(&rt, &mut store, words, printed, b""), "{words:?}");
     }
 }
 
 #[test]
 fn threads_are_refused_where_there_are_none(rt: HostRuntime) {
-    let table: [&[&str]; 5] = [
+    let table: [&[&str]; 6] = [
         &["replay", "A.0.srr"],
         &["record", "P", "Q", "A"],
         &["check", "P", "Q"],
         &["advise", "P", "Q", "1"],
         &["races", "P", "Q"],
+        &["waits", "P", "Q"],
     ];
     for words in table {
         let mut store = inputs(&rt, FIRST, b"0 1").expect(&rt, "files");
         let mut out = MemorySink::new(rt.alloc());
         let report = wiz_serial(rt.alloc(), words, &mut store, &mut out);
-        assert!(&rt; report.status == 1 && out.bytes() == b"refused words\n".as_slice());
-        assert!(&rt; store.file("A.order").is_none());
+        assert!(&rt;
+            report.status == 1 && out.bytes() == b"refused words\n".as_slice(),
+            "{words:?}"
+        );
+        assert!(&rt; store.file("A.order").is_none(), "{words:?}");
     }
 }

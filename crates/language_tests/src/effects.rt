@@ -64,24 +64,36 @@ fn isend(mode: Mode, message: Outgoing) -> MpiCall {
     })
 }
 
-/// Sends: the count, the destination, the tag and the communicator, and the first fault.
-static FAULTS: [(i32, i32, i32, i32, Fault); 8] = [
-    (2, 2, 7, 3, Fault::BadComm),
-    (-1, 3, -1, -1, Fault::BadComm),
-    (-1, 3, -1, 0, Fault::BadCount),
-    (65537, 3, -1, 0, Fault::BadCount),
-    (9, 3, -1, 0, Fault::BadRank),
-    (9, -2, -1, 0, Fault::BadRank),
-    (9, 2, -1, 0, Fault::BadTag),
-    (9, 2, 7, 0, Fault::OutOfBounds),
+/// Sends by their names: the count, the destination, the tag and the communicator, and the first fault.
+static FAULTS: [(&str, [i32; 4], Fault); 8] = [
+    ("no communicator", [2, 2, 7, 3], Fault::BadComm),
+    (
+        "no communicator, and all else bad",
+        [-1, 3, -1, -1],
+        Fault::BadComm,
+    ),
+    ("a count below 0", [-1, 3, -1, 0], Fault::BadCount),
+    ("a count over the limit", [65537, 3, -1, 0], Fault::BadCount),
+    ("a rank that is none", [9, 3, -1, 0], Fault::BadRank),
+    (
+        "a rank below the null process",
+        [9, -2, -1, 0],
+        Fault::BadRank,
+    ),
+    ("a tag below 0", [9, 2, -1, 0], Fault::BadTag),
+    (
+        "more ints than the array has",
+        [9, 2, 7, 0],
+        Fault::OutOfBounds,
+    ),
 ];
 
 /// Each of these sends has its first fault.
 fn check_faults(rt: &impl Abort, state: &RankState, mode: Mode) {
-    for &(count, dest, tag, comm, want) in &FAULTS {
+    for &(name, [count, dest, tag, comm], want) in &FAULTS {
         match effect_of(RANK, &send(mode, outgoing(count, dest, tag), comm), state) {
-            Err(fault) => assert_eq!(rt; fault, want),
-            Ok(_) => assert!(rt; false, "{count} {dest} {tag} {comm}"),
+            Err(fault) => assert_eq!(rt; fault, want, "{name}"),
+            Ok(_) => assert!(rt; false, "{name}"),
         }
     }
 }

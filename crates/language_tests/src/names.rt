@@ -35,24 +35,60 @@ fn formats_take_ints(rt: HostRuntime) -> Result<(), Fail> {
     Ok(())
 }
 
-/// Operators, their operands, and what they give.
-static OPERATIONS: [(Operator, i32, i32, Option<i32>); 10] = [
-    (Operator::Plus, 2147483647, 1, Some(-2147483648)),
-    (Operator::Divide, -7, 2, Some(-3)),
-    (Operator::Remainder, -7, 2, Some(-1)),
-    (Operator::Divide, -2147483648, -1, Some(-2147483648)),
-    (Operator::Remainder, -2147483648, -1, Some(0)),
-    (Operator::Divide, 1, 0, None),
-    (Operator::ShiftLeft, 1, 33, Some(2)),
-    (Operator::ShiftRight, -8, 1, Some(-4)),
-    (Operator::LogicalOr, 0, 7, Some(1)),
-    (Operator::Xor, 6, 3, Some(5)),
+/// Operations by their names: an operator, its operands, and what it gives.
+static OPERATIONS: [(&str, Operator, i32, i32, Option<i32>); 10] = [
+    (
+        "a sum that wraps",
+        Operator::Plus,
+        2147483647,
+        1,
+        Some(-2147483648),
+    ),
+    ("a quotient towards 0", Operator::Divide, -7, 2, Some(-3)),
+    (
+        "a remainder with the sign of the left operand",
+        Operator::Remainder,
+        -7,
+        2,
+        Some(-1),
+    ),
+    (
+        "a quotient that wraps",
+        Operator::Divide,
+        -2147483648,
+        -1,
+        Some(-2147483648),
+    ),
+    (
+        "the remainder beside it",
+        Operator::Remainder,
+        -2147483648,
+        -1,
+        Some(0),
+    ),
+    ("a division by 0", Operator::Divide, 1, 0, None),
+    (
+        "a shift by more than 31",
+        Operator::ShiftLeft,
+        1,
+        33,
+        Some(2),
+    ),
+    (
+        "a shift that keeps the sign",
+        Operator::ShiftRight,
+        -8,
+        1,
+        Some(-4),
+    ),
+    ("a truth value", Operator::LogicalOr, 0, 7, Some(1)),
+    ("exclusive or", Operator::Xor, 6, 3, Some(5)),
 ];
 
 #[test]
 fn operators_wrap(rt: HostRuntime) {
-    for &(operator, left, right, expected) in &OPERATIONS {
-        assert_eq!(rt; apply(operator, left, right), expected);
+    for &(name, operator, left, right, expected) in &OPERATIONS {
+        assert_eq!(rt; apply(operator, left, right), expected, "{name}");
     }
     assert_eq!(rt; apply_unary(UnaryOperator::Complement, 0), -1);
     assert_eq!(rt; apply_unary(UnaryOperator::Not, 5), 0);

@@ -79,6 +79,7 @@ static DEFINE_TOKENS: [(TokenKind, u32, u32); 11] = [
 
 fn check_define_tokens(rt: &impl Abort, list: &TokenList) {
     assert_eq!(rt; list.as_slice().len(), DEFINE_TOKENS.len());
+    // A row is told by its place in the text.
     for (token, row) in list.as_slice().iter().zip(&DEFINE_TOKENS) {
         assert_eq!(rt; (token.kind, token.start, token.len), *row);
     }
@@ -123,7 +124,7 @@ static FAULTS: [(&str, u32, u32, Why); 24] = [
 fn check_fault(rt: &(impl Abort + AllocGlobal), text: &str, fault: SourceFault) {
     assert!(rt; text.len() <= 65536);
     let found = tokens(rt.alloc(), text.as_bytes()).err();
-    assert_eq!(rt; found, Some(fault));
+    assert_eq!(rt; found, Some(fault), "{text}");
 }
 
 #[test]
@@ -147,7 +148,7 @@ static LITERALS: [(&str, Option<u32>); 7] = [
 #[test]
 fn literals_have_values(rt: HostRuntime) {
     for &(word, expected) in &LITERALS {
-        assert_eq!(rt; literal_value(word.as_bytes()), expected);
+        assert_eq!(rt; literal_value(word.as_bytes()), expected, "{word}");
     }
     one_reading();
 }

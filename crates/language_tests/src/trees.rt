@@ -89,14 +89,20 @@ fn read(rt: &(impl Abort + AllocGlobal), text: &str) -> Result<Tree, SourceFault
     parse(rt.alloc(), text.as_bytes(), &list)
 }
 
-/// Programs, and how many externals their trees have.
-static PROGRAMS: [(&str, usize); 5] = [(FIRST, 1), (ORDINARY, 2), (DEMO, 3), (EVERY, 4), ("", 0)];
+/// Programs by their names, and how many externals their trees have.
+static PROGRAMS: [(&str, &str, usize); 5] = [
+    ("the first program", FIRST, 1),
+    ("an ordinary program", ORDINARY, 2),
+    ("the demo", DEMO, 3),
+    ("every production", EVERY, 4),
+    ("an empty text", "", 0),
+];
 
 #[test]
 fn programs_are_read(rt: HostRuntime) -> Result<(), Fail> {
-    for &(text, externals) in &PROGRAMS {
+    for &(name, text, externals) in &PROGRAMS {
         let found = read(&rt, text)?.externals.len();
-        assert_eq!(rt; found, externals);
+        assert_eq!(rt; found, externals, "{name}");
     }
     Ok(())
 }
@@ -120,7 +126,7 @@ fn the_first_fault_is_given(rt: HostRuntime) {
             why: Why::Unexpected,
         };
         let found = read(&rt, text).err();
-        assert_eq!(rt; found, Some(fault));
+        assert_eq!(rt; found, Some(fault), "{text}");
     }
 }
 
@@ -149,7 +155,7 @@ fn nested(
     Ok(text)
 }
 
-/// What `nested` is given, and the column at which it is too deep, or 0.
+/// What `nested` is given, and the column at which it is too deep, or 0. The texts tell the rows apart.
 static DEPTHS: [(&str, &str, usize, &str, &str, u32); 7] = [
     ("return ", "(", 63, "1", ")", 0),
     ("return ", "(", 64, "1", ")", 87),
@@ -165,7 +171,8 @@ fn check_depth(rt: &(impl Abort + AllocGlobal), text: &str, column: u32) {
     let fault = read(rt, text).err();
     assert_eq!(rt;
         fault.map_or((0, Why::TooDeep), |fault| (fault.column, fault.why)),
-        (column, Why::TooDeep)
+        (column, Why::TooDeep),
+        "{text}"
     );
 }
 

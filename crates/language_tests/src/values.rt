@@ -53,13 +53,19 @@ fn element(alloc: Global, index: i32) -> Result<Expr, AllocError> {
     Ok(Expr::Read(Place::Element { variable: 0, index }))
 }
 
-/// A first int, an operator, a second int, and what they give.
-static OPERATIONS: [(i32, Operator, i32, Result<i32, Fault>); 5] = [
-    (7, Operator::Minus, 2, Ok(5)),
-    (7, Operator::Divide, 0, Err(Fault::DivideByZero)),
-    (0, Operator::LogicalAnd, 0, Ok(0)),
-    (7, Operator::LogicalOr, 0, Ok(1)),
-    (0, Operator::LogicalOr, 7, Err(Fault::DivideByZero)),
+/// Operations by their names: a first int, an operator, a second int, and what they give.
+static OPERATIONS: [(&str, i32, Operator, i32, Result<i32, Fault>); 5] = [
+    ("7 - 2", 7, Operator::Minus, 2, Ok(5)),
+    ("7 / 0", 7, Operator::Divide, 0, Err(Fault::DivideByZero)),
+    ("0 && 0 % 0", 0, Operator::LogicalAnd, 0, Ok(0)),
+    ("7 || 0 % 0", 7, Operator::LogicalOr, 0, Ok(1)),
+    (
+        "0 || 7 % 0",
+        0,
+        Operator::LogicalOr,
+        7,
+        Err(Fault::DivideByZero),
+    ),
 ];
 
 /// What an operator gives of a first int and, behind `&&` and `||`, an operand that has no value; else of a second int.
@@ -80,9 +86,9 @@ fn operated(
 }
 
 fn check_operations(rt: &(impl Abort + AllocGlobal), state: &RankState) -> Result<(), Fail> {
-    for &(first, operator, second, expected) in &OPERATIONS {
+    for &(name, first, operator, second, expected) in &OPERATIONS {
         let value = operated(state, rt.alloc(), first, operator, second)?;
-        assert!(rt; value == expected, "{first} {second}");
+        assert!(rt; value == expected, "{name}");
     }
     Ok(())
 }

@@ -7,6 +7,7 @@ use crate::scripts::{Script, start_all};
 use crate::steps::{Step, script_of};
 use group_plan::{Plan, read_plan};
 use mpi_call::call::{Tag, TakeMode};
+use mpi_call::limits::MOST_INTS;
 use mpi_call::lists::Ranks;
 use plan_advice::{Advice, Bounds, advise, holds, plan_cost};
 use run_model::history::History;
@@ -22,6 +23,7 @@ const ALL: TakeMode = TakeMode::All;
 /// the last of which is its cost.
 #[derive(Clone, Copy)]
 struct Row<'a> {
+    name: &'a str,
     steps: [&'a [Step]; 3],
     plan: &'a [u8],
     given: u64,
@@ -59,8 +61,38 @@ const COLLECTIVES: [&[Step]; 3] = [
     ],
 ];
 
-static ROWS: [Row; 5] = [
+/// Rank 0 sends the longest message to rank 1.
+const LONGEST: [&[Step]; 3] = [
+    &[Step::SendMany(1, 5, MOST_INTS)],
+    &[Step::Post(Tag::Is(5), MOST_INTS), Step::Take(ALL, 0)],
+    &[],
+];
+
+/// Seven ranks send the longest message to rank 0.
+const BLOCKS: [&[Step]; 3] = [
+    &[
+        Step::Post(Tag::Is(1), MOST_INTS),
+        Step::Take(ALL, 0),
+        Step::Post(Tag::Is(1), MOST_INTS),
+        Step::Take(ALL, 1),
+        Step::Post(Tag::Is(1), MOST_INTS),
+        Step::Take(ALL, 2),
+        Step::Post(Tag::Is(1), MOST_INTS),
+        Step::Take(ALL, 3),
+        Step::Post(Tag::Is(1), MOST_INTS),
+        Step::Take(ALL, 4),
+        Step::Post(Tag::Is(1), MOST_INTS),
+        Step::Take(ALL, 5),
+        Step::Post(Tag::Is(1), MOST_INTS),
+        Step::Take(ALL, 6),
+    ],
+    &[Step::SendMany(0, 1, MOST_INTS)],
+    &[Step::SendMany(0, 1, MOST_INTS)],
+];
+
+static ROWS: [Row; 8] = [
     Row {
+        name: "two ranks apart",
         steps: FIRST,
         plan: b"0\n1",
         given: 1,
@@ -69,6 +101,7 @@ static ROWS: [Row; 5] = [
         bounds: &[0, 0, 1],
     },
     Row {
+        name: "two ranks together",
         steps: FIRST,
         plan: b"0\n1",
         given: 1,
@@ -78,6 +111,7 @@ static ROWS: [Row; 5] = [
     },
     // Without all three ranks each sum comes from outside, and without rank 0 each broadcast too.
     Row {
+        name: "collectives, blocks of two ranks",
         steps: COLLECTIVES,
         plan: b"0 1\n2",
         given: 4,
@@ -86,6 +120,7 @@ static ROWS: [Row; 5] = [
         bounds: &[0, 1, 2, 4],
     },
     Row {
+        name: "collectives, blocks of one rank",
         steps: COLLECTIVES,
         plan: b"0 2\n1",
         given: 4,
@@ -94,12 +129,43 @@ static ROWS: [Row; 5] = [
         bounds: &[0, 1, 3, 5],
     },
     Row {
+        name: "collectives, one block",
         steps: COLLECTIVES,
         plan: b"0-2",
         given: 0,
         most: 3,
         ends: &[3],
         bounds: &[0, 1, 2, 0],
+    },
+    Row {
+        name: "65,536 ints in one message, apart",
+        steps: LONGEST,
+        plan: b"0\n1",
+        given: 65_536,
+        most: 1,
+        ends: &[1, 2],
+        bounds: &[0, 0, 65_536],
+    },
+    Row {
+        name: "65,536 ints in one message, together",
+        steps: LONGEST,
+        plan: b"0\n1",
+        given: 65_536,
+        most: 2,
+        ends: &[2],
+        bounds: &[0, 0, 0],
+    },
+    // A block of rank 0 and so many others keeps the messages of the rest.
+    Row {
+        name: "65,536 ints from each of seven ranks",
+        steps: BLOCKS,
+        plan: b"0-2\n3-5\n6 7",
+        given: 327_680,
+        most: 3,
+        ends: &[3, 5, 8],
+        bounds: &[
+            0, 458_752, 393_216, 327_680, 327_680, 327_680, 327_680, 327_680, 327_680,
+        ],
     },
 ];
 
@@ -129,16 +195,18 @@ fn check_row(rt: &(impl Abort + AllocGlobal), row: &Row) -> Result<(), Fail> {
     let script = script_of(rt.alloc(), row.steps)?;
     let plan = read_plan(rt.alloc(), row.plan).expect(rt, "a plan");
     let history = run_of(rt.alloc(), &script, &plan)?;
-    assert_eq!(rt; plan_cost(rt.alloc(), &history, &plan)?, row.given);
+    let given = plan_cost(rt.alloc(), &history, &plan)?;
+    assert_eq!(rt; given, row.given, "{}", row.name);
     let n = plan.n();
     if row.most == 0 || row.most > n {
         return Err("a block of no rank, or of too many".into());
     }
     let advice = advise(rt.alloc(), n, &history, row.most)?;
-    assert_eq!(rt; advice.ends.as_slice(), row.ends);
-    assert_eq!(rt; advice.bounds.as_slice(), row.bounds);
-    assert_eq!(rt; Some(&advice.cost), row.bounds.last());
-    assert!(rt; holds(rt.alloc(), n, &history, row.most, &advice)?);
+    assert_eq!(rt; advice.ends.as_slice(), row.ends, "{}", row.name);
+    assert_eq!(rt; advice.bounds.as_slice(), row.bounds, "{}", row.name);
+    assert_eq!(rt; Some(&advice.cost), row.bounds.last(), "{}", row.name);
+    let holds = holds(rt.alloc(), n, &history, row.most, &advice)?;
+    assert!(rt; holds, "{}", row.name);
     Ok(())
 }
 

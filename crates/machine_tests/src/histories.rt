@@ -82,6 +82,7 @@ fn take(alloc: Global) -> Result<Call, AllocError> {
 /// A message from rank 0, and whether the receive may give it.
 #[derive(Clone, Copy)]
 struct Message<'a> {
+    name: &'a str,
     tag: u32,
     ints: &'a [i32],
     fit: Fit,
@@ -89,21 +90,25 @@ struct Message<'a> {
 
 static MESSAGES: [Message; 4] = [
     Message {
+        name: "one int",
         tag: 5,
         ints: &[7],
         fit: Fit::Fits,
     },
     Message {
+        name: "no ints",
         tag: 5,
         ints: &[],
         fit: Fit::Fits,
     },
     Message {
+        name: "more ints than there is room for",
         tag: 5,
         ints: &[7, 8],
         fit: Fit::Misfits,
     },
     Message {
+        name: "another tag",
         tag: 6,
         ints: &[7],
         fit: Fit::Misfits,
@@ -130,6 +135,7 @@ fn replies_have_the_shape_of_their_calls(rt: HostRuntime) {
     let take = take(rt.alloc()).expect(&rt, "a call");
     for message in &MESSAGES {
         let reply = took(rt.alloc(), *message).expect(&rt, "a reply");
-        assert!(&rt; shape(2, 1, &view, &take, &reply) == message.fit);
+        let fit = shape(2, 1, &view, &take, &reply);
+        assert!(&rt; fit == message.fit, "{}", message.name);
     }
 }

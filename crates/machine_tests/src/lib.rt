@@ -19,6 +19,8 @@ mod matching;
 #[cfg(test)]
 mod partings;
 #[cfg(test)]
+mod picks;
+#[cfg(test)]
 mod races;
 #[cfg(test)]
 mod recordings;

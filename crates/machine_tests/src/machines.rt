@@ -120,6 +120,7 @@ const TRAPPED: Halt = Halt::Trapped {
 /// What the two ranks do, in whose turns, and the events.
 #[derive(Clone, Copy)]
 struct Row<'a> {
+    name: &'a str,
     zeroth: &'a [Step],
     first: &'a [Step],
     turns: &'a [bool],
@@ -129,6 +130,7 @@ struct Row<'a> {
 static RUNS: [Row; 12] = [
     // The results of a collective are there once both ranks have entered.
     Row {
+        name: "a barrier",
         zeroth: &[Step::Enter(0, Kind::Barrier), Step::Take(ALL, 0)],
         first: &[Step::Enter(0, Kind::Barrier), Step::Take(ALL, 0)],
         turns: &[false, false, true, false, true],
@@ -140,6 +142,7 @@ static RUNS: [Row; 12] = [
         ],
     },
     Row {
+        name: "a copy of the world",
         zeroth: &[Step::Enter(0, Kind::Dup), Step::Take(ALL, 0)],
         first: &[Step::Enter(0, Kind::Dup), Step::Take(ALL, 0)],
         turns: &[true, false, false, true],
@@ -153,6 +156,7 @@ static RUNS: [Row; 12] = [
 
     // The second rank's collective does not agree with the first's.
     Row {
+        name: "collectives that do not agree",
         zeroth: &[Step::Enter(0, Kind::Barrier), Step::Take(ALL, 0)],
         first: &[Step::Enter(0, Kind::Dup)],
         turns: &[false, true, false],
@@ -165,6 +169,7 @@ static RUNS: [Row; 12] = [
 
     // The message with tag 5 goes to the first of two receives that accept it.
     Row {
+        name: "two receives that accept one message",
         zeroth: &[Step::Send(1, 5), Step::Send(1, 6)],
         first: &[
             Step::Post(Tag::Is(5), 1),
@@ -185,6 +190,7 @@ static RUNS: [Row; 12] = [
 
     // Two lists of receives, whose messages come one by one while the rank waits: in the order of the list, and against it.
     Row {
+        name: "receives whose messages come one by one",
         zeroth: &[
             Step::Send(1, 5),
             Step::Send(1, 6),
@@ -218,6 +224,7 @@ static RUNS: [Row; 12] = [
 
     // A message of two ints is too long for one; then the other rank stops too.
     Row {
+        name: "a message too long",
         zeroth: &[Step::SendTwo(1, 5)],
         first: &[Step::Post(Tag::Is(5), 1), Step::Take(ALL, 0)],
         turns: &[false, true, true, false, true],
@@ -231,6 +238,7 @@ static RUNS: [Row; 12] = [
 
     // Both receive before anything is sent: the second that waits is stuck.
     Row {
+        name: "both receive before anything is sent",
         zeroth: &[Step::Post(Tag::Any, 1), Step::Take(ALL, 0)],
         first: &[Step::Post(Tag::Any, 1), Step::Peek(Tag::Any, true)],
         turns: &[false, true, false, true, false],
@@ -244,6 +252,7 @@ static RUNS: [Row; 12] = [
 
     // A test is answered NotYet.
     Row {
+        name: "a test before the message",
         zeroth: &[Step::Send(1, 5)],
         first: &[
             Step::Post(Tag::Is(5), 1),
@@ -261,6 +270,7 @@ static RUNS: [Row; 12] = [
 
     // A probe finds a message and leaves it; one that waits is answered once the message is there.
     Row {
+        name: "a probe before the message, and one that waits",
         zeroth: &[Step::Send(1, 3)],
         first: &[
             Step::Peek(Tag::Any, false),
@@ -280,18 +290,21 @@ static RUNS: [Row; 12] = [
 
     // A start that was never made, an abort and a trap.
     Row {
+        name: "a start that was never made",
         zeroth: &[Step::Take(ALL, 0)],
         first: &[],
         turns: &[false, true],
         want: &[Short::Stopped(0, NOT_MADE), Short::Stopped(1, NOT_MADE)],
     },
     Row {
+        name: "an abort",
         zeroth: &[Step::Abort(3)],
         first: &[],
         turns: &[true, false],
         want: &[Short::Done(1, None), Short::Stopped(0, ABORTED)],
     },
     Row {
+        name: "a trap",
         zeroth: &[Step::Trap(Fault::DivideByZero)],
         first: &[],
         turns: &[false],
@@ -301,16 +314,17 @@ static RUNS: [Row; 12] = [
 
 #[test]
 fn runs_are_made(rt: HostRuntime) -> Result<(), Fail> {
-    for at in 0..RUNS.len() {
+    for row in &RUNS {
         let Row {
+            name,
             zeroth,
             first,
             turns,
             want,
-        } = RUNS[at];
+        } = *row;
         let script = script_of(rt.alloc(), [zeroth, first, &[]])?;
         let events = run(rt.alloc(), &script, turns)?;
-        assert_eq!(rt; events.as_slice(), want, "{at}");
+        assert_eq!(rt; events.as_slice(), want, "{name}");
     }
     Ok(())
 }

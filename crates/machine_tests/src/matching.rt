@@ -64,6 +64,7 @@ fn answer(
 /// Who, what it does, and the position of the partner or of the message that a probe finds.
 #[derive(Clone, Copy)]
 struct Row {
+    name: &'static str,
     rank: u8,
     step: Step,
     want: Option<u32>,
@@ -72,21 +73,25 @@ struct Row {
 static STEPS: [Row; 14] = [
     // The message with tag 5 goes to the first of two receives that accept it.
     Row {
+        name: "a receive of tag 5",
         rank: 1,
         step: Step::Post(Source::Any, Tag::Is(5)),
         want: None,
     },
     Row {
+        name: "a receive of any tag",
         rank: 1,
         step: Step::Post(Source::From(0), Tag::Any),
         want: None,
     },
     Row {
+        name: "a message that both accept",
         rank: 0,
         step: Step::Send(1, 5),
         want: Some(0),
     },
     Row {
+        name: "a message that the second accepts",
         rank: 0,
         step: Step::Send(1, 6),
         want: Some(1),
@@ -94,21 +99,25 @@ static STEPS: [Row; 14] = [
 
     // Messages with tags 1 and 2 are received in the other order.
     Row {
+        name: "a message of tag 1",
         rank: 0,
         step: Step::Send(1, 1),
         want: None,
     },
     Row {
+        name: "a message of tag 2",
         rank: 0,
         step: Step::Send(1, 2),
         want: None,
     },
     Row {
+        name: "a receive of tag 2",
         rank: 1,
         step: Step::Post(Source::From(0), Tag::Is(2)),
         want: Some(5),
     },
     Row {
+        name: "a receive of tag 1",
         rank: 1,
         step: Step::Post(Source::From(0), Tag::Is(1)),
         want: Some(4),
@@ -116,31 +125,37 @@ static STEPS: [Row; 14] = [
 
     // A probe finds a message and leaves it; a wildcard receive takes a sender's first message.
     Row {
+        name: "a probe of nothing",
         rank: 1,
         step: Step::Peek(Source::Any, Tag::Any),
         want: None,
     },
     Row {
+        name: "a message",
         rank: 0,
         step: Step::Send(1, 3),
         want: None,
     },
     Row {
+        name: "another of the same tag",
         rank: 0,
         step: Step::Send(1, 3),
         want: None,
     },
     Row {
+        name: "a probe of the first",
         rank: 1,
         step: Step::Peek(Source::Any, Tag::Any),
         want: Some(9),
     },
     Row {
+        name: "a receive from the null process",
         rank: 1,
         step: Step::Post(Source::Null, Tag::Any),
         want: None,
     },
     Row {
+        name: "a wildcard receive of the first",
         rank: 1,
         step: Step::Post(Source::Any, Tag::Any),
         want: Some(9),
@@ -152,9 +167,14 @@ fn sends_meet_receives(rt: HostRuntime) -> Result<(), Fail> {
     let alloc = rt.alloc();
     let mut matcher = Matcher::new(alloc);
     for at in 0..STEPS.len() {
-        let Row { rank, step, want } = STEPS[at];
+        let Row {
+            name,
+            rank,
+            step,
+            want,
+        } = STEPS[at];
         let got = answer(alloc, &mut matcher, at as u32, rank, step)?;
-        assert_eq!(rt; got, want, "{at}");
+        assert_eq!(rt; got, want, "{name}");
     }
     Ok(())
 }

@@ -1,12 +1,13 @@
 //! Where two recorded runs part.
 use crate::races::are_of_ranks;
-use crate::rows::record;
+use crate::rows::{FIRST, SECOND, ZEROTH, record};
 use crate::steps::{Step, script_of};
 use group_plan::read_plan;
 use mpi_call::call::{Call, Source, Tag, TakeMode};
 use mpi_call::lists::Ranks;
 use mpi_call::reply::{Got, Item, Items, Reply};
 use msg_races::names::Name;
+use picked_runs::turn::Turn;
 use run_model::by_rank::ByRank;
 use run_model::history::History;
 use srr_entry::log::{Lists, Log};
@@ -35,39 +36,43 @@ const STEPS: [&[Step]; 3] = [
 ];
 
 /// Rank 2 takes the message of rank 0, and rank 0 that of rank 2.
-const EARLY: &[u8] = &[0, 2, 2, 2, 0, 0];
+const EARLY: &[Turn] = &[ZEROTH, SECOND, SECOND, SECOND, ZEROTH, ZEROTH];
 
 /// Both take the messages of rank 1.
-const LATE: &[u8] = &[1, 1, 2, 2, 0, 0, 0];
+const LATE: &[Turn] = &[FIRST, FIRST, SECOND, SECOND, ZEROTH, ZEROTH, ZEROTH];
 
 /// The turns of two runs, and of each rank how many calls are alike and its way.
 struct Row {
-    one: &'static [u8],
-    other: &'static [u8],
+    name: &'static str,
+    one: &'static [Turn],
+    other: &'static [Turn],
     ranks: [(u32, Way); 3],
 }
 
 static ROWS: [Row; 3] = [
     // What rank 0 takes in the first run comes after rank 2's parting.
     Row {
+        name: "one first parting, and one that follows",
         one: EARLY,
         other: LATE,
         ranks: [(2, Way::Follows), (3, Way::Alike), (1, Way::First)],
     },
     // Here it does not.
     Row {
+        name: "two first partings",
         one: LATE,
         other: EARLY,
         ranks: [(2, Way::First), (3, Way::Alike), (1, Way::First)],
     },
     Row {
+        name: "no parting",
         one: EARLY,
         other: EARLY,
         ranks: [(4, Way::Alike), (3, Way::Alike), (4, Way::Alike)],
     },
 ];
 
-fn history(rt: &(impl Abort + AllocGlobal), turns: &[u8]) -> Result<History, Fail> {
+fn history(rt: &(impl Abort + AllocGlobal), turns: &[Turn]) -> Result<History, Fail> {
     let script = script_of(rt.alloc(), STEPS)?;
     let plan = read_plan(rt.alloc(), b"0-2\n").expect(rt, "a plan");
     Ok(record(rt.alloc(), &script, &plan, turns)?.history)
@@ -76,12 +81,17 @@ fn history(rt: &(impl Abort + AllocGlobal), turns: &[u8]) -> Result<History, Fai
 fn check_ranks(
     rt: &(impl Abort + AllocGlobal),
     comparison: &Comparison,
-    ranks: &[(u32, Way)],
+    row: &Row,
 ) -> Result<(), Fail> {
-    assert_eq!(rt; comparison.as_slice().len(), ranks.len());
-    for (compared, (same, way)) in comparison.as_slice().iter().zip(ranks.iter()) {
-        assert_eq!(rt; compared.same, *same);
-        assert_eq!(rt; compared.way, *way);
+    assert_eq!(rt;
+        comparison.as_slice().len(),
+        row.ranks.len(),
+        "{}",
+        row.name
+    );
+    for (compared, (same, way)) in comparison.as_slice().iter().zip(row.ranks.iter()) {
+        assert_eq!(rt; compared.same, *same, "{}", row.name);
+        assert_eq!(rt; compared.way, *way, "{}", row.name);
     }
     Ok(())
 }
@@ -92,7 +102,7 @@ fn check_row(rt: &(impl Abort + AllocGlobal), row: &Row) -> Result<(), Fail> {
     let group = Ranks::from_slice(rt.alloc(), &[0, 1, 2])?;
     assert!(rt; are_of_ranks(3, one.as_slice()));
     let comparison = compare(rt.alloc(), 3, &group, &one, &other)?;
-    check_ranks(rt, &comparison, &row.ranks)
+    check_ranks(rt, &comparison, row)
 }
 
 #[test]

@@ -2,7 +2,7 @@
 ghost use Rattle.std.specs.Prelude.{◌≡◌, true};
 ghost use Rattle.causes.specs.Clocks.{AreOfRanks};
 
-use crate::rows::record;
+use crate::rows::{FIRST, SECOND, record};
 use crate::scripts::{Calls, Script};
 use crate::steps::{Step, call_of, script_of};
 use group_plan::read_plan;
@@ -11,6 +11,7 @@ use msg_races::fault::RaceFault;
 use msg_races::names::Name;
 use msg_races::races::races;
 use msg_races::receives::Receive;
+use picked_runs::turn::Turn;
 use run_model::event::Event;
 use srr_record::Recording;
 use std::alloc::{AllocError, Global};
@@ -40,14 +41,16 @@ struct Want<'a> {
 /// What the ranks do by turns, and the races of this.
 #[derive(Clone, Copy)]
 struct Row<'a> {
+    name: &'a str,
     steps: [&'a [Step]; 3],
-    turns: &'a [u8],
+    turns: &'a [Turn],
     receives: &'a [Want<'a>],
 }
 
 static ROWS: [Row; 2] = [
     // A send after a completion is an other, as long as it doesn't come after the completion by a path of messages.
     Row {
+        name: "two senders",
         steps: [
             &[Step::Send(2, 9)],
             &[Step::Send(2, 9)],
@@ -58,7 +61,7 @@ static ROWS: [Row; 2] = [
                 Step::Take(ALL, 1),
             ],
         ],
-        turns: &[1, 2, 2],
+        turns: &[FIRST, SECOND, SECOND],
         receives: &[
             Want {
                 receive: (2, 0),
@@ -75,6 +78,7 @@ static ROWS: [Row; 2] = [
 
     // An answer to what was sent after a completion comes after it.
     Row {
+        name: "a sender that is answered",
         steps: [
             &[Step::Post(NINE, 1), Step::Take(ALL, 0), Step::Send(2, 9)],
             &[Step::Send(2, 9)],
@@ -117,6 +121,7 @@ fn name_of(name: (u8, u32)) -> Name {
 /// The receive is as wanted.
 fn check_receive(
     rt: &(impl Abort + AllocGlobal),
+    row: &str,
     receive: &Receive,
     want: &Want,
 ) -> Result<(), Fail> {
@@ -124,12 +129,12 @@ fn check_receive(
         rank: receive.rank,
         start: receive.start,
     };
-    assert_eq!(rt; name, name_of(want.receive));
-    assert_eq!(rt; receive.took, name_of(want.took));
+    assert_eq!(rt; name, name_of(want.receive), "{row}");
+    assert_eq!(rt; receive.took, name_of(want.took), "{row}");
     let others = receive.others.as_slice();
-    assert_eq!(rt; others.len(), want.others.len());
+    assert_eq!(rt; others.len(), want.others.len(), "{row}");
     for (other, wanted) in others.iter().zip(want.others.iter()) {
-        assert_eq!(rt; *other, name_of(*wanted));
+        assert_eq!(rt; *other, name_of(*wanted), "{row}");
     }
     Ok(())
 }
@@ -141,9 +146,14 @@ fn check_row(rt: &(impl Abort + AllocGlobal), row: &Row) -> Result<(), Fail> {
     let recording = record(rt.alloc(), &script, &plan, row.turns)?;
     assert!(rt; are_of_ranks(3, recording.history.as_slice()));
     let receives = races(rt.alloc(), 3, &recording.history).expect(rt, "races");
-    assert_eq!(rt; receives.as_slice().len(), row.receives.len());
+    assert_eq!(rt;
+        receives.as_slice().len(),
+        row.receives.len(),
+        "{}",
+        row.name
+    );
     for (receive, want) in receives.as_slice().iter().zip(row.receives.iter()) {
-        check_receive(rt, receive, want)?;
+        check_receive(rt, row.name, receive, want)?;
     }
     Ok(())
 }
@@ -177,7 +187,7 @@ fn record_many(rt: &(impl Abort + AllocGlobal), count: u32) -> Result<Recording,
     let script = many(rt.alloc(), count)?;
     let plan = read_plan(rt.alloc(), b"0 1\n").expect(rt, "a plan");
     let mut turns = Vec::new(rt.alloc());
-    turns.resize(count as usize, 1)?;
+    turns.resize(count as usize, FIRST)?;
     Ok(record(rt.alloc(), &script, &plan, &turns)?)
 }
 

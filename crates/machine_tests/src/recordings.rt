@@ -1,5 +1,5 @@
 //! Recordings of runs.
-use crate::rows::{Row, Short, check_row};
+use crate::rows::{FIRST, Row, SECOND, Short, ZEROTH, check_row};
 use crate::steps::Step;
 use mpi_call::call::{Fault, Halt, Kind, Tag, TakeMode};
 use run_model::ending::Ending;
@@ -18,16 +18,18 @@ const TRAPPED: Halt = Halt::Trapped {
 const MISMATCHED: Halt = Halt::Mismatched { rank: 1 };
 
 static RUNS: [Row; 14] = [
-    // One message inside a group. Rank 1's second turn makes no event.
+    // Rank 1's second turn makes no event.
     Row {
+        name: "one message inside a group, with a turn that makes no event",
         steps: [
             &[Step::Send(1, 5)],
             &[Step::Post(Tag::Is(5), 1), Step::Take(ALL, 0)],
             &[],
         ],
         plan: b"0 1\n",
-        turns: &[1, 1],
+        turns: &[FIRST, FIRST],
         order: &[1, 0, 1, 0, 1],
+        picks: &[],
         entries: &[
             Short::Sent,
             Short::Ended,
@@ -37,9 +39,8 @@ static RUNS: [Row; 14] = [
         ],
         ending: Ending::Finished,
     },
-
-    // The same message between two groups, without turns.
     Row {
+        name: "one message between two groups",
         steps: [
             &[Step::Send(1, 5)],
             &[Step::Post(Tag::Is(5), 1), Step::Take(ALL, 0)],
@@ -48,6 +49,7 @@ static RUNS: [Row; 14] = [
         plan: b"0\n1\n",
         turns: &[],
         order: &[0, 1, 0, 1, 1],
+        picks: &[],
         entries: &[
             Short::Sent,
             Short::Ended,
@@ -57,9 +59,8 @@ static RUNS: [Row; 14] = [
         ],
         ending: Ending::Finished,
     },
-
-    // Both receive before anything is sent.
     Row {
+        name: "both receive before anything is sent",
         steps: [
             &[Step::Post(Tag::Is(5), 1), Step::Take(ALL, 0)],
             &[Step::Post(Tag::Is(5), 1), Step::Take(ALL, 0)],
@@ -68,6 +69,7 @@ static RUNS: [Row; 14] = [
         plan: b"0 1\n",
         turns: &[],
         order: &[0, 1, 1, 0],
+        picks: &[],
         entries: &[
             Short::Posted,
             Short::Stopped(Halt::Stuck),
@@ -76,9 +78,8 @@ static RUNS: [Row; 14] = [
         ],
         ending: Ending::Halted(Halt::Stuck),
     },
-
-    // Tags are received against their order.
     Row {
+        name: "tags are received against their order",
         steps: [
             &[Step::Send(1, 1), Step::Send(1, 2)],
             &[
@@ -92,6 +93,7 @@ static RUNS: [Row; 14] = [
         plan: b"0 1\n",
         turns: &[],
         order: &[0, 1, 0, 1, 0, 1, 1, 1],
+        picks: &[],
         entries: &[
             Short::Sent,
             Short::Sent,
@@ -104,9 +106,8 @@ static RUNS: [Row; 14] = [
         ],
         ending: Ending::Finished,
     },
-
-    // A message to oneself.
     Row {
+        name: "a message to oneself",
         steps: [
             &[
                 Step::Send(0, 5),
@@ -119,6 +120,7 @@ static RUNS: [Row; 14] = [
         plan: b"0\n",
         turns: &[],
         order: &[0, 0, 0, 0],
+        picks: &[],
         entries: &[
             Short::Sent,
             Short::Posted,
@@ -127,9 +129,8 @@ static RUNS: [Row; 14] = [
         ],
         ending: Ending::Finished,
     },
-
-    // A send to a rank that is not there.
     Row {
+        name: "a send to a rank that is none",
         steps: [
             &[Step::Send(2, 5)],
             &[Step::Post(Tag::Is(5), 1), Step::Take(ALL, 0)],
@@ -138,12 +139,12 @@ static RUNS: [Row; 14] = [
         plan: b"0 1\n",
         turns: &[],
         order: &[0, 1],
+        picks: &[],
         entries: &[Short::Stopped(TRAPPED), Short::Stopped(TRAPPED)],
         ending: Ending::Halted(TRAPPED),
     },
-
-    // A barrier inside a group, then a copy of the world.
     Row {
+        name: "a barrier and a copy of the world",
         steps: [
             &[
                 Step::Enter(0, Kind::Barrier),
@@ -160,8 +161,9 @@ static RUNS: [Row; 14] = [
             &[],
         ],
         plan: b"0 1\n",
-        turns: &[1],
+        turns: &[FIRST],
         order: &[1, 0, 1, 0, 1, 0, 1, 0, 1, 0],
+        picks: &[],
         entries: &[
             Short::Entered,
             Short::Inner,
@@ -176,9 +178,8 @@ static RUNS: [Row; 14] = [
         ],
         ending: Ending::Finished,
     },
-
-    // A barrier across groups.
     Row {
+        name: "a barrier across groups",
         steps: [
             &[Step::Enter(0, Kind::Barrier), Step::Take(ALL, 0)],
             &[Step::Enter(0, Kind::Barrier), Step::Take(ALL, 0)],
@@ -187,6 +188,7 @@ static RUNS: [Row; 14] = [
         plan: b"0\n1\n",
         turns: &[],
         order: &[0, 1, 0, 1, 0, 1],
+        picks: &[],
         entries: &[
             Short::Entered,
             Short::Outer,
@@ -197,9 +199,8 @@ static RUNS: [Row; 14] = [
         ],
         ending: Ending::Finished,
     },
-
-    // Two collectives that do not agree.
     Row {
+        name: "two collectives that do not agree",
         steps: [
             &[Step::Enter(0, Kind::Barrier), Step::Take(ALL, 0)],
             &[Step::Enter(0, Kind::Dup), Step::Take(ALL, 0)],
@@ -208,6 +209,7 @@ static RUNS: [Row; 14] = [
         plan: b"0 1\n",
         turns: &[],
         order: &[0, 1, 0],
+        picks: &[],
         entries: &[
             Short::Entered,
             Short::Stopped(MISMATCHED),
@@ -215,9 +217,8 @@ static RUNS: [Row; 14] = [
         ],
         ending: Ending::Halted(MISMATCHED),
     },
-
-    // Two wildcard receives of two senders: the later rank sends first.
     Row {
+        name: "two wildcard receives, and the later rank sends first",
         steps: [
             &[
                 Step::Post(Tag::Is(9), 1),
@@ -229,8 +230,9 @@ static RUNS: [Row; 14] = [
             &[Step::Send(0, 9)],
         ],
         plan: b"0-2\n",
-        turns: &[2],
+        turns: &[SECOND],
         order: &[2, 0, 1, 2, 0, 1, 0, 0, 0],
+        picks: &[],
         entries: &[
             Short::Posted,
             Short::Inside(2, 0),
@@ -244,9 +246,8 @@ static RUNS: [Row; 14] = [
         ],
         ending: Ending::Finished,
     },
-
-    // The same in the other order.
     Row {
+        name: "two wildcard receives, and the earlier rank sends first",
         steps: [
             &[
                 Step::Post(Tag::Is(9), 1),
@@ -258,8 +259,9 @@ static RUNS: [Row; 14] = [
             &[Step::Send(0, 9)],
         ],
         plan: b"0-2\n",
-        turns: &[1],
+        turns: &[FIRST],
         order: &[1, 0, 1, 2, 0, 2, 0, 0, 0],
+        picks: &[],
         entries: &[
             Short::Posted,
             Short::Inside(1, 0),
@@ -273,9 +275,8 @@ static RUNS: [Row; 14] = [
         ],
         ending: Ending::Finished,
     },
-
-    // Tests until the message is there.
     Row {
+        name: "tests until the message is there",
         steps: [
             &[
                 Step::Post(Tag::Is(5), 1),
@@ -287,8 +288,9 @@ static RUNS: [Row; 14] = [
             &[],
         ],
         plan: b"0 1\n",
-        turns: &[0, 0],
+        turns: &[ZEROTH, ZEROTH],
         order: &[0, 0, 0, 1, 0, 1, 0],
+        picks: &[],
         entries: &[
             Short::Posted,
             Short::NotYet,
@@ -300,9 +302,8 @@ static RUNS: [Row; 14] = [
         ],
         ending: Ending::Finished,
     },
-
-    // The second of two receives is complete.
     Row {
+        name: "the second of two receives is complete",
         steps: [
             &[
                 Step::Post(Tag::Is(1), 1),
@@ -315,6 +316,7 @@ static RUNS: [Row; 14] = [
         plan: b"0 1\n",
         turns: &[],
         order: &[0, 1, 0, 1, 0, 0],
+        picks: &[],
         entries: &[
             Short::Posted,
             Short::Posted,
@@ -325,9 +327,8 @@ static RUNS: [Row; 14] = [
         ],
         ending: Ending::Finished,
     },
-
-    // A probe waits for the message and leaves it.
     Row {
+        name: "a probe that waits for the message and leaves it",
         steps: [
             &[
                 Step::Peek(Tag::Is(5), true),
@@ -340,6 +341,7 @@ static RUNS: [Row; 14] = [
         plan: b"0 1\n",
         turns: &[],
         order: &[1, 0, 1, 0, 0, 0],
+        picks: &[],
         entries: &[
             Short::Found(1, 0),
             Short::Posted,

@@ -6,6 +6,7 @@ use crate::steps::{Step, script_of};
 use group_plan::{Plan, read_plan};
 use mpi_call::call::{Comm, Halt};
 use mpi_machine::machine::Machine;
+use picked_runs::turn::{Pick, Turn};
 use run_model::ending::Ending;
 use srr_entry::entry::{Entry, Mark, Marked};
 use srr_entry::log::Log;
@@ -15,6 +16,22 @@ use std::process::Abort;
 use std::rt::HostRuntime;
 use std::test::Fail;
 use wiz_base::bytes::Bytes;
+
+/// Turns of the first ranks that pick nothing.
+pub const ZEROTH: Turn = Turn {
+    rank: 0,
+    pick: Pick::First,
+};
+
+pub const FIRST: Turn = Turn {
+    rank: 1,
+    pick: Pick::First,
+};
+
+pub const SECOND: Turn = Turn {
+    rank: 2,
+    pick: Pick::First,
+};
 
 /// An entry in short: of a message from inside its name, of one from outside also its tag and first int; of a collective's
 /// result from outside its int, where it has one; of a communicator made outside its number and its one or two members.
@@ -90,15 +107,10 @@ fn mark_in_short(marked: &Marked) -> Short {
     }
 }
 
-fn are_below(ranks: &[u8], n: u8) -> bool
-    ensures { result ≡ true → All (λ rank. rank < n) ranks.now }
+fn are_below(turns: &[Turn], n: u8) -> bool
+    ensures { result ≡ true → All (λ turn. turn.rank < n) turns.now }
 {
-    for rank in ranks {
-        if *rank >= n {
-            return false;
-        }
-    }
-    true
+    turns.iter().all(|turn| turn.rank < n)
 }
 
 /// What the ranks of a script do by a plan and turns.
@@ -106,7 +118,7 @@ pub fn record(
     alloc: Global,
     script: &Script,
     plan: &Plan,
-    turns: &[u8],
+    turns: &[Turn],
 ) -> Result<Recording, AllocError> {
     let ranks = plan.n();
     if !are_below(turns, ranks) {
@@ -155,13 +167,17 @@ fn are_printed(outputs: &[Bytes]) -> bool {
     true
 }
 
-/// What the ranks do by a plan and turns, the order of the events, the entries of each rank in its log, and how the run ends.
+/// What the ranks do by a plan and turns, the order of the events and what they picked, the entries of each rank in its log, and how the
+/// run ends.
 #[derive(Clone, Copy)]
 pub struct Row<'a> {
+    pub name: &'a str,
     pub steps: [&'a [Step]; 3],
     pub plan: &'a [u8],
-    pub turns: &'a [u8],
+    pub turns: &'a [Turn],
     pub order: &'a [u8],
+    /// Behind its end nothing is picked.
+    pub picks: &'a [Pick],
     pub entries: &'a [Short],
     pub ending: Ending,
 }
@@ -169,21 +185,28 @@ pub struct Row<'a> {
 /// The recording is as the row says.
 fn check(rt: &(impl Abort + AllocGlobal), recording: &Recording, row: &Row) -> Result<(), Fail> {
     let order = order_of(rt.alloc(), recording)?;
-    assert_eq!(rt; order.as_slice(), row.order);
-    check_entries(rt, recording.logs.as_slice(), row.entries)?;
-    assert_eq!(rt; recording.ending, row.ending);
-    assert!(rt; are_printed(recording.outputs.as_slice()));
+    assert_eq!(rt; order.as_slice(), row.order, "{}", row.name);
+    assert_eq!(rt; recording.picks.as_slice(), row.picks, "{}", row.name);
+    check_entries(rt, recording.logs.as_slice(), row)?;
+    assert_eq!(rt; recording.ending, row.ending, "{}", row.name);
+    assert!(rt; are_printed(recording.outputs.as_slice()), "{}", row.name);
     Ok(())
 }
 
-fn check_entries(
-    rt: &(impl Abort + AllocGlobal),
-    logs: &[Log],
-    want: &[Short],
-) -> Result<(), Fail> {
+fn check_entries(rt: &(impl Abort + AllocGlobal), logs: &[Log], row: &Row) -> Result<(), Fail> {
     let entries = entries_in(rt.alloc(), logs)?;
-    assert_eq!(rt; entries.as_slice(), want);
+    assert_eq!(rt; entries.as_slice(), row.entries, "{}", row.name);
     Ok(())
+}
+
+/// The turns of a run with these ranks and picks.
+fn turns_of(alloc: Global, ranks: &[u8], picks: &[Pick]) -> Result<Vec<Turn>, AllocError> {
+    let mut turns = Vec::new(alloc);
+    for (at, rank) in ranks.iter().enumerate() {
+        let pick = picks.get(at).copied().unwrap_or(Pick::First);
+        turns.push(Turn { rank: *rank, pick })?;
+    }
+    Ok(turns)
 }
 
 pub fn check_row(rt: &(impl Abort + AllocGlobal), row: &Row) -> Result<(), Fail> {
@@ -205,7 +228,8 @@ fn check_recordings(
     }
     // The written order makes the same run again, where no rank was stuck.
     if row.ending != Ending::Halted(Halt::Stuck) {
-        check_turns(rt, script, plan, row.order, row)?;
+        let written = turns_of(rt.alloc(), row.order, row.picks)?;
+        check_turns(rt, script, plan, written.as_slice(), row)?;
     }
     Ok(())
 }
@@ -214,7 +238,7 @@ fn check_turns(
     rt: &(impl Abort + AllocGlobal),
     script: &Script,
     plan: &Plan,
-    turns: &[u8],
+    turns: &[Turn],
     row: &Row,
 ) -> Result<(), Fail> {
     check(rt, &record(rt.alloc(), script, plan, turns)?, row)

@@ -16,8 +16,8 @@ const LOW: Short = Short::MadeOutside(2, 0, Some(1));
 const HIGH: Short = Short::MadeOutside(1, 2, None);
 
 static SPLITS: [Row; 4] = [
-    // Rank 1 gets no communicator of a split.
     Row {
+        name: "a rank without a communicator",
         steps: [
             &[Step::Split(1), Step::Take(ALL, 0)],
             &[Step::Split(UNDEFINED), Step::Take(ALL, 0)],
@@ -26,6 +26,7 @@ static SPLITS: [Row; 4] = [
         plan: b"0-2\n",
         turns: &[],
         order: &[0, 1, 2, 0, 1, 2, 0, 1, 2],
+        picks: &[],
         entries: &[
             Short::Entered,
             Short::Made(1),
@@ -39,9 +40,8 @@ static SPLITS: [Row; 4] = [
         ],
         ending: Ending::Finished,
     },
-
-    // The same in three groups.
     Row {
+        name: "the same in three groups",
         steps: [
             &[Step::Split(1), Step::Take(ALL, 0)],
             &[Step::Split(UNDEFINED), Step::Take(ALL, 0)],
@@ -50,6 +50,7 @@ static SPLITS: [Row; 4] = [
         plan: b"0\n1\n2\n",
         turns: &[],
         order: &[0, 1, 2, 0, 1, 2, 0, 1, 2],
+        picks: &[],
         entries: &[
             Short::Entered,
             APART,
@@ -64,8 +65,9 @@ static SPLITS: [Row; 4] = [
         ending: Ending::Finished,
     },
 
-    // Communicators are numbered by colours, and a barrier on the new one is inside each group.
+    // The barrier on the new communicator is inside each group.
     Row {
+        name: "communicators are numbered by colours",
         steps: [
             &[
                 Step::Split(1),
@@ -89,6 +91,7 @@ static SPLITS: [Row; 4] = [
         plan: b"0 1\n2\n",
         turns: &[],
         order: &[0, 1, 2, 0, 1, 2, 0, 1, 2, 0, 1, 2, 0, 1, 2],
+        picks: &[],
         entries: &[
             Short::Entered,
             LOW,
@@ -111,6 +114,7 @@ static SPLITS: [Row; 4] = [
 
     // A broadcast needs its root alone, a sum all.
     Row {
+        name: "a broadcast and a sum",
         steps: [
             &[
                 Step::Cast(Some(5)),
@@ -134,6 +138,7 @@ static SPLITS: [Row; 4] = [
         plan: b"0 1\n2\n",
         turns: &[],
         order: &[0, 1, 2, 0, 1, 2, 0, 1, 2, 0, 1, 2, 0, 1, 2],
+        picks: &[],
         entries: &[
             Short::Entered,
             Short::Inner,

@@ -254,6 +254,7 @@ fn step_at(
 /// What a rank does, and what is answered; the position is the row's.
 #[derive(Clone, Copy)]
 struct Row {
+    name: &'static str,
     rank: u8,
     step: Step,
     want: Answer,
@@ -266,10 +267,15 @@ fn started(rt: &(impl Abort + AllocGlobal), rows: &[Row]) -> Result<Requests, Fa
     let alloc = rt.alloc();
     let mut requests = Requests::new(alloc, 2)?;
     for at in 0..rows.len() {
-        let Row { rank, step, want } = rows[at];
-        assert!(rt; rank < 2, "{at}");
+        let Row {
+            name,
+            rank,
+            step,
+            want,
+        } = rows[at];
+        assert!(rt; rank < 2, "{name}");
         let got = step_at(alloc, &mut requests, at as u32, rank, step)?;
-        assert_eq!(rt; got, want, "{at}");
+        assert_eq!(rt; got, want, "{name}");
     }
     Ok(requests)
 }
@@ -277,6 +283,7 @@ fn started(rt: &(impl Abort + AllocGlobal), rows: &[Row]) -> Result<Requests, Fa
 static MESSAGES: [Row; 22] = [
     // A start that was never made.
     Row {
+        name: "a start that was never made",
         rank: 0,
         step: Step::Take(TakeMode::All, 0, None),
         want: Answer::BadStart(0),
@@ -284,21 +291,25 @@ static MESSAGES: [Row; 22] = [
 
     // A receive is not ready before its message is there; a Test is answered NotReady.
     Row {
+        name: "a receive from anyone",
         rank: 1,
         step: Step::Post(Source::Any, Tag::Is(5), 1),
         want: Answer::Made(0, None),
     },
     Row {
+        name: "a wait before its message",
         rank: 1,
         step: Step::Take(TakeMode::All, 0, None),
         want: Answer::NotReady,
     },
     Row {
+        name: "a test before its message",
         rank: 1,
         step: Step::Take(TakeMode::TestAll, 0, None),
         want: Answer::NotReady,
     },
     Row {
+        name: "a receive of any tag",
         rank: 1,
         step: Step::Post(Source::From(0), Tag::Any, 1),
         want: Answer::Made(1, None),
@@ -306,21 +317,25 @@ static MESSAGES: [Row; 22] = [
 
     // The message with tag 5 goes to the first of two receives that accept it.
     Row {
+        name: "a message that both receives accept",
         rank: 0,
         step: Step::Send(1, 5, false),
         want: Answer::Made(0, Some(1)),
     },
     Row {
+        name: "a wait for both, of which one is ready",
         rank: 1,
         step: Step::Take(TakeMode::All, 0, Some(1)),
         want: Answer::NotReady,
     },
     Row {
+        name: "a message for the second",
         rank: 0,
         step: Step::Send(1, 6, false),
         want: Answer::Made(1, Some(4)),
     },
     Row {
+        name: "a start twice in a list",
         rank: 1,
         step: Step::Take(TakeMode::All, 0, Some(0)),
         want: Answer::BadStart(0),
@@ -328,21 +343,25 @@ static MESSAGES: [Row; 22] = [
 
     // One of two that are ready: the first. The same again once it was taken back.
     Row {
+        name: "the first of two that are ready",
         rank: 1,
         step: Step::Take(TakeMode::Any, 0, Some(1)),
         want: Answer::Took(1, 0, 0, 0),
     },
     Row {
+        name: "a list with a completed start",
         rank: 1,
         step: Step::Take(TakeMode::Any, 0, Some(1)),
         want: Answer::BadStart(0),
     },
     Row {
+        name: "a completion that is taken back",
         rank: 1,
         step: Step::TakeBack(1),
         want: Answer::TakenBack,
     },
     Row {
+        name: "the same completion again",
         rank: 1,
         step: Step::Take(TakeMode::All, 1, None),
         want: Answer::Took(1, 0, 0, 1),
@@ -350,16 +369,19 @@ static MESSAGES: [Row; 22] = [
 
     // A send is complete at once, and so is a receive from the null process.
     Row {
+        name: "two sends at once",
         rank: 0,
         step: Step::Take(TakeMode::Several, 0, Some(1)),
         want: Answer::Took(2, 0, 0, 0),
     },
     Row {
+        name: "a receive from the null process",
         rank: 0,
         step: Step::Post(Source::Null, Tag::Any, 0),
         want: Answer::Made(2, None),
     },
     Row {
+        name: "its completion",
         rank: 0,
         step: Step::Take(TakeMode::TestAny, 2, None),
         want: Answer::Took(1, 0, 0, 0),
@@ -367,16 +389,19 @@ static MESSAGES: [Row; 22] = [
 
     // A probe finds a message and leaves it.
     Row {
+        name: "a message of two ints",
         rank: 0,
         step: Step::Send(1, 7, true),
         want: Answer::Made(3, None),
     },
     Row {
+        name: "a probe for another tag",
         rank: 1,
         step: Step::Peek(Tag::Is(6)),
         want: Answer::Found(None),
     },
     Row {
+        name: "a probe that finds it",
         rank: 1,
         step: Step::Peek(Tag::Any),
         want: Answer::Found(Some(16)),
@@ -384,16 +409,19 @@ static MESSAGES: [Row; 22] = [
 
     // A message of two ints is too long for one; an unmade start is named first.
     Row {
+        name: "a receive of one int",
         rank: 1,
         step: Step::Post(Source::From(0), Tag::Is(7), 1),
         want: Answer::Made(2, Some(16)),
     },
     Row {
+        name: "a start that was never made, behind one that is too long",
         rank: 1,
         step: Step::Take(TakeMode::All, 2, Some(3)),
         want: Answer::BadStart(3),
     },
     Row {
+        name: "a message too long",
         rank: 1,
         step: Step::Take(TakeMode::TestSeveral, 2, None),
         want: Answer::TooLong(2),
@@ -413,31 +441,37 @@ fn starts_are_completed(rt: HostRuntime) -> Result<(), Fail> {
 static COLLECTIVES: [Row; 15] = [
     // A barrier is not complete before both have entered; a split in its place does not agree, and is not added.
     Row {
+        name: "rank 0 enters a barrier",
         rank: 0,
         step: Step::Barrier,
         want: Answer::Made(0, None),
     },
     Row {
+        name: "a wait before the other enters",
         rank: 0,
         step: Step::Take(TakeMode::All, 0, None),
         want: Answer::NotReady,
     },
     Row {
+        name: "a split in place of the barrier",
         rank: 1,
         step: Step::Split(7),
         want: Answer::Disagrees(0),
     },
     Row {
+        name: "a test of a start that was not added",
         rank: 1,
         step: Step::Take(TakeMode::TestAny, 0, None),
         want: Answer::BadStart(0),
     },
     Row {
+        name: "rank 1 enters the barrier",
         rank: 1,
         step: Step::Barrier,
         want: Answer::Made(0, None),
     },
     Row {
+        name: "the barrier is complete",
         rank: 0,
         step: Step::Take(TakeMode::All, 0, None),
         want: Answer::Took(1, 0, 0, 0),
@@ -446,26 +480,31 @@ static COLLECTIVES: [Row; 15] = [
     // A split gives rank 0 its communicator of one, and rank 1, whose colour is undefined, none; that one waits for
     // nobody.
     Row {
+        name: "rank 1 enters a split without a colour",
         rank: 1,
         step: Step::Split(-32766),
         want: Answer::Made(1, None),
     },
     Row {
+        name: "the first of a barrier and a split",
         rank: 1,
         step: Step::Take(TakeMode::Any, 0, Some(1)),
         want: Answer::Took(1, 0, 0, 0),
     },
     Row {
+        name: "no communicator, before the other enters",
         rank: 1,
         step: Step::Take(TakeMode::All, 1, None),
         want: Answer::Gave(0, 0, 0),
     },
     Row {
+        name: "rank 0 enters the split",
         rank: 0,
         step: Step::Split(7),
         want: Answer::Made(1, None),
     },
     Row {
+        name: "a communicator of one",
         rank: 0,
         step: Step::Take(TakeMode::TestAll, 1, None),
         want: Answer::Gave(0, 1, 1),
@@ -473,21 +512,25 @@ static COLLECTIVES: [Row; 15] = [
 
     // The next number is a dup's, which has both members.
     Row {
+        name: "rank 1 enters a dup",
         rank: 1,
         step: Step::Dup,
         want: Answer::Made(2, None),
     },
     Row {
+        name: "rank 0 enters the dup",
         rank: 0,
         step: Step::Dup,
         want: Answer::Made(2, None),
     },
     Row {
+        name: "the communicator of the dup for rank 1",
         rank: 1,
         step: Step::Take(TakeMode::All, 2, None),
         want: Answer::Gave(0, 2, 2),
     },
     Row {
+        name: "the communicator of the dup for rank 0",
         rank: 0,
         step: Step::Take(TakeMode::Several, 2, None),
         want: Answer::Gave(0, 2, 2),

@@ -13,6 +13,8 @@ pub enum Step {
     SyncSend(u8, u32),
     /// It sends the ints 7 and 8 to a rank with a tag.
     SendTwo(u8, u32),
+    /// It sends so many sevens to a rank with a tag.
+    SendMany(u8, u32, u32),
     /// It receives from any rank with a room.
     Post(Tag, u32),
     /// It enters a collective without ints on a communicator.
@@ -61,6 +63,7 @@ pub fn call_of(alloc: Global, step: Step) -> Result<Call, AllocError> {
         Step::Send(dest, tag) => send(alloc, dest, tag, &[7], false),
         Step::SyncSend(dest, tag) => send(alloc, dest, tag, &[7], true),
         Step::SendTwo(dest, tag) => send(alloc, dest, tag, &[7, 8], false),
+        Step::SendMany(dest, tag, count) => send_many(alloc, dest, tag, count),
         Step::Post(tag, room) => Ok(Call::Post {
             comm,
             source,
@@ -92,6 +95,12 @@ fn send(alloc: Global, dest: u8, tag: u32, ints: &[i32], sync: bool) -> Result<C
         ints: Ints::from_slice(alloc, ints)?,
         sync,
     })
+}
+
+fn send_many(alloc: Global, dest: u8, tag: u32, count: u32) -> Result<Call, AllocError> {
+    let mut ints = Vec::new(alloc);
+    ints.resize(count as usize, 7)?;
+    send(alloc, dest, tag, &ints, false)
 }
 
 /// A broadcast has root 0 and one int, and a reduction is a sum of one int.

@@ -1,5 +1,5 @@
 //! Recordings of synchronous sends.
-use crate::rows::{Row, Short, check_row};
+use crate::rows::{Row, Short, ZEROTH, check_row};
 use crate::steps::Step;
 use mpi_call::call::{Halt, Tag, TakeMode};
 use run_model::ending::Ending;
@@ -11,8 +11,9 @@ const ALL: TakeMode = TakeMode::All;
 const TEST: TakeMode = TakeMode::TestAll;
 
 static SYNCHRONOUS: [Row; 4] = [
-    // Both send synchronously before they receive: no send is matched, and both are stuck.
+    // No send is matched, and both are stuck.
     Row {
+        name: "both send synchronously before they receive",
         steps: [
             &[
                 Step::SyncSend(1, 5),
@@ -31,6 +32,7 @@ static SYNCHRONOUS: [Row; 4] = [
         plan: b"0 1\n",
         turns: &[],
         order: &[0, 1, 1, 0],
+        picks: &[],
         entries: &[
             Short::Sent,
             Short::Stopped(Halt::Stuck),
@@ -39,9 +41,8 @@ static SYNCHRONOUS: [Row; 4] = [
         ],
         ending: Ending::Halted(Halt::Stuck),
     },
-
-    // With standard sends, which are buffered, both finish.
     Row {
+        name: "both send into buffers before they receive",
         steps: [
             &[
                 Step::Send(1, 5),
@@ -60,6 +61,7 @@ static SYNCHRONOUS: [Row; 4] = [
         plan: b"0 1\n",
         turns: &[],
         order: &[0, 1, 0, 1, 0, 1, 0, 1, 0, 1],
+        picks: &[],
         entries: &[
             Short::Sent,
             Short::Complete,
@@ -75,8 +77,9 @@ static SYNCHRONOUS: [Row; 4] = [
         ending: Ending::Finished,
     },
 
-    // One message, by a synchronous send: it is complete once the receive has matched it.
+    // The send is complete once the receive has matched it.
     Row {
+        name: "one synchronous send",
         steps: [
             &[Step::SyncSend(1, 5), Step::Take(ALL, 0)],
             &[Step::Post(Tag::Is(5), 1), Step::Take(ALL, 0)],
@@ -85,6 +88,7 @@ static SYNCHRONOUS: [Row; 4] = [
         plan: b"0 1\n",
         turns: &[],
         order: &[0, 1, 0, 1, 0, 1],
+        picks: &[],
         entries: &[
             Short::Sent,
             Short::Complete,
@@ -96,8 +100,9 @@ static SYNCHRONOUS: [Row; 4] = [
         ending: Ending::Finished,
     },
 
-    // A test before the receive is answered NotYet; a wait is answered once the receive has matched the send.
+    // The test before the receive is answered NotYet.
     Row {
+        name: "a synchronous send that is tested, and then waited for",
         steps: [
             &[
                 Step::SyncSend(1, 5),
@@ -108,8 +113,9 @@ static SYNCHRONOUS: [Row; 4] = [
             &[],
         ],
         plan: b"0 1\n",
-        turns: &[0, 0],
+        turns: &[ZEROTH, ZEROTH],
         order: &[0, 0, 1, 0, 1, 0, 1],
+        picks: &[],
         entries: &[
             Short::Sent,
             Short::NotYet,

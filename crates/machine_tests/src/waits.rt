@@ -62,12 +62,12 @@ fn check_blocked(
 ) -> Result<(), Fail> {
     let (rank, number, start, awaited) = want;
     assert_eq!(rt; blocked.rank, *rank);
-    assert_eq!(rt; blocked.number, *number);
+    assert_eq!(rt; blocked.number, *number, "rank {rank}");
     let [wait] = blocked.waits.as_slice() else {
         return Err("not one start".into());
     };
-    assert_eq!(rt; wait.start, Some(*start));
-    assert_eq!(rt; wait.awaited.as_slice(), *awaited);
+    assert_eq!(rt; wait.start, Some(*start), "rank {rank}");
+    assert_eq!(rt; wait.awaited.as_slice(), *awaited, "rank {rank}");
     Ok(())
 }
 

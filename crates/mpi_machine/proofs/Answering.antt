@@ -43,7 +43,7 @@ pub due_free : (n : ℕ) (events : List Event) (own : View) (me : ℕ) (call : C
     → due n events me own call ≡ halt_at n events me own call
 due_free n events own me call e = (let u = unbound events e in rw (u.none, u.within) refl)
 
-bound_due : (halt : Option Halt) (full : Bool) (rest : Option Halt) (found : Halt) → or_else halt (if full then Some Limit else None) ≡ Some found
+pub bound_due : (halt : Option Halt) (full : Bool) (rest : Option Halt) (found : Halt) → or_else halt (if full then Some Limit else None) ≡ Some found
     → or_else halt (if full then Some Limit else rest) ≡ Some found
 bound_due (Some halt) full rest found e = e
 bound_due None true rest found e = e
@@ -179,11 +179,11 @@ has_reply next n events kept rank call reply asked a =
     }
 
 -- a waiting call can go where what it waits for is there
-not_true : (b : Bool) → not b ≡ true → b ≡ false
+pub not_true : (b : Bool) → not b ≡ true → b ≡ false
 not_true true h = absurd (cc)
 not_true false h = refl
 
-no_some : {A : Type 0} (o : Option A) → is_some o ≡ false → o ≡ None
+pub no_some : {A : Type 0} (o : Option A) → is_some o ≡ false → o ≡ None
 no_some None h = refl
 no_some (Some x) h = absurd (cc)
 

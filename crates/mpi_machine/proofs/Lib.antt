@@ -13,3 +13,5 @@ pub mod Serially
 pub mod Standing
 pub mod Waiting
 pub mod WaitingRanks
+mod Picking
+mod Indexing

@@ -12,21 +12,23 @@ use Rattle.requests.specs.Histories.{IsIdle, Knows, KnowsStart}
 use Rattle.requests.specs.States.{State}
 use Rattle.run_model.specs.declared.event.Event.{Event}
 use Rattle.run_model.specs.Choice.{choice, mate_of}
-use Rattle.run_model.specs.Chosen.{IsChosen, chosen_event, chosen_reply, peeked_at, peeked_in}
+use Rattle.run_model.specs.Chosen.{chosen_event, chosen_reply, peeked_at, peeked_in}
 use Rattle.run_model.specs.Pairs.{Name, named}
 use Rattle.run_model.specs.Program.{ends}
 use Rattle.run_model.specs.Views.{Next, is_start, taken_of}
 use Rattle.run_model.proofs.RunLaws.{Lawful}
-use Rattle.mpi_machine.specs.declared.turn.Turn.TheVariants.{Replied}
+use Rattle.mpi_machine.specs.declared.answer.Answer.TheVariants.{Replied}
+use Rattle.picked_runs.specs.declared.turn.Pick.{Pick}
 use Rattle.mpi_machine.specs.Courses.{has_ended}
-use Rattle.mpi_machine.specs.Turns.{HasReply, IsAsked, MachineState, after_turn, last_reply, takes_none, turn_by, turn_of}
+use Rattle.mpi_machine.specs.Made.{IsMade}
+use Rattle.mpi_machine.specs.Turns.{HasReply, IsAsked, MachineState, after_answer, last_reply, takes_none, answer_by, answer_of}
 use Rattle.mpi_machine.specs.Waits.{AreKept, Keeps}
 use Rattle.mpi_machine.proofs.Growing.{event_is, event_with, grown, idle_event, live}
 
 pub turn_is : (next : Next) (n : ℕ) (events : List Event) (kept : List (Option Call)) (rank : ℕ) (call : Call) (reply : Reply)
-    → HasReply next n events kept rank call reply → turn_of next n events kept rank call ≡ Replied reply
+    → HasReply next n events kept rank call reply → answer_of next n events kept rank call ≡ Replied reply
 turn_is next n events kept rank call reply has =
-    ap (λ b. turn_by b (chosen_reply n events rank call)) has.answered ∙ ap (λ (r : Reply). Replied r) has.reply_is
+    ap (λ b. answer_by b (chosen_reply n events rank call)) has.answered ∙ ap (λ (r : Reply). Replied r) has.reply_is
 
 abbrev pub machine_with : {P : Type 0} → P → ℕ → List Event → List (Option Call) → MachineState P
 machine_with program n events kept = record { program = program; ranks = n; events = events; kept = kept }
@@ -35,37 +37,37 @@ machine_with program n events kept = record { program = program; ranks = n; even
 pub after_event : {P : Type 0} (program : P) (next : Next) (n : ℕ) (events : List Event) (kept : List (Option Call)) (rank : ℕ) (call : Call) (reply : Reply) (event : Event)
     → HasReply next n events kept rank call reply → chosen_event n events rank call ≡ event
     → machine_with program n (events ++ event ∷ []) (slice_set kept rank None)
-    ≡ after_turn (machine_with program n events kept) rank call (turn_of next n events kept rank call)
+    ≡ after_answer (machine_with program n events kept) rank call (answer_of next n events kept rank call)
 after_event program next n events kept rank call reply event has is =
     ap (λ e. machine_with program n (events ++ e ∷ []) (slice_set kept rank None)) (sym is)
-    ∙ ap (λ t. after_turn (machine_with program n events kept) rank call t) (sym (turn_is next n events kept rank call reply has))
+    ∙ ap (λ t. after_answer (machine_with program n events kept) rank call t) (sym (turn_is next n events kept rank call reply has))
 
 -- what is kept of a machine's fields is kept of what contracts see
-pub keeps_now : {P : Type 0} (next_of : P → Next) (inside now : MachineState P) (state : State) → inside ≡ now
-    → Keeps (next_of inside.program) inside.ranks inside.events inside.kept state → Keeps (next_of now.program) now.ranks now.events now.kept state
-keeps_now {P} next_of inside now state same keeps =
-    let F : MachineState P → Type 0 = λ m. Keeps (next_of m.program) m.ranks m.events m.kept state in
+pub keeps_now : {P : Type 0} (next_of : P → Next) (picks : List Pick) (inside now : MachineState P) (state : State) → inside ≡ now
+    → Keeps (next_of inside.program) inside.ranks picks inside.events inside.kept state → Keeps (next_of now.program) now.ranks picks now.events now.kept state
+keeps_now {P} next_of picks inside now state same keeps =
+    let F : MachineState P → Type 0 = λ m. Keeps (next_of m.program) m.ranks picks m.events m.kept state in
     subst F same keeps
 
 -- the machine after a reply whose event this is
 pub after_reply : {P : Type 0} (program : P) (n : ℕ) (events : List Event) (kept : List (Option Call)) (rank : ℕ) (call : Call) (reply : Reply) (event : Event)
     → chosen_event n events rank call ≡ event
-    → machine_with program n (events ++ event ∷ []) (slice_set kept rank None) ≡ after_turn (machine_with program n events kept) rank call (Replied reply)
+    → machine_with program n (events ++ event ∷ []) (slice_set kept rank None) ≡ after_answer (machine_with program n events kept) rank call (Replied reply)
 after_reply program n events kept rank call reply event is = ap (λ e. machine_with program n (events ++ e ∷ []) (slice_set kept rank None)) (sym is)
 
 -- a rank with a next call has not ended
-pub live_in : (next : Next) (n : ℕ) (events : List Event) (kept : List (Option Call)) (state : State) (rank : ℕ) (call : Call)
-    → Lawful next → Keeps next n events kept state → IsAsked next n events rank call → has_ended events rank ≡ false
-live_in next n events kept state rank call lawful keeps asked = live next n events rank call lawful keeps.chosen asked.below asked.asked
+pub live_in : (next : Next) (n : ℕ) (picks : List Pick) (events : List Event) (kept : List (Option Call)) (state : State) (rank : ℕ) (call : Call)
+    → Lawful next → Keeps next n picks events kept state → IsAsked next n events rank call → has_ended events rank ≡ false
+live_in next n picks events kept state rank call lawful keeps asked = live next n events rank call lawful keeps.made.run asked.below asked.asked
 
-pub idle_keeps : (next : Next) (n : ℕ) (events : List Event) (kept : List (Option Call)) (state : State) (rank : ℕ) (call : Call) (reply : Reply)
-    → Lawful next → IsChosen next n events → AreKept next n events kept → HasReply next n events kept rank call reply → is_start (call, reply) ≡ false
+pub idle_keeps : (next : Next) (n : ℕ) (picks : List Pick) (events : List Event) (kept : List (Option Call)) (state : State) (rank : ℕ) (call : Call) (reply : Reply)
+    → Lawful next → IsMade next n picks events → AreKept next n events kept → HasReply next n events kept rank call reply → is_start (call, reply) ≡ false
     → Knows n (events ++ event_with rank call reply None ∷ []) state
-    → Keeps next n (events ++ event_with rank call reply None ∷ []) (slice_set kept rank None) state
-idle_keeps next n events kept state rank call reply lawful chosen are has idle knows =
-    let g = grown next n events kept rank call reply (event_with rank call reply None) lawful chosen are has
+    → Keeps next n picks (events ++ event_with rank call reply None ∷ []) (slice_set kept rank None) state
+idle_keeps next n picks events kept state rank call reply lawful made are has idle knows =
+    let g = grown next n picks events kept rank call reply (event_with rank call reply None) lawful made are has
     (idle_event n events rank call reply has.reply_is idle) knows.matcher.matched in
-    record { chosen = g.chosen; knows = knows; kept_are = g.kept_are }
+    record { made = g.made; knows = knows; kept_are = g.kept_are }
 
 starting : (call : Call) → is_starting call ≡ true → is_start (call, Done) ≡ true
 starting call h = rw h refl
@@ -78,14 +80,14 @@ pub start_event : (n : ℕ) (events : List Event) (rank : ℕ) (call : Call) (ma
     → mate ≡ choice events rank call → chosen_event n events rank call ≡ event_with rank call Done mate
 start_event n events rank call mate r kind e = event_is n events rank call Done mate r (mate_found events rank call mate (starting call kind) e)
 
-pub start_keeps : (next : Next) (n : ℕ) (events : List Event) (kept : List (Option Call)) (state : State) (rank : ℕ) (call : Call) (number : ℕ) (mate : Option ℕ)
-    → Lawful next → IsChosen next n events → AreKept next n events kept → HasReply next n events kept rank call Done → is_starting call ≡ true
+pub start_keeps : (next : Next) (n : ℕ) (picks : List Pick) (events : List Event) (kept : List (Option Call)) (state : State) (rank : ℕ) (call : Call) (number : ℕ) (mate : Option ℕ)
+    → Lawful next → IsMade next n picks events → AreKept next n events kept → HasReply next n events kept rank call Done → is_starting call ≡ true
     → KnowsStart n events rank call number mate state
-    → Keeps next n (events ++ event_with rank call Done mate ∷ []) (slice_set kept rank None) state
-start_keeps next n events kept state rank call number mate lawful chosen are has kind knows =
-    let g = grown next n events kept rank call Done (event_with rank call Done mate) lawful chosen are has
+    → Keeps next n picks (events ++ event_with rank call Done mate ∷ []) (slice_set kept rank None) state
+start_keeps next n picks events kept state rank call number mate lawful made are has kind knows =
+    let g = grown next n picks events kept rank call Done (event_with rank call Done mate) lawful made are has
     (start_event n events rank call mate has.reply_is kind knows.choice_is) knows.knows.matcher.matched in
-    record { chosen = g.chosen; knows = knows.knows; kept_are = g.kept_are }
+    record { made = g.made; knows = knows.knows; kept_are = g.kept_are }
 
 and_no : (b : Bool) → (b && false) ≡ false
 and_no true = refl

@@ -11,7 +11,7 @@ use Rattle.run_model.specs.Lists.{world}
 use Rattle.run_model.specs.Serial.{Stage, attempt, attempt_with, call_after, is_stuck, others_wait}
 use Rattle.run_model.specs.Views.{Next, view_of}
 use Rattle.run_model.proofs.Views.{test_cases}
-use Rattle.mpi_machine.specs.Turns.{MachineState, StandsAt, after_turn, kept_of, stage_of, turn_of, waiting_from}
+use Rattle.mpi_machine.specs.Turns.{MachineState, StandsAt, after_answer, kept_of, stage_of, answer_of, waiting_from}
 use Rattle.mpi_machine.proofs.WaitingRanks.{kept_waits}
 
 all_same : (f g : ℕ → Bool) (xs : List ℕ) → ((m : ℕ) → f m ≡ g m) → list_all f xs ≡ list_all g xs
@@ -44,7 +44,7 @@ left_other rank other (x ∷ xs) apart =
 pub record Waiting (waiting : List ℕ) (kept : List (Option Call)) : Type 0 where
   pub same : (rank : ℕ) → is_member waiting rank ≡ is_some (kept_of kept rank)
 
-answered_waiting : (waiting : List ℕ) (kept : List (Option Call)) (rank : ℕ) → rank < length kept → Waiting waiting kept
+pub answered_waiting : (waiting : List ℕ) (kept : List (Option Call)) (rank : ℕ) → rank < length kept → Waiting waiting kept
     → Waiting (filter (λ other. not (other == rank)) waiting) (slice_set kept rank None)
 answered_waiting waiting kept rank below w =
     record {
@@ -84,7 +84,7 @@ stage_with events waiting = record { events = events; waiting = waiting }
 
 attempted : {P : Type 0} (program : P) (next : Next) (n : ℕ) (events : List Event) (kept : List (Option Call)) (waiting : List ℕ) (rank : ℕ) (call : Call)
     → length kept ≡ n → rank < n → Waiting waiting kept
-    → StandsAt (after_turn (machine_with program n events kept) rank call (turn_of next n events kept rank call))
+    → StandsAt (after_answer (machine_with program n events kept) rank call (answer_of next n events kept rank call))
     (attempt_with next n (stage_with events waiting) rank (Some call))
 attempted program next n events kept waiting rank call many below w =
     let go : Bool = can_go n events rank (view_of events rank) call in
@@ -107,11 +107,11 @@ attempted program next n events kept waiting rank call many below w =
 pub stands_on : {P : Type 0} (program : P) (next : Next) (n : ℕ) (events : List Event) (kept : List (Option Call)) (rank : ℕ) (call : Call) (stage : Stage)
     → length kept ≡ n → rank < n → call_after next n events rank ≡ Some call
     → StandsAt (machine_with program n events kept) stage
-    → StandsAt (after_turn (machine_with program n events kept) rank call (turn_of next n events kept rank call)) (attempt next n stage rank)
+    → StandsAt (after_answer (machine_with program n events kept) rank call (answer_of next n events kept rank call)) (attempt next n stage rank)
 stands_on program next n events kept rank call stage many below asked s =
     let here : stage_with stage.events stage.waiting ≡ stage_with events stage.waiting = ap (λ e. stage_with e stage.waiting) s.events in
-    let F : Stage → Type 0 = λ x. StandsAt (after_turn (machine_with program n events kept) rank call (turn_of next n events kept rank call)) (attempt next n x rank) in
-    let G : Option Call → Type 0 = λ c. StandsAt (after_turn (machine_with program n events kept) rank call (turn_of next n events kept rank call)) (attempt_with next n (stage_with events stage.waiting) rank c) in
+    let F : Stage → Type 0 = λ x. StandsAt (after_answer (machine_with program n events kept) rank call (answer_of next n events kept rank call)) (attempt next n x rank) in
+    let G : Option Call → Type 0 = λ c. StandsAt (after_answer (machine_with program n events kept) rank call (answer_of next n events kept rank call)) (attempt_with next n (stage_with events stage.waiting) rank c) in
     let one : F (stage_with events stage.waiting) =
     subst G (sym asked) (attempted program next n events kept stage.waiting rank call many below (record { same = s.waiting })) in
     subst F (sym here) one

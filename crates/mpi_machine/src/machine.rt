@@ -1,5 +1,5 @@
 //! A recording machine, one event at a time.
-ghost use Rattle.std.specs.Prelude.{◌≡◌, ◌<◌, ◌≤◌, ◌++◌, ◌∷◌, ◌==◌, ◌&&◌, ◌||◌, [], false, is_some, length, not, replicate, true, IfOk, IsOk, None, OnErr, OnOk, Some};
+ghost use Rattle.std.specs.Prelude.{◌≡◌, ◌<◌, ◌≤◌, ◌++◌, ◌∷◌, ◌==◌, ◌&&◌, ◌||◌, [], false, is_some, length, not, replicate, true, IfOk, IsOk, IsTrue, None, OnErr, OnOk, Some};
 ghost use Rattle.std.specs.List.{slice_set};
 ghost use Rattle.mpi_call.specs.Calls.{is_starting};
 ghost use Rattle.mpi_call.specs.declared.limits.TheConstants.{MOST_RANKS};
@@ -8,28 +8,37 @@ ghost use Rattle.mpi_call.specs.declared.call.Call.TheVariants.{Peek, Take};
 ghost use Rattle.mpi_call.specs.declared.reply.Reply.{Reply};
 ghost use Rattle.mpi_call.specs.declared.reply.Reply.TheVariants.{Took as TookReply};
 ghost use Rattle.run_model.specs.Allowed.{can_go};
-ghost use Rattle.run_model.specs.Chosen.{chosen_reply, peeked_at, IsChosen};
+ghost use Rattle.run_model.specs.Chosen.{chosen_reply, peeked_at};
 ghost use Rattle.run_model.specs.Due.{halted};
 ghost use Rattle.run_model.specs.Pairs.{name_at};
 ghost use Rattle.run_model.specs.Program.{ends, MayGive};
 ghost use Rattle.run_model.specs.Serial.{attempt, call_after, is_stuck, others_wait, Stage};
+ghost use Rattle.run_model.specs.Run.{IsRun};
+ghost use Rattle.picked_runs.specs.declared.turn.Pick.TheVariants.{Index, Sender};
+ghost use Rattle.picked_runs.specs.Picked.{IsPicked};
+ghost use Rattle.picked_runs.specs.Turns.{take_turn};
+ghost use Rattle.match_core.specs.Starts.{is_peek, is_post};
+ghost use Rattle.mpi_machine.specs.Picking.{after_pick, picked_of, HasPicked};
 ghost use Rattle.run_model.specs.Views.{is_start, replies_in, taken_of, view_of};
 ghost use Rattle.requests.specs.Histories.{took_event, Knows};
 ghost use Rattle.requests.specs.States.{with_rows, State};
-ghost use Rattle.requests.specs.Taking.{answer_in, rows_after};
+ghost use Rattle.requests.specs.Taking.{rows_after, takes_one, AreHandedOut};
 ghost use Rattle.requests.specs.declared.requests.TakeAnswer.TheVariants.{Took as TookItems};
 ghost use Rattle.mpi_machine.specs.Courses.{bound_of, has_ended, HasRoom};
-ghost use Rattle.mpi_machine.specs.Turns.{after_turn, last_reply, waits_again, stage_of, stands, takes_none, turn_of, HasReply, IsAsked, IsHeldBack, IsStartAt, StandsAt};
-ghost use Rattle.mpi_machine.specs.declared.turn.Turn.TheVariants.{Replied, Wait};
+ghost use Rattle.mpi_machine.specs.Turns.{after_answer, last_reply, answer_of, waits_again, stage_of, stands, takes_none, HasReply, IsAsked, IsHeldBack, IsStartAt, StandsAt};
+ghost use Rattle.mpi_machine.specs.declared.answer.Answer.TheVariants.{Replied, Wait};
 ghost use Rattle.mpi_machine.specs.Waits.{waits, AreKept};
 
+use crate::answer::Answer;
 use crate::course::Course;
-use crate::turn::Turn;
 use crate::waits::is_there;
 use mpi_call::call::{Call, Comm, Halt, Source, Tag, TakeMode};
 use mpi_call::lists::Starts;
 use mpi_call::reply;
 use mpi_call::reply::{Items, Reply};
+use picked_runs::picks::Picks;
+use picked_runs::turn::{Pick, call_from};
+use requests::answer::takes_one;
 use requests::requests::{Requests, Started, TakeAnswer};
 use run_model::event::Event;
 use run_model::history::History;
@@ -45,6 +54,8 @@ pub struct Machine<'a, P: Program> {
     program: &'a P,
     course: Course,
     requests: Requests,
+    /// What the events picked.
+    picks: Picks,
     /// For each rank, where in the list of its waiting completion a start was not ready when that was last asked.
     places: [usize; 256],
 }
@@ -57,7 +68,7 @@ impl<'a, P: Program> Model for Machine<'a, P> {
 
     ghost view = { λ m. record { program = m.program.now; ranks = m.course.ranks; events = m.course.events; kept = m.course.kept } };
 
-    ghost invariant = { λ m. Keeps (P.next m.program.now) m.course.ranks m.course.events m.course.kept m.requests };
+    ghost invariant = { λ m. Keeps (P.next m.program.now) m.course.ranks m.picks.written m.course.events m.course.kept m.requests };
 }
 
 impl<'a, P: Program> Machine<'a, P> {
@@ -70,23 +81,24 @@ impl<'a, P: Program> Machine<'a, P> {
             program,
             course: Course::new(alloc, ranks)?,
             requests: Requests::new(alloc, ranks)?,
+            picks: Picks::new(alloc),
             places: [0; 256],
         })
     }
 
     /// One attempt of a rank with its next call.
-    pub fn attempt(&mut self, rank: u8, call: Call) -> Result<Turn, AllocError>
+    pub fn attempt(&mut self, rank: u8, call: Call) -> Result<Answer, AllocError>
         requires rank { rank < self.old.ranks }
         requires next { P.next self.old.program self.old.ranks rank (replies_in (view_of self.old.events rank)) ≡ Some call }
-        ensures turn { IfOk result (λ turn. turn ≡ turn_of (P.next self.old.program) self.old.ranks self.old.events self.old.kept rank call) }
-        ensures after { IfOk result (λ turn. self.new ≡ after_turn self.old rank call turn) }
+        ensures answer { IfOk result (λ answer. answer ≡ answer_of (P.next self.old.program) self.old.ranks self.old.events self.old.kept rank call) }
+        ensures after { IfOk result (λ answer. self.new ≡ after_answer self.old rank call answer) }
         ensures err { OnErr result (self.new ≡ self.old) }
 
         // A rank's last reply takes no memory.
         ensures sure { takes_none self.old.events call (chosen_reply self.old.ranks self.old.events rank call) ≡ true → IsOk result }
 
         // The reply may be given to the rank.
-        ensures shape { IfOk result (λ turn. (reply : Reply) → turn ≡ Replied reply → MayGive (P.next self.old.program) self.old.ranks rank (replies_in (view_of self.old.events rank)) reply) }
+        ensures shape { IfOk result (λ answer. (reply : Reply) → answer ≡ Replied reply → MayGive (P.next self.old.program) self.old.ranks rank (replies_in (view_of self.old.events rank)) reply) }
 
         // Attempts one after the other make the run that the order of ranks fixes.
         ensures serial { OnOk result ((stage : Stage) → StandsAt self.old stage → StandsAt self.new (attempt (P.next self.old.program) self.old.ranks stage rank)) }
@@ -95,6 +107,221 @@ impl<'a, P: Program> Machine<'a, P> {
         let turn = self.turn(rank, call)?;
         self.is_run();
         Ok(turn)
+    }
+
+    /// One attempt of a rank with its next call that takes a message of this sender: a receive gets its earliest Send that it accepts, and a
+    /// probe finds it. Where there is none, or the call takes no message, or a halt is due, there is no reply and nothing has changed.
+    pub fn attempt_from(
+        &mut self,
+        rank: u8,
+        call: Call,
+        sender: u8,
+    ) -> Result<Option<Reply>, AllocError>
+        requires rank { rank < self.old.ranks }
+        requires next { P.next self.old.program self.old.ranks rank (replies_in (view_of self.old.events rank)) ≡ Some call }
+        ensures answer { IfOk result (λ answer. answer ≡ picked_of self.old.ranks self.old.events rank call (Sender sender)) }
+        ensures after { IfOk result (λ answer. self.new ≡ after_pick self.old rank call (Sender sender) answer) }
+        ensures err { OnErr result (self.new ≡ self.old) }
+
+        // The reply may be given to the rank.
+        ensures shape { IfOk result (λ answer. (reply : Reply) → answer ≡ Some reply → MayGive (P.next self.old.program) self.old.ranks rank (replies_in (view_of self.old.events rank)) reply) }
+
+        // It is the rank's turn with this pick.
+        ensures serial { OnOk result ((stage : Stage) → StandsAt self.old stage → StandsAt self.new (take_turn (P.next self.old.program) self.old.ranks stage (record { rank = rank; pick = Sender sender }))) }
+    {
+        self.is_run();
+        let answer = self.from(rank, call, sender)?;
+        self.is_run();
+        Ok(answer)
+    }
+
+    /// The attempt.
+    fn from(&mut self, rank: u8, call: Call, sender: u8) -> Result<Option<Reply>, AllocError>
+        requires asked { IsAsked (P.next self.old.program) self.old.ranks self.old.events rank call }
+        ensures answer { IfOk result (λ answer. answer ≡ picked_of self.old.ranks self.old.events rank call (Sender sender)) }
+        ensures after { IfOk result (λ answer. self.new ≡ after_pick self.old rank call (Sender sender) answer) }
+        ensures err { OnErr result (self.new ≡ self.old) }
+    {
+        if self.course.bound().is_some() {
+            return Ok(None);
+        }
+        match &call {
+            Call::Post { .. } => self.post_from(rank, call, sender),
+            Call::Peek { .. } => self.peek_from(rank, call, sender),
+            _ => Ok(None),
+        }
+    }
+
+    /// A receive that takes a message of this sender.
+    fn post_from(&mut self, rank: u8, call: Call, sender: u8) -> Result<Option<Reply>, AllocError>
+        requires asked { IsAsked (P.next self.old.program) self.old.ranks self.old.events rank call }
+        requires bound { bound_of self.old.events ≡ None }
+        requires kind { IsTrue (is_post call) }
+        ensures answer { IfOk result (λ answer. answer ≡ picked_of self.old.ranks self.old.events rank call (Sender sender)) }
+        ensures after { IfOk result (λ answer. self.new ≡ after_pick self.old rank call (Sender sender) answer) }
+        ensures err { OnErr result (self.new ≡ self.old) }
+    {
+        self.requests.knows_on();
+        self.course.reserve()?;
+        let at = self.course.history().len();
+        self.picks.reserve(at)?;
+        let Some(mate) = self.requests.post_from(at, rank, &call, sender)? else {
+            return Ok(None);
+        };
+        self.picks.put(at, Pick::Sender(sender));
+        self.course.append(Event {
+            rank,
+            call,
+            reply: Reply::Done,
+            mate: Some(mate),
+        });
+        Ok(Some(Reply::Done))
+    }
+
+    /// A probe that finds a message of this sender.
+    fn peek_from(&mut self, rank: u8, call: Call, sender: u8) -> Result<Option<Reply>, AllocError>
+        requires asked { IsAsked (P.next self.old.program) self.old.ranks self.old.events rank call }
+        requires bound { bound_of self.old.events ≡ None }
+        requires kind { IsTrue (is_peek call) }
+        ensures answer { IfOk result (λ answer. answer ≡ picked_of self.old.ranks self.old.events rank call (Sender sender)) }
+        ensures after { IfOk result (λ answer. self.new ≡ after_pick self.old rank call (Sender sender) answer) }
+        ensures err { OnErr result (self.new ≡ self.old) }
+    {
+        let narrowed = call_from(sender, &call);
+        let Some(at) = self.requests.peek(rank, &narrowed) else {
+            return Ok(None);
+        };
+        let reply = self.peeked(at);
+        self.picked(rank, call, Pick::Sender(sender), reply)
+    }
+
+    /// One attempt of a rank with its next call that completes the start at this index of its list, where it completes one start. Where
+    /// that start is not ready, or the call completes none or all of its starts, or a halt is due, there is no reply and nothing has
+    /// changed.
+    pub fn attempt_at(
+        &mut self,
+        rank: u8,
+        call: Call,
+        index: u32,
+    ) -> Result<Option<Reply>, AllocError>
+        requires rank { rank < self.old.ranks }
+        requires next { P.next self.old.program self.old.ranks rank (replies_in (view_of self.old.events rank)) ≡ Some call }
+        ensures answer { IfOk result (λ answer. answer ≡ picked_of self.old.ranks self.old.events rank call (Index index)) }
+        ensures after { IfOk result (λ answer. self.new ≡ after_pick self.old rank call (Index index) answer) }
+        ensures err { OnErr result (self.new ≡ self.old) }
+
+        // The reply may be given to the rank.
+        ensures shape { IfOk result (λ answer. (reply : Reply) → answer ≡ Some reply → MayGive (P.next self.old.program) self.old.ranks rank (replies_in (view_of self.old.events rank)) reply) }
+
+        // It is the rank's turn with this pick.
+        ensures serial { OnOk result ((stage : Stage) → StandsAt self.old stage → StandsAt self.new (take_turn (P.next self.old.program) self.old.ranks stage (record { rank = rank; pick = Index index }))) }
+    {
+        self.is_run();
+        let answer = self.at(rank, call, index)?;
+        self.is_run();
+        Ok(answer)
+    }
+
+    /// The attempt.
+    fn at(&mut self, rank: u8, call: Call, index: u32) -> Result<Option<Reply>, AllocError>
+        requires asked { IsAsked (P.next self.old.program) self.old.ranks self.old.events rank call }
+        ensures answer { IfOk result (λ answer. answer ≡ picked_of self.old.ranks self.old.events rank call (Index index)) }
+        ensures after { IfOk result (λ answer. self.new ≡ after_pick self.old rank call (Index index) answer) }
+        ensures err { OnErr result (self.new ≡ self.old) }
+    {
+        if self.course.bound().is_some() {
+            return Ok(None);
+        }
+        match call {
+            Call::Take { starts, mode } => {
+                if !takes_one(mode) {
+                    return Ok(None);
+                }
+                self.take_at(rank, starts, mode, index)
+            }
+            _ => Ok(None),
+        }
+    }
+
+    /// A completion of one start that completes the one at this index of its list.
+    fn take_at(
+        &mut self,
+        rank: u8,
+        starts: Starts,
+        mode: TakeMode,
+        index: u32,
+    ) -> Result<Option<Reply>, AllocError>
+        requires asked { IsAsked (P.next self.old.program) self.old.ranks self.old.events rank (Take starts mode) }
+        requires bound { bound_of self.old.events ≡ None }
+        requires one { takes_one mode ≡ true }
+        ensures answer { IfOk result (λ answer. answer ≡ picked_of self.old.ranks self.old.events rank (Take starts mode) (Index index)) }
+        ensures after { IfOk result (λ answer. self.new ≡ after_pick self.old rank (Take starts mode) (Index index) answer) }
+        ensures err { OnErr result (self.new ≡ self.old) }
+    {
+        let at = self.course.history().len();
+        self.picks.reserve(at)?;
+        let Some(answer) = self.requests.take_at(rank, &starts, index)? else {
+            return Ok(None);
+        };
+        self.requests.knows_on();
+        match answer {
+            TakeAnswer::Took(items) => {
+                let reply = took(
+                    &mut self.course,
+                    &mut self.requests,
+                    rank,
+                    starts,
+                    mode,
+                    items,
+                )?;
+                self.picks.put(at, Pick::Index(index));
+                Ok(Some(reply))
+            }
+            TakeAnswer::TooLong { start } => {
+                let halt = Halt::Truncated { rank, start };
+                self.picks.put(at, Pick::Index(index));
+                self.course.append(Event {
+                    rank,
+                    call: Call::Take { starts, mode },
+                    reply: Reply::Stopped(halt),
+                    mate: None,
+                });
+                Ok(Some(Reply::Stopped(halt)))
+            }
+            _ => unreachable!(),
+        }
+    }
+
+    /// A reply to a call that picked, which is not the rank's last, and changes nothing that is known of starts.
+    fn picked(
+        &mut self,
+        rank: u8,
+        call: Call,
+        pick: Pick,
+        reply: Reply,
+    ) -> Result<Option<Reply>, AllocError>
+        requires reply { HasPicked (P.next self.old.program) self.old.ranks self.old.events rank call pick reply }
+        requires bound { bound_of self.old.events ≡ None }
+        requires more { ends (call, reply) ≡ false }
+        requires no_start { is_start (call, reply) ≡ false }
+        requires none_taken { taken_of ((call, reply) ∷ []) ≡ [] }
+        ensures answer { IfOk result (λ answer. answer ≡ picked_of self.old.ranks self.old.events rank call pick) }
+        ensures after { IfOk result (λ answer. self.new ≡ after_pick self.old rank call pick answer) }
+        ensures err { OnErr result (self.new ≡ self.old) }
+    {
+        self.requests.knows_on();
+        self.course.reserve()?;
+        let at = self.course.history().len();
+        self.picks.reserve(at)?;
+        let copied = reply::copy_of(&reply)?;
+        self.picks.put(at, pick);
+        self.course.append(Event {
+            rank,
+            call,
+            reply,
+            mate: None,
+        });
+        Ok(Some(copied))
     }
 
     /// Whether a rank waits with a call already, and an attempt of it would wait again. Takes no memory. The list of starts that it
@@ -114,10 +341,10 @@ impl<'a, P: Program> Machine<'a, P> {
         self.stands(rank) && !self.others_stand(rank)
     }
 
-    /// The events so far are a run, each event of which is the machine's, and each rank has a place for its waiting call, which is
+    /// The events so far are a run, and each rank has a place for its waiting call, which is
     /// its next one. The body does nothing: the machine's invariant says so, and callers take it from these clauses.
     fn is_run(&self)
-        ensures chosen { IsChosen (P.next self.now.program) self.now.ranks self.now.events }
+        ensures run { IsRun (P.next self.now.program) self.now.ranks self.now.events }
         ensures kept { length self.now.kept ≡ self.now.ranks }
         ensures waiting { AreKept (P.next self.now.program) self.now.ranks self.now.events self.now.kept }
     {
@@ -125,10 +352,10 @@ impl<'a, P: Program> Machine<'a, P> {
     }
 
     /// The attempt.
-    fn turn(&mut self, rank: u8, call: Call) -> Result<Turn, AllocError>
+    fn turn(&mut self, rank: u8, call: Call) -> Result<Answer, AllocError>
         requires asked { IsAsked (P.next self.old.program) self.old.ranks self.old.events rank call }
-        ensures turn { IfOk result (λ turn. turn ≡ turn_of (P.next self.old.program) self.old.ranks self.old.events self.old.kept rank call) }
-        ensures after { IfOk result (λ turn. self.new ≡ after_turn self.old rank call turn) }
+        ensures answer { IfOk result (λ answer. answer ≡ answer_of (P.next self.old.program) self.old.ranks self.old.events self.old.kept rank call) }
+        ensures after { IfOk result (λ answer. self.new ≡ after_answer self.old rank call answer) }
         ensures err { OnErr result (self.new ≡ self.old) }
         ensures sure { takes_none self.old.events call (chosen_reply self.old.ranks self.old.events rank call) ≡ true → IsOk result }
     {
@@ -155,11 +382,11 @@ impl<'a, P: Program> Machine<'a, P> {
     }
 
     /// The last reply to a rank: a halt, or Done to its End. Takes no memory.
-    fn last(&mut self, rank: u8, call: Call, halt: Option<Halt>) -> Turn
+    fn last(&mut self, rank: u8, call: Call, halt: Option<Halt>) -> Answer
         requires reply { HasReply (P.next self.old.program) self.old.ranks self.old.events self.old.kept rank call (last_reply halt) }
         requires last { ends (call, last_reply halt) ≡ true }
-        ensures turn { result ≡ turn_of (P.next self.old.program) self.old.ranks self.old.events self.old.kept rank call }
-        ensures after { self.new ≡ after_turn self.old rank call result }
+        ensures answer { result ≡ answer_of (P.next self.old.program) self.old.ranks self.old.events self.old.kept rank call }
+        ensures after { self.new ≡ after_answer self.old rank call result }
     {
         self.requests.knows_on();
         self.course.append(Event {
@@ -168,18 +395,18 @@ impl<'a, P: Program> Machine<'a, P> {
             reply: last_reply(halt),
             mate: None,
         });
-        Turn::Replied(last_reply(halt))
+        Answer::Replied(last_reply(halt))
     }
 
     /// A reply that is not the rank's last, and changes nothing that is known of starts.
-    fn answer(&mut self, rank: u8, call: Call, reply: Reply) -> Result<Turn, AllocError>
+    fn answer(&mut self, rank: u8, call: Call, reply: Reply) -> Result<Answer, AllocError>
         requires reply { HasReply (P.next self.old.program) self.old.ranks self.old.events self.old.kept rank call reply }
         requires bound { bound_of self.old.events ≡ None }
         requires more { ends (call, reply) ≡ false }
         requires no_start { is_start (call, reply) ≡ false }
         requires none_taken { taken_of ((call, reply) ∷ []) ≡ [] }
-        ensures turn { IfOk result (λ turn. turn ≡ turn_of (P.next self.old.program) self.old.ranks self.old.events self.old.kept rank call) }
-        ensures after { IfOk result (λ turn. self.new ≡ after_turn self.old rank call turn) }
+        ensures answer { IfOk result (λ answer. answer ≡ answer_of (P.next self.old.program) self.old.ranks self.old.events self.old.kept rank call) }
+        ensures after { IfOk result (λ answer. self.new ≡ after_answer self.old rank call answer) }
         ensures err { OnErr result (self.new ≡ self.old) }
     {
         self.requests.knows_on();
@@ -191,16 +418,16 @@ impl<'a, P: Program> Machine<'a, P> {
             reply,
             mate: None,
         });
-        Ok(Turn::Replied(copied))
+        Ok(Answer::Replied(copied))
     }
 
     /// A new start.
-    fn start(&mut self, rank: u8, call: Call) -> Result<Turn, AllocError>
+    fn start(&mut self, rank: u8, call: Call) -> Result<Answer, AllocError>
         requires asked { IsAsked (P.next self.old.program) self.old.ranks self.old.events rank call }
         requires bound { bound_of self.old.events ≡ None }
         requires kind { is_starting call ≡ true }
-        ensures turn { IfOk result (λ turn. turn ≡ turn_of (P.next self.old.program) self.old.ranks self.old.events self.old.kept rank call) }
-        ensures after { IfOk result (λ turn. self.new ≡ after_turn self.old rank call turn) }
+        ensures answer { IfOk result (λ answer. answer ≡ answer_of (P.next self.old.program) self.old.ranks self.old.events self.old.kept rank call) }
+        ensures after { IfOk result (λ answer. self.new ≡ after_answer self.old rank call answer) }
         ensures err { OnErr result (self.new ≡ self.old) }
         ensures sure { takes_none self.old.events call (chosen_reply self.old.ranks self.old.events rank call) ≡ true → IsOk result }
     {
@@ -215,7 +442,7 @@ impl<'a, P: Program> Machine<'a, P> {
                     reply: Reply::Done,
                     mate,
                 });
-                Ok(Turn::Replied(Reply::Done))
+                Ok(Answer::Replied(Reply::Done))
             }
             Started::Disagrees { .. } => {
                 Ok(self.last(rank, call, Some(Halt::Mismatched { rank })))
@@ -224,11 +451,11 @@ impl<'a, P: Program> Machine<'a, P> {
     }
 
     /// A completion. A rank that waits with it already is not asked for its list again where what it waits for is not there.
-    fn complete(&mut self, rank: u8, starts: Starts, mode: TakeMode) -> Result<Turn, AllocError>
+    fn complete(&mut self, rank: u8, starts: Starts, mode: TakeMode) -> Result<Answer, AllocError>
         requires asked { IsAsked (P.next self.old.program) self.old.ranks self.old.events rank (Take starts mode) }
         requires bound { bound_of self.old.events ≡ None }
-        ensures turn { IfOk result (λ turn. turn ≡ turn_of (P.next self.old.program) self.old.ranks self.old.events self.old.kept rank (Take starts mode)) }
-        ensures after { IfOk result (λ turn. self.new ≡ after_turn self.old rank (Take starts mode) turn) }
+        ensures answer { IfOk result (λ answer. answer ≡ answer_of (P.next self.old.program) self.old.ranks self.old.events self.old.kept rank (Take starts mode)) }
+        ensures after { IfOk result (λ answer. self.new ≡ after_answer self.old rank (Take starts mode) answer) }
         ensures err { OnErr result (self.new ≡ self.old) }
         ensures sure { takes_none self.old.events (Take starts mode) (chosen_reply self.old.ranks self.old.events rank (Take starts mode)) ≡ true → IsOk result }
     {
@@ -240,23 +467,26 @@ impl<'a, P: Program> Machine<'a, P> {
     }
 
     /// A completion, by its list of starts.
-    fn take(&mut self, rank: u8, starts: Starts, mode: TakeMode) -> Result<Turn, AllocError>
+    fn take(&mut self, rank: u8, starts: Starts, mode: TakeMode) -> Result<Answer, AllocError>
         requires asked { IsAsked (P.next self.old.program) self.old.ranks self.old.events rank (Take starts mode) }
         requires bound { bound_of self.old.events ≡ None }
-        ensures turn { IfOk result (λ turn. turn ≡ turn_of (P.next self.old.program) self.old.ranks self.old.events self.old.kept rank (Take starts mode)) }
-        ensures after { IfOk result (λ turn. self.new ≡ after_turn self.old rank (Take starts mode) turn) }
+        ensures answer { IfOk result (λ answer. answer ≡ answer_of (P.next self.old.program) self.old.ranks self.old.events self.old.kept rank (Take starts mode)) }
+        ensures after { IfOk result (λ answer. self.new ≡ after_answer self.old rank (Take starts mode) answer) }
         ensures err { OnErr result (self.new ≡ self.old) }
         ensures sure { takes_none self.old.events (Take starts mode) (chosen_reply self.old.ranks self.old.events rank (Take starts mode)) ≡ true → IsOk result }
     {
         match self.requests.take(rank, &starts, mode)? {
-            TakeAnswer::Took(items) => took(
-                &mut self.course,
-                &mut self.requests,
-                rank,
-                starts,
-                mode,
-                items,
-            ),
+            TakeAnswer::Took(items) => {
+                let reply = took(
+                    &mut self.course,
+                    &mut self.requests,
+                    rank,
+                    starts,
+                    mode,
+                    items,
+                )?;
+                Ok(Answer::Replied(reply))
+            }
             TakeAnswer::NotReady => { self.held(rank, Call::Take { starts, mode }, is_test(mode)) }
             TakeAnswer::TooLong { start } => {
                 let halt = Halt::Truncated { rank, start };
@@ -277,11 +507,11 @@ impl<'a, P: Program> Machine<'a, P> {
         source: Source,
         tag: Tag,
         wait: bool,
-    ) -> Result<Turn, AllocError>
+    ) -> Result<Answer, AllocError>
         requires asked { IsAsked (P.next self.old.program) self.old.ranks self.old.events rank (Peek comm source tag wait) }
         requires bound { bound_of self.old.events ≡ None }
-        ensures turn { IfOk result (λ turn. turn ≡ turn_of (P.next self.old.program) self.old.ranks self.old.events self.old.kept rank (Peek comm source tag wait)) }
-        ensures after { IfOk result (λ turn. self.new ≡ after_turn self.old rank (Peek comm source tag wait) turn) }
+        ensures answer { IfOk result (λ answer. answer ≡ answer_of (P.next self.old.program) self.old.ranks self.old.events self.old.kept rank (Peek comm source tag wait)) }
+        ensures after { IfOk result (λ answer. self.new ≡ after_answer self.old rank (Peek comm source tag wait) answer) }
         ensures err { OnErr result (self.new ≡ self.old) }
         ensures sure { takes_none self.old.events (Peek comm source tag wait) (chosen_reply self.old.ranks self.old.events rank (Peek comm source tag wait)) ≡ true → IsOk result }
     {
@@ -324,12 +554,12 @@ impl<'a, P: Program> Machine<'a, P> {
 
     /// A call whose condition fails: a test is answered NotYet; where no rank can go on, the answer is Stuck; else the rank
     /// waits.
-    fn held(&mut self, rank: u8, call: Call, test: bool) -> Result<Turn, AllocError>
+    fn held(&mut self, rank: u8, call: Call, test: bool) -> Result<Answer, AllocError>
         requires asked { IsAsked (P.next self.old.program) self.old.ranks self.old.events rank call }
         requires bound { bound_of self.old.events ≡ None }
         requires held { IsHeldBack self.old.ranks self.old.events rank call test }
-        ensures turn { IfOk result (λ turn. turn ≡ turn_of (P.next self.old.program) self.old.ranks self.old.events self.old.kept rank call) }
-        ensures after { IfOk result (λ turn. self.new ≡ after_turn self.old rank call turn) }
+        ensures answer { IfOk result (λ answer. answer ≡ answer_of (P.next self.old.program) self.old.ranks self.old.events self.old.kept rank call) }
+        ensures after { IfOk result (λ answer. self.new ≡ after_answer self.old rank call answer) }
         ensures err { OnErr result (self.new ≡ self.old) }
         ensures sure { takes_none self.old.events call (chosen_reply self.old.ranks self.old.events rank call) ≡ true → IsOk result }
     {
@@ -340,14 +570,14 @@ impl<'a, P: Program> Machine<'a, P> {
             return Ok(self.last(rank, call, Some(Halt::Stuck)));
         }
         self.keep(rank, call);
-        Ok(Turn::Wait)
+        Ok(Answer::Wait)
     }
 
     /// The rank waits with its call. Takes no memory.
     fn keep(&mut self, rank: u8, call: Call)
         requires asked { IsAsked (P.next self.old.program) self.old.ranks self.old.events rank call }
         requires waiting { waits (view_of self.old.events rank) call ≡ true }
-        ensures { self.new ≡ after_turn self.old rank call Wait }
+        ensures { self.new ≡ after_answer self.old rank call Wait }
     {
         self.course.keep(rank, call);
     }
@@ -392,20 +622,20 @@ impl<'a, P: Program> Machine<'a, P> {
         }
     }
 
-    /// The events so far: a run of the program, each event of which is the machine's. Takes no memory.
+    /// The events so far: a run of the program. Takes no memory.
     pub fn history(&self) -> &History
         ensures events { result.now.events ≡ self.now.events }
-        ensures chosen { IsChosen (P.next self.now.program) self.now.ranks self.now.events }
+        ensures run { IsRun (P.next self.now.program) self.now.ranks self.now.events }
     {
         self.course.history()
     }
 
-    /// The events so far, handed out. Takes no memory.
-    pub fn into_history(self) -> History
-        ensures events { result.events ≡ self.entry.events }
-        ensures chosen { IsChosen (P.next self.entry.program) self.entry.ranks result.events }
+    /// The events so far, and what they picked: a run of the program that these picks make. Takes no memory.
+    pub fn into_run(self) -> (History, Picks)
+        ensures events { result.0.events ≡ self.entry.events }
+        ensures picked { IsPicked (P.next self.entry.program) self.entry.ranks result.1.written result.0.events }
     {
-        self.course.into_history()
+        (self.course.into_history(), self.picks)
     }
 
     /// Whether a rank has ended: it makes no further call. Takes no memory.
@@ -447,7 +677,7 @@ fn prepare(course: &mut Course, items: &Items) -> Result<Items, AllocError>
     items.clone()
 }
 
-/// The event of a completion that took these items. When out of memory, they are not taken.
+/// The event of a completion that took these items, and its reply. When out of memory, they are not taken.
 fn took(
     course: &mut Course,
     requests: &mut Requests,
@@ -455,19 +685,19 @@ fn took(
     starts: Starts,
     mode: TakeMode,
     items: Items,
-) -> Result<Turn, AllocError>
+) -> Result<Reply, AllocError>
     requires rank { rank < course.old.ranks }
     requires row { rank < length requests.old.table.rows }
     requires live { has_ended course.old.events rank ≡ false }
     requires bound { bound_of course.old.events ≡ None }
     ensures ranks { course.new.ranks ≡ course.old.ranks }
-    ensures turn { IfOk result (λ turn. turn ≡ Replied (TookReply items)) }
+    ensures reply { IfOk result (λ reply. reply ≡ TookReply items) }
     ensures events { OnOk result (course.new.events ≡ course.old.events ++ took_event rank starts mode items ∷ []) }
     ensures kept { OnOk result (course.new.kept ≡ slice_set course.old.kept rank None) }
     ensures known { OnOk result (requests.new ≡ requests.old) }
     ensures same_events { OnErr result (course.new.events ≡ course.old.events) }
     ensures same_kept { OnErr result (course.new.kept ≡ course.old.kept) }
-    ensures back { OnErr result ((before : State) → answer_in before.table rank starts mode ≡ TookItems items → requests.old ≡ with_rows (rows_after before.table.rows rank starts (TookItems items)) before → requests.new ≡ before) }
+    ensures back { OnErr result ((before : State) → AreHandedOut before.table rank starts items → requests.old ≡ with_rows (rows_after before.table.rows rank starts (TookItems items)) before → requests.new ≡ before) }
 {
     let Ok(copied) = prepare(course, &items) else {
         requests.untake(rank, &starts, &items);
@@ -479,5 +709,5 @@ fn took(
         reply: Reply::Took(items),
         mate: None,
     });
-    Ok(Turn::Replied(Reply::Took(copied)))
+    Ok(Reply::Took(copied))
 }

@@ -9,8 +9,8 @@ ghost use Rattle.rank_threads.specs.declared.attempts.Attempt.TheVariants.{Repli
 use crate::attempts::{Attempt, Attempts};
 use mpi_call::call;
 use mpi_call::call::Call;
+use mpi_machine::answer::Answer;
 use mpi_machine::machine::Machine;
-use mpi_machine::turn::Turn;
 use run_model::event::Event;
 use run_model::program::Program;
 use std::alloc::AllocError;
@@ -79,7 +79,7 @@ fn turn<P: Program>(
     }
     let call = call::copy_of(call)?;
     match machine.attempt(rank, call)? {
-        Turn::Replied(reply) => Ok(Attempt::Replied(reply)),
-        Turn::Wait => Ok(Attempt::Waits),
+        Answer::Replied(reply) => Ok(Attempt::Replied(reply)),
+        Answer::Wait => Ok(Attempt::Waits),
     }
 }

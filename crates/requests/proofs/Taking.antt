@@ -27,7 +27,7 @@ use Rattle.run_model.specs.Shape.{is_test}
 use Rattle.run_model.specs.Views.{View, items_taken, taken_of, view_of}
 use Rattle.run_model.proofs.ChosenGots.{AllOf}
 use Rattle.run_model.proofs.Views.{option_cases, test_cases, view_of-mine, view_of-other}
-use Rattle.match_core.proofs.Grown.{named-other}
+use Rattle.picked_runs.proofs.Grown.{named-other}
 use Rattle.match_core.proofs.Knowing.{knows_others}
 use Rattle.requests.specs.declared.start.Start.{Start}
 use Rattle.requests.specs.declared.requests.TakeAnswer.{TakeAnswer}
@@ -71,10 +71,11 @@ answers_are n events state me starts mode knows =
     (bad_same n events state me [] [] starts knows (λ j. refl)) (ap (holds mode) (flags_are n events state me starts knows))
     (items_same n events state me starts mode knows) (long_same n events state me starts (items_in state.table me starts mode) knows)
 
--- what an answer with items says
-pub record HandsOut (table : Table) (me : ℕ) (starts : List ℕ) (mode : TakeMode) (items : List Item) : Type 0 where
+-- items that are handed out: of complete starts at these places of a list without a bad start
+pub record HandsOut (table : Table) (me : ℕ) (starts places : List ℕ) (items : List Item) : Type 0 where
   pub none_bad : first_bad table.rows me [] starts ≡ None
-  pub items_are : items_in table me starts mode ≡ items
+  pub items_are : map (item_in table me starts) places ≡ items
+  pub complete : AllOf (IsPlace (λ number. is_complete table me (found_in table.rows (me, number))) starts) places
 
 took_by : (bad : Option ℕ) (ready : Bool) (long : Option ℕ) (all items : List Item) → bad_or bad ready long all ≡ Took items → (bad ≡ None) × (all ≡ items)
 took_by (Some k) ready long all items h = absurd (cc)
@@ -82,10 +83,11 @@ took_by None false long all items h = absurd (cc)
 took_by None true (Some k) all items h = absurd (cc)
 took_by None true None all items h = (refl, cc)
 
-pub hands_them : (table : Table) (me : ℕ) (starts : List ℕ) (mode : TakeMode) (items : List Item) → answer_in table me starts mode ≡ Took items → HandsOut table me starts mode items
+pub hands_them : (table : Table) (me : ℕ) (starts : List ℕ) (mode : TakeMode) (items : List Item) → answer_in table me starts mode ≡ Took items
+    → HandsOut table me starts (chosen_places mode (flags_in table me starts)) items
 hands_them table me starts mode items h =
     let both = took_by (first_bad table.rows me [] starts) (holds mode (flags_in table me starts)) (first_long_in table.rows me starts (items_in table me starts mode)) (items_in table me starts mode) items h in
-    record { none_bad = both.0; items_are = both.1 }
+    record { none_bad = both.0; items_are = both.1; complete = places_complete (λ number. is_complete table me (found_in table.rows (me, number))) starts mode }
 
 -- a start that is handed out is listed at a place, and complete
 record IsHanded (test : ℕ → Bool) (starts : List ℕ) (k : ℕ) : Type 0 where
@@ -105,13 +107,11 @@ handed_at table me test starts (i ∷ indices) k all h =
       | inr t ↦ handed_at table me test starts indices k all.1 (rw t at h)
     ]
 
-handed : (table : Table) (me : ℕ) (starts : List ℕ) (mode : TakeMode) (items : List Item) (k : ℕ) → HandsOut table me starts mode items → is_member (items_taken starts items) k ≡ true
+handed : (table : Table) (me : ℕ) (starts places : List ℕ) (items : List Item) (k : ℕ) → HandsOut table me starts places items → is_member (items_taken starts items) k ≡ true
     → IsHanded (λ number. is_complete table me (found_in table.rows (me, number))) starts k
-handed table me starts mode items k out h =
-    let test : ℕ → Bool = λ number. is_complete table me (found_in table.rows (me, number)) in
+handed table me starts places items k out h =
     let F : List Item → Type 0 = λ l. is_member (items_taken starts l) k ≡ true in
-    handed_at table me test starts (chosen_places mode (flags_in table me starts)) k
-    (places_complete test starts mode) (subst F (sym out.items_are) h)
+    handed_at table me (λ number. is_complete table me (found_in table.rows (me, number))) starts places k out.complete (subst F (sym out.items_are) h)
 
 complete_there : (table : Table) (me : ℕ) (o : Option Start) → is_complete table me o ≡ true → (start : Start) × (o ≡ Some start)
 complete_there table me None h = absurd (cc)
@@ -166,11 +166,11 @@ or-true true = refl
 or-true false = refl
 
 -- what was taken, after one more completion
-taken_after : (n : ℕ) (events : List Event) (state : State) (me : ℕ) (starts : List ℕ) (mode : TakeMode) (items : List Item) (r k : ℕ) → Knows n events state → me < length state.table.rows
-    → HandsOut state.table me starts mode items
+taken_after : (n : ℕ) (events : List Event) (state : State) (me : ℕ) (starts places : List ℕ) (mode : TakeMode) (items : List Item) (r k : ℕ) → Knows n events state → me < length state.table.rows
+    → HandsOut state.table me starts places items
     → is_gone (found_in (with_row me (all_marked true (items_taken starts items) (row_of state.table.rows me)) state.table.rows) (r, k))
     ≡ is_member (taken_of (view_of (events ++ took_event me starts mode items ∷ []) r)) k
-taken_after n events state me starts mode items r k knows within out =
+taken_after n events state me starts places mode items r k knows within out =
     let event : Event = took_event me starts mode items in
     let rows : Rows = state.table.rows in
     let numbers : List ℕ = items_taken starts items in
@@ -183,7 +183,7 @@ taken_after n events state me starts mode items r k knows within out =
           ap (λ (l : List ℕ). is_member l k) longer ∙ (ap (λ (l : List ℕ). is_member (taken_of (view_of events r) ++ l) k) (append-nil numbers) ∙ among-append (taken_of (view_of events r)) numbers k) in
           elim (test_cases (is_member numbers k)) [
             | inl t ↦ (
-                let there = handed state.table me starts mode items k out t in
+                let there = handed state.table me starts places items k out t in
                 let found = complete_there state.table me (found_in rows (me, k)) there.complete in
                 let here : found_in rows (r, k) ≡ Some found.0 = ap (λ (x : ℕ). found_in rows (x, k)) e ∙ found.1 in
                 rw (h, t) (gone_marked (found_in rows (r, k)) found.0 here ∙ sym (more ∙ (ap (λ (b : Bool). is_member (taken_of (view_of events r)) k || b) t ∙ or-true (is_member (taken_of (view_of events r)) k)))))
@@ -258,12 +258,10 @@ taught_at n events state me starts (i ∷ indices) comm members knows all zero_n
       | inr none ↦ taught_at n events state me starts indices comm members knows all.1 zero_not (sym (ap (λ (o : Option (List ℕ)). or_members o (made_in_items comm (map (item_in state.table me starts) indices))) none) ∙ h)
     ]
 
-taught : (n : ℕ) (events : List Event) (state : State) (me : ℕ) (starts : List ℕ) (mode : TakeMode) (items : List Item) → Knows n events state → HandsOut state.table me starts mode items
+taught : (n : ℕ) (events : List Event) (state : State) (me : ℕ) (starts places : List ℕ) (items : List Item) → Knows n events state → HandsOut state.table me starts places items
     → (comm : ℕ) (members : List ℕ) → (comm == 0) ≡ false → made_in_items comm items ≡ Some members → members_of state.table.comms comm ≡ Some members
-taught n events state me starts mode items knows out comm members zero_not h =
-    taught_at n events state me starts (chosen_places mode (flags_in state.table me starts)) comm members knows
-    (places_complete (λ number. is_complete state.table me (found_in state.table.rows (me, number))) starts mode) zero_not
-    (ap (made_in_items comm) out.items_are ∙ h)
+taught n events state me starts places items knows out comm members zero_not h =
+    taught_at n events state me starts places comm members knows out.complete zero_not (ap (made_in_items comm) out.items_are ∙ h)
 
 marked_there : (n : ℕ) (events : List Event) (state : State) (me : ℕ) (numbers : List ℕ) → Knows n events state → me < length state.table.rows
     → IsThere events state.table.rows (with_row me (all_marked true numbers (row_of state.table.rows me)) state.table.rows)
@@ -272,10 +270,10 @@ marked_there n events state me numbers k within = record {
   same = λ name start found enter. there_is state.table.rows name start (marked_shape state.table.rows me true numbers within name start found enter);
 }
 
-pub knows_took : (n : ℕ) (events : List Event) (state : State) (me : ℕ) (starts : List ℕ) (mode : TakeMode) (items : List Item) → Knows n events state → me < length state.table.rows
-    → HandsOut state.table me starts mode items
+pub knows_took : (n : ℕ) (events : List Event) (state : State) (me : ℕ) (starts places : List ℕ) (mode : TakeMode) (items : List Item) → Knows n events state → me < length state.table.rows
+    → HandsOut state.table me starts places items
     → Knows n (events ++ took_event me starts mode items ∷ []) (with_rows (with_row me (all_marked true (items_taken starts items) (row_of state.table.rows me)) state.table.rows) state)
-knows_took n events state me starts mode items k within out =
+knows_took n events state me starts places mode items k within out =
     let event : Event = took_event me starts mode items in
     let rows : Rows = state.table.rows in
     let numbers : List ℕ = items_taken starts items in
@@ -285,13 +283,13 @@ knows_took n events state me starts mode items k within out =
       matcher = knows_others events state.unpaired event k.matcher (record { other = refl; alone = refl });
       calls = λ other. kept-marked (λ (o : Option Start). option_map (λ (s : Start). s.call) o) rows me true numbers other within (same_call true) ∙ (k.calls other ∙ sym (named-other events event refl other));
       mates = λ other. kept-marked mate_of rows me true numbers other within (same_mate true) ∙ (k.mates other ∙ sym (ap (λ (P : List (Name × Name)). partner_of P other) (pairs-alone events event refl)));
-      taken = λ r number. taken_after n events state me starts mode items r number k within out;
+      taken = λ r number. taken_after n events state me starts places mode items r number k within out;
       names = λ at. k.names at ∙ sym (name_at-push events event at ∙ elim (cases_eq at (length events)) [
         | inl e ↦ rw (eq-eqb at (length events) e) (sym (ap (name_at events) e ∙ none))
         | inr apart ↦ rw (not_same at (length events) apart) refl
       ]);
       below = (let f = one_more events event in let b = k.below in omega (arith, f, b));
-      enters = enters_on n events event rows (with_row me (all_marked true numbers (row_of rows me)) rows) state.table.stages state.table.comms k.enters (marked_there n events state me numbers k within) refl (λ comm members zero_not h. taught n events state me starts mode items k out comm members zero_not h);
+      enters = enters_on n events event rows (with_row me (all_marked true numbers (row_of rows me)) rows) state.table.stages state.table.comms k.enters (marked_there n events state me numbers k within) refl (λ comm members zero_not h. taught n events state me starts places items k out comm members zero_not h);
     }
 
 -- marks that are taken back
@@ -312,9 +310,9 @@ unmarked (Some start) h =
       | inr t ↦ ap (λ (b : Bool). Some (marked b start)) (sym t)
     ]
 
-pub marks_back : (table : Table) (me : ℕ) (starts : List ℕ) (mode : TakeMode) (items : List Item) → HandsOut table me starts mode items
+pub marks_back : (table : Table) (me : ℕ) (starts places : List ℕ) (items : List Item) → HandsOut table me starts places items
     → all_marked false (items_taken starts items) (all_marked true (items_taken starts items) (row_of table.rows me)) ≡ row_of table.rows me
-marks_back table me starts mode items out =
+marks_back table me starts places items out =
     let row : List Start = row_of table.rows me in
     let numbers : List ℕ = items_taken starts items in
     same_places (all_marked false numbers (all_marked true numbers row)) row (λ j.
@@ -322,7 +320,7 @@ marks_back table me starts mode items out =
     ∙ (ap (λ (o : Option Start). cond (is_member numbers j) (option_map (marked false) o) o) (get-marked true numbers row j)
     ∙ elim (test_cases (is_member numbers j)) [
       | inl t ↦ (
-          let there = handed table me starts mode items j out t in
+          let there = handed table me starts places items j out t in
           let open_ : can_take_in (found_in table.rows (me, j)) ≡ true =
           ap (λ (k : ℕ). can_take_in (found_in table.rows (me, k))) (sym there.here) ∙ listed_open table.rows me [] starts there.place out.none_bad there.below in
           rw t (unmarked (slice_get row j) open_))
@@ -334,10 +332,10 @@ twice_set [] rank one other = refl
 twice_set (row ∷ rows) zero one other = refl
 twice_set (row ∷ rows) (suc rank) one other = ap (λ (l : Rows). row ∷ l) (twice_set rows rank one other)
 
-pub rows_back : (table : Table) (me : ℕ) (starts : List ℕ) (mode : TakeMode) (items : List Item) (rows : Rows) → HandsOut table me starts mode items → me < length rows
+pub rows_back : (table : Table) (me : ℕ) (starts places : List ℕ) (items : List Item) (rows : Rows) → HandsOut table me starts places items → me < length rows
     → rows ≡ with_row me (all_marked true (items_taken starts items) (row_of table.rows me)) table.rows
     → with_row me (all_marked false (items_taken starts items) (row_of rows me)) rows ≡ table.rows
-rows_back table me starts mode items rows out within is =
+rows_back table me starts places items rows out within is =
     let numbers : List ℕ = items_taken starts items in
     let marks : List Start = all_marked true numbers (row_of table.rows me) in
     let long : length rows ≡ length table.rows = ap (λ (l : Rows). length l) is ∙ length-row me marks table.rows in
@@ -346,20 +344,13 @@ rows_back table me starts mode items rows out within is =
     ap (λ (r : List Start). with_row me (all_marked false numbers r) rows) here
     ∙ (ap (λ (l : Rows). with_row me (all_marked false numbers marks) l) is
     ∙ (twice_set table.rows me marks (all_marked false numbers marks)
-    ∙ (ap (λ (r : List Start). with_row me r table.rows) (marks_back table me starts mode items out)
+    ∙ (ap (λ (r : List Start). with_row me r table.rows) (marks_back table me starts places items out)
     ∙ set-get_or table.rows me [])))
-
-pub untaken : (before old : State) (me : ℕ) (starts : List ℕ) (mode : TakeMode) (items : List Item) → answer_in before.table me starts mode ≡ Took items → me < length old.table.rows
-    → old ≡ with_rows (rows_after before.table.rows me starts (Took items)) before
-    → with_rows (with_row me (all_marked false (items_taken starts items) (row_of old.table.rows me)) old.table.rows) old ≡ before
-untaken before old me starts mode items answer within is =
-    let back = rows_back before.table me starts mode items old.table.rows (hands_them before.table me starts mode items answer) within (ap (λ (s : State). s.table.rows) is) in
-    ap (λ (rows : Rows). with_rows rows old) back ∙ ap (λ (s : State). with_rows before.table.rows s) is
 
 -- the answer's state
 pub knows_taken : (n : ℕ) (events : List Event) (state : State) (me : ℕ) (starts : List ℕ) (mode : TakeMode) (answer : TakeAnswer) → Knows n events state → me < length state.table.rows
     → answer ≡ answer_in state.table me starts mode → KnowsTaken n events me starts mode answer (with_rows (rows_after state.table.rows me starts answer) state)
-knows_taken n events state me starts mode (Took items) knows within is = knows_took n events state me starts mode items knows within (hands_them state.table me starts mode items (sym is))
+knows_taken n events state me starts mode (Took items) knows within is = knows_took n events state me starts (chosen_places mode (flags_in state.table me starts)) mode items knows within (hands_them state.table me starts mode items (sym is))
 knows_taken n events state me starts mode NotReady knows within is = knows
 knows_taken n events state me starts mode (TooLong start) knows within is = knows
 knows_taken n events state me starts mode (BadStart start) knows within is = knows

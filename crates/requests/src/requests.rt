@@ -1,7 +1,6 @@
 //! What ranks started and what of it was taken.
 ghost use Rattle.std.specs.Prelude.{◌≡◌, ◌<◌, ◌++◌, ◌∷◌, [], ℕ, List, Some, true, false, length, replicate, IfOk, IsOk, IsTrue, OnErr, OnOk};
 ghost use Rattle.mpi_call.specs.declared.call.Call.{Call};
-ghost use Rattle.mpi_call.specs.declared.call.TakeMode.{TakeMode};
 ghost use Rattle.mpi_call.specs.Calls.{comm_of, is_enter, is_starting};
 ghost use Rattle.run_model.specs.declared.event.Event.{Event};
 ghost use Rattle.mpi_call.specs.Members.{is_member};
@@ -11,17 +10,17 @@ ghost use Rattle.run_model.specs.Communicators.{known_in};
 ghost use Rattle.run_model.specs.Pairs.{Name, name_at};
 ghost use Rattle.run_model.specs.Program.{IsInForm};
 ghost use Rattle.run_model.specs.Views.{items_taken, view_of};
-ghost use Rattle.match_core.specs.Starts.{is_message, is_peek, AreBelow, IsEarliest};
+ghost use Rattle.match_core.specs.Starts.{is_message, is_peek, is_post, AreBelow, IsEarliest};
 ghost use Rattle.collectives.specs.Boards.{entered_by};
 ghost use Rattle.collectives.specs.declared.instances.Entered.TheVariants.{Disagrees as DisagreesWith};
 ghost use Rattle.match_core.specs.Histories.{IsAdded};
 ghost use Rattle.requests.specs.declared.requests.TakeAnswer.TheVariants.{Took};
 ghost use Rattle.requests.specs.Starts.{all_marked, found_in, name_in, row_of, with_row};
-ghost use Rattle.requests.specs.States.{at_first, with_rows, IsAbove, IsEntered, IsPaired, IsStarted, MayEnter, State};
-ghost use Rattle.requests.specs.Taking.{answer_in, hands_out, readiness_of, rows_after};
-ghost use Rattle.requests.specs.Histories.{Answers, IsIdle, IsReadiness, Knows, KnowsStarted, KnowsTaken};
+ghost use Rattle.requests.specs.States.{at_first, with_rows, IsAbove, IsEntered, IsPaired, IsPosted, IsStarted, MayEnter, State};
+ghost use Rattle.requests.specs.Taking.{answer_at, answer_in, hands_out, readiness_of, rows_at, rows_after, AreHandedOut};
+ghost use Rattle.requests.specs.Histories.{Answers, AnswersAt, IsIdle, IsReadiness, Knows, KnowsPosted, KnowsStarted, KnowsTaken, KnowsTakenAt};
 
-use crate::answer::answer;
+use crate::answer::{answer, answer_at};
 use crate::complete::readiness;
 use crate::enter::{entered, joined, left};
 use crate::rows::{add_start, drop_start, mark_in, name_in, pair, put_name, reserve_to};
@@ -149,6 +148,34 @@ impl Requests {
         Ok(Started::Made { start, mate })
     }
 
+    /// Adds a Post that takes the earliest unpaired Send of this sender that it accepts, and answers its position. Where that
+    /// sender has none, and when out of memory, nothing has changed.
+    pub fn post_from(
+        &mut self,
+        at: u32,
+        rank: u8,
+        call: &Call,
+        sender: u8,
+    ) -> Result<Option<u32>, AllocError>
+        requires kind { IsTrue (is_post call.now) }
+        requires position { IsAbove at self.old }
+        requires rank { rank < length self.old.table.rows }
+        ensures ok { IfOk result (λ mate. IsPosted self.old self.new at rank call.now mate) }
+        ensures err { OnErr result (self.new ≡ self.old) }
+        ensures knows { IfOk result (λ mate. (n : ℕ) (events : List Event) → Knows n events self.old → at ≡ length events → KnowsPosted n events rank call.now sender mate self.new) }
+    {
+        let copied = copy_of(call)?;
+        reserve_to(&mut self.names, at)?;
+        let start = add_start(&mut self.rows, rank, copied, 0)?;
+        let Some(mate) = self.matcher.post_from(rank, call, sender) else {
+            drop_start(&mut self.rows, rank);
+            return Ok(None);
+        };
+        pair(&mut self.rows, &self.names, (rank, start), Some(mate));
+        put_name(&mut self.names, at, (rank, start));
+        Ok(Some(mate))
+    }
+
     /// Adds an Enter: first to the board, from which it is taken back when memory runs out later. Then nothing has changed.
     fn enter(&mut self, at: u32, rank: u8, call: &Call) -> Result<Started, AllocError>
         requires kind { is_enter call.now ≡ true }
@@ -225,12 +252,47 @@ impl Requests {
         Ok(answer)
     }
 
-    /// Makes the starts at these items' indices such as were not taken. Right after a `take` that handed out the items, all
-    /// is as before it. Takes no memory.
+    /// Takes the listed start at an index, where no listed start is bad, that one is complete and its message is not too long. Where a
+    /// listed start is bad or that one is not complete there is no answer. Only `Took` changes anything and takes memory.
+    pub fn take_at(
+        &mut self,
+        rank: u8,
+        starts: &Starts,
+        index: u32,
+    ) -> Result<Option<TakeAnswer>, AllocError>
+        requires rank { rank < length self.old.table.rows }
+        ensures answer { IfOk result (λ answer. answer ≡ answer_at self.old.table rank starts.now index) }
+        ensures after { IfOk result (λ answer. self.new ≡ with_rows (rows_at self.old.table.rows rank starts.now answer) self.old) }
+        ensures err { OnErr result (self.new ≡ self.old) }
+        ensures knows { IfOk result (λ answer. (n : ℕ) (events : List Event) → Knows n events self.old → AnswersAt n events rank starts.now index answer) }
+        ensures knows_on { IfOk result (λ answer. (n : ℕ) (events : List Event) → Knows n events self.old → KnowsTakenAt n events rank starts.now answer self.new) }
+    {
+        let listed = starts.as_slice();
+        let Some(answer) = answer_at(
+            self.alloc,
+            &mut self.rows,
+            &self.board,
+            &self.comms,
+            rank,
+            listed,
+            index,
+        )?
+        else {
+            return Ok(None);
+        };
+        let TakeAnswer::Took(taken) = &answer else {
+            return Ok(Some(answer));
+        };
+        mark_in(&mut self.rows, rank, listed, taken.as_slice(), true);
+        Ok(Some(answer))
+    }
+
+    /// Makes the starts at these items' indices such as were not taken. Right after a `take` or `take_at` that handed out the
+    /// items, all is as before it. Takes no memory.
     pub fn untake(&mut self, rank: u8, starts: &Starts, items: &Items)
         requires rank { rank < length self.old.table.rows }
         ensures after { self.new ≡ with_rows (with_row rank (all_marked false (items_taken starts.now items.now) (row_of self.old.table.rows rank)) self.old.table.rows) self.old }
-        ensures back { (before : State) (mode : TakeMode) → answer_in before.table rank starts.now mode ≡ Took items.now → self.old ≡ with_rows (rows_after before.table.rows rank starts.now (Took items.now)) before → self.new ≡ before }
+        ensures back { (before : State) → AreHandedOut before.table rank starts.now items.now → self.old ≡ with_rows (rows_after before.table.rows rank starts.now (Took items.now)) before → self.new ≡ before }
     {
         let listed = starts.as_slice();
         mark_in(&mut self.rows, rank, listed, items.as_slice(), false);

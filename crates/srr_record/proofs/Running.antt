@@ -1,5 +1,5 @@
 -- The runs of the ranks beside a machine.
-use Rattle.std.proofs.Common.{◌≡◌, ◌≢◌, ◌<◌, ◌==◌, ◌⊎◌, ◌∙◌, ◌++◌, ◌∷◌, Bool, List, [], ap, arith, false, get_or-set_other, get_or-set_same, inl, inr, length, length-set, set, subst, sym, true, ℕ}
+use Rattle.std.proofs.Common.{◌≡◌, ◌≢◌, ◌<◌, ◌==◌, ◌⊎◌, ◌∙◌, ◌++◌, ◌∷◌, Bool, List, None, Option, Some, if◌then◌else◌, [], ap, arith, false, get_or-set_other, get_or-set_same, inl, inr, length, length-set, set, subst, sym, true, ℕ}
 use Rattle.std.proofs.lemmas.Bool.{eq-eqb, eqb-true}
 use Rattle.std.proofs.lemmas.List.{map-append}
 use Rattle.mpi_call.specs.declared.reply.Reply.{Reply}
@@ -7,16 +7,21 @@ use Rattle.run_model.specs.declared.event.Event.{Event}
 use Rattle.run_model.specs.Program.{IsAfter, Standing}
 use Rattle.run_model.specs.Views.{replies_in, view_of}
 use Rattle.run_model.proofs.Views.{test_cases, view_of-mine, view_of-other}
-use Rattle.mpi_machine.specs.Turns.{MachineState, turn_by}
-use Rattle.mpi_machine.specs.declared.turn.Turn.{Turn}
-use Rattle.mpi_machine.specs.declared.turn.Turn.TheVariants.{Replied}
+use Rattle.mpi_machine.specs.Turns.{MachineState, answer_by}
+use Rattle.mpi_machine.specs.declared.answer.Answer.{Answer}
+use Rattle.mpi_machine.specs.declared.answer.Answer.TheVariants.{Replied}
 use Rattle.srr_record.specs.Recordings.{AreRuns}
 use Rattle.srr_record.specs.Rounds.{IsOnlyOf}
 
 -- the reply of an answered attempt is the machine's
-pub answered_with : (answered : Bool) (chosen reply : Reply) (turn : Turn) → turn ≡ turn_by answered chosen → turn ≡ Replied reply → chosen ≡ reply
+pub answered_with : (answered : Bool) (chosen reply : Reply) (turn : Answer) → turn ≡ answer_by answered chosen → turn ≡ Replied reply → chosen ≡ reply
 answered_with true chosen reply turn h e = (let same : Replied chosen ≡ Replied reply = sym h ∙ e in cc)
 answered_with false chosen reply turn h e = (let no = sym h ∙ e in absurd (cc))
+
+-- the reply of a pick that was made is what was picked
+pub picked_with : (offered : Bool) (made reply : Reply) (answer : Option Reply) → answer ≡ (if offered then Some made else None) → answer ≡ Some reply → made ≡ reply
+picked_with true made reply answer h e = (let same : Some made ≡ Some reply = sym h ∙ e in cc)
+picked_with false made reply answer h e = (let no : None ≡ Some reply = sym h ∙ e in absurd (cc))
 
 -- a run that was asked and given the reply of its rank's next event
 pub given : {P : Type 0} (program : P) (n rank : ℕ) (events : List Event) (event : Event) (reply : Reply) (before asked after : Standing P)

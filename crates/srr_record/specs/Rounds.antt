@@ -4,6 +4,8 @@ use Rattle.run_model.specs.declared.event.Event.{Event}
 use Rattle.run_model.specs.Lists.{IsPrefixOf}
 use Rattle.run_model.specs.Serial.{Stage, attempts, call_after, rounds}
 use Rattle.run_model.specs.Views.{Next, view_of}
+use Rattle.picked_runs.specs.declared.turn.Turn.{Turn}
+use Rattle.picked_runs.specs.Turns.{take_turns}
 use Rattle.mpi_machine.specs.Turns.{MachineState, StandsAt}
 
 -- no rank makes a further call
@@ -20,6 +22,13 @@ pub record GoesBy {P : Type 0} (next : Next) (turns : List ℕ) (before after : 
   pub ranks : after.ranks ≡ before.ranks
   pub longer : IsPrefixOf before.events after.events
   pub stands : (stage : Stage) → StandsAt before stage → StandsAt after (attempts next before.ranks stage turns)
+
+-- the machine went on by these turns in order
+pub record GoesByTurns {P : Type 0} (next : Next) (turns : List Turn) (before after : MachineState P) : Type 0 where
+  pub program : after.program ≡ before.program
+  pub ranks : after.ranks ≡ before.ranks
+  pub longer : IsPrefixOf before.events after.events
+  pub stands : (stage : Stage) → StandsAt before stage → StandsAt after (take_turns next before.ranks stage turns)
 
 -- the machine went on by some rounds over all ranks
 pub record GoesByRounds {P : Type 0} (next : Next) (before after : MachineState P) : Type 0 where

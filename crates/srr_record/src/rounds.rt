@@ -1,14 +1,16 @@
 //! Attempts of ranks on one machine: in the order of turns, and in rounds.
-ghost use Rattle.std.specs.Prelude.{◌≡◌, ◌<◌, ◌≤◌, ◌∷◌, [], ℕ, All, MatchBool, OnOk, is_some, true};
+ghost use Rattle.std.specs.Prelude.{◌≡◌, ◌<◌, ◌≤◌, ◌∷◌, [], ℕ, All, false, MatchBool, OnOk, is_some, true};
 ghost use Rattle.run_model.specs.Lists.{world};
 ghost use Rattle.run_model.specs.Program.{IsAfter};
 ghost use Rattle.run_model.specs.Serial.{call_after};
+ghost use Rattle.picked_runs.specs.declared.turn.Pick.TheVariants.{Index, Sender};
 ghost use Rattle.srr_record.specs.Recordings.{AreRuns};
-ghost use Rattle.srr_record.specs.Rounds.{GoesBy, GoesByRounds, HaveEnded, IsOnlyOf};
+ghost use Rattle.srr_record.specs.Rounds.{GoesBy, GoesByRounds, GoesByTurns, HaveEnded, IsOnlyOf};
 
 use mpi_call::limits::MOST_RANKS;
+use mpi_machine::answer::Answer;
 use mpi_machine::machine::Machine;
-use mpi_machine::turn::Turn;
+use picked_runs::turn::{Pick, Turn};
 use run_model::program::{Program, RankRun, Want};
 use std::alloc::AllocError;
 
@@ -31,25 +33,90 @@ fn try_rank<P: Program, R: RankRun<Of = P>>(
         Want::Ended => return Ok(()),
         Want::Ask(call) => call,
     };
-    if let Turn::Replied(reply) = machine.attempt(rank, call)? {
+    if let Answer::Replied(reply) = machine.attempt(rank, call)? {
         run.give(&reply)?;
     }
     Ok(())
 }
 
-/// One attempt in each turn, where its rank is live.
+/// One attempt of a rank that takes a message of this sender, where the rank is live and such a message is there.
+fn try_from<P: Program, R: RankRun<Of = P>>(
+    machine: &mut Machine<'_, P>,
+    run: &mut R,
+    rank: u8,
+    sender: u8,
+) -> Result<(), AllocError>
+    requires rank { rank < machine.old.ranks }
+    requires run { IsAfter machine.old.program machine.old.ranks rank machine.old.events (R.standing run.old) }
+    ensures run { OnOk result (IsAfter machine.old.program machine.old.ranks rank machine.new.events (R.standing run.new)) }
+    ensures others { OnOk result (IsOnlyOf rank machine.old.events machine.new.events) }
+    ensures goes { OnOk result (GoesByTurns (P.next machine.old.program) ((record { rank = rank; pick = Sender sender }) ∷ []) machine.old machine.new) }
+{
+    let call = match run.want()? {
+        Want::Ended => return Ok(()),
+        Want::Ask(call) => call,
+    };
+    if let Some(reply) = machine.attempt_from(rank, call, sender)? {
+        run.give(&reply)?;
+    }
+    Ok(())
+}
+
+/// One attempt of a rank that completes the start at this index of its list, where the rank is live and that start is ready.
+fn try_at<P: Program, R: RankRun<Of = P>>(
+    machine: &mut Machine<'_, P>,
+    run: &mut R,
+    rank: u8,
+    index: u32,
+) -> Result<(), AllocError>
+    requires rank { rank < machine.old.ranks }
+    requires run { IsAfter machine.old.program machine.old.ranks rank machine.old.events (R.standing run.old) }
+    ensures run { OnOk result (IsAfter machine.old.program machine.old.ranks rank machine.new.events (R.standing run.new)) }
+    ensures others { OnOk result (IsOnlyOf rank machine.old.events machine.new.events) }
+    ensures goes { OnOk result (GoesByTurns (P.next machine.old.program) ((record { rank = rank; pick = Index index }) ∷ []) machine.old machine.new) }
+{
+    let call = match run.want()? {
+        Want::Ended => return Ok(()),
+        Want::Ask(call) => call,
+    };
+    if let Some(reply) = machine.attempt_at(rank, call, index)? {
+        run.give(&reply)?;
+    }
+    Ok(())
+}
+
+/// A turn, where its rank is live and its pick can be made.
+fn try_turn<P: Program, R: RankRun<Of = P>>(
+    machine: &mut Machine<'_, P>,
+    run: &mut R,
+    turn: Turn,
+) -> Result<(), AllocError>
+    requires rank { turn.rank < machine.old.ranks }
+    requires run { IsAfter machine.old.program machine.old.ranks turn.rank machine.old.events (R.standing run.old) }
+    ensures run { OnOk result (IsAfter machine.old.program machine.old.ranks turn.rank machine.new.events (R.standing run.new)) }
+    ensures others { OnOk result (IsOnlyOf turn.rank machine.old.events machine.new.events) }
+    ensures goes { OnOk result (GoesByTurns (P.next machine.old.program) (turn ∷ []) machine.old machine.new) }
+{
+    match turn.pick {
+        Pick::First => try_rank(machine, run, turn.rank),
+        Pick::Sender(sender) => try_from(machine, run, turn.rank, sender),
+        Pick::Index(index) => try_at(machine, run, turn.rank, index),
+    }
+}
+
+/// These turns in order.
 pub fn take_turns<P: Program, R: RankRun<Of = P>>(
     machine: &mut Machine<'_, P>,
     runs: &mut [R],
-    turns: &[u8],
+    turns: &[Turn],
 ) -> Result<(), AllocError>
-    requires turns { All (λ rank. rank < machine.old.ranks) turns.now }
+    requires turns { All (λ turn. turn.rank < machine.old.ranks) turns.now }
     requires runs { AreRuns R.standing machine.old.program machine.old.ranks machine.old.events runs.old }
     ensures runs { OnOk result (AreRuns R.standing machine.old.program machine.old.ranks machine.new.events runs.new) }
-    ensures goes { OnOk result (GoesBy (P.next machine.old.program) turns.now machine.old machine.new) }
+    ensures goes { OnOk result (GoesByTurns (P.next machine.old.program) turns.now machine.old machine.new) }
 {
-    for rank in turns {
-        try_rank(machine, &mut runs[*rank as usize], *rank)?;
+    for turn in turns {
+        try_turn(machine, &mut runs[turn.rank as usize], *turn)?;
     }
     Ok(())
 }

@@ -1,5 +1,5 @@
 //! A whole recording on one thread.
-ghost use Rattle.std.specs.Prelude.{◌≡◌, ◌<◌, ◌++◌, ◌∷◌, [], All, IfOk, OnOk, map, true};
+ghost use Rattle.std.specs.Prelude.{◌≡◌, ◌<◌, ◌++◌, ◌∷◌, [], false, All, IfOk, OnOk, map, true};
 ghost use Rattle.group_plan.specs.Plans.{number_of_ranks};
 ghost use Rattle.mpi_machine.specs.Turns.{StandsAt};
 ghost use Rattle.run_model.specs.Due.{halted};
@@ -16,9 +16,10 @@ use crate::rounds::{make_rounds, take_turns};
 use group_plan::Plan;
 use mpi_call::call::Halt;
 use mpi_machine::machine::Machine;
+use picked_runs::laws::picks_begin_run;
+use picked_runs::turn::Turn;
 use run_model::by_rank::ByRank;
 use run_model::ending::Ending;
-use run_model::laws::order_begins_serial;
 use run_model::lists::Outputs;
 use run_model::program::{Program, RankRun};
 use srr_entry::log::Logs;
@@ -26,7 +27,7 @@ use srr_entry::run_log::log_of;
 use std::alloc::{AllocError, Global};
 use wiz_base::bytes::Bytes;
 
-/// Records a run of the program with this text on one thread: first one attempt in each of the turns, then rounds over all
+/// Records a run of the program with this text on one thread: first the turns, then rounds over all
 /// ranks, rising, until each has ended. Run k is rank k, just started.
 pub fn record_serial<P: Program, R: RankRun<Of = P>>(
     alloc: Global,
@@ -34,15 +35,15 @@ pub fn record_serial<P: Program, R: RankRun<Of = P>>(
     text: &[u8],
     plan: &Plan,
     mut runs: Vec<R>,
-    turns: &[u8],
+    turns: &[Turn],
 ) -> Result<Recording, AllocError>
     requires runs { AreRuns R.standing program.now (number_of_ranks plan.now) [] runs.items }
-    requires turns { All (λ rank. rank < number_of_ranks plan.now) turns.now }
+    requires turns { All (λ turn. turn.rank < number_of_ranks plan.now) turns.now }
     ensures { IfOk result (λ recording. IsRecording (P.next program.now) (P.output program.now) (number_of_ranks plan.now) text.now plan.now turns.now recording) }
 {
     let ranks = plan.n();
-    // A law: a run of the machine in the order of the turns, without a Stuck reply, begins their serial run.
-    order_begins_serial(program, ranks);
+    // A law: a run whose order and picks are the turns, without a Stuck reply, begins their run.
+    picks_begin_run(program, ranks);
     let mut machine = Machine::new(alloc, program, ranks)?;
     let all = runs.as_mut_slice();
     take_turns(&mut machine, all, turns)?;
@@ -83,9 +84,10 @@ fn finish<P: Program, R: RankRun<Of = P>>(
     let logs = logs_of(alloc, &machine, text, plan)?;
     let outputs = outputs_of(alloc, &machine, runs)?;
     let ending = ending_by(machine.halt());
-    let history = machine.into_history();
+    let (history, picks) = machine.into_run();
     Ok(Recording {
         history,
+        picks,
         logs,
         outputs,
         ending,

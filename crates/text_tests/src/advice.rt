@@ -1,5 +1,6 @@
 //! The texts of advice, worked out by hand.
 use crate::memory::pushed;
+use crate::named::check_row;
 use mpi_call::call::Halt;
 use mpi_call::lists::Ranks;
 use plan_advice::{Advice, Bounds};
@@ -25,21 +26,24 @@ fn advice(alloc: Global, advised: &Advised) -> Result<Advice, Fail> {
     })
 }
 
-/// An advice, what the given plan costs, how the run ended, and the advice text.
-static ADVICE: [(Advised, u64, Ending, &[u8]); 4] = [
+/// An advice by its name, what the given plan costs, how the run ended, and the advice text.
+static ADVICE: [(&str, Advised, u64, Ending, &[u8]); 4] = [
     (
+        "a block for each rank",
         (&[1, 2], 1, &[0, 0, 1]),
         1,
         Ending::Finished,
         b"advice cost 1 given 1\n0\n1\nbound 0 0\nbound 1 0\nbound 2 1\nfinished\n",
     ),
     (
+        "one block",
         (&[2], 0, &[0, 0, 0]),
         1,
         Ending::Finished,
         b"advice cost 0 given 1\n0-1\nbound 0 0\nbound 1 0\nbound 2 0\nfinished\n",
     ),
     (
+        "three blocks of a run that is stuck",
         (
             &[3, 5, 8],
             327_680,
@@ -53,6 +57,7 @@ static ADVICE: [(Advised, u64, Ending, &[u8]); 4] = [
 bound 3 327680\nbound 4 327680\nbound 5 327680\nbound 6 327680\nbound 7 327680\nbound 8 327680\nhalted stuck\n",
     ),
     (
+        "the highest cost, of a run that is aborted",
         (
             &[1],
             18_446_744_073_709_551_615,
@@ -66,10 +71,10 @@ bound 3 327680\nbound 4 327680\nbound 5 327680\nbound 6 327680\nbound 7 327680\n
 
 #[test]
 fn advice_is_told(rt: HostRuntime) -> Result<(), Fail> {
-    for (advised, given, ending, expected) in &ADVICE {
+    for (name, advised, given, ending, expected) in &ADVICE {
         let advice = advice(rt.alloc(), advised)?;
         let text = advice_text(rt.alloc(), &advice, *given, ending)?;
-        assert!(&rt; text.as_slice() == *expected);
+        check_row(&rt, name, text.as_slice(), expected);
     }
     Ok(())
 }

@@ -3,6 +3,7 @@ ghost use Rattle.std.specs.Prelude.{IfOk};
 ghost use Rattle.srr_text.specs.Bounds.{IsInBounds};
 
 use crate::logs::{FIRST, read};
+use crate::named::check_row;
 use srr_entry::log::Log;
 use srr_log::fault::{LogFault, LogWhy};
 use srr_log2::read_either::{either_has_one_reading, read_either};
@@ -128,9 +129,14 @@ fn check_record(rt: &(impl Abort + AllocGlobal), line: &str, record: &[u8]) -> R
     expected.extend(b"\0\0\0\0")?;
     let written = to_bytes(rt.alloc(), text.as_bytes())?;
     let before_digest = written.as_slice().len().saturating_sub(32);
-    assert_eq!(rt; &written.as_slice()[..before_digest], expected.as_slice());
+    check_row(
+        rt,
+        line,
+        &written.as_slice()[..before_digest],
+        expected.as_slice(),
+    );
     let back = to_text(rt.alloc(), written.as_slice())?;
-    assert_eq!(rt; back.as_slice(), text.as_bytes());
+    check_row(rt, line, back.as_slice(), text.as_bytes());
     Ok(())
 }
 
@@ -142,10 +148,12 @@ fn entries_have_their_records(rt: HostRuntime) -> Result<(), Fail> {
     Ok(())
 }
 
-fn check_fault(rt: &(impl Abort + AllocGlobal), text: &[u8], at: u32, why: LogWhy) {
+/// The text of the row with this name has this fault.
+fn check_fault(rt: &(impl Abort + AllocGlobal), name: &str, text: &[u8], at: u32, why: LogWhy) {
     assert_eq!(rt;
         read_bytes(rt.alloc(), text).err(),
-        Some(LogFault { at, why })
+        Some(LogFault { at, why }),
+        "{name}"
     );
 }
 
@@ -153,59 +161,170 @@ fn check_fault(rt: &(impl Abort + AllocGlobal), text: &[u8], at: u32, why: LogWh
 fn the_first_log_is_read_to_its_end(rt: HostRuntime) {
     assert_eq!(rt; FIRST_BYTES.len(), 287);
     for at in 0..287 {
-        check_fault(&rt, &FIRST_BYTES[..at as usize], at, LogWhy::Short);
+        check_fault(
+            &rt,
+            "a front",
+            &FIRST_BYTES[..at as usize],
+            at,
+            LogWhy::Short,
+        );
     }
     one_reading();
 }
 
-/// How many bytes of the first log are kept, what follows them, and the place and the reason of the fault.
-static FAULTS: [(usize, &[u8], u32, LogWhy); 24] = [
-    (0, b"srr 1\nranks 2\n", 0, LogWhy::BadVersion),
-    (0, b"srr 3\n", 0, LogWhy::BadVersion),
-    (0, b"srr 2 \x02", 0, LogWhy::BadHead),
-    (0, b"SRR 2\n", 0, LogWhy::BadHead),
-    (6, b"ranks 2\n", 6, LogWhy::BadNumber),
-    (6, b"\0", 6, LogWhy::BadNumber),
-    (7, b"\0\0\0\0\0\0\0\0", 7, LogWhy::BadGroup),
-    (7, b"\0\0\0\0\0\0\0\x07", 7, LogWhy::BadGroup),
-    (15, b"\0\x01\0\x01", 15, LogWhy::BadNumber),
-    (228, b"\0\x0f\x3e\x99", 228, LogWhy::BadNumber),
-    (232, b"\0", 232, LogWhy::BadEntry),
-    (232, b"\x04", 232, LogWhy::BadEntry),
-    (232, b"\x09\x06", 232, LogWhy::BadEntry),
-    (240, b"\0\0\0\0", 240, LogWhy::BadEntry),
-    (244, b"\0\x0f\x42\x40", 244, LogWhy::BadEntry),
+/// By its name, how many bytes of the first log are kept, what follows them, and the place and the reason of the fault.
+static FAULTS: [(&str, usize, &[u8], u32, LogWhy); 24] = [
     (
+        "a log in format 1",
+        0,
+        b"srr 1\nranks 2\n",
+        0,
+        LogWhy::BadVersion,
+    ),
+    ("a later version", 0, b"srr 3\n", 0, LogWhy::BadVersion),
+    (
+        "a blank behind the version",
+        0,
+        b"srr 2 \x02",
+        0,
+        LogWhy::BadHead,
+    ),
+    ("capitals in the head", 0, b"SRR 2\n", 0, LogWhy::BadHead),
+    (
+        "lines behind the head",
+        6,
+        b"ranks 2\n",
+        6,
+        LogWhy::BadNumber,
+    ),
+    ("no ranks", 6, b"\0", 6, LogWhy::BadNumber),
+    (
+        "an empty group",
+        7,
+        b"\0\0\0\0\0\0\0\0",
+        7,
+        LogWhy::BadGroup,
+    ),
+    (
+        "a group with a rank that is none",
+        7,
+        b"\0\0\0\0\0\0\0\x07",
+        7,
+        LogWhy::BadGroup,
+    ),
+    (
+        "a program over its limit",
+        15,
+        b"\0\x01\0\x01",
+        15,
+        LogWhy::BadNumber,
+    ),
+    (
+        "too many entries",
+        228,
+        b"\0\x0f\x3e\x99",
+        228,
+        LogWhy::BadNumber,
+    ),
+    ("a record of no kind", 232, b"\0", 232, LogWhy::BadEntry),
+    (
+        "an end before the last entry",
+        232,
+        b"\x04",
+        232,
+        LogWhy::BadEntry,
+    ),
+    (
+        "a halt before the last entry",
+        232,
+        b"\x09\x06",
+        232,
+        LogWhy::BadEntry,
+    ),
+    (
+        "a completion of nothing",
+        240,
+        b"\0\0\0\0",
+        240,
+        LogWhy::BadEntry,
+    ),
+    (
+        "an index over its limit",
+        244,
+        b"\0\x0f\x42\x40",
+        244,
+        LogWhy::BadEntry,
+    ),
+    (
+        "an index twice",
         240,
         b"\0\0\0\x02\0\0\0\x05\x01\0\0\0\x05",
         249,
         LogWhy::BadEntry,
     ),
     (
+        "an index behind the last one",
         240,
         b"\xff\xff\xff\xff\0\x0f\x42\x3f\x01\0\x0f\x42\x40",
         249,
         LogWhy::BadEntry,
     ),
-    (248, b"\x09", 248, LogWhy::BadEntry),
-    (248, b"\x03\x02", 249, LogWhy::BadEntry),
-    (248, b"\x04\0", 249, LogWhy::BadEntry),
-    (250, b"\0\x0f\x42\x40", 250, LogWhy::BadEntry),
-    (254, b"\x06\0\0\0\x02", 255, LogWhy::BadEntry),
-    (286, b"\x09", 255, LogWhy::Digest),
-    (287, b"\0", 287, LogWhy::Extra),
+    ("a mark of no kind", 248, b"\x09", 248, LogWhy::BadEntry),
+    (
+        "a sender that is no rank",
+        248,
+        b"\x03\x02",
+        249,
+        LogWhy::BadEntry,
+    ),
+    (
+        "a sender from outside that is in the group",
+        248,
+        b"\x04\0",
+        249,
+        LogWhy::BadEntry,
+    ),
+    (
+        "a start over its limit",
+        250,
+        b"\0\x0f\x42\x40",
+        250,
+        LogWhy::BadEntry,
+    ),
+    (
+        "more tests than entries are left",
+        254,
+        b"\x06\0\0\0\x02",
+        255,
+        LogWhy::BadEntry,
+    ),
+    ("another digest", 286, b"\x09", 255, LogWhy::Digest),
+    ("one byte more", 287, b"\0", 287, LogWhy::Extra),
 ];
 
 /// The same of the log with three tests: the record that stands for them has its number at 31.
-static TESTS_FAULTS: [(usize, &[u8], u32, LogWhy); 3] = [
-    (31, b"\0\0\0\0", 31, LogWhy::BadEntry),
-    (31, b"\0\0\0\x06", 31, LogWhy::BadEntry),
-    (31, b"\0\0\0\x01\x06", 35, LogWhy::BadEntry),
+static TESTS_FAULTS: [(&str, usize, &[u8], u32, LogWhy); 3] = [
+    ("no tests", 31, b"\0\0\0\0", 31, LogWhy::BadEntry),
+    (
+        "more tests than entries",
+        31,
+        b"\0\0\0\x06",
+        31,
+        LogWhy::BadEntry,
+    ),
+    (
+        "tests in two records",
+        31,
+        b"\0\0\0\x01\x06",
+        35,
+        LogWhy::BadEntry,
+    ),
 ];
 
 /// The first bytes of a log with others after them have this fault.
 fn check_change(
     rt: &(impl Abort + AllocGlobal),
+    name: &str,
     log: &[u8],
     kept: usize,
     other: &[u8],
@@ -214,17 +333,17 @@ fn check_change(
 ) -> Result<(), Fail> {
     let mut text = Bytes::from_slice(rt.alloc(), &log[..kept.min(log.len())])?;
     text.extend(other)?;
-    check_fault(rt, text.as_slice(), at, why);
+    check_fault(rt, name, text.as_slice(), at, why);
     Ok(())
 }
 
 #[test]
 fn faults_have_their_places(rt: HostRuntime) -> Result<(), Fail> {
-    for (kept, other, at, why) in &FAULTS {
-        check_change(&rt, FIRST_BYTES, *kept, other, *at, *why)?;
+    for (name, kept, other, at, why) in &FAULTS {
+        check_change(&rt, name, FIRST_BYTES, *kept, other, *at, *why)?;
     }
-    for (kept, other, at, why) in &TESTS_FAULTS {
-        check_change(&rt, TESTS_BYTES, *kept, other, *at, *why)?;
+    for (name, kept, other, at, why) in &TESTS_FAULTS {
+        check_change(&rt, name, TESTS_BYTES, *kept, other, *at, *why)?;
     }
     Ok(())
 }
@@ -240,17 +359,18 @@ fn size_in(alloc: Global, text: &[u8]) -> Result<(u8, usize), LogFault> {
 fn the_first_bytes_choose_the_format(rt: HostRuntime) {
     assert_eq!(&rt; size_in(rt.alloc(), FIRST), Ok((2, 2)));
     assert_eq!(&rt; size_in(rt.alloc(), FIRST_BYTES), Ok((2, 2)));
-    // A text, and the place and the reason of its fault.
-    let rows: [(&[u8], u32, LogWhy); 6] = [
-        (b"srr", 3, LogWhy::Short),
-        (b"srr 2", 5, LogWhy::Short),
-        (b"srr 2 \x02", 0, LogWhy::BadHead),
-        (b"srr 2\nranks 2\n", 6, LogWhy::BadNumber),
-        (b"srr 3\n", 0, LogWhy::BadVersion),
-        (b"srr 22\n", 0, LogWhy::BadHead),
+    // A text by its name, and the place and the reason of its fault.
+    let rows: [(&str, &[u8], u32, LogWhy); 6] = [
+        ("no version", b"srr", 3, LogWhy::Short),
+        ("the version alone", b"srr 2", 5, LogWhy::Short),
+        ("a blank behind it", b"srr 2 \x02", 0, LogWhy::BadHead),
+        ("lines behind it", b"srr 2\nranks 2\n", 6, LogWhy::BadNumber),
+        ("a later version", b"srr 3\n", 0, LogWhy::BadVersion),
+        ("a version of two digits", b"srr 22\n", 0, LogWhy::BadHead),
     ];
-    for (text, at, why) in rows {
-        assert_eq!(&rt; size_in(rt.alloc(), text), Err(LogFault { at, why }));
+    for (name, text, at, why) in rows {
+        let found = size_in(rt.alloc(), text);
+        assert_eq!(&rt; found, Err(LogFault { at, why }), "{name}");
     }
     either_has_one_reading();
 }

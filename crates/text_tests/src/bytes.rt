@@ -1,5 +1,6 @@
 //! Each public call once, with values worked out by hand.
 use crate::memory::pushed;
+use bstr::BStr;
 use std::alloc::Global;
 use std::process::Abort;
 use std::rt::HostRuntime;
@@ -27,7 +28,7 @@ static NUMBERS: [(&[u8], Result<i64, NumberFault>); 12] = [
 #[test]
 fn numbers_are_read(rt: HostRuntime) {
     for (text, expected) in &NUMBERS {
-        assert_eq!(rt; number_i64(text), *expected);
+        assert_eq!(rt; number_i64(text), *expected, "{}", BStr::new(text));
     }
 }
 
@@ -44,7 +45,7 @@ static DECIMALS: [(&[u8], Option<u64>); 6] = [
 #[test]
 fn decimals_are_read(rt: HostRuntime) {
     for (text, expected) in &DECIMALS {
-        assert_eq!(rt; decimal(text, 64), *expected);
+        assert_eq!(rt; decimal(text, 64), *expected, "{}", BStr::new(text));
     }
 }
 
@@ -59,7 +60,7 @@ static ARE_DECIMAL: [(&[u8], bool); 5] = [
 #[test]
 fn decimals_are_told_from_others(rt: HostRuntime) {
     for (text, expected) in &ARE_DECIMAL {
-        assert_eq!(rt; is_decimal(text), *expected);
+        assert_eq!(rt; is_decimal(text), *expected, "{}", BStr::new(text));
     }
 }
 

@@ -1,5 +1,6 @@
 //! The texts of checks and of the demo, worked out by hand.
 use crate::memory::pushed;
+use crate::named::check_row;
 use crate::traces::{add, outputs, replay};
 use group_plan::{Plan, read_plan};
 use mpi_call::call::{Call, Halt};
@@ -66,9 +67,10 @@ const APART: [Group; 2] = [
     (&[0, 2], &[(2, 1), (0, 2)], &[b"", b"two\n"]),
 ];
 
-/// A plan, the replays of its groups, how the run ended, and the check text.
-static CHECKS: [(&[u8], &[Group], Ending, &[u8]); 2] = [
+/// A plan by its name, the replays of its groups, how the run ended, and the check text.
+static CHECKS: [(&str, &[u8], &[Group], Ending, &[u8]); 2] = [
     (
+        "groups in the order of their ranks",
         b"0-2\n3-5\n6 7 # rest\n",
         &SENDERS,
         Ending::Finished,
@@ -78,6 +80,7 @@ rank 4 group 1 calls 2 output 0 same\nrank 5 group 1 calls 2 output 0 same\n\
 rank 6 group 2 calls 2 output 0 same\nrank 7 group 2 calls 2 output 0 same\nfinished\n",
     ),
     (
+        "groups in another order",
         b"1\n0 2\n",
         &APART,
         Ending::Halted(Halt::Stuck),
@@ -88,10 +91,10 @@ rank 2 group 1 calls 1 output 4 same\nhalted stuck\n",
 
 #[test]
 fn checks_are_told(rt: HostRuntime) -> Result<(), Fail> {
-    for (lines, groups, ending, expected) in &CHECKS {
+    for (name, lines, groups, ending, expected) in &CHECKS {
         let plan = read_plan(rt.alloc(), lines)?;
         let text = check_text(rt.alloc(), &plan, &replays(rt.alloc(), groups)?, ending)?;
-        assert!(&rt; text.as_slice() == *expected);
+        check_row(&rt, name, text.as_slice(), expected);
     }
     check_tells_the_run();
     Ok(())
@@ -158,7 +161,7 @@ fn the_demo_is_told(rt: HostRuntime) -> Result<(), Fail> {
     let run = calls(alloc, &[(0, 423)])?;
     let replays = replays(alloc, &DEMO)?;
     let text = demo_text(alloc, 1, 8, &run, &plan, &replays, &Ending::Finished)?;
-    assert!(&rt; text.as_slice() == DEMO_TEXT);
+    check_row(&rt, "the demo", text.as_slice(), DEMO_TEXT);
     Ok(())
 }
 
@@ -182,8 +185,8 @@ static PROGRAMS: [(u32, u32, usize, &[u8]); 2] = [
 fn the_demo_has_its_program(rt: HostRuntime) -> Result<(), Fail> {
     for (seed, rounds, length, begin) in &PROGRAMS {
         let text = demo_program(rt.alloc(), *seed, *rounds)?;
-        assert!(&rt; text.len() == *length);
-        assert!(&rt; text.as_slice().starts_with(begin));
+        assert_eq!(rt; text.len(), *length, "{seed} {rounds}");
+        assert!(&rt; text.as_slice().starts_with(begin), "{seed} {rounds}");
     }
     Ok(())
 }

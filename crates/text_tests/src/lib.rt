@@ -12,6 +12,8 @@ mod bytes;
 #[cfg(test)]
 mod checks;
 #[cfg(test)]
+mod diffs;
+#[cfg(test)]
 mod entries;
 #[cfg(test)]
 mod listings;
@@ -19,6 +21,10 @@ mod listings;
 mod logs;
 #[cfg(test)]
 mod memory;
+#[cfg(test)]
+mod named;
+#[cfg(test)]
+mod orders;
 #[cfg(test)]
 mod plans;
 #[cfg(test)]
@@ -28,6 +34,10 @@ mod regroup;
 #[cfg(test)]
 mod run_entries;
 #[cfg(test)]
+mod steps;
+#[cfg(test)]
 mod stores;
 #[cfg(test)]
 mod traces;
+#[cfg(test)]
+mod waits;

@@ -1,5 +1,6 @@
 //! What logs keep and how much, worked out by hand.
 use crate::logs::{EVERY, read};
+use crate::named::check_row;
 use std::process::Abort;
 use std::rt::HostRuntime;
 use std::test::Fail;
@@ -18,15 +19,17 @@ const UNCOLOURED: &[u8] = b"srr 1\nranks 3\ngroup 1\nprogram 0\n\nrank 1 3\ne\nt
 /// The log of two ranks that made no call.
 const NOTHING: &[u8] = b"srr 1\nranks 2\ngroup 0 1\nprogram 0\n\nrank 0 0\nrank 1 0\nend\n";
 
-/// The text of a log, what it keeps, and how much.
-static LISTINGS: [(&[u8], &[u8], &[u8]); 4] = [
+/// The text of a log by its name, what it keeps, and how much.
+static LISTINGS: [(&str, &[u8], &[u8], &[u8]); 4] = [
     (
+        "a message from outside",
         RECEIVER,
         b"ranks 2\ngroup 1\nprogram 209\nrank 1 3\n0 p\n1 t 0=0.0.5:7\n2 z\n",
         b"rank 1 entries 3 inner 0 outer 1 ints 1 notyet 0\n\
 total entries 3 inner 0 outer 1 ints 1 notyet 0\n",
     ),
     (
+        "every kind of entry",
         EVERY,
         b"ranks 3\ngroup 0 2\nprogram 0\nrank 0 9\n0 s\n1 p\n2 e\n\
 3 t 0=0.0 1=s 2=n 3=c 4=m.1 5=c:6 6=m.1:0,2\n4 t 1=1.0.9:1,-20 7=1.0.5:\n5 n\n6 k 2.12\n7 k 1.0.3:1\n8 z\n\
@@ -36,12 +39,14 @@ rank 2 entries 1 inner 0 outer 0 ints 0 notyet 0\n\
 total entries 10 inner 4 outer 5 ints 3 notyet 1\n",
     ),
     (
+        "no communicator",
         UNCOLOURED,
         b"ranks 3\ngroup 1\nprogram 0\nrank 1 3\n0 e\n1 t 0=m.0\n2 z\n",
         b"rank 1 entries 3 inner 1 outer 0 ints 0 notyet 0\n\
 total entries 3 inner 1 outer 0 ints 0 notyet 0\n",
     ),
     (
+        "no calls",
         NOTHING,
         b"ranks 2\ngroup 0 1\nprogram 0\nrank 0 0\nrank 1 0\n",
         b"rank 0 entries 0 inner 0 outer 0 ints 0 notyet 0\n\
@@ -53,6 +58,7 @@ total entries 0 inner 0 outer 0 ints 0 notyet 0\n",
 #[tactic(auto, using(wiz_trace::proofs::Countable::countable_in_bounds))]
 fn check_listing(
     rt: &(impl Abort + AllocGlobal),
+    name: &str,
     text: &[u8],
     shown: &[u8],
     counted: &[u8],
@@ -60,15 +66,15 @@ fn check_listing(
     let log = read(rt.alloc(), text)?;
     let show = show_text(rt.alloc(), &log)?;
     let stats = stats_text(rt.alloc(), &log)?;
-    assert!(rt; show.as_slice() == shown);
-    assert!(rt; stats.as_slice() == counted);
+    check_row(rt, name, show.as_slice(), shown);
+    check_row(rt, name, stats.as_slice(), counted);
     Ok(())
 }
 
 #[test]
 fn logs_are_listed(rt: HostRuntime) -> Result<(), Fail> {
-    for (text, shown, counted) in &LISTINGS {
-        check_listing(&rt, text, shown, counted)?;
+    for (name, text, shown, counted) in &LISTINGS {
+        check_listing(&rt, name, text, shown, counted)?;
     }
     Ok(())
 }

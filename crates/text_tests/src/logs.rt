@@ -3,6 +3,7 @@ ghost use Rattle.std.specs.Prelude.{IfOk};
 ghost use Rattle.srr_text.specs.Bounds.{IsInBounds};
 
 use crate::memory::pushed;
+use crate::named::check_row;
 use mpi_call::call::{Fault, Halt};
 use mpi_call::lists::{Ints, Ranks};
 use srr_entry::entry::{Entry, Mark, Marked, MarkedItems};
@@ -21,7 +22,7 @@ use wiz_base::Bytes;
 fn check_entry(rt: &(impl Abort + AllocGlobal), entry: Entry, expected: &str) -> Result<(), Fail> {
     let mut out = Bytes::new(rt.alloc());
     entry_text(rt.alloc(), &mut out, &entry)?;
-    assert_eq!(rt; out.as_slice(), expected.as_bytes());
+    check_row(rt, expected, out.as_slice(), expected.as_bytes());
     Ok(())
 }
 
@@ -148,15 +149,20 @@ pub fn read(alloc: Global, text: &[u8]) -> Result<Log, LogFault>
     }
 }
 
-fn check_fault(rt: &(impl Abort + AllocGlobal), text: &[u8], at: u32, why: LogWhy) {
-    assert_eq!(rt; read(rt.alloc(), text).err(), Some(LogFault { at, why }));
+/// The text of the row with this name has this fault.
+fn check_fault(rt: &(impl Abort + AllocGlobal), name: &str, text: &[u8], at: u32, why: LogWhy) {
+    assert_eq!(rt;
+        read(rt.alloc(), text).err(),
+        Some(LogFault { at, why }),
+        "{name}"
+    );
 }
 
 #[test]
 fn the_first_log_is_read_to_its_end(rt: HostRuntime) {
     assert_eq!(rt; FIRST.len(), 284);
     for at in 0..284 {
-        check_fault(&rt, &FIRST[..at as usize], at, LogWhy::Short);
+        check_fault(&rt, "a front", &FIRST[..at as usize], at, LogWhy::Short);
     }
     one_reading();
 }
@@ -164,6 +170,7 @@ fn the_first_log_is_read_to_its_end(rt: HostRuntime) {
 /// The kept bytes of a log with others behind them have this fault.
 fn check_behind(
     rt: &(impl Abort + AllocGlobal),
+    name: &str,
     kept: &[u8],
     other: &[u8],
     at: u32,
@@ -171,15 +178,16 @@ fn check_behind(
 ) -> Result<(), Fail> {
     let mut text = Bytes::from_slice(rt.alloc(), kept)?;
     text.extend(other)?;
-    check_fault(rt, text.as_slice(), at, why);
+    check_fault(rt, name, text.as_slice(), at, why);
     Ok(())
 }
 
 #[test]
 fn other_ends_have_faults(rt: HostRuntime) -> Result<(), Fail> {
-    check_behind(&rt, FIRST, b"\n", 284, LogWhy::Extra)?;
+    check_behind(&rt, "a line more", FIRST, b"\n", 284, LogWhy::Extra)?;
     check_behind(
         &rt,
+        "a sender that is no rank",
         &FIRST[..270],
         b"t 0=5.0\nz\nend\n",
         270,
@@ -187,35 +195,55 @@ fn other_ends_have_faults(rt: HostRuntime) -> Result<(), Fail> {
     )
 }
 
-/// The text of a log, the place of its fault, and the fault.
-static FAULTS: [(&[u8], u32, LogWhy); 11] = [
-    (b"srr 2\n", 0, LogWhy::BadVersion),
-    (b"srr 99999999999999999999\n", 0, LogWhy::BadVersion),
-    (b"srr 01\n", 0, LogWhy::BadHead),
-    (b"srr 1\nranks 0\n", 6, LogWhy::BadNumber),
-    (b"srr 1\nranks 02\n", 6, LogWhy::BadNumber),
-    (b"srr 1\nranks 2\ngroup 1 0\n", 14, LogWhy::BadGroup),
+/// The text of a log by its name, the place of its fault, and the fault.
+static FAULTS: [(&str, &[u8], u32, LogWhy); 11] = [
+    ("format 2", b"srr 2\n", 0, LogWhy::BadVersion),
     (
+        "a version of twenty digits",
+        b"srr 99999999999999999999\n",
+        0,
+        LogWhy::BadVersion,
+    ),
+    ("a version behind a 0", b"srr 01\n", 0, LogWhy::BadHead),
+    ("no ranks", b"srr 1\nranks 0\n", 6, LogWhy::BadNumber),
+    (
+        "a number of ranks behind a 0",
+        b"srr 1\nranks 02\n",
+        6,
+        LogWhy::BadNumber,
+    ),
+    (
+        "a group that falls",
+        b"srr 1\nranks 2\ngroup 1 0\n",
+        14,
+        LogWhy::BadGroup,
+    ),
+    (
+        "a program over its limit",
         b"srr 1\nranks 2\ngroup 0\nprogram 65537\n",
         22,
         LogWhy::BadNumber,
     ),
     (
+        "a program longer than its number",
         b"srr 1\nranks 2\ngroup 0\nprogram 1\n;;",
         32,
         LogWhy::BadNumber,
     ),
     (
+        "a rank outside the group",
         b"srr 1\nranks 2\ngroup 0\nprogram 0\n\nrank 1 0\n",
         33,
         LogWhy::BadNumber,
     ),
     (
+        "an entry behind the end",
         b"srr 1\nranks 2\ngroup 0\nprogram 0\n\nrank 0 2\nz\ns\nend\n",
         42,
         LogWhy::BadEntry,
     ),
     (
+        "a blank in the last line",
         b"srr 1\nranks 2\ngroup 0\nprogram 0\n\nrank 0 0\nend \n",
         42,
         LogWhy::BadEntry,
@@ -224,8 +252,8 @@ static FAULTS: [(&[u8], u32, LogWhy); 11] = [
 
 #[test]
 fn faults_have_their_places(rt: HostRuntime) {
-    for (text, at, why) in &FAULTS {
-        check_fault(&rt, text, *at, *why);
+    for (name, text, at, why) in &FAULTS {
+        check_fault(&rt, name, text, *at, *why);
     }
 }
 
@@ -239,23 +267,23 @@ fn written_back(alloc: Global, text: &[u8]) -> Result<Bytes, Fail> {
     Ok(write_log(alloc, &log)?)
 }
 
-fn check_written(rt: &(impl Abort + AllocGlobal), text: &[u8]) -> Result<(), Fail> {
+fn check_written(rt: &(impl Abort + AllocGlobal), name: &str, text: &[u8]) -> Result<(), Fail> {
     let written = written_back(rt.alloc(), text)?;
-    assert_eq!(rt; written.as_slice(), text);
+    check_row(rt, name, written.as_slice(), text);
     Ok(())
 }
 
 #[test]
 fn logs_are_written_back(rt: HostRuntime) -> Result<(), Fail> {
-    check_written(&rt, FIRST)?;
-    check_written(&rt, EVERY)
+    check_written(&rt, "the first log", FIRST)?;
+    check_written(&rt, "every kind of entry", EVERY)
 }
 
 fn check_halt(rt: &(impl Abort + AllocGlobal), halt: &str) -> Result<(), Fail> {
     let text = format!(in rt.alloc();
         "srr 1\nranks 3\ngroup 0\nprogram 0\n\nrank 0 1\n{halt}\nend\n"
     )?;
-    assert!(rt; read(rt.alloc(), text.as_bytes()).is_ok());
+    assert!(rt; read(rt.alloc(), text.as_bytes()).is_ok(), "{halt}");
     Ok(())
 }
 

@@ -1,5 +1,6 @@
 //! The texts of races, worked out by hand.
 use crate::memory::pushed;
+use crate::named::check_row;
 use mpi_call::call::Halt;
 use msg_races::names::{Name, Names};
 use msg_races::receives::{Receive, Receives};
@@ -43,24 +44,28 @@ fn receives(alloc: Global, raced: &[Raced]) -> Result<Receives, Fail> {
     Ok(receives)
 }
 
-/// The receives of a run, how it ended, and the races text.
-static RACES: [(&[Raced], Ending, &[u8]); 4] = [
+/// The receives of a run by its name, how it ended, and the races text.
+static RACES: [(&str, &[Raced], Ending, &[u8]); 4] = [
     (
+        "two receives that race",
         &[((2, 0), (1, 0), &[(0, 0)]), ((2, 1), (0, 0), &[(1, 0)])],
         Ending::Finished,
         b"receive 2.0 took 1.0 others 0.0\nreceive 2.1 took 0.0 others 1.0\nreceives 2 raced 2\nfinished\n",
     ),
     (
+        "one that races and one that does not",
         &[((2, 0), (1, 0), &[]), ((2, 2), (0, 1), &[(1, 0)])],
         Ending::Finished,
         b"receive 2.0 took 1.0 others none\nreceive 2.2 took 0.1 others 1.0\nreceives 2 raced 1\nfinished\n",
     ),
     (
+        "no receives",
         &[],
         Ending::Halted(Halt::Stuck),
         b"receives 0 raced 0\nhalted stuck\n",
     ),
     (
+        "the last rank, and high numbers",
         &[(
             (63, 998_999),
             (0, 12),
@@ -73,9 +78,9 @@ static RACES: [(&[Raced], Ending, &[u8]); 4] = [
 
 #[test]
 fn races_are_told(rt: HostRuntime) -> Result<(), Fail> {
-    for (raced, ending, expected) in &RACES {
+    for (name, raced, ending, expected) in &RACES {
         let text = races_text(rt.alloc(), &receives(rt.alloc(), raced)?, ending)?;
-        assert!(&rt; text.as_slice() == *expected);
+        check_row(&rt, name, text.as_slice(), expected);
     }
     Ok(())
 }

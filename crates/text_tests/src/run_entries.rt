@@ -5,6 +5,7 @@ ghost use Rattle.mpi_call.specs.declared.call.TakeMode.TheVariants.{All};
 ghost use Rattle.mpi_call.specs.declared.reply.Reply.TheVariants.{Took};
 ghost use Rattle.srr_entry.specs.Seen.{IsRanksView};
 
+use crate::named::check_row;
 use mpi_call::call::{Call, Source, Tag, TakeMode};
 use mpi_call::lists::{Ints, Ranks, Starts};
 use mpi_call::reply::{Got, Item, Items, Reply};
@@ -93,7 +94,7 @@ fn check_entry(
     let entry = entry_of(alloc, 2, &group, 1, view, at)?;
     let mut line = Bytes::new(alloc);
     entry_text(alloc, &mut line, &entry)?;
-    assert_eq!(rt; line.as_slice(), expected.as_bytes());
+    check_row(rt, expected, line.as_slice(), expected.as_bytes());
     Ok(())
 }
 

@@ -1,6 +1,6 @@
 //! The texts of runs and replays worked out by hand.
 use crate::memory::pushed;
-use group_plan::read_order;
+use crate::named::check_row;
 use mpi_call::call::{Call, Fault, Halt, Source, Tag, TakeMode};
 use mpi_call::lists::{Ints, Ranks, Starts};
 use mpi_call::reply::{Got, Item, Items, Reply};
@@ -16,7 +16,6 @@ use std::process::Abort;
 use std::rt::HostRuntime;
 use std::test::Fail;
 use wiz_base::Bytes;
-use wiz_trace::order::order_text;
 use wiz_trace::recording::record_text;
 use wiz_trace::trace::{trace_text, traces_text};
 
@@ -93,33 +92,28 @@ pub fn outputs(alloc: Global, printed: &[&[u8]]) -> Result<Outputs, Fail> {
     Ok(outputs)
 }
 
-fn first_order(alloc: Global) -> Result<Bytes, Fail> {
-    Ok(order_text(alloc, &first_run(alloc)?)?)
-}
-
-#[test]
-fn orders_are_written_and_read_back(rt: HostRuntime) -> Result<(), Fail> {
-    let text = first_order(rt.alloc())?;
-    assert!(&rt; text.as_slice() == b"0\n1\n0\n1\n1\n".as_slice());
-    let ranks = read_order(rt.alloc(), text.as_slice(), 2)?;
-    assert!(&rt; ranks.as_slice() == [0, 1, 0, 1, 1].as_slice());
-    Ok(())
-}
-
-/// What each rank printed, how the run ended, and the text of both.
-static RECORDS: [(&[&[u8]], Ending, &[u8]); 6] = [
+/// By its name, what each rank printed, how the run ended, and the text of both.
+static RECORDS: [(&str, &[&[u8]], Ending, &[u8]); 6] = [
     (
+        "a run that came to its end",
         &[b"", b"7\n"],
         Ending::Finished,
         b"rank 0 output 0\n\nrank 1 output 2\n7\n\nfinished\n",
     ),
     (
+        "a message that is too long",
         &[b"", b""],
         Ending::Halted(Halt::Truncated { rank: 1, start: 0 }),
         b"rank 0 output 0\n\nrank 1 output 0\n\nhalted truncated rank 1 start 0\n",
     ),
-    (&[], Ending::Halted(Halt::Stuck), b"halted stuck\n"),
     (
+        "a run that is stuck",
+        &[],
+        Ending::Halted(Halt::Stuck),
+        b"halted stuck\n",
+    ),
+    (
+        "a division by zero",
         &[],
         Ending::Halted(Halt::Trapped {
             rank: 0,
@@ -128,11 +122,13 @@ static RECORDS: [(&[&[u8]], Ending, &[u8]); 6] = [
         b"halted trapped rank 0 divide by zero\n",
     ),
     (
+        "an abort",
         &[],
         Ending::Halted(Halt::Aborted { rank: 0, code: 3 }),
         b"halted aborted rank 0 code 3\n",
     ),
     (
+        "collectives that do not agree",
         &[],
         Ending::Halted(Halt::Mismatched { rank: 1 }),
         b"halted mismatched rank 1\n",
@@ -141,9 +137,9 @@ static RECORDS: [(&[&[u8]], Ending, &[u8]); 6] = [
 
 #[test]
 fn records_are_told(rt: HostRuntime) -> Result<(), Fail> {
-    for (printed, ending, expected) in &RECORDS {
+    for (name, printed, ending, expected) in &RECORDS {
         let text = record_text(rt.alloc(), &outputs(rt.alloc(), printed)?, ending)?;
-        assert!(&rt; text.as_slice() == *expected);
+        check_row(&rt, name, text.as_slice(), expected);
     }
     Ok(())
 }
@@ -166,10 +162,12 @@ pub fn replay(
 
 fn check_trace(
     rt: &(impl Abort + AllocGlobal),
+    name: &str,
     replayed: &Replayed,
     expected: &[u8],
 ) -> Result<(), Fail> {
-    assert!(rt; trace_text(rt.alloc(), replayed)?.as_slice() == expected);
+    let text = trace_text(rt.alloc(), replayed)?;
+    check_row(rt, name, text.as_slice(), expected);
     Ok(())
 }
 
@@ -193,6 +191,7 @@ fn a_replay_is_traced(rt: HostRuntime) -> Result<(), Fail> {
     )?;
     check_trace(
         &rt,
+        "two ranks that ended",
         &replayed,
         b"rank 0\n0 send comm=0 to=1 tag=5 data=7 -> done\n1 end -> done\noutput 0\n\nended\nrank 1\n0 post comm=0 from=0 tag=5 room=1 -> done\n1 take all 0 -> took 0=0.0 tag=5 data=7\n2 end -> done\noutput 2\n7\n\nended\n",
     )
@@ -205,8 +204,13 @@ fn standing(alloc: Global, stand: Stand) -> Result<Replayed, Fail> {
     replay(alloc, &[1], History::new(alloc), &[b""], ends)
 }
 
-fn check_stand(rt: &(impl Abort + AllocGlobal), stand: Stand, expected: &[u8]) -> Result<(), Fail> {
-    check_trace(rt, &standing(rt.alloc(), stand)?, expected)
+fn check_stand(
+    rt: &(impl Abort + AllocGlobal),
+    name: &str,
+    stand: Stand,
+    expected: &[u8],
+) -> Result<(), Fail> {
+    check_trace(rt, name, &standing(rt.alloc(), stand)?, expected)
 }
 
 fn at_break(alloc: Global) -> Result<Stand, Fail> {
@@ -238,14 +242,21 @@ fn diverged(alloc: Global) -> Result<Stand, Fail> {
 #[test]
 fn stands_are_told(rt: HostRuntime) -> Result<(), Fail> {
     let alloc = rt.alloc();
-    check_stand(&rt, Stand::LogEnded, b"rank 1\noutput 0\n\nlog ended\n")?;
     check_stand(
         &rt,
+        "its log ended",
+        Stand::LogEnded,
+        b"rank 1\noutput 0\n\nlog ended\n",
+    )?;
+    check_stand(
+        &rt,
+        "at its breakpoint",
         at_break(alloc)?,
         b"rank 1\noutput 0\n\nbreak\nvar 0 x 0,-1\n",
     )?;
     check_stand(
         &rt,
+        "diverged",
         diverged(alloc)?,
         b"rank 1\noutput 0\n\ndiverged call 1 entry s made take all 0 found 0.0 send comm=0 to=0 tag=5 data=7\n",
     )?;
@@ -256,6 +267,7 @@ fn stands_are_told(rt: HostRuntime) -> Result<(), Fail> {
     };
     check_stand(
         &rt,
+        "starved",
         Stand::Starved(member),
         b"rank 1\noutput 0\n\nstarved rank 2 comm 0 instance 1\n",
     )
@@ -268,9 +280,8 @@ fn replays_are_traced_in_order(rt: HostRuntime) -> Result<(), Fail> {
     assert!(&rt; traces_text(alloc, &replays)?.is_empty());
     pushed(replays.push(standing(alloc, Stand::LogEnded)?))?;
     pushed(replays.push(standing(alloc, Stand::Ended)?))?;
-    assert!(&rt;
-        traces_text(alloc, &replays)?.as_slice()
-            == b"rank 1\noutput 0\n\nlog ended\nrank 1\noutput 0\n\nended\n".as_slice()
-    );
+    let text = traces_text(alloc, &replays)?;
+    let expected = b"rank 1\noutput 0\n\nlog ended\nrank 1\noutput 0\n\nended\n";
+    check_row(&rt, "two replays", text.as_slice(), expected);
     Ok(())
 }

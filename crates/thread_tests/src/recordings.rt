@@ -43,7 +43,11 @@ const PLAN: &[u8] = b"0-2\n3-5\n6 7 # rest\n";
 const OUTPUTS: &[&[u8]] = &[b"sum 140\n", b"", b"", b"", b"", b"", b"", b""];
 
 /// The same by group.
-const PRINTED: [&[&[u8]]; 3] = [&[b"sum 140\n", b"", b""], &[b"", b"", b""], &[b"", b""]];
+const PRINTED: [(&str, &[&[u8]]); 3] = [
+    ("ranks 0 to 2", &[b"sum 140\n", b"", b""]),
+    ("ranks 3 to 5", &[b"", b"", b""]),
+    ("ranks 6 and 7", &[b"", b""]),
+];
 
 /// How many calls the ranks of the three groups make.
 const CALLS: u64 = 29;
@@ -80,8 +84,8 @@ fn a_program_is_recorded_and_replayed_by_groups(rt: HostRuntime) {
     assert!(&rt; recording.ending == Ending::Finished);
     assert!(&rt; are(recording.outputs.as_slice(), OUTPUTS));
     assert!(&rt; gate.passes.load(Ordering::SeqCst) == CALLS);
-    for (log, printed) in recording.logs.as_slice().iter().zip(PRINTED.iter()) {
-        assert!(&rt; prints(&rt, &program, log, printed, &gate));
+    for (log, (name, printed)) in recording.logs.as_slice().iter().zip(PRINTED.iter()) {
+        assert!(&rt; prints(&rt, &program, log, printed, &gate), "{name}");
     }
     assert!(&rt; gate.passes.load(Ordering::SeqCst) == 2 * CALLS);
 }

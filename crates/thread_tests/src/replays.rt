@@ -20,31 +20,36 @@ const DIVERGED: &[u8] =
 const CYCLE: &[u8] =
     b"srr 1\nranks 2\ngroup 0 1\nprogram 292\nint main(void){int r,x=0;MPI_Comm_rank(MPI_COMM_WORLD,&r);if(r==0){MPI_Recv(&x,1,MPI_INT,1,5,MPI_COMM_WORLD,MPI_STATUS_IGNORE);MPI_Send(&x,1,MPI_INT,1,5,MPI_COMM_WORLD);}if(r==1){MPI_Recv(&x,1,MPI_INT,0,5,MPI_COMM_WORLD,MPI_STATUS_IGNORE);MPI_Send(&x,1,MPI_INT,0,5,MPI_COMM_WORLD);}return 0;}\nrank 0 4\np\nt 0=1.1\ns\nz\nrank 1 4\np\nt 0=0.1\ns\nz\nend\n";
 
-/// A log, a breakpoint, and the trace.
-type Row<'a> = (&'a [u8], Option<(u8, u32)>, &'a [u8]);
+/// A log by its name, a breakpoint, and the trace.
+type Row<'a> = (&'a str, &'a [u8], Option<(u8, u32)>, &'a [u8]);
 
 static ROWS: [Row<'static>; 5] = [
     (
+        "the first log",
         FIRST,
         None,
         b"rank 0\n0 send comm=0 to=1 tag=5 data=7 -> done\n1 end -> done\noutput 0\n\nended\nrank 1\n0 post comm=0 from=0 tag=5 room=1 -> done\n1 take all 0 -> took 0=0.0 tag=5 data=7\n2 end -> done\noutput 2\n7\n\nended\n",
     ),
     (
+        "a stop before rank 0's first call",
         FIRST,
         Some((0, 0)),
         b"rank 0\noutput 0\n\nbreak\nvar 0 r 0\nvar 0 x 7\nrank 1\n0 post comm=0 from=0 tag=5 room=1 -> done\noutput 0\n\nstarved 0.0\n",
     ),
     (
+        "a stop before rank 1's second call",
         FIRST,
         Some((1, 1)),
         b"rank 0\n0 send comm=0 to=1 tag=5 data=7 -> done\n1 end -> done\noutput 0\n\nended\nrank 1\n0 post comm=0 from=0 tag=5 room=1 -> done\noutput 0\n\nbreak\nvar 0 r 1\nvar 0 x 0\n",
     ),
     (
+        "a log that diverges",
         DIVERGED,
         None,
         b"rank 0\n0 send comm=0 to=0 tag=5 data=7 -> done\n1 end -> done\noutput 0\n\nended\nrank 1\n0 post comm=0 from=0 tag=5 room=1 -> done\noutput 0\n\ndiverged call 1 entry t 0=0.0 made take all 0 found 0.0 send comm=0 to=0 tag=5 data=7\n",
     ),
     (
+        "a cycle",
         CYCLE,
         None,
         b"rank 0\n0 post comm=0 from=1 tag=5 room=1 -> done\noutput 0\n\nstarved 1.1\nrank 1\n0 post comm=0 from=0 tag=5 room=1 -> done\noutput 0\n\nstarved 0.1\n",
@@ -53,9 +58,9 @@ static ROWS: [Row<'static>; 5] = [
 
 #[test]
 fn logs_have_their_traces(rt: HostRuntime) {
-    for (log, stop, trace) in &ROWS {
-        assert!(&rt; traces(&rt, log, *stop, trace));
-        assert!(&rt; traces_on_one(rt.alloc(), log, *stop, trace));
+    for (name, log, stop, trace) in &ROWS {
+        assert!(&rt; traces(&rt, log, *stop, trace), "{name}");
+        assert!(&rt; traces_on_one(rt.alloc(), log, *stop, trace), "{name}");
     }
 }
 

@@ -12,7 +12,7 @@ use Rattle.run_model.specs.Program.{ends}
 use Rattle.run_model.specs.Views.{View, is_start, starts_of, view_of}
 use Rattle.run_model.proofs.StartLemmas.{starts_of-append}
 use Rattle.run_model.proofs.Views.{length-view_of, option_cases, test_cases, view_of-other, view_of-own}
-use Rattle.match_core.proofs.Grown.{pairs_of-push}
+use Rattle.picked_runs.proofs.Grown.{pairs_of-push}
 use Rattle.srr_entry.specs.Known.{IsKnownOf}
 use Rattle.wait_graph.specs.declared.register.Register.{Register}
 use Rattle.wait_graph.specs.declared.own.Own.{Own}

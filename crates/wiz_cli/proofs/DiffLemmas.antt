@@ -14,7 +14,7 @@ use Rattle.replay_model.specs.Laws.{IsDone, IsRunWith}
 use Rattle.replay_model.specs.Replays.{Breakpoint, IsStep, IsWholeReplay, Replays}
 use Rattle.replay_model.proofs.Cut.{HasAllOf-whole}
 use Rattle.run_model.specs.declared.event.Event.{Event}
-use Rattle.run_model.specs.Views.{Next}
+use Rattle.run_model.specs.Views.{Next, replies_in}
 use Rattle.run_model.proofs.Along.{Along-keeps}
 use Rattle.srr_entry.specs.declared.log.Log.{Log}
 use Rattle.srr_replay.specs.Rounds.{IsReplayable}
@@ -159,6 +159,7 @@ compares runs first second ranks outcome are compared same parts alone is =
             subst (λ (n : Next). PartsByAReply n one.ranks one.group first.events.events second.events.events) next parts,
             subst (λ (n : Next). PartsByAReplyAlone n one.ranks one.group first.events.events second.events.events) next alone,
           );
+      outputs = λ program rank is_program same. ap (λ view. output_of program one.ranks rank (replies_in view)) same;
       of_runs = told;
       of_one_run = λ program run is_program with too.
           let shows = are.first_replay.shows program is_program in

@@ -1,13 +1,15 @@
 -- The command that compares the logs of two runs: each is replayed, and what the ranks of their group saw is compared.
-use Rattle.std.specs.Prelude.{◌≡◌, ◌++◌, List, [], ◌∷◌, None, if◌then◌else◌}
+use Rattle.std.specs.Prelude.{◌≡◌, ◌++◌, ℕ, List, [], ◌∷◌, None, if◌then◌else◌}
 use Rattle.std.specs.List.{list_any}
 use Rattle.c_program.specs.declared.program.CProgram.{CProgram}
-use Rattle.c_program.specs.Program.{next_of}
+use Rattle.c_program.specs.Program.{next_of, output_of}
 use Rattle.c_types.specs.Checks.{IsProgramOf}
 use Rattle.replay_model.specs.declared.replayed.Replayed.{Replayed}
 use Rattle.replay_model.specs.Laws.{IsRunWith}
 use Rattle.run_model.specs.declared.event.Event.{Event}
+use Rattle.run_model.specs.Views.{view_of}
 use Rattle.srr_entry.specs.declared.log.Log.{Log}
+use Rattle.srr_entry.specs.Outputs.{printed_of}
 use Rattle.view_diff.specs.declared.compared.Compared.{Compared}
 use Rattle.view_diff.specs.Compared.{AreCompared, comes_first}
 use Rattle.view_diff.specs.Comparing.{CanCompare}
@@ -48,7 +50,7 @@ diff_outcome first second ranks = diff_outcome_by (of_stands (first.ends ++ seco
 
 -- two logs of one program and one group are replayed, each with their program, without a breakpoint, and compared, rank by rank. For every
 -- program of their text a rank that parts was answered in two ways, or one replay is cut short; where the logs are of runs the comparison is
--- told, and where they are of one run nothing parts
+-- told, and where they are of one run nothing parts. A rank whose views are equal, numbers of communicators too, has printed the same
 pub record Compares (one other : Log) (outcome : Outcome) : Type 0 where
   pub can_compare : CanCompare one other
   pub first : Replayed
@@ -61,6 +63,8 @@ pub record Compares (one other : Log) (outcome : Outcome) : Type 0 where
   pub parts : (program : CProgram) → IsProgramOf one.program program
       → PartsByAReply (next_of program) one.ranks one.group first.events.events second.events.events
       × PartsByAReplyAlone (next_of program) one.ranks one.group first.events.events second.events.events
+  pub outputs : (program : CProgram) (rank : ℕ) → IsProgramOf one.program program → view_of first.events.events rank ≡ view_of second.events.events rank
+      → printed_of (output_of program) one.ranks first.events.events rank ≡ printed_of (output_of program) one.ranks second.events.events rank
   pub of_runs : (program : CProgram) (run other_run : List Event) → IsProgramOf one.program program → IsRunWith (next_of program) one run
       → IsRunWith (next_of program) other other_run → outcome ≡ compared_outcome first second ranks
   pub of_one_run : (program : CProgram) (run : List Event) → IsProgramOf one.program program → IsRunWith (next_of program) one run

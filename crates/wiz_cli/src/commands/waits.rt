@@ -13,7 +13,7 @@ use crate::recording::ready::{Ready, read_run};
 use crate::runner::Runner;
 use srr_record::Recording;
 use std::alloc::{AllocError, Global};
-use wait_graph::laws::{has_cause, none_fits, stuck_exactly};
+use wait_graph::laws::{has_cause, none_fits, opens_differ, stuck_exactly};
 use wait_graph::stuck::graph;
 use wiz_io::{Sink, Store};
 use wiz_tool::failure::Failure;
@@ -51,6 +51,7 @@ fn waits_of(alloc: Global, ready: &Ready, recording: Recording) -> Result<Done, 
     stuck_exactly(&ready.program, ranks);
     has_cause(&ready.program, ranks);
     none_fits();
+    opens_differ(&ready.program, ranks);
     let graph = graph(alloc, ranks, &recording.history)?;
     let text = waits_text(alloc, ranks, &recording.history, &graph, &recording.ending)?;
     let status = of_ending(&recording.ending);

@@ -10,5 +10,5 @@ returns c =
       ends = ends_exactly calls;
       asks = asks_in_bounds calls;
       enters = enters_in_form calls;
-      run = c.in_ok-recording.ensures.recorded.chosen.run;
+      run = c.in_ok-recording.ensures.recorded.picked.run;
     }

@@ -2,4 +2,4 @@ use Rattle.requests.specs.States.{MayStart}
 use Rattle.machine_tests.proofs.starting.started.Given as goal
 
 abbrev pub invariant-loop-at : goal.invariant-loop-at
-invariant-loop-at g l = MayStart 2 l.at-counter l.requests
+invariant-loop-at g l = MayStart 2 l.at l.requests

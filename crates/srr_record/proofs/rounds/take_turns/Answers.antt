@@ -1,19 +1,23 @@
-use Rattle.std.proofs.Common.{slice_index, sym, take, subst, List, ℕ}
+use Rattle.std.proofs.Common.{sym, take, subst, List}
+use Rattle.std.specs.List.{slice_index_or}
+use Rattle.picked_runs.specs.declared.turn.Pick.TheVariants.{First}
 use Rattle.std.proofs.lemmas.List.{take_more}
-use Rattle.srr_record.specs.Rounds.{GoesBy}
-use Rattle.srr_record.proofs.Going.{one_turn}
+use Rattle.picked_runs.specs.declared.turn.Turn.{Turn}
+use Rattle.srr_record.specs.Rounds.{GoesByTurns}
+use Rattle.srr_record.proofs.Going.{turn_more}
 use Rattle.srr_record.proofs.Running.{runs_more}
 use Rattle.srr_record.proofs.rounds.take_turns.Goals as goal
 
-pub loop-rank-preserved : goal.loop-rank-preserved
-loop-rank-preserved g c =
-    let inv = c.loop-rank.invariant in
-    let ok = c.in_ok-try_rank.ensures in
-    let k = c.loop-rank.rank-index in
-    let turns = c.args.turns.now in
-    let rank = slice_index turns k in
-    let F : List ℕ → Type 0 = λ done. GoesBy (g.P.Program.next c.args.machine.now.program) done c.args.machine.now c.try_rank.new.machine in
+pub loop-turn-preserved : goal.loop-turn-preserved
+loop-turn-preserved g c =
+    let inv = c.loop-turn.invariant in
+    let ok = c.in_ok-try_turn.ensures in
+    let k = c.loop-turn.turn-index in
+    let turns : List Turn = c.args.turns.now in
+    let d : Turn = record { rank = 0; pick = First } in
+    let turn : Turn = slice_index_or turns k d in
+    let F : List Turn → Type 0 = λ done. GoesByTurns (g.P.Program.next c.args.machine.now.program) done c.args.machine.now c.try_turn.new.machine in
     record {
-      goes = subst F (sym (take_more turns k 0 c.loop-rank-test.true)) (one_turn g.P.Program.next (take k turns) rank c.args.machine.now c.loop-rank.machine c.try_rank.new.machine inv.goes ok.goes);
-      runs = runs_more g.R.RankRun.standing c.args.machine.now c.loop-rank.machine c.try_rank.new.machine c.loop-rank.runs rank c.try_rank.new.run inv.goes.program inv.goes.ranks inv.runs (c.requires.turns k 0 c.loop-rank-test.true) ok.others ok.run;
+      goes = subst F (sym (take_more turns k d c.loop-turn-test.true)) (turn_more g.P.Program.next (take k turns) turn c.args.machine.now c.loop-turn.machine c.try_turn.new.machine inv.goes ok.goes);
+      runs = runs_more g.R.RankRun.standing c.args.machine.now c.loop-turn.machine c.try_turn.new.machine c.loop-turn.runs turn.rank c.try_turn.new.run inv.goes.program inv.goes.ranks inv.runs (c.requires.turns k d c.loop-turn-test.true) ok.others ok.run;
     }

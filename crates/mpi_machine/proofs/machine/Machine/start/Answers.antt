@@ -20,17 +20,17 @@ start-requires-clause-enter g c = λ enter.
     let asked = rw (← c.self.view_is) at c.requires.asked in
     let form = asked_form (g.P.Program.next c.self.inside.program.now) c.self.inside.course.ranks c.self.inside.course.events c.args.rank c.args.call
     (record { ends = g.P.Program.ends_exactly c.self.inside.program.now; enters = g.P.Program.enters_in_form c.self.inside.program.now })
-    c.self.invariant.chosen asked in
+    c.self.invariant.made.run asked in
     let may = may_join (g.P.Program.next c.self.inside.program.now) c.self.inside.course.ranks c.self.inside.course.events c.args.rank c.args.call
     (record { ends = g.P.Program.ends_exactly c.self.inside.program.now; enters = g.P.Program.enters_in_form c.self.inside.program.now })
-    c.self.invariant.chosen asked.below enter form in
+    c.self.invariant.made.run asked.below enter form in
     c.knows_on.ensures.enters c.self.inside.course.ranks c.args.rank c.self.inside.course.events c.args.call may.members c.self.invariant.knows may.known may.has_me may.form
 
 pub append-requires-clause-live : goal.append-requires-clause-live
 append-requires-clause-live g c =
     let asked = rw (← c.self.view_is) at c.requires.asked in
     rw c.reserve.ensures.events (
-    live_in (g.P.Program.next c.self.inside.program.now) c.self.inside.course.ranks c.self.inside.course.events c.self.inside.course.kept c.self.inside.requests
+    live_in (g.P.Program.next c.self.inside.program.now) c.self.inside.course.ranks c.self.inside.picks.written c.self.inside.course.events c.self.inside.course.kept c.self.inside.requests
     c.args.rank c.args.call
     (record { ends = g.P.Program.ends_exactly c.self.inside.program.now; enters = g.P.Program.enters_in_form c.self.inside.program.now })
     c.self.invariant asked)
@@ -41,7 +41,7 @@ invariant_of-self-in-Made g c =
     let free = rw (← c.self.view_is) at c.requires.bound in
     let form = asked_form (g.P.Program.next c.self.inside.program.now) c.self.inside.course.ranks c.self.inside.course.events c.args.rank c.args.call
     (record { ends = g.P.Program.ends_exactly c.self.inside.program.now; enters = g.P.Program.enters_in_form c.self.inside.program.now })
-    c.self.invariant.chosen asked in
+    c.self.invariant.made.run asked in
     let at : c.len-at.result ≡ length c.self.inside.course.events =
     c.len-at.ensures ∙ ap (λ (l : List Event). length l) (c.history.ensures ∙ c.reserve.ensures.events) in
     let F : Started → Type 0 = λ s. KnowsStarted c.self.inside.course.ranks c.self.inside.course.events c.args.rank c.args.call s c.start.new.self in
@@ -50,10 +50,10 @@ invariant_of-self-in-Made g c =
     let has = has_reply (g.P.Program.next c.self.inside.program.now) c.self.inside.course.ranks c.self.inside.course.events c.self.inside.course.kept
     c.args.rank c.args.call Done asked (start_answered c.self.inside.course.ranks c.self.inside.course.events c.args.rank c.args.call free c.requires.kind made.agrees) in
     rw (c.append.ensures.ranks ∙ c.reserve.ensures.ranks, c.append.ensures.events, c.append.ensures.kept, c.reserve.ensures.events, c.reserve.ensures.kept) (
-    start_keeps (g.P.Program.next c.self.inside.program.now) c.self.inside.course.ranks c.self.inside.course.events c.self.inside.course.kept c.start.new.self
+    start_keeps (g.P.Program.next c.self.inside.program.now) c.self.inside.course.ranks c.self.inside.picks.written c.self.inside.course.events c.self.inside.course.kept c.start.new.self
     c.args.rank c.args.call c.in-Made.start c.in-Made.mate
     (record { ends = g.P.Program.ends_exactly c.self.inside.program.now; enters = g.P.Program.enters_in_form c.self.inside.program.now })
-    c.self.invariant.chosen c.self.invariant.kept_are has c.requires.kind made)
+    c.self.invariant.made c.self.invariant.kept_are has c.requires.kind made)
 
 pub returns-in-Made-clause-after : goal.returns-in-Made-clause-after
 returns-in-Made-clause-after g c =
@@ -61,7 +61,7 @@ returns-in-Made-clause-after g c =
     let free = rw (← c.self.view_is) at c.requires.bound in
     let form = asked_form (g.P.Program.next c.self.inside.program.now) c.self.inside.course.ranks c.self.inside.course.events c.args.rank c.args.call
     (record { ends = g.P.Program.ends_exactly c.self.inside.program.now; enters = g.P.Program.enters_in_form c.self.inside.program.now })
-    c.self.invariant.chosen asked in
+    c.self.invariant.made.run asked in
     let at : c.len-at.result ≡ length c.self.inside.course.events =
     c.len-at.ensures ∙ ap (λ (l : List Event). length l) (c.history.ensures ∙ c.reserve.ensures.events) in
     let F : Started → Type 0 = λ s. KnowsStarted c.self.inside.course.ranks c.self.inside.course.events c.args.rank c.args.call s c.start.new.self in
@@ -73,13 +73,13 @@ returns-in-Made-clause-after g c =
     (event_with c.args.rank c.args.call Done c.in-Made.mate)
     (start_event c.self.inside.course.ranks c.self.inside.course.events c.args.rank c.args.call c.in-Made.mate is c.requires.kind made.choice_is))
 
-pub returns-in-Made-clause-turn : goal.returns-in-Made-clause-turn
-returns-in-Made-clause-turn g c =
+pub returns-in-Made-clause-answer : goal.returns-in-Made-clause-answer
+returns-in-Made-clause-answer g c =
     let asked = rw (← c.self.view_is) at c.requires.asked in
     let free = rw (← c.self.view_is) at c.requires.bound in
     let form = asked_form (g.P.Program.next c.self.inside.program.now) c.self.inside.course.ranks c.self.inside.course.events c.args.rank c.args.call
     (record { ends = g.P.Program.ends_exactly c.self.inside.program.now; enters = g.P.Program.enters_in_form c.self.inside.program.now })
-    c.self.invariant.chosen asked in
+    c.self.invariant.made.run asked in
     let at : c.len-at.result ≡ length c.self.inside.course.events =
     c.len-at.ensures ∙ ap (λ (l : List Event). length l) (c.history.ensures ∙ c.reserve.ensures.events) in
     let F : Started → Type 0 = λ s. KnowsStarted c.self.inside.course.ranks c.self.inside.course.events c.args.rank c.args.call s c.start.new.self in
@@ -98,7 +98,7 @@ last-requires-clause-reply g c =
     let free = rw (← c.self.view_is) at c.requires.bound in
     let form = asked_form (g.P.Program.next c.self.inside.program.now) c.self.inside.course.ranks c.self.inside.course.events c.args.rank c.args.call
     (record { ends = g.P.Program.ends_exactly c.self.inside.program.now; enters = g.P.Program.enters_in_form c.self.inside.program.now })
-    c.self.invariant.chosen asked in
+    c.self.invariant.made.run asked in
     let at : c.len-at.result ≡ length c.self.inside.course.events =
     c.len-at.ensures ∙ ap (λ (l : List Event). length l) (c.history.ensures ∙ c.reserve.ensures.events) in
     let F : Started → Type 0 = λ s. KnowsStarted c.self.inside.course.ranks c.self.inside.course.events c.args.rank c.args.call s c.start.new.self in

@@ -12,4 +12,4 @@ pub returns : goal.returns
 returns c =
     waits_told c.n-ranks.result c.args.ready.now c.args.recording c.in_ok-graph.graph c.in_ok-text.text c.of_ending-status.result _
     c.n-ranks.ensures.ranks c.requires c.in_ok-graph.ensures c.in_ok-text.ensures c.of_ending-status.ensures c.text_of_run.ensures
-    c.stuck_exactly.ensures.stuck c.stuck_exactly.ensures.blocked c.has_cause.ensures.waits c.has_cause.ensures.cause c.none_fits.ensures
+    c.stuck_exactly.ensures.stuck c.stuck_exactly.ensures.blocked c.has_cause.ensures.waits c.has_cause.ensures.cause c.none_fits.ensures c.opens_differ.ensures

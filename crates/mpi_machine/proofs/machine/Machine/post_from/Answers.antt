@@ -1,0 +1,35 @@
+use Rattle.std.proofs.Common.{◌≡◌, ◌∙◌, List, Option, Some, ap, length, subst, ℕ}
+use Rattle.mpi_call.specs.declared.reply.Reply.TheVariants.{Done}
+use Rattle.run_model.specs.declared.event.Event.{Event}
+use Rattle.picked_runs.specs.declared.turn.Pick.TheVariants.{Sender}
+use Rattle.requests.specs.Histories.{KnowsPosted}
+use Rattle.mpi_machine.proofs.Growing.{event_with}
+use Rattle.mpi_machine.proofs.Moving.{live_in}
+use Rattle.mpi_machine.proofs.Picking.{picked_keeps, post_event, post_picks}
+use Rattle.mpi_machine.proofs.machine.Machine.post_from.Goals as goal
+
+pub append-requires-clause-live : goal.append-requires-clause-live
+append-requires-clause-live g c =
+    let asked = rw (← c.self.view_is) at c.requires.asked in
+    rw c.reserve.ensures.events (
+    live_in (g.P.Program.next c.self.inside.program.now) c.self.inside.course.ranks c.self.inside.picks.written c.self.inside.course.events c.self.inside.course.kept c.self.inside.requests
+    c.args.rank c.args.call
+    (record { ends = g.P.Program.ends_exactly c.self.inside.program.now; enters = g.P.Program.enters_in_form c.self.inside.program.now })
+    c.self.invariant asked)
+
+pub invariant_of-self-2 : goal.invariant_of-self-2
+invariant_of-self-2 g c =
+    let next = g.P.Program.next c.self.inside.program.now in
+    let n : ℕ = c.self.inside.course.ranks in
+    let events : List Event = c.self.inside.course.events in
+    let asked = rw (← c.self.view_is) at c.requires.asked in
+    let free = rw (← c.self.view_is) at c.requires.bound in
+    let at : c.len-at.result ≡ length events = c.len-at.ensures ∙ ap (λ (l : List Event). length l) (c.history.ensures ∙ c.reserve.ensures.events) in
+    let F : Option ℕ → Type 0 = λ m. KnowsPosted n events c.args.rank c.args.call c.args.sender m c.post_from.new.self in
+    let posted : F (Some c.in-Some.mate) = subst F c.in-Some.is (c.in_ok-mate.ensures.knows n events c.self.invariant.knows at) in
+    let has = post_picks next n events c.args.rank c.args.call c.args.sender c.in-Some.mate asked c.requires.kind free posted.0 in
+    rw (c.append.ensures.ranks ∙ c.reserve.ensures.ranks, c.append.ensures.events, c.append.ensures.kept, c.reserve.ensures.events, c.reserve.ensures.kept, c.put.ensures, c.reserve-2.ensures.picks, at) (
+    picked_keeps next n c.self.inside.picks.written events c.self.inside.course.kept c.post_from.new.self
+    c.args.rank c.args.call (Sender c.args.sender) Done (event_with c.args.rank c.args.call Done (Some c.in-Some.mate))
+    (record { ends = g.P.Program.ends_exactly c.self.inside.program.now; enters = g.P.Program.enters_in_form c.self.inside.program.now })
+    c.self.invariant.made c.self.invariant.kept_are has (post_event next n events c.args.rank c.args.call c.args.sender c.in-Some.mate c.requires.kind has posted.0) posted.1)

@@ -1,0 +1,108 @@
+-- What a whole run comes to, and which whole runs are told apart.
+use Rattle.std.specs.Prelude.{◌≡◌, ◌<◌, ℕ, suc, List, [], ◌∷◌, ◌++◌, Option, Some, None, Bool, map}
+use Rattle.mpi_call.specs.declared.call.Call.{Call}
+use Rattle.mpi_call.specs.declared.call.Call.TheVariants.{Post, Peek}
+use Rattle.mpi_call.specs.declared.call.Halt.{Halt}
+use Rattle.mpi_call.specs.declared.call.Halt.TheVariants.{Aborted, Trapped, Truncated, Mismatched, BadRequest, Stuck}
+use Rattle.mpi_call.specs.declared.call.Source.{Source}
+use Rattle.mpi_call.specs.declared.call.Tag.{Tag}
+use Rattle.mpi_call.specs.declared.reply.Reply.{Reply}
+use Rattle.mpi_call.specs.declared.reply.Reply.TheVariants.{Done, NotYet, Peeked, Stopped}
+use Rattle.run_model.specs.declared.ending.Ending.{Ending}
+use Rattle.run_model.specs.declared.ending.Ending.TheVariants.{Finished, Halted}
+use Rattle.run_model.specs.declared.event.Event.{Event}
+use Rattle.run_model.specs.Endings.{ending_of}
+use Rattle.run_model.specs.Lists.{Along, world}
+use Rattle.run_model.specs.Run.{IsRun}
+use Rattle.run_model.specs.Serial.{call_after}
+use Rattle.run_model.specs.Views.{Next, View, replies_in, view_of}
+use Rattle.picked_runs.specs.Numbering.{AreNumberedInOrder}
+use Rattle.run_states.specs.Futures.{mate_in}
+
+-- what a rank has printed, by the number of ranks, the rank and the replies that it got
+abbrev pub Output : Type 0
+Output = ℕ → ℕ → List Reply → List ℕ
+
+-- how a run ended, and what ranks printed, each with its rank
+pub record Outcome : Type 0 where
+  pub ending : Ending
+  pub printed : List (ℕ × List ℕ)
+
+-- the ranks whose outputs tell a run with this ending from others: all of them where no rank was stopped on its way, else the one that
+-- brought the halt; what others had printed by then is chance
+abbrev pub ranks_told : ℕ → Ending → List ℕ
+ranks_told n Finished = world n 0
+ranks_told n (Halted Stuck) = world n 0
+ranks_told n (Halted (Aborted rank code)) = rank ∷ []
+ranks_told n (Halted (Trapped rank fault)) = rank ∷ []
+ranks_told n (Halted (Truncated rank start)) = rank ∷ []
+ranks_told n (Halted (BadRequest rank start)) = rank ∷ []
+ranks_told n (Halted halt) = []
+
+-- the ending as it is told: that of a mismatch without its rank, which is whoever entered second
+abbrev pub ending_told : Ending → Ending
+ending_told (Halted (Mismatched rank)) = Halted (Mismatched 0)
+ending_told ending = ending
+
+-- what a run comes to
+abbrev pub outcome_of : Output → ℕ → List Event → Outcome
+outcome_of output n run =
+    record {
+      ending = ending_told (ending_of run);
+      printed = map (λ rank. (rank, output n rank (replies_in (view_of run rank)))) (ranks_told n (ending_of run));
+    }
+
+-- a receive that a rank posts right after a probe which asked for the same takes the message that the probe found
+-- (MPI 3.1, Point-to-Point Communication, "Probe".)
+abbrev pub IsProbeKept : List Event → Event → Type 0
+IsProbeKept before event =
+    (earlier : View) (comm : ℕ) (source : Source) (tag : Tag) (wait : Bool) (room sender start sent count : ℕ)
+    → view_of before event.rank ≡ earlier ++ (Peek comm source tag wait, Peeked sender start sent count) ∷ []
+    → event.call ≡ Post comm source tag room → event.reply ≡ Done
+    → mate_in before event.mate ≡ Some (sender, start)
+
+-- each such receive of a run does
+abbrev pub KeepsProbes : List Event → Type 0
+KeepsProbes run = Along IsProbeKept [] run
+
+-- a run in which each rank has ended, with a recording machine's numbers
+pub record IsWhole (next : Next) (n : ℕ) (events : List Event) : Type 0 where
+  pub run : IsRun next n events
+  pub ended : (rank : ℕ) → rank < n → call_after next n events rank ≡ None
+  pub numbered : AreNumberedInOrder n events
+  pub probes : KeepsProbes events
+
+-- how many of a view's last replies are NotYet, one after the other, where so many stood before it
+abbrev pub vain_after : ℕ → View → ℕ
+vain_after count [] = count
+vain_after count ((call, NotYet) ∷ view) = vain_after (suc count) view
+vain_after count ((call, reply) ∷ view) = vain_after 0 view
+
+-- the same, of a whole view
+abbrev pub vain_in : View → ℕ
+vain_in view = vain_after 0 view
+
+-- a rank that is answered NotYet was not answered so as many times in a row before
+abbrev pub IsPatientEvent : ℕ → List Event → Event → Type 0
+IsPatientEvent most before event = event.reply ≡ NotYet → vain_in (view_of before event.rank) < most
+
+-- no rank of a run looks in vain more than so many times in a row
+abbrev pub IsPatient : ℕ → List Event → Type 0
+IsPatient most run = Along (IsPatientEvent most) [] run
+
+-- the replies of a rank that gets this halt to its next call, if it has one
+abbrev pub replies_and : List Reply → Halt → Option Call → List Reply
+replies_and replies halt None = replies
+replies_and replies halt (Some call) = replies ++ Stopped halt ∷ []
+
+-- the replies of a rank where nothing but this halt comes any more
+abbrev pub last_replies : Next → ℕ → List Event → Halt → ℕ → List Reply
+last_replies next n before halt rank = replies_and (replies_in (view_of before rank)) halt (call_after next n before rank)
+
+-- what a run comes to that goes so far, and then is halted
+abbrev pub halted_outcome : Next → Output → ℕ → List Event → Halt → Outcome
+halted_outcome next output n before halt =
+    record {
+      ending = ending_told (Halted halt);
+      printed = map (λ rank. (rank, output n rank (last_replies next n before halt rank))) (ranks_told n (Halted halt));
+    }
