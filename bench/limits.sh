@@ -137,13 +137,13 @@ explained() {
   done
 }
 
-# An int to and fro, and at the end rank 0 probes in vain, or not: the last message but one may have come by then.
+# An int to and fro; at the end rank 1 sends one more message, and rank 0 probes for it.
 last_probe() {
   events "$1"
   sed -i 's/printf/if(r==0)MPI_Iprobe(1,1,MPI_COMM_WORLD,\&y,MPI_STATUS_IGNORE);if(r==1)MPI_Send(\&x,1,MPI_INT,0,1,MPI_COMM_WORLD);printf/' program
 }
 
-# Two runs of the program that part at rank 0's last call: one in which rank 1 comes last, and one in which it sends first.
+# Two runs of the program that part at rank 0's probe: in one it finds the message, in the other it comes too early.
 parted() {
   local size seconds memory replayed last above=0
   [ -z "$only" ] || [ "$only" = diff ] || return 0
@@ -151,9 +151,9 @@ parted() {
     last_probe $((size - 12))
     rm -f run.* other.*
     "$wiz" record program plan run --serial >/dev/null
-    # The same turns, but rank 1's last send comes before rank 0's probe.
+    # The same turns, but rank 0 probes before rank 1 has sent its last message.
     head -n -4 run.order >turns
-    printf '1\n1\n0\n0\n' >>turns
+    printf '0\n0\n1\n1\n' >>turns
     "$wiz" record program plan other --order turns >/dev/null
     read -r replayed memory <<<"$(measure 0 ended replay run.0.srr --serial)"
     last=$("$wiz" diff run.0.srr other.0.srr | tail -n 1 || true)
