@@ -28,10 +28,6 @@ arguments_next env best kinds given i kind argument k a =
     rw (drop_got kinds i kind k, drop_got given i argument a)
     (least_from_append best (argument_faults env kind argument) (arguments_faults env (drop (i + 1) kinds) (drop (i + 1) given)))
 
-pub kinds_end : (env : Env) (best : Option TypingFault) (kinds : List ArgumentKind) (given : List t.Argument) (i : ℕ)
-    → slice_get kinds i ≡ None → least_from best (arguments_faults env (drop i kinds) (drop i given)) ≡ best
-kinds_end env best kinds given i k = rw (drop_none kinds i k) refl
-
 pub arguments_end : (env : Env) (best : Option TypingFault) (kinds : List ArgumentKind) (given : List t.Argument) (i : ℕ) (kind : ArgumentKind)
     → slice_get kinds i ≡ Some kind → slice_get given i ≡ None → least_from best (arguments_faults env (drop i kinds) (drop i given)) ≡ best
 arguments_end env best kinds given i kind k a = rw (drop_got kinds i kind k, drop_none given i a) refl

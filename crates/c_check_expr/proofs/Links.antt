@@ -16,11 +16,6 @@ use Rattle.c_check_expr.specs.declared.meaning.ExprKind.TheVariants.{Of}
 use Rattle.c_check_expr.proofs.Least.{least_from_append}
 use Rattle.c_check_expr.proofs.Lists.{drop_at}
 
-pub constant_next : (env : Env) (value : Constant) (links : List Link) (i : ℕ) (link : Link) → i < length links → link ≡ get_or links i link
-    → links_constant env value (links_from (map piece (drop i links)))
-    ≡ links_constant env (joined (operator_of link.operator) value (constant_of env (view link.operand))) (links_from (map piece (drop (i + 1) links)))
-constant_next env value links i link h e = ap (λ left. links_constant env value (links_from (map piece left))) (drop_at links i link h e)
-
 pub names_next : (env : Env) (best : Option TypingFault) (links : List Link) (i : ℕ) (link : Link) → i < length links → link ≡ get_or links i link
     → least_from best (names_in_links env (links_from (map piece (drop i links))))
     ≡ least_from (least_from best (names_in env (view link.operand))) (names_in_links env (links_from (map piece (drop (i + 1) links))))

@@ -50,9 +50,6 @@ pub record Turning (e : Option Expr) (update : Passing) (body : Meaning) (s0 s :
   pub comes : (k : Exits) → after (loop e update body s0 k) r0 ≡ after (turns n e update body s k) r
   pub left : s.left ≤ s0.left
 
-pub turning-start : (e : Option Expr) (update : Passing) (body : Meaning) (s : State) (r : List Reply) → Turning e update body s s r r
-turning-start e update body s r = record { n = suc s.left; enough = omega arith; comes = λ k. refl; left = omega arith }
-
 -- what goes on from a turn
 abbrev pub ways_from : ℕ → Option Expr → Passing → Meaning → Exits → Ways
 ways_from n e update body k = record { on = λ s. turns n e update body s k; out = k }

@@ -27,9 +27,6 @@ pub wants-says : (course : Course) (want : Want) (s : State) → Wants course wa
 wants-says course (Ask call) s w = ap call_in w.is
 wants-says course Ended s w = ap call_in w
 
-pub rank-starts : (program : CProgram) (rank : Rank) (s : State) → rank.number < rank.ranks → rank.ranks ≤ MOST_RANKS → IsRankAt program rank [] false s
-rank-starts program rank s member few = record { member = member; few = few; shaped = refl; stands = λ asked. absurd (cc) }
-
 pub rank-wants : (program : CProgram) (rank : Rank) (replies : List Reply) (asked : Bool) (s t : State) (want : Want) → IsRankAt program rank replies asked s
     → Wants (after (course_of program rank) replies) want t → IsRankAt program rank replies true t
 rank-wants program rank replies asked s t want is w = record { member = is.member; few = is.few; shaped = is.shaped; stands = λ a. wants-state _ want t w }

@@ -20,10 +20,6 @@ use Rattle.c_grammar.proofs.ExprLaws.{ExprLaws, Over, expr_starts, expr_laws}
 use Rattle.c_grammar.proofs.Calls.{symbol_isnt, heads_other, at_heads}
 use Rattle.c_grammar.proofs.StmtLaws.{PartLaws, parts_list, parts_back, parts_spell, parts_good, parts_all, parts_deep, list_spell, parts_laws, stmts_laws}
 
-nothing_deep : (o : Option Span) (rest : List Terminal) → deep_maybe (λ p rest. None) o rest ≡ None
-nothing_deep None rest = refl
-nothing_deep (Some p) rest = refl
-
 name_laws : Laws name_maybe spell_name (IsMaybe (λ p. Unit {0})) (deep_maybe (λ p rest. None)) (OverMaybe (is w.Name) (λ p rest. Unit {0}))
 name_laws = maybe_laws (expect_laws w.Name) (is w.Name) (λ p g rest. refl)
 

@@ -15,11 +15,6 @@ use Rattle.c_grammar.proofs.Exact.{longer, same_fault, test_le}
 use Rattle.c_grammar.proofs.ExternalLaws.{program_laws}
 use Rattle.c_grammar.proofs.Programs.{complete, goes, read_tree}
 
--- the terminal that is too deep, and what may stand after it
-seen_head : (rest z : List Terminal) (x : Terminal) (r : List Terminal) → rest ≡ x ∷ r → seen TooDeep rest ++ z ≡ x ∷ z
-seen_head [] z x r e = absurd (cc)
-seen_head (y ∷ rest) z x r e = let k : y ≡ x = cc in ap (λ v. v ∷ z) k
-
 nothing_behind : (v : List Terminal) → v ++ [] ≡ v
 nothing_behind [] = refl
 nothing_behind (x ∷ v) = ap (λ z. x ∷ z) (nothing_behind v)

@@ -30,9 +30,6 @@ module _ {A : Type 0} (goes : Symbol → Bool) (one : List Terminal → Answer A
     pub enough : length rest ≤ fuel
     pub same : many goes one terminals ≡ after found (turns goes one fuel rest)
 
-  pub so_far-start : SoFar [] terminals
-  so_far-start = record { fuel = length terminals; enough = omega arith; same = after_none (many goes one terminals) }
-
   pub so_far-step : (found : List A) (rest behind : List Terminal) (a : A)
       → heads goes rest ≡ true → one rest ≡ Ok (a, behind) → length behind < length rest → SoFar found rest → SoFar (found ++ a ∷ []) behind
   so_far-step found rest behind a on read short so = go so.fuel so.enough so.same

@@ -24,9 +24,6 @@ module _ {A : Type 0} (one : List Terminal → Answer A) (count : ℕ) (terminal
   pub record TimesSoFar (found : List A) (left : ℕ) (rest : List Terminal) : Type 0 where
     pub same : times one count terminals ≡ after found (times one left rest)
 
-  pub times-start : (left : ℕ) → left ≡ count → TimesSoFar [] left terminals
-  times-start left is = record { same = rw is (none_before (times one count terminals)) }
-
   pub times-step : (found more : List A) (left next : ℕ) (a : A) (rest behind : List Terminal)
       → left ≡ suc next → one rest ≡ Ok (a, behind) → more ≡ found ++ a ∷ [] → TimesSoFar found left rest → TimesSoFar more next behind
   times-step found more left next a rest behind is read pushed so =
@@ -40,6 +37,3 @@ module _ {A : Type 0} (one : List Terminal → Answer A) (count : ℕ) (terminal
       → left ≡ suc next → Fails error (one rest) → TimesSoFar found left rest → Fails error (times one count terminals)
   times-fault found left next rest errors.Memory is read so = tt
   times-fault found left next rest (errors.At why at) is read so = times-fails found left next rest _ is read so
-
-  pub times-ends : (found : List A) (left : ℕ) (rest : List Terminal) → left ≡ 0 → TimesSoFar found left rest → times one count terminals ≡ Ok (found, rest)
-  times-ends found left rest is so = so.same ∙ rw is (ap (λ z. Ok (z, rest)) (no_more found))

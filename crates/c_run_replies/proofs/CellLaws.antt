@@ -69,9 +69,6 @@ fails-trapped (Some u) s t done go h e = absurd (cc)
 
 -- ---- the steps that are left, of what an effect changes
 
-pub begin-left : (request : Option ℕ) (number : ℤ) (start : Begun) (s t : State) → t ≡ put_some request number (begun start s) → t.left ≤ s.left
-begin-left request number start s t e = let same : t.left ≡ s.left = ap (λ s. s.left) e ∙ left-put_some request number (begun start s) in omega arith
-
 left-put_result : (into : Into) (got : Option Got) (s : State) → (put_result into got s).left ≡ s.left
 left-put_result Nowhere got s = refl
 left-put_result (IntoCells cells) None s = refl
@@ -96,6 +93,3 @@ left-probed n comm flag status (Took items) s = left-put_some flag (pos 0) s
 left-probed n comm flag status NotYet s = left-put_some flag (pos 0) s
 left-probed n comm flag status (Peeked source start tag count) s = left-put_some flag (pos 1) _ ∙ left-put_status status _ _ _ s
 left-probed n comm flag status (Stopped halt) s = left-put_some flag (pos 0) s
-
-pub probed-left : (n comm : ℕ) (flag status : Option ℕ) (reply : Reply) (s t : State) → t ≡ probed n comm flag status reply s → t.left ≤ s.left
-probed-left n comm flag status reply s t e = let same : t.left ≡ s.left = ap (λ s. s.left) e ∙ left-probed n comm flag status reply s in omega arith

@@ -91,16 +91,6 @@ left-none_active requests mode answer s =
 
 -- ---- whole calls
 
-pub completing-none : (n : ℕ) (requests : Cells) (mode : TakeMode) (answer : Answer) (active : List Active) (s : State) (go : Onward)
-    → (length active == 0) ≡ true → completing n requests mode answer active s go ≡ go (none_active requests mode answer s)
-completing-none n requests mode answer [] s go h = refl
-completing-none n requests mode answer (one ∷ more) s go h = let none : length (one ∷ more) ≡ 0 = eqb-true (length (one ∷ more)) 0 h in absurd (omega arith)
-
-pub completing-asks : (n : ℕ) (requests : Cells) (mode : TakeMode) (answer : Answer) (active : List Active) (s : State) (go : Onward)
-    → (length active == 0) ≡ false → completing n requests mode answer active s go ≡ Asks s (Take (starts_in active) mode) (λ reply. after_take n requests mode answer active reply s go)
-completing-asks n requests mode answer [] s go h = absurd (cc)
-completing-asks n requests mode answer (one ∷ more) s go h = refl
-
 -- ---- what follows on items
 
 pub take-goes : (n : ℕ) (requests : Cells) (mode : TakeMode) (answer : Answer) (active : List Active) (items : List Item) (s u : State) (go : Onward)

@@ -193,8 +193,3 @@ members_made-same (Enter comm Split root op count ints) b members inputs me you 
 members_made-same a (Enter comm Dup root op count ints) members inputs me you h g = absurd (cc)
 members_made-same a (Enter comm Split root op count ints) members inputs me you h g = absurd (cc)
 members_made-same a b members inputs me you h g = refl
-
--- a Dup gives the old members
-pub members_made-dup : (comm : ℕ) (root : Option ℕ) (op : Option Op) (count : ℕ) (ints : List ℤ) (members : List ℕ) (inputs : List (List ℤ)) (me : ℕ)
-    → members_made (Enter comm Dup root op count ints) members inputs me ≡ members
-members_made-dup comm root op count ints members inputs me = refl

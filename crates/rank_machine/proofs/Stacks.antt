@@ -128,15 +128,6 @@ module _ (n m : ℕ) (e : Option Expr) (update : Passing) (body : Meaning) (s : 
   pub turn-enters : n ≡ suc m → test e s ≡ Ok true → turns n e update body s k ≡ step s (λ s. body s (turn_exits update (λ s. turns m e update body s k) k))
   turn-enters e' is = rw (e', is) refl
 
-  pub turn-ends : n ≡ suc m → test e s ≡ Ok false → turns n e update body s k ≡ k.next s
-  turn-ends e' is = rw (e', is) refl
-
-  pub turn-fails : (fault : Fault) → n ≡ suc m → test e s ≡ Err fault → turns n e update body s k ≡ trapped fault s
-  turn-fails fault e' is = rw (e', is) refl
-
-pub no-turn : (n : ℕ) (e : Option Expr) (update : Passing) (body : Meaning) (s : State) (k : Exits) → n ≡ 0 → turns n e update body s k ≡ trapped Budget s
-no-turn n e update body s k e' = rw e' refl
-
 -- ---- first parts
 
 pub no-items : {A : Type 0} (xs : List A) → length xs < 1 → xs ≡ []
