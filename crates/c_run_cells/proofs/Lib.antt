@@ -1,5 +1,6 @@
 mod ChainLaws
 pub mod Lists
+mod NamedLaws
 pub mod PartLaws
 mod PrintLaws
 pub mod StateLaws

@@ -1,4 +1,5 @@
 pub mod Comes
+pub mod Named
 pub mod Parts
 pub mod Sizes
 pub mod SlotView

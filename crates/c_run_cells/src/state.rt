@@ -1,11 +1,13 @@
 //! What a rank holds while its program runs.
-ghost use Rattle.std.specs.Prelude.{◌≡◌, ◌≤◌, ◌<◌, ◌^◌, ◌+◌, ◌++◌, ◌∷◌, [], IfOk, IfSome, OnErr, OnOk, length, map, option_map, true};
+ghost use Rattle.std.specs.Prelude.{◌≡◌, ◌≤◌, ◌<◌, ◌^◌, ◌+◌, ◌++◌, ◌∷◌, [], IfOk, IfSome, None, OnErr, OnOk, length, map, option_map, true};
 ghost use Rattle.run_model.specs.Lists.{world};
 ghost use Rattle.c_program.specs.Courses.{listed_of, variable_of};
+ghost use Rattle.rank_watch.specs.Innermost.{innermost};
 ghost use Rattle.c_program.specs.Meaning.{cells_in, has_room, number_in, opened, parameter_cells, repeated, start, with_parameter, with_slot};
 ghost use Rattle.c_program.specs.Performing.{begun, learned, made_by, made_by_all, start_at};
 ghost use Rattle.c_program.specs.Values.{cells_of};
 ghost use Rattle.c_program.specs.State.{cell_at, first_cells, ints_in, leave, stack_mark, members_among, members_of, put, put_all, values_from, width_of};
+ghost use Rattle.c_run_cells.specs.Named.{cells_named};
 ghost use Rattle.c_run_cells.specs.Sizes.{HaveIntSizes};
 ghost use Rattle.c_run_cells.specs.SlotView.{slot_view};
 ghost use Rattle.c_run_cells.specs.Slots.{with_cells};
@@ -253,6 +255,17 @@ impl<'p> RankState<'p> {
         self.listed_of(alloc, &self.slots)
     }
 
+    /// The values of the innermost variable of a name that stands and is listed, if there is one. Takes the memory of these
+    /// values alone.
+    pub fn variable(&self, alloc: Global, name: &[u8]) -> Result<Option<Ints>, AllocError>
+        ensures { IfOk result (λ found. found ≡ innermost name.now (listed_of self.now self.now.slots)) }
+    {
+        match cells_named(&self.slots, name) {
+            None => Ok(None),
+            Some(cells) => Ok(Some(self.values_from(alloc, cells.from(), cells.count())?)),
+        }
+    }
+
     /// How many starts were made, fewer than 2^31.
     pub fn start_count(&self) -> u32
         ensures count { result ≡ length self.now.starts }
@@ -392,6 +405,30 @@ impl<'p> RankState<'p> {
             name: Bytes::copy_of(slot.name)?,
             values: self.values_from(alloc, slot.cells.from(), slot.cells.count())?,
         })
+    }
+}
+
+/// The cells of the innermost variable of a name that is listed, if there is one.
+fn cells_named(slots: &[Slot<'_>], name: &[u8]) -> Option<Range>
+    ensures { result ≡ cells_named name.now None (map slot_view slots.now) }
+{
+    let mut found = None;
+    let mut rest = slots;
+    while let [slot, after @ ..] = rest {
+        found = later_named(found, slot, name);
+        rest = after;
+    }
+    found
+}
+
+/// The cells of a variable, if it is listed and has the name, and else those of one further out.
+fn later_named(found: Option<Range>, slot: &Slot<'_>, name: &[u8]) -> Option<Range>
+    ensures { result ≡ cells_named name.now found (slot_view slot.now ∷ []) }
+{
+    if slot.is_listed && name == slot.name.as_slice() {
+        Some(slot.cells)
+    } else {
+        found
     }
 }
 
