@@ -2,7 +2,6 @@
 use Rattle.std.proofs.Common.{◌≡◌, ◌≢◌, ◌<◌, ◌≤◌, ◌+◌, ◌-◌, ◌^◌, ◌∙◌, ◌++◌, ◌∷◌, ◌||◌, ◌==◌, [], ℕ, zero, suc, List, Option, Some, None, Bool, true, false, inl, inr, ap, arith, append-nil, append_assoc, drop, filter, get_or, if◌then◌else◌, is_some, length, length-append, option_map, refl, get_or-set_other, get_or-set_same, length-set, nat_lt, slice_get, slice_set, subst, sym, take}
 use Rattle.std.proofs.lemmas.Bool.{cases_order, eq-eqb, eqb-true, lt-ltb, ltb-true}
 use Rattle.std.specs.List.{list_any, slice_index_or}
-use Rattle.std.specs.Map.{lookup}
 use Rattle.mpi_call.specs.declared.call.Call.{Call}
 use Rattle.mpi_call.specs.declared.reply.Reply.{Reply}
 use Rattle.run_model.specs.declared.event.Event.{Event}
@@ -19,8 +18,8 @@ use Rattle.wait_graph.specs.declared.own.Own.{Own}
 use Rattle.msg_races.specs.declared.names.Name.{Name as StartName}
 use Rattle.wait_graph.specs.Register.{AreNames, ArePartners, IsRegister, IsOwn, count_one, count_start, earlier_in, name_in, named_by}
 use Rattle.wait_graph.specs.Names.{is_either}
+use Rattle.wait_graph.specs.Partners.{is_paired_in}
 use Rattle.wait_graph.specs.Taken.{AreTaken}
-use Rattle.msg_races.specs.Names.{same_start}
 
 -- 1. a rank
 
@@ -160,9 +159,9 @@ some-with : (P : List (Name × Name)) (earlier : Option StartName) (name other :
 some-with P None name other = ap (λ l. is_some (partner_of l (name_in other))) (append-nil P) ∙ or-nothing (is_some (partner_of P (name_in other)))
 some-with P (Some earlier) name other = some-push P (name_in earlier) (name_in name) (name_in other)
 
-pub partners_more : (before : List Event) (event : Event) (names : List (Option StartName)) (old new : List (StartName × StartName)) (name : StartName) → AreNames before names → ArePartners before old
+pub partners_more : (before : List Event) (event : Event) (names : List (Option StartName)) (old new : List (List Bool)) (name : StartName) → AreNames before names → ArePartners before old
     → name.rank ≡ event.rank → name.start ≡ length (starts_of (view_of before event.rank))
-    → ((other : StartName) → is_some (lookup (same_start other) new) ≡ (is_some (lookup (same_start other) old) || is_either (earlier_in names event.mate) name other))
+    → ((other : StartName) → is_paired_in new other ≡ (is_paired_in old other || is_either (earlier_in names event.mate) name other))
     → ArePartners (before ++ event ∷ []) new
 partners_more before event names old new name are partners rank start joined =
     let later : Name = (event.rank, length (starts_of (view_of before event.rank))) in
@@ -200,7 +199,7 @@ pub register_more : (n : ℕ) (before : List Event) (event : Event) (old new : R
     → new.ranks.items ≡ slice_set old.ranks.items event.rank own
     → ((d : Own) → IsOwn n (view_of before event.rank) (slice_index_or old.ranks.items event.rank d) → IsOwn n (view_of before event.rank ++ (event.call, event.reply) ∷ []) own)
     → new.names.items ≡ old.names.items ++ named_by event name ∷ [] → name.rank ≡ event.rank → ((d : Own) → name.start ≡ (slice_index_or old.ranks.items event.rank d).starts)
-    → ((other : StartName) → is_some (lookup (same_start other) new.partners) ≡ (is_some (lookup (same_start other) old.partners) || is_either (earlier_in old.names.items event.mate) name other))
+    → ((other : StartName) → is_paired_in new.partners other ≡ (is_paired_in old.partners other || is_either (earlier_in old.names.items event.mate) name other))
     → IsRegister n (before ++ event ∷ []) new
 register_more n before event old new name own is low ranks grown names rank start joined =
     let number : name.start ≡ length (starts_of (view_of before event.rank)) = start own ∙ (is.ranks event.rank own low).starts in
@@ -236,7 +235,7 @@ pub register_first : (n : ℕ) (register : Register) → length register.ranks.i
     → IsRegister n [] register
 register_first n register many each names partners =
     let N : List (Option StartName) → Type 0 = λ l. AreNames [] l in
-    let P : List (StartName × StartName) → Type 0 = λ l. ArePartners [] l in
+    let P : List (List Bool) → Type 0 = λ l. ArePartners [] l in
     record {
       as_many = many;
       ranks = each;

@@ -3,6 +3,7 @@ pub mod Waits
 pub mod Graph
 pub mod Laws
 pub mod Names
+pub mod Partners
 pub mod Taken
 pub mod Register
 pub mod Reading

@@ -1,7 +1,6 @@
 -- What is kept beside the events of a run.
-use Rattle.std.specs.Prelude.{◌≡◌, ◌<◌, ◌≤◌, ℕ, List, [], Option, Some, None, if◌then◌else◌, is_some, length, option_map}
+use Rattle.std.specs.Prelude.{◌≡◌, ◌<◌, ◌≤◌, ℕ, List, [], Bool, Option, Some, None, if◌then◌else◌, is_some, length, option_map}
 use Rattle.std.specs.List.{list_any, slice_index_or}
-use Rattle.std.specs.Map.{lookup}
 use Rattle.mpi_call.specs.declared.call.Call.{Call}
 use Rattle.mpi_call.specs.declared.reply.Reply.{Reply}
 use Rattle.run_model.specs.declared.event.Event.{Event}
@@ -13,7 +12,7 @@ use Rattle.srr_entry.specs.Known.{IsKnownOf}
 use Rattle.wait_graph.specs.declared.register.Register.{Register}
 use Rattle.wait_graph.specs.declared.own.Own.{Own}
 use Rattle.msg_races.specs.declared.names.Name.{Name as StartName}
-use Rattle.msg_races.specs.Names.{same_start}
+use Rattle.wait_graph.specs.Partners.{is_paired_in}
 use Rattle.wait_graph.specs.Taken.{AreTaken}
 
 -- what is kept of a rank that has seen this
@@ -34,8 +33,8 @@ pub record AreNames (events : List Event) (names : List (Option StartName)) : Ty
   pub each : (at : ℕ) → option_map name_in (slice_index_or names at None) ≡ name_at events at
 
 -- the starts that are paired
-pub record ArePartners (events : List Event) (table : List (StartName × StartName)) : Type 0 where
-  pub each : (name : StartName) → is_some (lookup (same_start name) table) ≡ is_some (partner_of (pairs_of events) (name_in name))
+pub record ArePartners (events : List Event) (ranks : List (List Bool)) : Type 0 where
+  pub each : (name : StartName) → is_paired_in ranks name ≡ is_some (partner_of (pairs_of events) (name_in name))
 
 -- what is kept of n ranks beside these events
 pub record IsRegister (n : ℕ) (events : List Event) (register : Register) : Type 0 where

@@ -1,28 +1,81 @@
 //! Which starts are paired.
-ghost use Rattle.std.specs.Prelude.{◌≡◌, ◌||◌, [], OnOk, is_some};
-ghost use Rattle.std.specs.Map.{lookup};
+ghost use Rattle.std.specs.Prelude.{◌≡◌, ◌||◌, ◌==◌, ◌<◌, [], OnOk, ℕ, length};
 ghost use Rattle.msg_races.specs.declared.names.Name.{Name as NameSpec};
 ghost use Rattle.msg_races.specs.Names.{same_start};
 ghost use Rattle.wait_graph.specs.Names.{is_either};
+ghost use Rattle.wait_graph.specs.Partners.{is_marked, is_paired_in};
 
-use indexmap::IndexMap;
 use msg_races::names::Name;
 use std::alloc::{AllocError, Global};
 use std::marker::Model;
 
-/// The starts that are paired, each with a start that it is paired with.
+/// Whether each start of a rank is paired, by its number. One behind the end is not.
+#[derive(Drop)]
+struct Marks {
+    values: Vec<bool>,
+}
+
+impl Model for Marks {
+    ghost use Rattle.std.specs.Prelude.{Bool, List};
+
+    ghost Value = { List Bool };
+
+    ghost view = { λ s. s.values.items };
+}
+
+impl Marks {
+    fn new(alloc: Global) -> Self
+        ensures { result ≡ [] }
+    {
+        Marks {
+            values: Vec::new(alloc),
+        }
+    }
+
+    /// Whether a start is paired.
+    fn has(&self, start: u32) -> bool
+        ensures { result ≡ is_marked self.now start }
+    {
+        match self.values.get(start as usize) {
+            Some(is_paired) => *is_paired,
+            None => false,
+        }
+    }
+
+    /// Marks a start as paired.
+    fn mark(&mut self, start: u32) -> Result<(), AllocError>
+        ensures { OnOk result ((other : ℕ) → is_marked self.new other ≡ (is_marked self.old other || (start == other))) }
+    {
+        self.reach(start)?;
+        self.values[start as usize] = true;
+        Ok(())
+    }
+
+    /// Adds starts that are not paired until there is one with this number.
+    fn reach(&mut self, start: u32) -> Result<(), AllocError>
+        ensures there { OnOk result (start < length self.new) }
+        ensures same { OnOk result ((other : ℕ) → is_marked self.new other ≡ is_marked self.old other) }
+    {
+        while self.values.len() <= start as usize {
+            self.values.push(false)?;
+        }
+        Ok(())
+    }
+}
+
+/// The starts that are paired, by rank. Of a rank behind the end none is.
 #[derive(Drop)]
 pub struct Partners {
-    values: IndexMap<Name, Name>,
+    alloc: Global,
+    ranks: Vec<Marks>,
 }
 
 impl Model for Partners {
-    ghost use Rattle.std.specs.Prelude.{List};
-    ghost use Rattle.msg_races.specs.declared.names.Name.{Name};
+    ghost use Rattle.std.specs.Prelude.{Bool, List};
 
-    ghost Value = { List (Name × Name) };
+    ghost Value = { List (List Bool) };
 
-    ghost view = { λ s. s.values.entries };
+    ghost view = { λ s. s.ranks.items };
 }
 
 impl Partners {
@@ -31,33 +84,55 @@ impl Partners {
         ensures { result ≡ [] }
     {
         Partners {
-            values: IndexMap::new(alloc),
+            alloc,
+            ranks: Vec::new(alloc),
         }
     }
 
     /// Whether a start is paired.
     pub fn has(&self, name: Name) -> bool
-        ensures { result ≡ is_some (lookup (same_start name) self.now) }
+        ensures { result ≡ is_paired_in self.now name }
     {
-        self.values.get(&name).is_some()
+        match self.ranks.get(name.rank as usize) {
+            Some(marks) => marks.has(name.start),
+            None => false,
+        }
     }
 
     /// Pairs two starts.
     pub fn join(&mut self, one: Name, other: Name) -> Result<(), AllocError>
-        ensures { OnOk result ((name : NameSpec) → is_some (lookup (same_start name) self.new) ≡ (is_some (lookup (same_start name) self.old) || (same_start one name || same_start other name))) }
+        ensures { OnOk result ((name : NameSpec) → is_paired_in self.new name ≡ (is_paired_in self.old name || (same_start one name || same_start other name))) }
     {
-        self.values.insert(one, other)?;
-        self.values.insert(other, one)?;
-        Ok(())
+        self.mark(one)?;
+        self.mark(other)
     }
 
     /// Pairs a start with an earlier one, if there is one.
     pub fn join_some(&mut self, earlier: Option<Name>, name: Name) -> Result<(), AllocError>
-        ensures { OnOk result ((other : NameSpec) → is_some (lookup (same_start other) self.new) ≡ (is_some (lookup (same_start other) self.old) || is_either earlier name other)) }
+        ensures { OnOk result ((other : NameSpec) → is_paired_in self.new other ≡ (is_paired_in self.old other || is_either earlier name other)) }
     {
         match earlier {
             Some(earlier) => self.join(earlier, name),
             None => Ok(()),
         }
+    }
+
+    /// Marks a start as paired.
+    fn mark(&mut self, name: Name) -> Result<(), AllocError>
+        ensures { OnOk result ((other : NameSpec) → is_paired_in self.new other ≡ (is_paired_in self.old other || same_start name other)) }
+    {
+        self.reach(name.rank)?;
+        self.ranks[name.rank as usize].mark(name.start)
+    }
+
+    /// Adds ranks without pairs until there is this one.
+    fn reach(&mut self, rank: u8) -> Result<(), AllocError>
+        ensures there { OnOk result (rank < length self.new) }
+        ensures same { OnOk result ((other : NameSpec) → is_paired_in self.new other ≡ is_paired_in self.old other) }
+    {
+        while self.ranks.len() <= rank as usize {
+            self.ranks.push(Marks::new(self.alloc))?;
+        }
+        Ok(())
     }
 }

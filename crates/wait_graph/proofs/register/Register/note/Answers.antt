@@ -1,11 +1,10 @@
 use Rattle.std.proofs.Common.{◌≡◌, ◌<◌, ◌∙◌, ◌++◌, ◌∷◌, ◌||◌, [], ℕ, ap, arith, get_or, is_some, length, refl, subst, sym}
-use Rattle.std.specs.Map.{lookup}
 use Rattle.std.proofs.lemmas.List.{get_or_read}
 use Rattle.wait_graph.specs.declared.own.Own.{Own}
 use Rattle.msg_races.specs.declared.names.Name.{Name as StartName}
 use Rattle.wait_graph.specs.Register.{IsOwn}
 use Rattle.wait_graph.specs.Names.{is_either}
-use Rattle.msg_races.specs.Names.{same_start}
+use Rattle.wait_graph.specs.Partners.{is_paired_in}
 use Rattle.run_model.specs.Views.{view_of}
 use Rattle.wait_graph.proofs.RegisterLemmas.{register_more, few_calls}
 use Rattle.wait_graph.proofs.register.Register.note.Goals as goal
@@ -34,4 +33,4 @@ returns c = λ n before is low.
     (λ d own. c.in_ok-note.ensures n (view_of before rank) (subst (IsOwn n (view_of before rank)) (sym (moved d)) own))
     (c.in_ok-push.ensures.items ∙ ap (λ m. old.names.items ++ m ∷ []) c.named.ensures) refl
     (λ d. ap (λ (o : Own). o.starts) (mine d))
-    (λ other. c.in_ok-join_some.ensures other ∙ ap (λ e. is_some (lookup (same_start other) old.partners) || is_either e name other) c.earlier-earlier.ensures)
+    (λ other. c.in_ok-join_some.ensures other ∙ ap (λ e. is_paired_in old.partners other || is_either e name other) c.earlier-earlier.ensures)
