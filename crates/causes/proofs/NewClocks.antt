@@ -32,11 +32,11 @@ append_in (x ∷ xs) ys t h = elim h [
   | inr later ↦ elim (append_in xs ys t later) [ inl l ↦ inl (inr l) | inr r ↦ inr r ]
 ]
 
-in_first : (xs ys : List ℕ) (t : ℕ) → IsIn t xs → IsIn t (xs ++ ys)
+pub in_first : (xs ys : List ℕ) (t : ℕ) → IsIn t xs → IsIn t (xs ++ ys)
 in_first [] ys t h = absurd h
 in_first (x ∷ xs) ys t h = elim h [ inl e ↦ inl e | inr later ↦ inr (in_first xs ys t later) ]
 
-in_second : (xs ys : List ℕ) (t : ℕ) → IsIn t ys → IsIn t (xs ++ ys)
+pub in_second : (xs ys : List ℕ) (t : ℕ) → IsIn t ys → IsIn t (xs ++ ys)
 in_second [] ys t h = h
 in_second (x ∷ xs) ys t h = inr (in_second xs ys t h)
 
@@ -59,7 +59,7 @@ own_of before rank t among =
     let placed = placed-in (is_of rank) before t among in
     record { earlier = placed.event; at = placed.there; own = eqb-true placed.event.rank rank placed.passes }
 
-previous : (before : List Event) (rank t : ℕ) (last : Option ℕ) → last ≡ slice_get (positions (is_of rank) 0 before) (length (positions (is_of rank) 0 before) - 1) → IsOwn before rank t → IsPrevious before rank t last
+pub previous : (before : List Event) (rank t : ℕ) (last : Option ℕ) → last ≡ slice_get (positions (is_of rank) 0 before) (length (positions (is_of rank) 0 before) - 1) → IsOwn before rank t → IsPrevious before rank t last
 previous before rank t last is own =
     let passes : is_of rank own.earlier ≡ true = eq-eqb own.earlier.rank rank own.own in
     let among = in-placed (is_of rank) before t own.earlier own.at passes in
@@ -82,7 +82,7 @@ listed_own before rank (Some p) s is h = elim h [
 ]
 
 -- a position whose clock was joined is directly before
-source_direct : (n : ℕ) (before : List Event) (event : Event) (last : Option ℕ) (s : ℕ) → last ≡ slice_get (positions (is_of event.rank) 0 before) (length (positions (is_of event.rank) 0 before) - 1) → s < length before → IsIn s (listed last ++ rests_on n before event.rank event.call event.reply) → IsDirectlyBefore n before event s
+pub source_direct : (n : ℕ) (before : List Event) (event : Event) (last : Option ℕ) (s : ℕ) → last ≡ slice_get (positions (is_of event.rank) 0 before) (length (positions (is_of event.rank) 0 before) - 1) → s < length before → IsIn s (listed last ++ rests_on n before event.rank event.call event.reply) → IsDirectlyBefore n before event s
 source_direct n before event last s is low among =
     record {
       less = low;
@@ -143,11 +143,11 @@ pub record ComesBy (n : ℕ) (before : List Event) (event : Event) (last : Optio
   pub among : IsIn at (listed last ++ rests_on n before event.rank event.call event.reply)
   pub up : IsUpTo n before t at
 
-listed_there : (last : Option ℕ) (p : ℕ) → last ≡ Some p → IsIn p (listed last)
+pub listed_there : (last : Option ℕ) (p : ℕ) → last ≡ Some p → IsIn p (listed last)
 listed_there None p h = absurd (cc)
 listed_there (Some x) p h = (let e : x ≡ p = cc in inl e)
 
-own_step : (n : ℕ) (before : List Event) (rank s p : ℕ) → IsOwn before rank s → IsOwn before rank p → s < p → IsStep n before s p
+pub own_step : (n : ℕ) (before : List Event) (rank s p : ℕ) → IsOwn before rank s → IsOwn before rank p → s < p → IsStep n before s p
 own_step n before rank s p first second less =
     let low = slice_get-below before p second.earlier second.at in
     record {

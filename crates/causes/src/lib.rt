@@ -3,11 +3,11 @@
 
 pub mod causes;
 mod clock;
-mod key;
+pub mod key;
 mod known;
 pub mod places;
 pub mod positions;
-mod rests;
-mod tables;
+pub mod rests;
+pub mod tables;
 #[cfg(test)]
 mod tests;

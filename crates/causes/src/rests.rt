@@ -160,7 +160,7 @@ fn push_given(
 }
 
 /// Adds what the completion of a rank's start with this number rests on, by what it gives.
-fn push_completed(
+pub fn push_completed(
     found: &mut Positions,
     before: &[Event],
     tables: &Tables,

@@ -10,4 +10,4 @@ pub mod names;
 pub mod races;
 pub mod receives;
 mod seen;
-mod sends;
+pub mod sends;
