@@ -1,7 +1,7 @@
 #!/usr/bin/env bash
 # Runs at the limits of a run, each at a quarter, at half and whole: recorded on one thread, and its first group replayed from
 # its log on one thread. Then three runs of messages alone, recorded, the races of two runs of 64 ranks, and advice on their groups; two runs
-# that part in their last message, compared; and a run of 64 ranks that is stuck at its end, explained.
+# that part in their last message, compared; a run of 64 ranks that is stuck at its end, explained; and a variable beside a large one, watched.
 # Needs `rt` and GNU time (`apt-get install time`). A row gives
 # wall-clock seconds from start to end (the least of five runs), the growth against the row above, peak memory in MB, and the
 # bytes of all logs, without the program's text in them, for each event. `bench/limits.sh NAME` does the rows of one name alone.
@@ -181,6 +181,23 @@ explained_stuck() {
   done
 }
 
+# The changes of an int of rank 0, beside an array of 65,536 ints that is not asked for.
+watched() {
+  local size seconds memory replayed last above=0
+  [ -z "$only" ] || [ "$only" = watch ] || return 0
+  for size in $((999000 / 4)) $((999000 / 2)) 999000; do
+    events "$size"
+    sed -i 's/y=0;/y=0,a[65536];/' program
+    rm -f run.*
+    "$wiz" record program plan run --serial >/dev/null
+    read -r replayed memory <<<"$(measure 0 ended replay run.0.srr --serial)"
+    last=$("$wiz" watch run.0.srr 0 x | tail -n 1)
+    read -r seconds memory <<<"$(measure 0 "$last" watch run.0.srr 0 x)"
+    printf '%-10s %8d events replay %8s s watch %8s s growth %s %6d MB\n' watch "$(wc -l <run.order)" "$replayed" "$seconds" "$(growth "$above" "$seconds")" "$memory"
+    above=$seconds
+  done
+}
+
 echo "$(nproc) processors, load $(cut -d' ' -f1 /proc/loadavg) before the run"
 printf '%-10s %8s %8s %8s %7s %6s %9s %7s %6s %9s\n' what size events 'record s' growth MB 'replay s' growth MB 'bytes/ev'
 rows events 999000
@@ -201,3 +218,5 @@ explained scans 299520
 echo 'two runs that part in their last message; who waits for whom at the end of a run'
 parted
 explained_stuck
+echo 'a variable, watched, beside its replay'
+watched

@@ -34,6 +34,9 @@ STATUSES = {
     "advise": {0, 1, 2, 3, 4, 5, 6, 7, 11, 12},
     "diff": READ | {5, 9, 10, 13, 15},
     "waits": {0, 1, 2, 3, 4, 5, 6, 7, 11, 12},
+    "watch": READ | {5, 9, 10},
+    "at": READ | {5, 9, 10},
+    "where": READ | {5, 9, 10},
 }
 
 
@@ -181,6 +184,9 @@ def log_mutations(draw, work, count, table):
             ["refine", "log", draw.choice(["two", "three", "four"]), "new"],
             ["join", "log", draw.choice(["race", "split"]), "new"],
             ["diff", draw.choice(["same", "race", "split"]), "log"],
+            ["watch", "log", str(draw.randrange(4)), draw.choice(["rank", "k", "status"])],
+            ["at", "log", f"{draw.randrange(4)}:{draw.randrange(12)}"],
+            ["where", "log", f"{draw.randrange(4)}.{draw.randrange(8)}"],
         ])
         table.add(words, data, *run(words, folder, made=("new",)))
     table.show("logs")
@@ -203,6 +209,7 @@ def program_mutations(draw, work, count, table):
             ["record", "p.c", "plan", "run"],
             ["check", "p.c", "plan", "--serial"],
             ["races", "p.c", "plan", "--serial"],
+            ["races", "p.c", "plan", "--serial", "--orders", "run"],
             ["advise", "p.c", "plan", "2", "--serial"],
             ["waits", "p.c", "plan", "--serial"],
         ])
@@ -231,6 +238,9 @@ def odd_files(draw, work, table):
         (log, "log", ["convert", "log", "run.new"]),
         (log, "log", ["replay", "log", "--serial"]),
         (log, "log", ["diff", "log", "log"]),
+        (log, "log", ["watch", "log", "0", "x"]),
+        (log, "log", ["at", "log", "0:1"]),
+        (log, "log", ["where", "log", "0.0"]),
         (log, "log", ["replay", "log"]),
         (text, "p.c", ["replay", "log", "--program", "p.c", "--serial"]),
         (text, "p.c", ["record", "p.c", "plan", "run", "--serial"]),
@@ -286,6 +296,17 @@ def odd_words(work, table):
         (["record", "p.c", "plan", "run", "--order", "plan", "--serial"], {1}),
         (["replay", "plan", "--break", "64:0"], {1}),
         (["replay", "plan", "--break", "99999999999999999999:0"], {1}),
+        (["watch", "/dev/zero", "0", "x"], {3, 12}),
+        (["watch", "plan", "64", "x"], {1}),
+        (["watch", "plan", "0", b"\xff"], {1}),
+        (["watch", "plan", "0", long], {8}),
+        (["at", "/dev/null", "0:0"], {8}),
+        (["at", "plan", "64:0"], {1}),
+        (["at", "plan", "0:99999999999999999999"], {1}),
+        (["where", "plan", "64.0"], {1}),
+        (["where", "plan", "0.99999999999999999999"], {1}),
+        (["where", "plan", "0:0"], {1}),
+        (["races", "p.c", "plan", "--orders"], {1}),
         (["advise", "p.c", "plan", "0"], {1}),
         (["demo", "0", "1001"], {1}),
         (["demo", "2147483648", "1"], {1}),

@@ -2,7 +2,8 @@
 """Memory that is refused: one allocation after another, and from one allocation on.
 
 A program of three ranks in two groups is recorded, each of its logs replayed, and `check` and `waits` made of it, on one thread and on
-threads; by an order that picks it is recorded on one, and a log of that recording compared with one of the first. For N = 1, 2, 3 .. the N-th allocation of a run is refused, until a run makes fewer; then the same with all allocations from the N-th on; then once all threads.
+threads; on one thread `watch`, `at` and `where` are asked of a log, and by an order that picks it is recorded, and a log of that recording compared with
+one of the first. For N = 1, 2, 3 .. the N-th allocation of a run is refused, until a run makes fewer; then the same with all allocations from the N-th on; then once all threads.
 Each run has to end within a bounded time, either as it does without a refusal or with status 11, and then what it printed and wrote has
 to be a prefix of that. A library that is loaded before the C library counts and refuses calls of malloc, calloc, realloc, the aligned
 forms, and pthread_create, since a thread's stack is memory too. Needs `rt` and gcc. Arguments: the greatest N that is tried (all)."""
@@ -222,6 +223,7 @@ def main():
         folder.keep("picked.0.srr", folder.run(picking)[3]["new.0.srr"])
         commands = [RECORD, ["replay", "old.0.srr"], ["replay", "old.1.srr"], ["check", "program", "plan"], ["waits", "program", "plan"]]
         on_one = [picking, ["diff", "old.0.srr", "picked.0.srr"]]
+        on_one += [words + ["--serial"] for words in (["watch", "old.0.srr", "2", "x"], ["at", "old.0.srr", "2:2"], ["where", "old.0.srr", "0.0"])]
         print(f"{'command':40} {'refused':8} {'runs':>6} {'status 11':>10} {'failures':>9}")
         for words in [command + end for command in commands for end in [["--serial"], []]] + on_one:
             for all_from in [False, True]:

@@ -10,7 +10,7 @@ use wiz_io::{MemorySink, MemoryStore};
 
 /// The first log in format 2, worked out by hand, with a digest of another program. After the program there are 27 bytes of lists and 32
 /// of the digest.
-const FIRST_BYTES: &[u8] =
+pub const FIRST_BYTES: &[u8] =
     b"srr 2\n\x02\0\0\0\0\0\0\0\x03\0\0\0\xd1int main(void){int r,x=7;MPI_Comm_rank(MPI_COMM_WORLD,&r);if(r==0)MPI_Send(&x,1,MPI_INT,1,5,MPI_COMM_WORLD);if(r==1){x=0;MPI_Recv(&x,1,MPI_INT,0,5,MPI_COMM_WORLD,MPI_STATUS_IGNORE);printf(\"%d\\n\",x);}return 0;}\0\0\0\x02\x01\x04\0\0\0\x03\x02\x05\0\0\0\x01\0\0\0\0\x03\0\0\0\0\0\x04\xf2\xd6\x07\xef\x28\x87\x3c\x3e\xe1\xd7\xe0\x6e\xa7\x6a\xbe\x2e\x44\x84\xba\xda\xb3\xa3\x09\x65\x57\x16\xb6\x83\xf5\x98\x27\x08";
 
 /// What is shown of the first log.

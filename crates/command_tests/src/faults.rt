@@ -7,6 +7,7 @@ use crate::replays::FIRST_TRACE;
 use crate::rows::joined;
 use crate::serial::{answers, files};
 use crate::tool;
+use crate::views::{BEFORE_IT_TAKES, SENT, TAKER};
 use std::alloc::Global;
 use std::sync::Wait;
 use std::thread::Threads;
@@ -34,7 +35,7 @@ const FINISHED: &[u8] = b"finished\n";
 const SAME: &[u8] = b"rank 0 same 2\nrank 1 same 3\nsame\n";
 
 /// Each command that reads, writes or prints, on threads and on one thread.
-fn commands() -> [Row<'static>; 24] {
+fn commands() -> [Row<'static>; 29] {
     [
         (&["record", "P", "Q", "A"], RUN, RECORDING, FIRST_RECORDED),
         (
@@ -54,6 +55,12 @@ fn commands() -> [Row<'static>; 24] {
         (&["races", "P", "Q"], RUN, NONE, RACES),
         (&["races", "P", "Q", "--serial"], RUN, NONE, RACES),
         (&["races", "P", "Q", "--order", "F"], ORDERED, NONE, RACES),
+        (
+            &["races", "P", "Q", "--serial", "--orders", "A"],
+            RUN,
+            NONE,
+            RACES,
+        ),
         (&["waits", "P", "Q"], RUN, NONE, FINISHED),
         (&["waits", "P", "Q", "--serial"], RUN, NONE, FINISHED),
         (
@@ -93,6 +100,15 @@ fn commands() -> [Row<'static>; 24] {
         (&["show", "L"], &["L"], NONE, SHOWN),
         (&["stats", "L"], &["L"], NONE, COUNTED),
         (&["diff", "L", "L"], &["L", "L"], NONE, SAME),
+        (&["watch", "L", "1", "x"], &["L"], NONE, TAKER),
+        (
+            &["watch", "L", "1", "x", "--program", "P"],
+            &["L", "P"],
+            NONE,
+            TAKER,
+        ),
+        (&["at", "L", "1:1"], &["L"], NONE, BEFORE_IT_TAKES),
+        (&["where", "L", "0.0"], &["L"], NONE, SENT),
         (&["convert", "L", "M"], &["L"], &["M"], b""),
         (&["convert", "L", "M", "--text"], &["L"], &["M"], b""),
     ]

@@ -36,6 +36,8 @@ mod threads;
 #[cfg(test)]
 mod tool;
 #[cfg(test)]
+mod views;
+#[cfg(test)]
 mod waits;
 #[cfg(test)]
 mod words;

@@ -4,7 +4,7 @@ use crate::serial::{answers, files};
 use std::alloc::{AllocError, Global};
 use wiz_base::{Bytes, push_decimal, push_text};
 use wiz_cli::top::wiz_serial;
-use wiz_io::MemorySink;
+use wiz_io::{MemorySink, MemoryStore};
 use wiz_tool::report::Report;
 
 const SERIAL: &[&str] = &["races", "P", "Q", "--serial"];
@@ -79,6 +79,43 @@ fn races_are_listed(rt: HostRuntime) {
             "{name}"
         );
     }
+}
+
+/// Whether the file of this name has these bytes.
+fn has_file(store: &MemoryStore, name: &str, bytes: &[u8]) -> bool {
+    match store.file(name) {
+        Some(text) => text.as_slice() == bytes,
+        None => false,
+    }
+}
+
+#[test]
+fn another_message_is_shown_by_an_order(rt: HostRuntime) {
+    let alloc = rt.alloc();
+    let named: [(&str, &[u8]); 3] = [("P", TWO_SENDERS), ("Q", b"0-2"), ("F", b"0\n1\n2\n")];
+    let mut store = files(alloc, &named).expect(&rt, "files");
+    let words: &[&str] = &["races", "P", "Q", "--order", "F", "--orders", "A"];
+    // Both messages are there when the first receive is posted, and one when the second is.
+    let listed =
+        b"receive 2.0 took 0.0 others 1.0\nreceive 2.1 took 1.0 others 0.0\nreceives 2 raced 2\nfinished\n";
+    assert!(&rt; answers(alloc, &mut store, words, 0, listed));
+    assert!(&rt; has_file(&store, "A.2.0.1.order", b"0\n1\n2 from 1\n"));
+    assert!(&rt; store.file("A.2.0.0.order").is_none());
+    assert!(&rt; store.file("A.2.1.0.order").is_none());
+    let words: &[&str] = &["record", "P", "Q", "B", "--order", "A.2.0.1.order"];
+    let printed = b"rank 0 output 0\n\nrank 1 output 0\n\nrank 2 output 4\n1\n0\n\nfinished\n";
+    assert!(&rt; answers(alloc, &mut store, words, 0, printed));
+}
+
+#[test]
+fn an_order_that_is_not_written_is_named(rt: HostRuntime) {
+    let alloc = rt.alloc();
+    let named: [(&str, &[u8]); 3] = [("P", TWO_SENDERS), ("Q", b"0-2"), ("F", b"0\n1\n2\n")];
+    let mut store = files(alloc, &named).expect(&rt, "files");
+    // The first three calls read.
+    store.fail(3).expect(&rt, "a fault");
+    let words: &[&str] = &["races", "P", "Q", "--order", "F", "--orders", "A"];
+    assert!(&rt; answers(alloc, &mut store, words, 4, b"cannot write A.2.0.1.order\n"));
 }
 
 /// Rank 1 sends so many messages, which rank 0 receives from any source; then rank 0 does something more.

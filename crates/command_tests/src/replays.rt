@@ -80,7 +80,7 @@ pub const SHORT: &[u8] =
     b"srr 1\nranks 1\ngroup 0\nprogram 25\nint main(void){return 0;}\nrank 0 0\nend\n";
 
 /// Runs a command over files with these names and bytes, and compares its status and output.
-fn answers<R: Threads + Wait + Sync + AllocGlobal>(
+pub fn answers<R: Threads + Wait + Sync + AllocGlobal>(
     rt: &R,
     words: &[&str],
     named: &[(&str, &[u8])],

@@ -42,7 +42,7 @@ fn words_in_form_ask_for_a_command(rt: HostRuntime) {
         stop: Some((63, 999_999)),
         ..serial_replay
     };
-    let table: [(&[&str], bool, Command<&str>); 38] = [
+    let table: [(&[&str], bool, Command<&str>); 45] = [
         (
             &["record", "P", "Q", "A"],
             true,
@@ -81,16 +81,45 @@ fn words_in_form_ask_for_a_command(rt: HostRuntime) {
             false,
             Command::Check(serial_run),
         ),
-        (&["races", "P", "Q"], true, Command::Races(RUN)),
+        (
+            &["races", "P", "Q"],
+            true,
+            Command::Races {
+                run: RUN,
+                orders: None,
+            },
+        ),
         (
             &["races", "P", "Q", "--serial"],
             false,
-            Command::Races(serial_run),
+            Command::Races {
+                run: serial_run,
+                orders: None,
+            },
         ),
         (
             &["races", "--order=F", "P", "Q"],
             false,
-            Command::Races(ordered_run),
+            Command::Races {
+                run: ordered_run,
+                orders: None,
+            },
+        ),
+        (
+            &["races", "--orders", "A", "P", "--order=F", "Q"],
+            false,
+            Command::Races {
+                run: ordered_run,
+                orders: Some("A"),
+            },
+        ),
+        (
+            &["races", "P", "Q", "--orders=A"],
+            true,
+            Command::Races {
+                run: RUN,
+                orders: Some("A"),
+            },
         ),
         (
             &["advise", "P", "Q", "3"],
@@ -262,6 +291,43 @@ fn words_in_form_ask_for_a_command(rt: HostRuntime) {
             false,
             Command::Waits(ordered_run),
         ),
+        (
+            &["watch", "L", "63", "x"],
+            false,
+            Command::Watch {
+                replay: REPLAY,
+                rank: 63,
+                name: "x",
+            },
+        ),
+        (
+            &["watch", "--serial", "L", "0", "--", "-"],
+            false,
+            Command::Watch {
+                replay: serial_replay,
+                rank: 0,
+                name: "-",
+            },
+        ),
+        (
+            &["at", "L", "1:1", "--program", "G"],
+            false,
+            Command::At(stopped_replay),
+        ),
+        (
+            &["at", "L", "63:999999", "--serial"],
+            false,
+            Command::At(last_stop),
+        ),
+        (
+            &["where", "L", "63.999999"],
+            false,
+            Command::Where {
+                replay: REPLAY,
+                source: 63,
+                start: 999_999,
+            },
+        ),
     ];
     for (words, threads, wanted) in table {
         let found = read_command(rt.alloc(), words).expect(&rt, "memory");
@@ -280,7 +346,7 @@ fn ask_for_nothing(alloc: Global, words: &[&str]) -> bool {
 
 #[test]
 fn words_out_of_form_ask_for_nothing(rt: HostRuntime) {
-    let table: [&[&str]; 60] = [
+    let table: [&[&str]; 75] = [
         &[],
         &[""],
         &["play"],
@@ -304,6 +370,9 @@ fn words_out_of_form_ask_for_nothing(rt: HostRuntime) {
         &["races", "P"],
         &["races", "P", "Q", "A"],
         &["races", "P", "Q", "--order", "F", "--serial"],
+        &["races", "P", "Q", "--orders"],
+        &["races", "P", "Q", "--orders", "A", "--orders", "B"],
+        &["waits", "P", "Q", "--orders", "A"],
         &["advise", "P", "Q"],
         &["advise", "P", "Q", "0"],
         &["advise", "P", "Q", "65"],
@@ -341,6 +410,18 @@ fn words_out_of_form_ask_for_nothing(rt: HostRuntime) {
         &["join", "L", "M", "F", "--text"],
         &["join", "L", "M", "F", "--serial"],
         &["joined", "L", "M", "F"],
+        &["watch", "L", "0"],
+        &["watch", "L", "64", "x"],
+        &["watch", "L", "00", "x"],
+        &["watch", "L", "0", "x", "y"],
+        &["watch", "L", "0", "x", "--break", "0:1"],
+        &["at", "L"],
+        &["at", "L", "1"],
+        &["at", "L", "64:0"],
+        &["at", "L", "--break", "0:1"],
+        &["where", "L"],
+        &["where", "L", "0:1"],
+        &["where", "L", "0.1000000"],
     ];
     for words in table {
         assert!(&rt; ask_for_nothing(rt.alloc(), words), "{words:?}");

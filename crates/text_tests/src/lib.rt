@@ -40,4 +40,6 @@ mod stores;
 #[cfg(test)]
 mod traces;
 #[cfg(test)]
+mod views;
+#[cfg(test)]
 mod waits;

@@ -4,6 +4,7 @@ use crate::traces::add;
 use group_plan::{OrderFault, one_reading, read_order};
 use mpi_call::call::Call;
 use mpi_call::reply::Reply;
+use other_picks::other::OtherPick;
 use picked_runs::picks::Picks;
 use picked_runs::turn::{Pick, Turn};
 use run_model::history::History;
@@ -11,7 +12,7 @@ use std::alloc::Global;
 use std::process::Abort;
 use std::rt::HostRuntime;
 use std::test::Fail;
-use wiz_trace::order::order_text;
+use wiz_trace::order::{order_text, other_order_text};
 
 /// Turns of the first ranks that pick nothing.
 const ZEROTH: Turn = Turn {
@@ -143,6 +144,64 @@ fn orders_are_read_and_written_back(rt: HostRuntime) -> Result<(), Fail> {
         check_written(&rt, name, read.as_slice(), text)?;
     }
     one_reading();
+    Ok(())
+}
+
+/// An order whose turns pick in all forms.
+const PICKED: &[u8] = b"0\n1 from 0\n0\n0 index 1\n1\n";
+
+/// Another pick of the run of this order, by its name, and its order text: what was picked before it is kept, and what comes from its event on is not.
+static OTHERS: [(&str, OtherPick, &[u8]); 4] = [
+    (
+        "of the first event",
+        OtherPick {
+            at: 0,
+            rank: 0,
+            start: 0,
+            sender: 2,
+        },
+        b"0 from 2\n",
+    ),
+    (
+        "of an event between others",
+        OtherPick {
+            at: 2,
+            rank: 1,
+            start: 4,
+            sender: 0,
+        },
+        b"0\n1 from 0\n1 from 0\n",
+    ),
+    (
+        "of the last event",
+        OtherPick {
+            at: 4,
+            rank: 1,
+            start: 0,
+            sender: 63,
+        },
+        b"0\n1 from 0\n0\n0 index 1\n1 from 63\n",
+    ),
+    (
+        "behind the run",
+        OtherPick {
+            at: 9,
+            rank: 2,
+            start: 0,
+            sender: 1,
+        },
+        b"0\n1 from 0\n0\n0 index 1\n1\n2 from 1\n",
+    ),
+];
+
+#[test]
+fn orders_of_other_picks_are_written(rt: HostRuntime) -> Result<(), Fail> {
+    let turns = read_order(rt.alloc(), PICKED, 2)?;
+    let (history, picks) = run_of(rt.alloc(), turns.as_slice())?;
+    for (name, other, text) in &OTHERS {
+        let written = other_order_text(rt.alloc(), &history, &picks, other)?;
+        check_row(&rt, name, written.as_slice(), text);
+    }
     Ok(())
 }
 

@@ -51,7 +51,7 @@ fn take(alloc: Global) -> Result<Call, Fail> {
     })
 }
 
-fn post() -> Call {
+pub fn post() -> Call {
     Call::Post {
         comm: 0,
         source: Source::From(0),
@@ -60,7 +60,7 @@ fn post() -> Call {
     }
 }
 
-fn took(alloc: Global) -> Result<Reply, Fail> {
+pub fn took(alloc: Global) -> Result<Reply, Fail> {
     let got = Got::Message {
         source: 0,
         start: 0,
@@ -73,7 +73,7 @@ fn took(alloc: Global) -> Result<Reply, Fail> {
 }
 
 /// Rank 0 sends a 7, which rank 1 receives.
-fn first_run(alloc: Global) -> Result<History, Fail> {
+pub fn first_run(alloc: Global) -> Result<History, Fail> {
     let mut history = History::new(alloc);
     add(&mut history, 0, send(alloc, 1)?, Reply::Done)?;
     add(&mut history, 1, post(), Reply::Done)?;

@@ -85,9 +85,13 @@ fn program_named<'a>(alloc: Global, words: &'a [&'a str]) -> Option<&'a str> {
         Ok(Some(command)) => match command {
             Command::Record { run, .. }
             | Command::Check(run)
-            | Command::Races(run)
+            | Command::Races { run, .. }
+            | Command::Waits(run)
             | Command::Advise { run, .. } => Some(run.program),
-            Command::Replay(replay) => replay.program,
+            Command::Replay(replay)
+            | Command::Watch { replay, .. }
+            | Command::At(replay)
+            | Command::Where { replay, .. } => replay.program,
             _ => None,
         },
         _ => None,

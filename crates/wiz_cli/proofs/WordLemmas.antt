@@ -1,9 +1,9 @@
 -- Arguments that ask for threads, where there are none.
-use Rattle.std.proofs.Common.{◌≡◌, ◌∙◌, ap, inl, refl, sym, Bool, Bor, Err, List, Option, Some, None, false, is_some, true, ℕ}
+use Rattle.std.proofs.Common.{◌≡◌, ◌∙◌, ap, inl, refl, sym, Bool, Bor, Err, List, Option, Some, None, false, is_some, true}
 use Rattle.std.specs.Prelude.{◌&&◌, not, option_map}
 use Rattle.clap.specs.Words.{Text}
 use Rattle.wiz_words.specs.declared.command.Command.{Command}
-use Rattle.wiz_words.specs.declared.command.Command.TheVariants.{Record, Check, Races, Advise, Demo, Replay, Show, Stats, Convert, Refine, Join, Diff, Waits}
+use Rattle.wiz_words.specs.declared.command.Command.TheVariants.{Record, Check, Races, Advise, Demo, Replay, Show, Stats, Convert, Refine, Join, Diff, Waits, Watch, At, Where}
 use Rattle.wiz_words.specs.declared.command.RunWords.{RunWords}
 use Rattle.wiz_words.specs.Texts.{run_with_texts, with_texts}
 use Rattle.wiz_words.specs.Words.{AskFor, AskForOneThing, is_threaded, is_threaded_run}
@@ -28,7 +28,7 @@ run_is_threaded-texts run = ap (λ (ordered : Bool). not run.is_serial && not or
 pub is_threaded-with_texts : (command : Command (Bor Text)) → is_threaded (with_texts command) ≡ is_threaded command
 is_threaded-with_texts (Record run prefix) = run_is_threaded-texts run
 is_threaded-with_texts (Check run) = run_is_threaded-texts run
-is_threaded-with_texts (Races run) = run_is_threaded-texts run
+is_threaded-with_texts (Races run orders) = run_is_threaded-texts run
 is_threaded-with_texts (Advise run most) = run_is_threaded-texts run
 is_threaded-with_texts (Demo seed rounds) = refl
 is_threaded-with_texts (Replay replay) = refl
@@ -39,6 +39,9 @@ is_threaded-with_texts (Refine log plan prefix) = refl
 is_threaded-with_texts (Join one other file) = refl
 is_threaded-with_texts (Diff one other) = refl
 is_threaded-with_texts (Waits run) = run_is_threaded-texts run
+is_threaded-with_texts (Watch replay rank name) = refl
+is_threaded-with_texts (At replay) = refl
+is_threaded-with_texts (Where replay source start) = refl
 
 -- arguments that ask for threads ask for nothing without them
 none_serially : (words : List Text) (command : Command Text) → AskForOneThing → AskFor words command → is_threaded command ≡ true

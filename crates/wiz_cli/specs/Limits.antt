@@ -7,8 +7,9 @@ use Rattle.c_program.specs.declared.constants.TheConstants.{MOST_CALLS, MOST_CEL
 use Rattle.log_bounds.specs.RunBounds.{log_limit}
 use Rattle.mpi_call.specs.declared.limits.TheConstants.{GREATEST_TAG, MOST_EVENTS, MOST_INTS, MOST_RANKS, MOST_RESULT_INTS, MOST_SIZE, MOST_STARTS}
 use Rattle.msg_races.specs.Names.{most_others}
+use Rattle.other_picks.specs.declared.other.TheConstants.{MOST_OTHER_PICKS}
 use Rattle.srr_text.specs.declared.limits.TheConstants.{GREATEST_NUMBER, MOST_ENTRIES, MOST_PROGRAM_BYTES}
-use Rattle.wiz_words.specs.Limits.{fewest_ranks, fewest_rounds, greatest_call, greatest_rank, greatest_seed, most_ranks, most_rounds}
+use Rattle.wiz_words.specs.Limits.{fewest_ranks, fewest_rounds, greatest_call, greatest_rank, greatest_seed, greatest_start, most_ranks, most_rounds}
 use Rattle.wiz_tool.specs.Inputs.{order_limit, text_limit}
 
 pub record AreTheLimits : Type 0 where
@@ -50,6 +51,8 @@ pub record AreTheLimits : Type 0 where
   pub size : MOST_SIZE ≡ 4194304
   -- the most others with which its races are listed
   pub others : most_others ≡ 1000000
+  -- the most order files of its other picks
+  pub other_picks : MOST_OTHER_PICKS ≡ 10000
   -- a log: the greatest number of a start, a communicator or an index
   pub number : GREATEST_NUMBER ≡ 999999
   -- the most entries of a rank
@@ -60,6 +63,8 @@ pub record AreTheLimits : Type 0 where
   pub break_rank : greatest_rank ≡ 63
   -- the greatest call of a breakpoint
   pub break_call : greatest_call ≡ 999999
+  -- the greatest number of a message's start
+  pub start : greatest_start ≡ 999999
   -- the fewest ranks of the blocks of an advice
   pub block_from : fewest_ranks ≡ 1
   -- the most

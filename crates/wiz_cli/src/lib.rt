@@ -12,3 +12,4 @@ pub mod replaying;
 pub mod runner;
 mod threaded;
 pub mod top;
+pub mod viewing;

@@ -22,6 +22,7 @@ use crate::commands::refine::refine;
 use crate::commands::replay::replay;
 use crate::commands::show::show;
 use crate::commands::stats::stats;
+use crate::commands::view::view;
 use crate::commands::waits::waits;
 use crate::limits::limits_are;
 use crate::recording::make::record_on_threads;
@@ -29,9 +30,11 @@ use crate::recording::ready::Ready;
 use crate::replaying::make::replay_on_threads;
 use crate::runner::{Runner, Serial};
 use crate::threaded::Threaded;
+use crate::viewing::ask::View;
 use c_program::CProgram;
 use c_types::one_program;
 use group_plan::one_reading;
+use msg_races::names::Name;
 use rank_threads::Gate;
 use replay_model::replayed::Replayed;
 use srr_entry::log::Log;
@@ -192,7 +195,7 @@ fn answer<'a, S: Store, K: Sink, R: Runner>(
     match command {
         Command::Record { run, prefix } => record(alloc, &run, prefix, store, out, runner),
         Command::Check(run) => check(alloc, &run, store, out, runner),
-        Command::Races(run) => races(alloc, &run, store, out, runner),
+        Command::Races { run, orders } => races(alloc, &run, orders, store, out, runner),
         Command::Advise { run, most } => advise(alloc, &run, most, store, out, runner),
         Command::Demo { seed, rounds } => demo(alloc, seed, rounds, store, out, runner),
         Command::Replay(words) => replay(alloc, &words, store, out, runner),
@@ -205,5 +208,21 @@ fn answer<'a, S: Store, K: Sink, R: Runner>(
         Command::Join { one, other, file } => { join(alloc, one, other, file, store, out, runner) }
         Command::Diff { one, other } => diff(alloc, one, other, store, out, runner),
         Command::Waits(run) => waits(alloc, &run, store, out, runner),
+        Command::Watch { replay, rank, name } => {
+            let asked = View::Changes { rank, name };
+            view(alloc, &replay, &asked, store, out, runner)
+        }
+        Command::At(replay) => view(alloc, &replay, &View::Snapshots, store, out, runner),
+        Command::Where {
+            replay,
+            source,
+            start,
+        } => {
+            let asked = View::Places(Name {
+                rank: source,
+                start,
+            });
+            view(alloc, &replay, &asked, store, out, runner)
+        }
     }
 }

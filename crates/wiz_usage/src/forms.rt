@@ -2,13 +2,13 @@
 ghost use Rattle.std.specs.Prelude.{◌≡◌, ◌<◌, ◌⊎◌, ⊤, MatchOption, length};
 
 /// How many commands there are.
-const COMMANDS: usize = 13;
+const COMMANDS: usize = 16;
 
 /// The forms, in the order of docs/COMMANDS.md.
 static FORMS: [&'static str; COMMANDS] = [
     "wiz record PROGRAM PLAN PREFIX [--order FILE] [--serial]\n    runs a program and writes the log of each group of the plan\n",
     "wiz check PROGRAM PLAN [--serial]\n    runs a program and replays each group of the plan\n",
-    "wiz races PROGRAM PLAN [--order FILE] [--serial]\n    runs a program and lists its message races\n",
+    "wiz races PROGRAM PLAN [--order FILE] [--serial] [--orders PREFIX]\n    runs a program and lists its message races, and with --orders writes orders that show them\n",
     "wiz advise PROGRAM PLAN K [--order FILE] [--serial]\n    runs a program and finds the groups of at most K neighbouring ranks, 1 to 64, whose logs keep the fewest ints\n",
     "wiz demo SEED ROUNDS\n    runs a program of its own, made from SEED with 1 to 1000 rounds, and replays its groups\n",
     "wiz replay LOG [--program FILE] [--break R:C] [--serial]\n    replays the group of a log, to its end or to call C of rank R\n",
@@ -19,6 +19,9 @@ static FORMS: [&'static str; COMMANDS] = [
     "wiz join LOG LOG FILE\n    writes the log of two groups together\n",
     "wiz diff LOG LOG\n    replays two logs and tells where what their ranks saw parts\n",
     "wiz waits PROGRAM PLAN [--order FILE] [--serial]\n    runs a program and tells, where it is stuck, who waits for whom\n",
+    "wiz watch LOG R NAME [--program FILE] [--serial]\n    replays a log and tells each change of the variable NAME of rank R\n",
+    "wiz at LOG R:C [--program FILE] [--serial]\n    replays a log to call C of rank R and tells where each rank stands\n",
+    "wiz where LOG S.K [--program FILE] [--serial]\n    replays a log and tells where message K of rank S was sent, found and taken\n",
 ];
 
 /// The form of the command that the first argument names, or all forms. Each ends with a newline.
@@ -52,6 +55,9 @@ fn row_of(name: &str) -> Option<usize>
         "join" => Some(10),
         "diff" => Some(11),
         "waits" => Some(12),
+        "watch" => Some(13),
+        "at" => Some(14),
+        "where" => Some(15),
         _ => None,
     }
 }

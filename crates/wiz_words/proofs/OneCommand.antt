@@ -4,12 +4,12 @@ use Rattle.wiz_base.specs.Decimals.{decimal_text}
 use Rattle.wiz_base.proofs.DecimalLaws.{decimal_text-and_rest, decimal_text_injective}
 use Rattle.clap.specs.Words.{Row, Text, matches_of}
 use Rattle.wiz_words.specs.declared.command.Command.{Command}
-use Rattle.wiz_words.specs.declared.command.Command.TheVariants.{Record, Check, Races, Advise, Demo, Replay, Show, Stats, Convert, Refine, Join, Diff, Waits}
+use Rattle.wiz_words.specs.declared.command.Command.TheVariants.{Record, Check, Races, Advise, Demo, Replay, Show, Stats, Convert, Refine, Join, Diff, Waits, Watch, At, Where}
 use Rattle.wiz_words.specs.declared.command.ReplayWords.{ReplayWords}
 use Rattle.wiz_words.specs.declared.command.RunWords.{RunWords}
 use Rattle.wiz_words.specs.declared.command.Verb.{Verb}
 use Rattle.wiz_words.specs.Forms.{form_of}
-use Rattle.wiz_words.specs.Values.{IsBreakpoint, IsBreakpointText, IsNumberIn}
+use Rattle.wiz_words.specs.Values.{IsBreakpoint, IsBreakpointText, IsNameIn, IsNameText, IsNumberIn}
 use Rattle.wiz_words.specs.Words.{AreReplayWords, AreRunWords, AreWordsOf, AskForOneThing, verb_of}
 use Rattle.wiz_words.proofs.FormLemmas.{some_is, verb_is}
 
@@ -29,6 +29,19 @@ one_breakpoint_text text s t a b =
   where
     rest_is : (xs ys : List ℕ) → 58 ∷ xs ≡ 58 ∷ ys → xs ≡ ys
     rest_is xs ys h = cc
+
+one_name_text : (text : Text) (s t : ℕ × ℕ) → IsNameText text s → IsNameText text t → s ≡ t
+one_name_text text s t a b =
+    let parts = decimal_text-and_rest s.0 t.0 (46 ∷ decimal_text s.1) (46 ∷ decimal_text t.1) (λ digit. omega (arith, digit.0)) (λ digit. omega (arith, digit.0)) (sym a.spelled ∙ b.spelled) in
+    pair_is s t parts.0 (decimal_text_injective s.1 t.1 (rest_is _ _ parts.1))
+  where
+    rest_is : (xs ys : List ℕ) → 46 ∷ xs ≡ 46 ∷ ys → xs ≡ ys
+    rest_is xs ys h = cc
+
+one_name : (given : List Row) (argument : Text) (s t : ℕ × ℕ) → IsNameIn given argument s → IsNameIn given argument t → s ≡ t
+one_name given argument s t a b =
+    let same = one_text _ _ _ a.given_is b.given_is in
+    one_name_text b.text s t (subst (λ (text : Text). IsNameText text s) same a.is_name) b.is_name
 
 one_breakpoint : (found : Option Text) (s t : Option (ℕ × ℕ)) → IsBreakpoint found s → IsBreakpoint found t → s ≡ t
 one_breakpoint None s t a b = a ∙ sym b
@@ -65,10 +78,16 @@ refine_is l l' p p' f f' ll pp ff = rw (ll, pp, ff) refl
 join_is : (l l' o o' f f' : Text) → l ≡ l' → o ≡ o' → f ≡ f' → Join l o f ≡ Join l' o' f'
 join_is l l' o o' f f' ll oo ff = rw (ll, oo, ff) refl
 
+watch_is : (r s : ReplayWords Text) (rank other : ℕ) (n m : Text) → r ≡ s → rank ≡ other → n ≡ m → Watch r rank n ≡ Watch s other m
+watch_is r s rank other n m rr kk nn = rw (rr, kk, nn) refl
+
+where_is : (r s : ReplayWords Text) (source other start number : ℕ) → r ≡ s → source ≡ other → start ≡ number → Where r source start ≡ Where s other number
+where_is r s source other start number rr ss kk = rw (rr, ss, kk) refl
+
 one_said : (given : List Row) (a b : Command Text) → verb_of a ≡ verb_of b → AreWordsOf given a → AreWordsOf given b → a ≡ b
 one_said given (Record r prefix) (Record s other) same a b = ap₂ Record (one_run given _ r s a.0 b.0) (one_text _ _ _ a.1 b.1)
 one_said given (Check r) (Check s) same a b = ap Check (one_run given None r s a b)
-one_said given (Races r) (Races s) same a b = ap Races (one_run given _ r s a b)
+one_said given (Races r orders) (Races s others) same a b = ap₂ Races (one_run given _ r s a.0 b.0) (a.1 ∙ sym b.1)
 one_said given (Advise r most) (Advise s other) same a b = ap₂ Advise (one_run given _ r s a.0 b.0) (one_number _ _ _ _ _ _ a.1 b.1)
 one_said given (Demo seed rounds) (Demo seed' rounds') same a b = ap₂ Demo (one_number _ _ _ _ _ _ a.0 b.0) (one_number _ _ _ _ _ _ a.1 b.1)
 one_said given (Replay r) (Replay s) same a b = ap Replay (one_replay given r s a b)
@@ -82,6 +101,11 @@ one_said given (Join one other file) (Join first second name) same a b =
     join_is _ _ _ _ _ _ (one_text _ _ _ a.0 b.0) (one_text _ _ _ a.1 b.1) (one_text _ _ _ a.2 b.2)
 one_said given (Diff one other) (Diff first second) same a b = ap₂ Diff (one_text _ _ _ a.0 b.0) (one_text _ _ _ a.1 b.1)
 one_said given (Waits r) (Waits s) same a b = ap Waits (one_run given _ r s a b)
+one_said given (Watch r rank name) (Watch s other text) same a b =
+    watch_is _ _ _ _ _ _ (one_replay given r s a.0 b.0) (one_number _ _ _ _ _ _ a.1 b.1) (one_text _ _ _ a.2 b.2)
+one_said given (At r) (At s) same a b = ap At (one_replay given r s a b)
+one_said given (Where r source start) (Where s other number) same a b =
+    let names = one_name _ _ _ _ a.1 b.1 in where_is _ _ _ _ _ _ (one_replay given r s a.0 b.0) (ap (λ (n : ℕ × ℕ). n.0) names) (ap (λ (n : ℕ × ℕ). n.1) names)
 one_said given one other same a b = absurd (cc)
 
 pub one_command : AskForOneThing

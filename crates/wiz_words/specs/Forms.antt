@@ -1,10 +1,10 @@
 -- The commands by name, and the arguments of each, in the terms of clap.
-use Rattle.std.specs.Prelude.{List, [], ◌∷◌, Option, Some, true, codes, find, fold}
+use Rattle.std.specs.Prelude.{List, [], ◌∷◌, ◌++◌, Option, Some, true, codes, find, fold}
 use Rattle.std.specs.Str.{bytes_eq}
 use Rattle.clap.specs.Words.{App, Rule, Text, new_app, new_rule, with_rule}
 use Rattle.clap.specs.declared.builder.action.ArgAction.TheVariants.{SetTrue}
 use Rattle.wiz_words.specs.declared.command.Verb.{Verb}
-use Rattle.wiz_words.specs.declared.command.Verb.TheVariants.{Record, Check, Races, Advise, Demo, Replay, Show, Stats, Convert, Refine, Join, Diff, Waits}
+use Rattle.wiz_words.specs.declared.command.Verb.TheVariants.{Record, Check, Races, Advise, Demo, Replay, Show, Stats, Convert, Refine, Join, Diff, Waits, Watch, At, Where}
 
 -- the first word of each command
 abbrev pub name_of : Verb → Text
@@ -21,9 +21,12 @@ name_of Refine = codes "refine"
 name_of Join = codes "join"
 name_of Diff = codes "diff"
 name_of Waits = codes "waits"
+name_of Watch = codes "watch"
+name_of At = codes "at"
+name_of Where = codes "where"
 
 abbrev pub verbs : List Verb
-verbs = Record ∷ Check ∷ Races ∷ Advise ∷ Demo ∷ Replay ∷ Show ∷ Stats ∷ Convert ∷ Refine ∷ Join ∷ Diff ∷ Waits ∷ []
+verbs = Record ∷ Check ∷ Races ∷ Advise ∷ Demo ∷ Replay ∷ Show ∷ Stats ∷ Convert ∷ Refine ∷ Join ∷ Diff ∷ Waits ∷ Watch ∷ At ∷ Where ∷ []
 
 -- the command of a name
 abbrev pub verb_named : Text → Option Verb
@@ -50,7 +53,7 @@ abbrev pub arguments_of : Verb → List Rule
 arguments_of Record =
     positional (codes "PROGRAM") ∷ positional (codes "PLAN") ∷ positional (codes "PREFIX") ∷ option (codes "order") ∷ flag (codes "serial") ∷ []
 arguments_of Check = positional (codes "PROGRAM") ∷ positional (codes "PLAN") ∷ flag (codes "serial") ∷ []
-arguments_of Races = arguments_of_run
+arguments_of Races = arguments_of_run ++ option (codes "orders") ∷ []
 arguments_of Advise =
     positional (codes "PROGRAM") ∷ positional (codes "PLAN") ∷ positional (codes "K") ∷ option (codes "order") ∷ flag (codes "serial") ∷ []
 arguments_of Demo = positional (codes "SEED") ∷ positional (codes "ROUNDS") ∷ []
@@ -62,6 +65,10 @@ arguments_of Refine = positional (codes "LOG") ∷ positional (codes "PLAN") ∷
 arguments_of Join = positional (codes "LOG") ∷ positional (codes "OTHER") ∷ positional (codes "FILE") ∷ []
 arguments_of Diff = positional (codes "LOG") ∷ positional (codes "OTHER") ∷ []
 arguments_of Waits = arguments_of_run
+arguments_of Watch =
+    positional (codes "LOG") ∷ positional (codes "RANK") ∷ positional (codes "NAME") ∷ option (codes "program") ∷ flag (codes "serial") ∷ []
+arguments_of At = positional (codes "LOG") ∷ positional (codes "break") ∷ option (codes "program") ∷ flag (codes "serial") ∷ []
+arguments_of Where = positional (codes "LOG") ∷ positional (codes "MESSAGE") ∷ option (codes "program") ∷ flag (codes "serial") ∷ []
 
 -- the clap command that reads the arguments of a command: its name and its arguments, and no other setting
 abbrev pub form_of : Verb → App

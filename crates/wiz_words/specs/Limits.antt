@@ -8,6 +8,10 @@ greatest_rank = 63
 abbrev pub greatest_call : ℕ
 greatest_call = 999999
 
+-- the number of a message's start
+abbrev pub greatest_start : ℕ
+greatest_start = 999999
+
 -- the most ranks of a block of an advice
 abbrev pub fewest_ranks : ℕ
 fewest_ranks = 1

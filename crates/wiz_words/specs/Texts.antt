@@ -4,7 +4,7 @@ use Rattle.std.specs.Borrow.{Bor}
 use Rattle.std.specs.Option.{option_map}
 use Rattle.clap.specs.Words.{Text}
 use Rattle.wiz_words.specs.declared.command.Command.{Command}
-use Rattle.wiz_words.specs.declared.command.Command.TheVariants.{Record, Check, Races, Advise, Demo, Replay, Show, Stats, Convert, Refine, Join, Diff, Waits}
+use Rattle.wiz_words.specs.declared.command.Command.TheVariants.{Record, Check, Races, Advise, Demo, Replay, Show, Stats, Convert, Refine, Join, Diff, Waits, Watch, At, Where}
 use Rattle.wiz_words.specs.declared.command.ReplayWords.{ReplayWords}
 use Rattle.wiz_words.specs.declared.command.RunWords.{RunWords}
 
@@ -22,7 +22,7 @@ replay_with_texts replay = record { log = replay.log.now; program = option_map (
 abbrev pub with_texts : Command (Bor Text) → Command Text
 with_texts (Record run prefix) = Record (run_with_texts run) prefix.now
 with_texts (Check run) = Check (run_with_texts run)
-with_texts (Races run) = Races (run_with_texts run)
+with_texts (Races run orders) = Races (run_with_texts run) (option_map (λ text. text.now) orders)
 with_texts (Advise run most) = Advise (run_with_texts run) most
 with_texts (Demo seed rounds) = Demo seed rounds
 with_texts (Replay replay) = Replay (replay_with_texts replay)
@@ -33,3 +33,6 @@ with_texts (Refine log plan prefix) = Refine log.now plan.now prefix.now
 with_texts (Join one other file) = Join one.now other.now file.now
 with_texts (Diff one other) = Diff one.now other.now
 with_texts (Waits run) = Waits (run_with_texts run)
+with_texts (Watch replay rank name) = Watch (replay_with_texts replay) rank name.now
+with_texts (At replay) = At (replay_with_texts replay)
+with_texts (Where replay source start) = Where (replay_with_texts replay) source start

@@ -5,7 +5,7 @@ use Rattle.std.specs.Str.{bytes_eq}
 use Rattle.clap.specs.Words.{App, Row, Text, fault_of, first_of, found_of, matches_of, rows_of}
 use Rattle.clap.specs.declared.parser.matches.ArgMatches.{ArgMatches}
 use Rattle.wiz_base.specs.Decimals.{decimal_text}
-use Rattle.wiz_words.specs.Limits.{greatest_call, greatest_rank}
+use Rattle.wiz_words.specs.Limits.{greatest_call, greatest_rank, greatest_start}
 
 -- what was found, a row an argument
 abbrev pub given_by : ArgMatches → List Row
@@ -41,3 +41,15 @@ abbrev pub IsBreakpoint : Option Text → Option (ℕ × ℕ) → Type 0
 IsBreakpoint None stop = stop ≡ None
 IsBreakpoint (Some text) None = ⊥
 IsBreakpoint (Some text) (Some stop) = IsBreakpointText text stop
+
+-- S.K, the name of a message: its sender and its number among the sender's starts, each a number as above
+pub record IsNameText (text : Text) (name : ℕ × ℕ) : Type 0 where
+  pub spelled : text ≡ decimal_text name.0 ++ 46 ∷ decimal_text name.1
+  pub rank : name.0 ≤ greatest_rank
+  pub start : name.1 ≤ greatest_start
+
+-- the value of an argument is the name of a message
+pub record IsNameIn (given : List Row) (argument : Text) (name : ℕ × ℕ) : Type 0 where
+  pub text : Text
+  pub given_is : value_in given argument ≡ Some text
+  pub is_name : IsNameText text name

@@ -3,21 +3,21 @@ use Rattle.std.specs.Prelude.{◌≡◌, ◌&&◌, List, [], Bool, false, not, i
 use Rattle.std.specs.Borrow.{Bor}
 use Rattle.clap.specs.Words.{Row, Text, fault_of, matches_of}
 use Rattle.wiz_words.specs.declared.command.Command.{Command}
-use Rattle.wiz_words.specs.declared.command.Command.TheVariants.{Record, Check, Races, Advise, Demo, Replay, Show, Stats, Convert, Refine, Join, Diff, Waits}
+use Rattle.wiz_words.specs.declared.command.Command.TheVariants.{Record, Check, Races, Advise, Demo, Replay, Show, Stats, Convert, Refine, Join, Diff, Waits, Watch, At, Where}
 use Rattle.wiz_words.specs.declared.command.ReplayWords.{ReplayWords}
 use Rattle.wiz_words.specs.declared.command.RunWords.{RunWords}
 use Rattle.wiz_words.specs.declared.command.Verb.{Verb}
 use Rattle.wiz_words.specs.declared.command.Verb.TheVariants as verb
 use Rattle.wiz_words.specs.Forms.{form_of, name_of}
-use Rattle.wiz_words.specs.Limits.{fewest_ranks, fewest_rounds, greatest_seed, most_ranks, most_rounds}
+use Rattle.wiz_words.specs.Limits.{fewest_ranks, fewest_rounds, greatest_rank, greatest_seed, most_ranks, most_rounds}
 use Rattle.wiz_words.specs.Texts.{with_texts}
-use Rattle.wiz_words.specs.Values.{IsBreakpoint, IsNumberIn, flag_in, value_in}
+use Rattle.wiz_words.specs.Values.{IsBreakpoint, IsNameIn, IsNumberIn, flag_in, value_in}
 
 -- the name of a command
 abbrev pub verb_of : {T : Type 0} → Command T → Verb
 verb_of (Record run prefix) = verb.Record
 verb_of (Check run) = verb.Check
-verb_of (Races run) = verb.Races
+verb_of (Races run orders) = verb.Races
 verb_of (Advise run most) = verb.Advise
 verb_of (Demo seed rounds) = verb.Demo
 verb_of (Replay replay) = verb.Replay
@@ -28,6 +28,9 @@ verb_of (Refine log plan prefix) = verb.Refine
 verb_of (Join one other file) = verb.Join
 verb_of (Diff one other) = verb.Diff
 verb_of (Waits run) = verb.Waits
+verb_of (Watch replay rank name) = verb.Watch
+verb_of (At replay) = verb.At
+verb_of (Where replay source start) = verb.Where
 
 -- what is given are the arguments of a run with that file for its order; an order and `--serial` exclude each other
 pub record AreRunWords (given : List Row) (file : Option Text) (run : RunWords Text) : Type 0 where
@@ -48,7 +51,8 @@ pub record AreReplayWords (given : List Row) (replay : ReplayWords Text) : Type 
 abbrev pub AreWordsOf : List Row → Command Text → Type 0
 AreWordsOf given (Record run prefix) = AreRunWords given (value_in given (codes "order")) run × (value_in given (codes "PREFIX") ≡ Some prefix)
 AreWordsOf given (Check run) = AreRunWords given None run
-AreWordsOf given (Races run) = AreRunWords given (value_in given (codes "order")) run
+AreWordsOf given (Races run orders) =
+    AreRunWords given (value_in given (codes "order")) run × (orders ≡ value_in given (codes "orders"))
 AreWordsOf given (Advise run most) =
     AreRunWords given (value_in given (codes "order")) run × IsNumberIn given (codes "K") fewest_ranks most_ranks most
 AreWordsOf given (Demo seed rounds) =
@@ -64,6 +68,10 @@ AreWordsOf given (Join one other file) =
     (value_in given (codes "LOG") ≡ Some one) × (value_in given (codes "OTHER") ≡ Some other) × (value_in given (codes "FILE") ≡ Some file)
 AreWordsOf given (Diff one other) = (value_in given (codes "LOG") ≡ Some one) × (value_in given (codes "OTHER") ≡ Some other)
 AreWordsOf given (Waits run) = AreRunWords given (value_in given (codes "order")) run
+AreWordsOf given (Watch replay rank name) =
+    AreReplayWords given replay × IsNumberIn given (codes "RANK") 0 greatest_rank rank × (value_in given (codes "NAME") ≡ Some name)
+AreWordsOf given (At replay) = AreReplayWords given replay
+AreWordsOf given (Where replay source start) = AreReplayWords given replay × IsNameIn given (codes "MESSAGE") (source, start)
 
 -- what was found is the command of this name with the arguments that are given; nothing, where they are out of form
 abbrev pub IsCommandIn : List Row → Verb → Option (Command (Bor Text)) → Type 0
@@ -92,7 +100,7 @@ is_threaded_run run = not run.is_serial && not (is_some run.order)
 abbrev pub is_threaded : {T : Type 0} → Command T → Bool
 is_threaded (Record run prefix) = is_threaded_run run
 is_threaded (Check run) = is_threaded_run run
-is_threaded (Races run) = is_threaded_run run
+is_threaded (Races run orders) = is_threaded_run run
 is_threaded (Advise run most) = is_threaded_run run
 is_threaded (Demo seed rounds) = false
 is_threaded (Replay replay) = not replay.is_serial
@@ -103,3 +111,6 @@ is_threaded (Refine log plan prefix) = false
 is_threaded (Join one other file) = false
 is_threaded (Diff one other) = false
 is_threaded (Waits run) = is_threaded_run run
+is_threaded (Watch replay rank name) = false
+is_threaded (At replay) = false
+is_threaded (Where replay source start) = false

@@ -17,6 +17,9 @@ pub enum Verb {
     Join,
     Diff,
     Waits,
+    Watch,
+    At,
+    Where,
 }
 
 /// The program and the plan of a run, and how its ranks take their turns. With neither an order nor `is_serial` each rank
@@ -47,15 +50,27 @@ pub struct ReplayWords<T> {
 #[derive(Clone, Copy, Debug, PartialEq, Eq)]
 pub enum Command<T> {
     /// Records a run; `prefix` is the front of the names of the files that are written.
-    Record { run: RunWords<T>, prefix: T },
+    Record {
+        run: RunWords<T>,
+        prefix: T,
+    },
     /// Records a run and replays its groups. It has no order.
     Check(RunWords<T>),
-    /// Records a run and lists its message races.
-    Races(RunWords<T>),
+    /// Records a run and lists its message races; `orders` is the front of the names of the order files that are written, where there is one.
+    Races {
+        run: RunWords<T>,
+        orders: Option<T>,
+    },
     /// Records a run and advises on its groups: blocks of at most `most` neighbouring ranks, 1 to 64.
-    Advise { run: RunWords<T>, most: u8 },
+    Advise {
+        run: RunWords<T>,
+        most: u8,
+    },
     /// Checks a program that is made from a seed, at most 2,147,483,647, and a number of rounds, 1 to 1,000.
-    Demo { seed: u32, rounds: u32 },
+    Demo {
+        seed: u32,
+        rounds: u32,
+    },
     /// Replays the group of a log.
     Replay(ReplayWords<T>),
     /// Shows the log in this file.
@@ -63,15 +78,44 @@ pub enum Command<T> {
     /// Counts the log in this file.
     Stats(T),
     /// Writes the log in one file to another: in format 1 where `is_text`, else in format 2.
-    Convert { log: T, file: T, is_text: bool },
+    Convert {
+        log: T,
+        file: T,
+        is_text: bool,
+    },
     /// Writes the logs of the groups of a plan that lie in the group of a log; `prefix` is the front of their files' names.
-    Refine { log: T, plan: T, prefix: T },
+    Refine {
+        log: T,
+        plan: T,
+        prefix: T,
+    },
     /// Writes the log of the groups of two logs together.
-    Join { one: T, other: T, file: T },
+    Join {
+        one: T,
+        other: T,
+        file: T,
+    },
     /// Compares what the ranks of the groups of two logs saw.
-    Diff { one: T, other: T },
+    Diff {
+        one: T,
+        other: T,
+    },
     /// Records a run and tells, where it is stuck, who waits for whom.
     Waits(RunWords<T>),
+    /// Replays the group of a log and tells each change of a variable of a rank, at most 63.
+    Watch {
+        replay: ReplayWords<T>,
+        rank: u8,
+        name: T,
+    },
+    /// Replays the group of a log up to a place and tells where each rank stands.
+    At(ReplayWords<T>),
+    /// Replays the group of a log and tells where a message went: its sender, at most 63, and its number, at most 999,999.
+    Where {
+        replay: ReplayWords<T>,
+        source: u8,
+        start: u32,
+    },
 }
 
 impl<T> Command<T> {
@@ -84,13 +128,14 @@ impl<T> Command<T> {
         match self {
             Command::Record { run, .. }
             | Command::Check(run)
-            | Command::Races(run)
+            | Command::Races { run, .. }
             | Command::Waits(run)
             | Command::Advise { run, .. } => { !run.is_serial && run.order.is_none() }
             Command::Replay(replay) => !replay.is_serial,
             Command::Demo { .. } | Command::Show(_) | Command::Stats(_) => false,
             Command::Convert { .. } | Command::Refine { .. } => false,
             Command::Join { .. } | Command::Diff { .. } => false,
+            Command::Watch { .. } | Command::At(_) | Command::Where { .. } => false,
         }
     }
 }

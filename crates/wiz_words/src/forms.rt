@@ -26,6 +26,9 @@ pub fn verb_named(name: &str) -> Option<Verb>
         "join" => Some(Verb::Join),
         "diff" => Some(Verb::Diff),
         "waits" => Some(Verb::Waits),
+        "watch" => Some(Verb::Watch),
+        "at" => Some(Verb::At),
+        "where" => Some(Verb::Where),
         _ => None,
     }
 }
@@ -43,7 +46,10 @@ pub fn form_of<'a>(alloc: Global, verb: Verb) -> Result<Command<'a>, AllocError>
             let form = form_named(alloc, "check", &["PROGRAM", "PLAN"])?;
             with_flag(alloc, form, "serial")
         }
-        Verb::Races => run_form(alloc, "races"),
+        Verb::Races => {
+            let form = run_form(alloc, "races")?;
+            with_option(alloc, form, "orders")
+        }
         Verb::Advise => {
             let form = form_named(alloc, "advise", &["PROGRAM", "PLAN", "K"])?;
             with_turns(alloc, form)
@@ -65,6 +71,18 @@ pub fn form_of<'a>(alloc: Global, verb: Verb) -> Result<Command<'a>, AllocError>
         Verb::Join => form_named(alloc, "join", &["LOG", "OTHER", "FILE"]),
         Verb::Diff => form_named(alloc, "diff", &["LOG", "OTHER"]),
         Verb::Waits => run_form(alloc, "waits"),
+        Verb::Watch => {
+            let form = form_named(alloc, "watch", &["LOG", "RANK", "NAME"])?;
+            with_replay(alloc, form)
+        }
+        Verb::At => {
+            let form = form_named(alloc, "at", &["LOG", "break"])?;
+            with_replay(alloc, form)
+        }
+        Verb::Where => {
+            let form = form_named(alloc, "where", &["LOG", "MESSAGE"])?;
+            with_replay(alloc, form)
+        }
     }
 }
 
@@ -99,6 +117,15 @@ fn with_turns<'a>(alloc: Global, form: Command<'a>) -> Result<Command<'a>, Alloc
         ≡ with_rule (with_rule (app_of form.entry) (option (codes "order"))) (flag (codes "serial"))) }
 {
     let form = with_option(alloc, form, "order")?;
+    with_flag(alloc, form, "serial")
+}
+
+/// A form with what says which program a log is replayed with, and how.
+fn with_replay<'a>(alloc: Global, form: Command<'a>) -> Result<Command<'a>, AllocError>
+    ensures { IfOk result (λ more. app_of more
+        ≡ with_rule (with_rule (app_of form.entry) (option (codes "program"))) (flag (codes "serial"))) }
+{
+    let form = with_option(alloc, form, "program")?;
     with_flag(alloc, form, "serial")
 }
 

@@ -11,7 +11,7 @@ ghost use Rattle.wiz_words.specs.Words.{AreReplayWords, AreRunWords, AskFor, Ask
 
 use crate::command::{Command, ReplayWords, RunWords, Verb};
 use crate::forms::{form_of, verb_named};
-use crate::values::{breakpoint, flag_in, matches_of, number_in, value_in};
+use crate::values::{breakpoint, flag_in, matches_of, name_in, number_in, value_in};
 use clap::ArgMatches;
 use std::alloc::{AllocError, Global};
 
@@ -20,6 +20,9 @@ const FEWEST_RANKS: u32 = 1;
 
 /// The most ranks that a block of an advice may be limited to.
 const MOST_RANKS: u32 = 64;
+
+/// The greatest rank that is watched.
+const GREATEST_RANK: u32 = 63;
 
 /// The greatest seed of a demo.
 const GREATEST_SEED: u32 = 2_147_483_647;
@@ -63,7 +66,7 @@ fn command_from<'a>(verb: Verb, matches: &ArgMatches<'a>) -> Option<Command<&'a 
     match verb {
         Verb::Record => record_from(matches),
         Verb::Check => Some(Command::Check(run_words(matches, None)?)),
-        Verb::Races => Some(Command::Races(ordered_run(matches)?)),
+        Verb::Races => races_from(matches),
         Verb::Advise => advise_from(matches),
         Verb::Demo => demo_from(matches),
         Verb::Replay => Some(Command::Replay(replay_words(matches)?)),
@@ -74,6 +77,9 @@ fn command_from<'a>(verb: Verb, matches: &ArgMatches<'a>) -> Option<Command<&'a 
         Verb::Join => join_from(matches),
         Verb::Diff => diff_from(matches),
         Verb::Waits => Some(Command::Waits(ordered_run(matches)?)),
+        Verb::Watch => watch_from(matches),
+        Verb::At => Some(Command::At(replay_words(matches)?)),
+        Verb::Where => where_from(matches),
     }
 }
 
@@ -83,6 +89,14 @@ fn record_from<'a>(matches: &ArgMatches<'a>) -> Option<Command<&'a str>>
     let run = ordered_run(matches)?;
     let prefix = value_in(matches, "PREFIX")?;
     Some(Command::Record { run, prefix })
+}
+
+fn races_from<'a>(matches: &ArgMatches<'a>) -> Option<Command<&'a str>>
+    ensures { IsCommandIn (given_by matches.now) verb.Races result }
+{
+    let run = ordered_run(matches)?;
+    let orders = value_in(matches, "orders");
+    Some(Command::Races { run, orders })
 }
 
 fn advise_from<'a>(matches: &ArgMatches<'a>) -> Option<Command<&'a str>>
@@ -137,6 +151,31 @@ fn diff_from<'a>(matches: &ArgMatches<'a>) -> Option<Command<&'a str>>
     let one = value_in(matches, "LOG")?;
     let other = value_in(matches, "OTHER")?;
     Some(Command::Diff { one, other })
+}
+
+fn watch_from<'a>(matches: &ArgMatches<'a>) -> Option<Command<&'a str>>
+    ensures { IsCommandIn (given_by matches.now) verb.Watch result }
+{
+    let replay = replay_words(matches)?;
+    let rank = number_in(matches, "RANK", 0, GREATEST_RANK)?;
+    let name = value_in(matches, "NAME")?;
+    Some(Command::Watch {
+        replay,
+        rank: rank as u8,
+        name,
+    })
+}
+
+fn where_from<'a>(matches: &ArgMatches<'a>) -> Option<Command<&'a str>>
+    ensures { IsCommandIn (given_by matches.now) verb.Where result }
+{
+    let replay = replay_words(matches)?;
+    let (source, start) = name_in(matches, "MESSAGE")?;
+    Some(Command::Where {
+        replay,
+        source,
+        start,
+    })
 }
 
 /// The arguments of a run that may have an order.

@@ -3,7 +3,7 @@ ghost use Rattle.std.specs.Prelude.{◌≡◌, ℕ, IfOk, MatchOption, true};
 ghost use Rattle.std.specs.Option.{option_map};
 ghost use Rattle.clap.specs.Words.{app_of, is_simple_and_free};
 ghost use Rattle.wiz_words.specs.Texts.{texts};
-ghost use Rattle.wiz_words.specs.Values.{AreMatchesOf, IsBreakpointText, IsNumberIn, flag_in, given_by, value_in};
+ghost use Rattle.wiz_words.specs.Values.{AreMatchesOf, IsBreakpointText, IsNameIn, IsNameText, IsNumberIn, flag_in, given_by, value_in};
 
 use clap::error::ErrorKind;
 use clap::{ArgMatches, Command};
@@ -12,6 +12,9 @@ use wiz_base::number::decimal;
 
 /// The greatest rank of a breakpoint.
 const GREATEST_RANK: u64 = 63;
+
+/// The greatest number of a message's start.
+const GREATEST_START: u64 = 999_999;
 
 /// The greatest number of a call of a breakpoint.
 const GREATEST_CALL: u64 = 999_999;
@@ -72,4 +75,24 @@ pub fn breakpoint(text: &str) -> Option<(u8, u32)>
     let rank = decimal(rank.as_bytes(), GREATEST_RANK)?;
     let call = decimal(call.as_bytes(), GREATEST_CALL)?;
     Some((rank as u8, call as u32))
+}
+
+/// The name of a message that the value of an argument spells.
+pub fn name_in(matches: &ArgMatches<'_>, argument: &str) -> Option<(u8, u32)>
+    ensures { MatchOption result ((name : ℕ × ℕ) → IsNameIn (given_by matches.now) argument.now name → ⊥)
+        (λ name. IsNameIn (given_by matches.now) argument.now name) }
+{
+    let text = value_in(matches, argument)?;
+    message_name(text)
+}
+
+/// The name of a message that `S.K` spells.
+fn message_name(text: &str) -> Option<(u8, u32)>
+    ensures { MatchOption result ((name : ℕ × ℕ) → IsNameText text.now name → ⊥)
+        (λ name. IsNameText text.now name) }
+{
+    let (rank, start) = text.split_once('.')?;
+    let rank = decimal(rank.as_bytes(), GREATEST_RANK)?;
+    let start = decimal(start.as_bytes(), GREATEST_START)?;
+    Some((rank as u8, start as u32))
 }

@@ -1,5 +1,5 @@
 -- What is compared.
-use Rattle.std.specs.Prelude.{◌≡◌, List, None}
+use Rattle.std.specs.Prelude.{List, None}
 use Rattle.clap.specs.Words.{Text}
 use Rattle.c_types.specs.Checks.{IsProgramOf}
 use Rattle.replay_model.specs.declared.replayed.Replayed.{Replayed}
