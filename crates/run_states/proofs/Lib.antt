@@ -18,5 +18,8 @@ mod OutcomesMet
 mod LikeRuns
 mod SameEntries
 mod KeyLaws
+mod Coding
+mod Instancing
+mod Decoding
 mod StateExamples
 mod ClosedExample

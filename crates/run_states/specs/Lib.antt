@@ -3,3 +3,5 @@ pub mod Outcomes
 pub mod Moves
 pub mod StateLaws
 pub mod Keys
+pub mod Codes
+pub mod Origins

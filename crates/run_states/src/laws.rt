@@ -1,4 +1,5 @@
 //! The laws of histories that leave the same to their future. Their bodies are empty; a caller's clause follows from theirs.
+ghost use Rattle.run_states.specs.Codes.{CodesFixKeys};
 ghost use Rattle.run_states.specs.Keys.{FuturesFixKeys, KeysFixFutures};
 ghost use Rattle.run_states.specs.StateLaws.{EveryOutcomeIsMet, EveryPatientOutcomeIsMet, EveryPatientRunIsMet, EveryRunIsMet, EveryStepIsMade, FuturesAnswerAlike, FuturesAreSame, FuturesGoOnAlike, HaltsDecideOutcomes};
 
@@ -45,4 +46,9 @@ pub fn halts_decide_outcomes<P: Program>(program: &P, n: u8)
 pub fn keys_fix_futures<P: Program>(program: &P, n: u8)
     ensures same { KeysFixFutures (P.next program.now) n }
     ensures one { FuturesFixKeys n }
+{}
+
+/// Keys of one code are the same.
+pub fn codes_fix_keys()
+    ensures { CodesFixKeys }
 {}

@@ -1,0 +1,7 @@
+mod NothingMissed
+mod Recorded
+mod Trying
+mod Begun
+mod Answering
+mod Told
+mod Probing

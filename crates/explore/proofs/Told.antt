@@ -1,0 +1,87 @@
+-- What is told of a run by its ending and its outputs is what it comes to.
+use Rattle.std.proofs.Common.{◌≡◌, ◌<◌, ◌+◌, ◌∙◌, ◌∷◌, ℕ, zero, suc, List, [], Some, true, false, arith, inl, inr, map, nat_lt, refl, ap, sym}
+use Rattle.std.specs.List.{slice_index_or}
+use Rattle.std.proofs.lemmas.Bool.{and_from, and_parts, cases_lt, eq-eqb, lt-ltb, ltb-true}
+use Rattle.mpi_call.specs.declared.call.Halt.{Halt}
+use Rattle.mpi_call.specs.declared.call.Halt.TheVariants.{Aborted, Trapped, Truncated, Mismatched, BadRequest, Limit, Stuck}
+use Rattle.run_model.specs.declared.ending.Ending.{Ending}
+use Rattle.run_model.specs.declared.ending.Ending.TheVariants.{Halted}
+use Rattle.run_model.specs.declared.event.Event.{Event}
+use Rattle.run_model.specs.Due.{halted}
+use Rattle.run_model.specs.Endings.{ending_by, ending_of}
+use Rattle.run_model.specs.Lists.{are_below, world}
+use Rattle.run_model.specs.Run.{IsRun}
+use Rattle.run_model.specs.Views.{Next, view_of}
+use Rattle.run_model.proofs.Halts.{names, was_stopped}
+use Rattle.run_model.proofs.MemberLists.{AreMembers-world}
+use Rattle.run_model.proofs.RunLaws.{Kept, Lawful, kept_run}
+use Rattle.run_model.proofs.Views.{option_cases}
+use Rattle.srr_entry.specs.Outputs.{printed_of}
+use Rattle.run_states.specs.Outcomes.{Outcome, Output, ending_told, outcome_of, ranks_told}
+use Rattle.explore.specs.Courses.{outcome_told}
+
+-- 1. the ranks that are told are ranks of the run
+
+stopped_below : (next : Next) (n : ℕ) (run : List Event) (rank : ℕ) → Kept next n run → was_stopped (view_of run rank) ≡ true → rank < n
+stopped_below next n run rank kept h =
+    elim (cases_lt rank n) [
+      | inl below ↦ below
+      | inr above ↦
+          let no : false ≡ true = sym (ap was_stopped (kept.below.empty rank above)) ∙ h in
+          absurd (cc)
+    ]
+
+one_below : (n rank : ℕ) → rank < n → are_below n (rank ∷ []) ≡ true
+one_below n rank below = and_from (nat_lt rank n) true (lt-ltb rank n below) refl
+
+named_below : (next : Next) (n : ℕ) (run : List Event) (halt : Halt) (rank : ℕ) → Kept next n run → halted run ≡ Some halt → names rank halt ≡ true
+    → are_below n (rank ∷ []) ≡ true
+named_below next n run halt rank kept h named = one_below n rank (stopped_below next n run rank kept (kept.halts.each halt rank h named))
+
+told_below : (next : Next) (n : ℕ) (run : List Event) (halt : Halt) → 0 < n → Kept next n run → halted run ≡ Some halt
+    → are_below n (ranks_told n (Halted halt)) ≡ true
+told_below next n run Stuck some kept h = (AreMembers-world n 0 some).below
+told_below next n run (Aborted rank code) some kept h = named_below next n run (Aborted rank code) rank kept h (eq-eqb rank rank refl)
+told_below next n run (Trapped rank fault) some kept h = named_below next n run (Trapped rank fault) rank kept h (eq-eqb rank rank refl)
+told_below next n run (Truncated rank start) some kept h = named_below next n run (Truncated rank start) rank kept h (eq-eqb rank rank refl)
+told_below next n run (BadRequest rank start) some kept h = named_below next n run (BadRequest rank start) rank kept h (eq-eqb rank rank refl)
+told_below next n run (Mismatched rank) some kept h = refl
+told_below next n run Limit some kept h = refl
+
+all_below : (next : Next) (n : ℕ) (run : List Event) → 0 < n → Kept next n run → are_below n (ranks_told n (ending_of run)) ≡ true
+all_below next n run some kept =
+    elim (option_cases (halted run)) [
+      | inl halt ↦ ap (λ o. are_below n (ranks_told n (ending_by o))) halt.1 ∙ told_below next n run halt.0 some kept halt.1
+      | inr none ↦ ap (λ o. are_below n (ranks_told n (ending_by o))) none ∙ (AreMembers-world n 0 some).below
+    ]
+
+-- 2. what each printed
+
+made_at : (f : ℕ → List ℕ) (n from k : ℕ) → k < n → slice_index_or (map f (world n from)) k [] ≡ f (from + k)
+made_at f zero from k below = absurd (omega (arith, below))
+made_at f (suc n) from zero below = (let e : from ≡ from + 0 = omega arith in ap f e)
+made_at f (suc n) from (suc k) below =
+    let e : from + 1 + k ≡ from + suc k = omega arith in
+    made_at f n (from + 1) k (omega (arith, below)) ∙ ap f e
+
+abbrev one_told : (ℕ → List ℕ) → ℕ → ℕ × List ℕ
+one_told f rank = (rank, f rank)
+
+printed_same : (f : ℕ → List ℕ) (n : ℕ) (ranks : List ℕ) → are_below n ranks ≡ true
+    → map (one_told (λ rank. slice_index_or (map f (world n 0)) rank [])) ranks ≡ map (one_told f) ranks
+printed_same f n [] below = refl
+printed_same f n (rank ∷ ranks) below =
+    let parts = and_parts (nat_lt rank n) (are_below n ranks) below in
+    let none : 0 + rank ≡ rank = omega arith in
+    let here : slice_index_or (map f (world n 0)) rank [] ≡ f rank = made_at f n 0 rank (ltb-true rank n parts.0) ∙ ap f none in
+    let one : List ℕ → ℕ × List ℕ = λ printed. (rank, printed) in
+    ap (λ p. one p ∷ map (one_told (λ r. slice_index_or (map f (world n 0)) r [])) ranks) here ∙ ap (λ l. one (f rank) ∷ l) (printed_same f n ranks parts.1)
+
+abbrev outcome_with : Ending → List (ℕ × List ℕ) → Outcome
+outcome_with ending printed = record { ending = ending_told ending; printed = printed }
+
+pub told_is : (next : Next) (output : Output) (n : ℕ) (run : List Event) → Lawful next → IsRun next n run
+    → outcome_told n (ending_of run) (map (printed_of output n run) (world n 0)) ≡ outcome_of output n run
+told_is next output n run lawful is =
+    let same = printed_same (printed_of output n run) n (ranks_told n (ending_of run)) (all_below next n run is.some (kept_run next n run lawful is)) in
+    ap (outcome_with (ending_of run)) same

@@ -1,0 +1,55 @@
+-- A machine and the ranks beside it, and what a recording comes to.
+use Rattle.std.specs.Prelude.{◌≡◌, ◌≢◌, ◌⊎◌, ℕ, List, [], ◌∷◌, ◌++◌, true, false, map}
+use Rattle.std.specs.List.{slice_index_or}
+use Rattle.mpi_call.specs.declared.call.Call.{Call}
+use Rattle.run_model.specs.declared.ending.Ending.{Ending}
+use Rattle.run_model.specs.declared.event.Event.{Event}
+use Rattle.run_model.specs.Allowed.{IsStuck, can_go}
+use Rattle.run_model.specs.Program.{Standing}
+use Rattle.run_model.specs.Views.{Next, view_of}
+use Rattle.picked_runs.specs.declared.turn.Pick.{Pick}
+use Rattle.picked_runs.specs.declared.turn.Pick.TheVariants.{First}
+use Rattle.picked_runs.specs.declared.turn.Turn.{Turn}
+use Rattle.picked_runs.specs.Picked.{IsPicked}
+use Rattle.picked_runs.specs.Picks.{has_pick, picked_event}
+use Rattle.picked_runs.specs.Turns.{IsTaken}
+use Rattle.mpi_machine.specs.Turns.{MachineState}
+use Rattle.srr_record.specs.Recordings.{AreRuns}
+use Rattle.run_states.specs.Outcomes.{Outcome, Output, ending_told, outcome_of, ranks_told}
+
+-- what starts the ranks runs this program, and a plan of all has so many
+pub record IsSetting {P : Type 0} (started program : P) (planned ranks : ℕ) : Type 0 where
+  pub program_is : started ≡ program
+  pub ranks_are : planned ≡ ranks
+
+-- the machine has made these events, and each run stands after its rank's
+pub record IsCourse {P R : Type 0} (standing : R → Standing P) (program : P) (n : ℕ) (events : List Event) (machine : MachineState P) (runs : List R) : Type 0 where
+  pub program_is : machine.program ≡ program
+  pub ranks_are : machine.ranks ≡ n
+  pub events_are : machine.events ≡ events
+  pub runs_are : AreRuns standing program n events runs
+
+-- a call was answered with what it picks; where it picks nothing, it can go or no call can
+pub record IsAnswered (next : Next) (n : ℕ) (before after : List Event) (rank : ℕ) (call : Call) (pick : Pick) : Type 0 where
+  pub events_are : after ≡ before ++ picked_event n before rank call pick ∷ []
+  pub offered : has_pick n before rank call pick ≡ true
+  pub goes : pick ≡ First → (can_go n before rank (view_of before rank) call ≡ true) ⊎ IsStuck next n before
+
+-- it was not, since its pick is not there, or it cannot go
+pub record IsHeldBack (n : ℕ) (before after : List Event) (rank : ℕ) (call : Call) (pick : Pick) : Type 0 where
+  pub events_are : after ≡ before
+  pub absent : pick ≢ First → has_pick n before rank call pick ≡ false
+  pub held : pick ≡ First → can_go n before rank (view_of before rank) call ≡ false
+
+-- the run that the recording by these turns makes comes to this
+pub record ComesTo (next : Next) (output : Output) (n : ℕ) (turns : List Turn) (outcome : Outcome) : Type 0 where
+  pub run : List Event
+  pub picks : List Pick
+  pub taken : IsTaken next n turns run
+  pub picked : IsPicked next n picks run
+  pub outcome_is : outcome ≡ outcome_of output n run
+
+-- what is told of a run by its ending and what each rank printed
+abbrev pub outcome_told : ℕ → Ending → List (List ℕ) → Outcome
+outcome_told n ending outputs =
+    record { ending = ending_told ending; printed = map (λ rank. (rank, slice_index_or outputs rank [])) (ranks_told n ending) }

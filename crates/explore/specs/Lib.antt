@@ -1,0 +1,5 @@
+pub mod Explored
+pub mod Probes
+pub mod Courses
+pub mod Searching
+pub mod SearchLaws

@@ -1,0 +1,116 @@
+-- What a search has looked at, and why nothing is missed once it has looked at every state.
+use Rattle.std.specs.Prelude.{◌≡◌, ◌≢◌, ◌<◌, ◌⊎◌, ℕ, ℤ, List, [], ◌∷◌, ◌++◌, Some, None, Bool, true, false, All, map}
+use Rattle.mpi_call.specs.declared.call.Call.{Call}
+use Rattle.mpi_call.specs.declared.call.Halt.{Halt}
+use Rattle.mpi_call.specs.declared.call.Halt.TheVariants.{Stuck}
+use Rattle.mpi_call.specs.declared.reply.Reply.TheVariants.{Stopped}
+use Rattle.mpi_call.specs.Lists.{IsIn}
+use Rattle.run_model.specs.declared.event.Event.{Event}
+use Rattle.run_model.specs.Allowed.{IsStuck, can_go}
+use Rattle.run_model.specs.Due.{halt_in, halted}
+use Rattle.run_model.specs.Lists.{Along, IsPrefixOf}
+use Rattle.run_model.specs.Run.{IsRun}
+use Rattle.run_model.specs.Serial.{call_after, goes}
+use Rattle.run_model.specs.Views.{Next, view_of}
+use Rattle.picked_runs.specs.declared.turn.Pick.{Pick}
+use Rattle.picked_runs.specs.declared.turn.Pick.TheVariants.{First, Sender, Index}
+use Rattle.picked_runs.specs.declared.turn.Turn.{Turn}
+use Rattle.picked_runs.specs.Picks.{has_pick, picked_event, picked_reply}
+use Rattle.run_states.specs.Codes.{code_of}
+use Rattle.run_states.specs.Keys.{key_of}
+use Rattle.run_states.specs.Moves.{IsHalting, IsMet, IsMove}
+use Rattle.run_states.specs.Outcomes.{IsPatientEvent, IsProbeKept, Output, halted_outcome, outcome_of}
+use Rattle.explore.specs.declared.found.Found.{Found}
+use Rattle.explore.specs.Explored.{AreApart, IsFound, IsListed, made_by}
+
+-- the histories of some states, each of which is kept as the turns that make it
+abbrev pub histories : Next → ℕ → List (List Turn) → List (List Event)
+histories next n states = map (made_by next n) states
+
+-- a state under a root: turns of ranks that make a run, without a halt, which goes on from the root and keeps its probes from there on
+pub record IsState (next : Next) (n : ℕ) (root : List Event) (turns : List Turn) : Type 0 where
+  pub more : List Event
+  pub made : made_by next n turns ≡ root ++ more
+  pub ranks : All (λ turn. turn.rank < n) turns
+  pub run : IsRun next n (root ++ more)
+  pub free : halted (root ++ more) ≡ None
+  pub probes : Along IsProbeKept root more
+
+-- the code of a state's key
+abbrev pub code_at : Next → ℕ → List Turn → List ℤ
+code_at next n turns = code_of (key_of n (made_by next n turns))
+
+-- where a move leads is met, or a rank was held back that is not patient
+abbrev pub IsFollowed : Next → ℕ → ℕ → List (List Turn) → Bool → List Event → Event → Type 0
+IsFollowed next n polls states polled before event =
+    IsMet n (histories next n states) (before ++ event ∷ []) ⊎ ((polled ≡ true) × (IsPatientEvent polls before event → ⊥))
+
+-- a state was looked at: each move that keeps its probe was followed; what each halt comes to is listed, and what the state itself comes to
+-- where each rank has ended
+pub record IsLookedAt (next : Next) (output : Output) (n polls : ℕ) (states : List (List Turn)) (listed : List Found) (polled : Bool) (before : List Event) : Type 0 where
+  pub moves : (rank : ℕ) (call : Call) (pick : Pick) → IsMove next n before rank call pick → IsProbeKept before (picked_event n before rank call pick)
+      → IsFollowed next n polls states polled before (picked_event n before rank call pick)
+  pub halts : (rank : ℕ) (call : Call) (pick : Pick) (halt : Halt) → IsHalting next n before rank call pick halt
+      → IsListed listed (halted_outcome next output n before halt)
+  pub ends : ((rank : ℕ) → rank < n → call_after next n before rank ≡ None) → IsListed listed (outcome_of output n before)
+
+-- every state was looked at, and the root is met
+pub record IsSearched (next : Next) (output : Output) (n polls : ℕ) (root : List Event) (states : List (List Turn)) (listed : List Found) (polled : Bool) : Type 0 where
+  pub first : IsMet n (histories next n states) root
+  pub looked : (turns : List Turn) → IsIn turns states → IsLookedAt next output n polls states listed polled (made_by next n turns)
+
+-- what is met stays met: states, outcomes, and that a rank was held back
+pub record Grows (states states' : List (List Turn)) (listed listed' : List Found) (polled polled' : Bool) : Type 0 where
+  pub states_stay : IsPrefixOf states states'
+  pub listed_stay : IsPrefixOf listed listed'
+  pub polled_stays : polled ≡ true → polled' ≡ true
+
+-- one turn was tried after a state, and was answered: its move was followed, or what its halt comes to is listed
+pub record IsTried (next : Next) (output : Output) (n polls : ℕ) (states : List (List Turn)) (listed : List Found) (polled : Bool) (before : List Event) (turn : Turn) : Type 0 where
+  pub call : Call
+  pub asked : call_after next n before turn.rank ≡ Some call
+  pub offered : has_pick n before turn.rank call turn.pick ≡ true
+  pub goes : turn.pick ≡ First → (can_go n before turn.rank (view_of before turn.rank) call ≡ true) ⊎ IsStuck next n before
+  pub moves : halt_in (picked_reply n before turn.rank call turn.pick) ≡ None → IsProbeKept before (picked_event n before turn.rank call turn.pick)
+      → IsFollowed next n polls states polled before (picked_event n before turn.rank call turn.pick)
+  pub halts : (halt : Halt) → picked_reply n before turn.rank call turn.pick ≡ Stopped halt → IsListed listed (halted_outcome next output n before halt)
+
+-- it was not answered: the rank has ended, or its pick is not there, or its call cannot go
+pub record IsUnanswered (next : Next) (n : ℕ) (before : List Event) (turn : Turn) : Type 0 where
+  pub absent : (call : Call) → call_after next n before turn.rank ≡ Some call → turn.pick ≢ First → has_pick n before turn.rank call turn.pick ≡ false
+  pub held : (call : Call) → call_after next n before turn.rank ≡ Some call → turn.pick ≡ First → can_go n before turn.rank (view_of before turn.rank) call ≡ false
+
+-- the turns of a rank were tried that pick one of these; `made` tells whether one of them was answered
+pub record ArePicksTried (next : Next) (output : Output) (n polls : ℕ) (states : List (List Turn)) (listed : List Found) (polled : Bool) (before : List Event) (rank : ℕ) (IsOne : Pick → Type 0) (made : Bool) : Type 0 where
+  pub moves : (call : Call) (pick : Pick) → IsOne pick → IsMove next n before rank call pick → IsProbeKept before (picked_event n before rank call pick)
+      → IsFollowed next n polls states polled before (picked_event n before rank call pick)
+  pub halts : (call : Call) (pick : Pick) (halt : Halt) → IsOne pick → IsHalting next n before rank call pick halt
+      → (pick ≡ First → can_go n before rank (view_of before rank) call ≡ true) → IsListed listed (halted_outcome next output n before halt)
+  pub absent : made ≡ false → (call : Call) (pick : Pick) → IsOne pick → call_after next n before rank ≡ Some call → pick ≢ First → has_pick n before rank call pick ≡ false
+  pub held : made ≡ false → (call : Call) → IsOne First → call_after next n before rank ≡ Some call → can_go n before rank (view_of before rank) call ≡ false
+  pub some : made ≡ true → (call : Call) × (pick : Pick) × IsOne pick × (call_after next n before rank ≡ Some call) × (has_pick n before rank call pick ≡ true)
+  pub stuck : made ≡ true → IsStuck next n before → IsListed listed (halted_outcome next output n before Stuck)
+
+-- senders and indices below a count
+abbrev pub IsSenderBelow : ℕ → Pick → Type 0
+IsSenderBelow count pick = (sender : ℕ) × (pick ≡ Sender sender) × (sender < count)
+
+abbrev pub IsIndexBelow : ℕ → Pick → Type 0
+IsIndexBelow count pick = (index : ℕ) × (pick ≡ Index index) × (index < count)
+
+-- all turns of the ranks below a number were tried; `made` tells whether one was answered
+pub record AreRanksTried (next : Next) (output : Output) (n polls : ℕ) (states : List (List Turn)) (listed : List Found) (polled : Bool) (before : List Event) (below : ℕ) (made : Bool) : Type 0 where
+  pub moves : (rank : ℕ) (call : Call) (pick : Pick) → rank < below → IsMove next n before rank call pick → IsProbeKept before (picked_event n before rank call pick)
+      → IsFollowed next n polls states polled before (picked_event n before rank call pick)
+  pub halts : (rank : ℕ) (call : Call) (pick : Pick) (halt : Halt) → rank < below → IsHalting next n before rank call pick halt
+      → (pick ≡ First → can_go n before rank (view_of before rank) call ≡ true) → IsListed listed (halted_outcome next output n before halt)
+  pub idle : made ≡ false → (rank : ℕ) → rank < below → goes n before rank (call_after next n before rank) ≡ false
+  pub some : made ≡ true → (rank : ℕ) × (call : Call) × (rank < n) × (call_after next n before rank ≡ Some call)
+  pub stuck : made ≡ true → IsStuck next n before → IsListed listed (halted_outcome next output n before Stuck)
+
+-- a search under way: its states are states under the root, and each code that it has is that of one of them; what is listed was found, once
+pub record IsUnderWay (next : Next) (output : Output) (n : ℕ) (root : List Event) (states : List (List Turn)) (has_code : List ℤ → Bool) (listed : List Found) : Type 0 where
+  pub are_states : (turns : List Turn) → IsIn turns states → IsState next n root turns
+  pub coded : (code : List ℤ) → has_code code ≡ true → (turns : List Turn) × IsIn turns states × (code_at next n turns ≡ code)
+  pub found : (found : Found) → IsIn found listed → IsFound next output n root found
+  pub apart : AreApart listed

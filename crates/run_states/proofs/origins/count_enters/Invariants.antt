@@ -1,0 +1,13 @@
+use Rattle.std.proofs.Common.{◌≡◌, ◌≤◌, ◌+◌, length}
+use Rattle.run_model.specs.Communicators.{count_on}
+use Rattle.run_model.specs.Views.{starts_of, view_of}
+use Rattle.run_states.proofs.origins.count_enters.Given as goal
+
+abbrev pub invariant-loop-rest : goal.invariant-loop-rest
+invariant-loop-rest l = record {
+  counted : l.count + count_on l.comm (starts_of (view_of l.rest l.rank)) ≡ count_on l.comm (starts_of (view_of l.events l.rank));
+  few : l.count + length l.rest ≤ length l.events;
+}
+
+abbrev pub decreases-loop-rest : goal.decreases-loop-rest
+decreases-loop-rest l = length l.rest

@@ -1,0 +1,103 @@
+//! The pairs of a history, and the partners of its starts.
+ghost use Rattle.std.specs.Prelude.{◌≡◌, ◌++◌, ◌∷◌, [], IfOk, OnOk, map};
+ghost use Rattle.run_model.specs.Lists.{world};
+ghost use Rattle.run_model.specs.Pairs.{pair_of, pairs_of, partner_of};
+ghost use Rattle.run_states.specs.Codes.{code_of_partner, code_of_partners, codes_of};
+ghost use Rattle.run_states.specs.Keys.{partners_in};
+
+use crate::code::Code;
+use crate::starts::{Name, mate_in, starts_in};
+use run_model::event::Event;
+use std::alloc::{AllocError, Global};
+
+/// Adds the pair that an event makes, if it makes one.
+fn add_pair(
+    pairs: &mut Vec<(Name, Name)>,
+    before: &[Event],
+    event: &Event,
+) -> Result<(), AllocError>
+    ensures { OnOk result (pairs.new.items ≡ pairs.old.items ++ pair_of before.now event.now) }
+{
+    let Some(earlier) = mate_in(before, event.mate) else {
+        return Ok(());
+    };
+    let later = (event.rank, starts_in(before, event.rank));
+    pairs.push((earlier, later))?;
+    Ok(())
+}
+
+/// The pairs of these events, in the order in which they were made.
+pub fn pairs_of(alloc: Global, events: &[Event]) -> Result<Vec<(Name, Name)>, AllocError>
+    ensures { IfOk result (λ pairs. pairs.items ≡ pairs_of events.now) }
+{
+    let mut pairs = Vec::new(alloc);
+    for (at, event) in events.iter().enumerate() {
+        add_pair(&mut pairs, &events[..at], event)?;
+    }
+    Ok(pairs)
+}
+
+/// The other start of the pair that a start is in.
+fn partner_of(pairs: &[(Name, Name)], name: Name) -> Option<Name>
+    ensures { result ≡ partner_of pairs.now name }
+{
+    let mut rest = pairs;
+    while let [pair, after @ ..] = rest {
+        if pair.0 == name {
+            return Some(pair.1);
+        }
+        if pair.1 == name {
+            return Some(pair.0);
+        }
+        rest = after;
+    }
+    None
+}
+
+/// Adds a partner, if there is one.
+fn add_partner(code: &mut Code, partner: Option<Name>) -> Result<(), AllocError>
+    ensures { OnOk result (code.new.numbers.items ≡ code.old.numbers.items ++ code_of_partner partner) }
+{
+    match partner {
+        None => code.push(0),
+        Some(name) => {
+            code.push(1)?;
+            code.push(name.0 as u32)?;
+            code.push_len(name.1)
+        }
+    }
+}
+
+/// Adds the partners of the starts of a rank, of which there are so many.
+fn add_rank(
+    code: &mut Code,
+    pairs: &[(Name, Name)],
+    rank: u8,
+    count: usize,
+) -> Result<(), AllocError>
+    ensures { OnOk result (code.new.numbers.items ≡ code.old.numbers.items ++ codes_of code_of_partner (map (λ k. partner_of pairs.now (rank, k)) (world count 0))) }
+{
+    for start in 0..count {
+        add_partner(code, partner_of(pairs, (rank, start)))?;
+    }
+    Ok(())
+}
+
+/// Adds the partners of each start of each of n ranks.
+pub fn add_partners(
+    code: &mut Code,
+    events: &[Event],
+    pairs: &[(Name, Name)],
+    n: u8,
+) -> Result<(), AllocError>
+    requires { pairs.now ≡ pairs_of events.now }
+    ensures { OnOk result (code.new.numbers.items ≡ code.old.numbers.items ++ code_of_partners (map (partners_in events.now) (world n 0))) }
+{
+    code.push(n as u32)?;
+    for rank in 0..n {
+        let count = starts_in(events, rank);
+        code.push_len(count)?;
+        add_rank(code, pairs, rank, count)?;
+    }
+    Ok(())
+}
