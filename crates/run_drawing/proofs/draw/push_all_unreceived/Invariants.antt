@@ -1,0 +1,10 @@
+use Rattle.std.proofs.Common.{◌≡◌, ◌++◌, flat_map, length}
+use Rattle.run_drawing.specs.Drawings.{unreceived_at}
+use Rattle.run_drawing.specs.Scenes.{basis_of}
+use Rattle.run_drawing.proofs.draw.push_all_unreceived.Given as goal
+
+abbrev pub invariant-loop-rest : goal.invariant-loop-rest
+invariant-loop-rest l = l.found.items ++ flat_map (unreceived_at (basis_of l.scene)) l.rest ≡ l.initial.found.items ++ flat_map (unreceived_at (basis_of l.scene)) l.places
+
+abbrev pub decreases-loop-rest : goal.decreases-loop-rest
+decreases-loop-rest l = length l.rest

@@ -1,0 +1,49 @@
+-- Choices: the messages that a receive from any source could have taken in place of the one that it took, the first of each other sender.
+use Rattle.std.specs.Prelude.{◌==◌, ℕ, List, [], ◌∷◌, Option, Some, None, Bool, false, not, find, if◌then◌else◌, map, nat_lt}
+use Rattle.mpi_call.specs.declared.call.Tag.{Tag}
+use Rattle.causes.specs.Positions.{positions}
+use Rattle.msg_races.specs.declared.sends.Way.{Way}
+use Rattle.msg_races.specs.Listing.{joined}
+use Rattle.msg_races.specs.Ways.{goes, tag_named}
+use Rattle.run_drawing.specs.declared.drawing.Point.{Point}
+use Rattle.run_drawing.specs.declared.links.Link.{Link}
+use Rattle.run_drawing.specs.Basis.{Basis}
+use Rattle.run_drawing.specs.Columns.{point}
+use Rattle.run_drawing.specs.Links.{links, taker_in}
+
+-- a completion stands before a position
+abbrev pub is_done_before : ℕ → Option Link → Bool
+is_done_before p None = false
+is_done_before p (Some link) = nat_lt link.at p
+
+-- the message of the Send at position s was not taken before position p
+abbrev pub is_open : Basis → ℕ → ℕ → Bool
+is_open basis p s = not (is_done_before p (taker_in (links basis) s))
+
+-- the first of these Sends that was not taken before position p
+abbrev pub first_open : Basis → ℕ → List ℕ → Option ℕ
+first_open basis p sent = find (is_open basis p) sent
+
+-- the way of a sender's messages to a rank, on a communicator and with a tag
+abbrev pub way_of : ℕ → ℕ → Tag → ℕ → Way
+way_of rank comm tag sender = record { sender = sender; comm = comm; receiver = rank; tag = tag_named tag }
+
+-- a Send, unless it is late
+abbrev pub unless_late : (ℕ → Bool) → Option ℕ → List ℕ
+unless_late is_late None = []
+unless_late is_late (Some s) = if is_late s then [] else s ∷ []
+
+-- of a sender the first Send that a receive of the rank accepts and that was not taken before it was posted, at position p; none if the
+-- completion, at position `at`, is before it
+abbrev pub choice_of : Basis → ℕ → ℕ → Tag → ℕ → ℕ → ℕ → List ℕ
+choice_of basis rank comm tag p at sender =
+    unless_late (basis.before at) (first_open basis p (positions (goes (way_of rank comm tag sender)) 0 basis.events))
+
+-- the same, of a sender other than the one whose message was taken
+abbrev pub choice_beside : Basis → ℕ → ℕ → Tag → ℕ → ℕ → ℕ → ℕ → List Point
+choice_beside basis rank comm tag p at took sender =
+    if sender == took then [] else map (point basis) (choice_of basis rank comm tag p at sender)
+
+-- of each other sender
+abbrev pub choices : Basis → ℕ → ℕ → Tag → ℕ → ℕ → ℕ → List Point
+choices basis rank comm tag p at took = joined (choice_beside basis rank comm tag p at took) basis.ranks

@@ -1,0 +1,9 @@
+pub mod Depths
+pub mod Basis
+pub mod Columns
+pub mod Links
+pub mod Choices
+pub mod Drawn
+pub mod Drawings
+pub mod Scenes
+pub mod Laws

@@ -1,0 +1,9 @@
+use Rattle.std.proofs.Common.{◌≡◌, ◌++◌, flat_map, length}
+use Rattle.svg_text.specs.Endings.{arcs_of_wait}
+use Rattle.svg_text.proofs.endings.push_arcs.Given as goal
+
+abbrev pub invariant-loop-rest : goal.invariant-loop-rest
+invariant-loop-rest l = l.arcs.items ++ flat_map (arcs_of_wait l.all l.rank) l.rest ≡ l.initial.arcs.items ++ flat_map (arcs_of_wait l.all l.rank) l.waits
+
+abbrev pub decreases-loop-rest : goal.decreases-loop-rest
+decreases-loop-rest l = length l.rest

@@ -1,0 +1,10 @@
+use Rattle.std.proofs.Common.{append_assoc, refl}
+use Rattle.svg_text.proofs.marks.push_send.Goals as goal
+
+pub returns : goal.returns
+returns c =
+    rw (
+      c.in_ok-push_tag.ensures,
+      c.in_ok-push_filled.ensures,
+    )
+    (simp append_assoc refl)

@@ -1,0 +1,13 @@
+use Rattle.std.proofs.Common.{append_assoc, refl}
+use Rattle.svg_text.proofs.svg.push_head.Goals as goal
+
+pub returns : goal.returns
+returns c =
+    rw (
+      c.in_ok-push_text-5.ensures.ok,
+      c.in_ok-push_text-4.ensures.ok,
+      c.in_ok-push_text-3.ensures.ok,
+      c.in_ok-push_text-2.ensures.ok,
+      c.in_ok-push_text.ensures.ok,
+    )
+    (simp append_assoc refl)

@@ -1,0 +1,20 @@
+use Rattle.std.proofs.Common.{append_assoc, refl}
+use Rattle.svg_text.proofs.svg.push_heading.Goals as goal
+
+pub returns : goal.returns
+returns c =
+    rw (
+      c.in_ok-push_text-6.ensures.ok,
+      c.in_ok-push_end.ensures,
+      c.in_ok-push_text-5.ensures.ok,
+      c.in_ok-push_decimal-3.ensures.ok,
+      c.in_ok-push_text-4.ensures.ok,
+      c.in_ok-push_plural.ensures,
+      c.in_ok-push_text-3.ensures.ok,
+      c.in_ok-push_decimal-2.ensures.ok,
+      c.in_ok-push_text-2.ensures.ok,
+      c.in_ok-push_decimal.ensures.ok,
+      c.in_ok-push_text.ensures.ok,
+      c.groups_in-count.ensures,
+    )
+    (simp append_assoc refl)

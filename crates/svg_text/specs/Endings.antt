@@ -1,0 +1,179 @@
+-- Beside the lanes: who waits for whom, and how each rank ended.
+use Rattle.std.specs.Prelude.{◌+◌, ◌-◌, ◌*◌, ◌==◌, ◌&&◌, ℕ, List, [], ◌∷◌, ◌++◌, Option, Some, None, Bool, not, codes, drop, find, flat_map, if◌then◌else◌, length, max, min, nat_lt, nat_le, slice_index_or, take}
+use Rattle.std.specs.List.{list_any}
+use Rattle.mpi_call.specs.declared.call.Call.{Call}
+use Rattle.mpi_call.specs.declared.call.Call.TheVariants.{Send, Post, Enter, Peek}
+use Rattle.mpi_call.specs.declared.call.Halt.TheVariants.{Stuck}
+use Rattle.mpi_call.specs.declared.call.Source.{Source}
+use Rattle.mpi_call.specs.declared.call.Source.TheVariants.{Any, From, Null}
+use Rattle.mpi_call.specs.declared.call.Tag.{Tag}
+use Rattle.mpi_call.specs.declared.call.Tag.TheVariants.{Any as AnyTag, Is}
+use Rattle.msg_races.specs.Listing.{joined as for_ranks}
+use Rattle.run_model.specs.declared.ending.Ending.{Ending}
+use Rattle.run_model.specs.declared.ending.Ending.TheVariants.{Halted}
+use Rattle.wait_graph.specs.declared.graph.Blocked.{Blocked}
+use Rattle.wait_graph.specs.declared.graph.Graph.{Graph}
+use Rattle.wait_graph.specs.declared.wait.Wait.{Wait}
+use Rattle.wiz_base.specs.Decimals.{decimal_text}
+use Rattle.wiz_trace.specs.CallTexts.{joined, numbers_text}
+use Rattle.svg_text.specs.declared.endings.Arc.{Arc}
+use Rattle.svg_text.specs.declared.filling.Part.TheVariants.{Number}
+use Rattle.svg_text.specs.declared.grid.Grid.{Grid}
+use Rattle.svg_text.specs.Filling.{filled}
+use Rattle.svg_text.specs.Grids.{distance, y_of}
+
+-- the ranks that are stuck, and the cycles, where a run is halted as stuck
+abbrev pub blocked_of : Ending → Graph → List Blocked
+blocked_of (Halted Stuck) graph = graph.blocked
+blocked_of ending graph = []
+
+-- a run of 64 ranks has no more cycles
+abbrev pub most_cycles : ℕ
+most_cycles = 64
+
+abbrev pub cycles_of : Ending → Graph → List (List ℕ)
+cycles_of (Halted Stuck) graph = take most_cycles graph.cycles
+cycles_of ending graph = []
+
+-- a rank is among those that are stuck
+abbrev pub is_blocked : List Blocked → ℕ → Bool
+is_blocked all rank = list_any (λ (blocked : Blocked). blocked.rank == rank) all
+
+-- an arc from a rank to each other one that it waits for and that is stuck too
+abbrev pub arc_to : List Blocked → ℕ → ℕ → List Arc
+arc_to all rank awaited =
+    if is_blocked all awaited && not (rank == awaited) then (record { from = rank; to = awaited }) ∷ [] else []
+
+abbrev pub arcs_of_wait : List Blocked → ℕ → Wait → List Arc
+arcs_of_wait all rank wait = flat_map (arc_to all rank) wait.awaited
+
+abbrev pub arcs_of_rank : List Blocked → Blocked → List Arc
+arcs_of_rank all blocked = flat_map (arcs_of_wait all blocked.rank) blocked.waits
+
+abbrev pub arcs_of : List Blocked → List Arc
+arcs_of all = flat_map (arcs_of_rank all) all
+
+-- how far the farthest arc goes
+abbrev pub farthest : List Arc → ℕ
+farthest [] = 0
+farthest (arc ∷ arcs) = max (distance arc.from arc.to) (farthest arcs)
+
+-- where the texts beside the lanes stand
+abbrev pub beside : ℕ → ℕ → ℕ
+beside right far = if far == 0 then right + 8 else right + 26 * far + 20
+
+-- an arc bulges out as far as it goes
+abbrev pub arc_out : ℕ → ℕ → ℕ → ℕ
+arc_out x from to = if nat_lt from to then x + 18 + 34 * distance from to else x + 6 + 30 * distance from to
+
+abbrev pub leaves_at : ℕ → ℕ → ℕ → ℕ
+leaves_at y from to = if nat_lt from to then y + 7 else y - 7
+
+abbrev pub arrives_at : ℕ → ℕ → ℕ → ℕ
+arrives_at y from to = if nat_lt from to then y - 7 else y + 7
+
+abbrev pub arc_text : Grid → ℕ → Arc → List ℕ
+arc_text grid right arc =
+    filled (codes "<path class=\"m\" stroke=\"#d21f1f\" d=\"M% %C% % % % % %\" marker-end=\"url(#r)\"/>\n")
+    (Number (right - 10) ∷ Number (leaves_at (y_of grid arc.from) arc.from arc.to)
+    ∷ Number (arc_out (right - 10) arc.from arc.to) ∷ Number (leaves_at (y_of grid arc.from) arc.from arc.to)
+    ∷ Number (arc_out (right - 10) arc.from arc.to) ∷ Number (arrives_at (y_of grid arc.to) arc.from arc.to)
+    ∷ Number (right - 8) ∷ Number (arrives_at (y_of grid arc.to) arc.from arc.to) ∷ [])
+
+-- a cycle: each rank waits for the next, and the last for the first
+abbrev pub round_text : List ℕ → List ℕ
+round_text [] = []
+round_text (rank ∷ ranks) = joined (codes " waits for ") decimal_text (rank ∷ ranks) ++ codes " waits for " ++ decimal_text rank
+
+abbrev pub cycle_text : ℕ → List ℕ → List ℕ
+cycle_text y ranks =
+    filled (codes "<text class=\"b\" x=\"16\" y=\"%\">cycle: ") (Number y ∷ []) ++ round_text ranks ++ codes "</text>\n"
+
+-- the cycles, one below the other
+abbrev pub cycles_text : ℕ → List (List ℕ) → List ℕ
+cycles_text y [] = []
+cycles_text y (ranks ∷ cycles) = cycle_text y ranks ++ cycles_text (y + 14) cycles
+
+-- what a rank waits for
+abbrev pub source_text : Source → List ℕ
+source_text Any = codes "any rank"
+source_text (From rank) = codes "rank " ++ decimal_text rank
+source_text Null = codes "no rank"
+
+abbrev pub tag_text : Tag → List ℕ
+tag_text AnyTag = codes "any tag"
+tag_text (Is tag) = codes "tag " ++ decimal_text tag
+
+abbrev pub message_text : Source → Tag → List ℕ
+message_text source tag = codes "waits for " ++ source_text source ++ codes ", " ++ tag_text tag
+
+abbrev pub receiver_text : ℕ → List ℕ
+receiver_text receiver = codes "waits for rank " ++ decimal_text receiver ++ codes " to receive"
+
+abbrev pub entering_text : List ℕ → List ℕ
+entering_text awaited = codes "waits for " ++ numbers_text awaited ++ codes " to enter"
+
+abbrev pub wait_text : Call → List ℕ → List ℕ
+wait_text (Send comm dest tag ints sync) awaited = receiver_text dest
+wait_text (Post comm source tag room) awaited = message_text source tag
+wait_text (Enter comm kind root op count ints) awaited = entering_text awaited
+wait_text (Peek comm source tag wait) awaited = message_text source tag
+wait_text call awaited = []
+
+-- nobody for whom it waits is there still
+abbrev pub ended_text : Bool → List ℕ
+ended_text is_there = if is_there then [] else codes ", which has ended"
+
+-- the first thing that a rank waits for
+abbrev pub waiting_text : List Blocked → List Wait → List ℕ
+waiting_text all [] = []
+waiting_text all (wait ∷ waits) = wait_text wait.call wait.awaited ++ ended_text (list_any (is_blocked all) wait.awaited)
+
+-- a byte of an output: escaped where XML needs it; a newline is \n, and what is not plain a point
+abbrev pub plain_text : ℕ → List ℕ
+plain_text byte = if nat_le 32 byte && nat_lt byte 127 then byte ∷ [] else codes "."
+
+abbrev pub byte_text : ℕ → List ℕ
+byte_text byte =
+    if byte == 38 then codes "&amp;" else if byte == 60 then codes "&lt;" else if byte == 62 then codes "&gt;"
+    else if byte == 34 then codes "&quot;" else if byte == 39 then codes "&apos;" else if byte == 10 then codes "\\n"
+    else plain_text byte
+
+-- the last 30 bytes of an output, after two points if there are more
+abbrev pub dots_text : ℕ → List ℕ
+dots_text count = if nat_lt 30 count then codes ".." else []
+
+abbrev pub output_text : List ℕ → List ℕ
+output_text output = dots_text (length output) ++ flat_map byte_text (drop (length output - 30) output)
+
+-- what stands beside a lane: what the rank waits for, else what it printed
+abbrev pub beside_by : List Blocked → Option Blocked → List ℕ → List ℕ
+beside_by all None output = output_text output
+beside_by all (Some blocked) output = waiting_text all blocked.waits
+
+abbrev pub blocked_at : List Blocked → ℕ → Option Blocked
+blocked_at all rank = find (λ (blocked : Blocked). blocked.rank == rank) all
+
+abbrev pub beside_text : List Blocked → ℕ → List ℕ → List ℕ
+beside_text all rank output = beside_by all (blocked_at all rank) output
+
+-- the texts of the ranks below a number, which printed these outputs
+abbrev pub beside_texts : List Blocked → List (List ℕ) → ℕ → List (List ℕ)
+beside_texts all outputs ranks = for_ranks (λ rank. beside_text all rank (slice_index_or outputs rank []) ∷ []) ranks
+
+-- how many characters the longest has, of which at most 1000 count
+abbrev pub longest : List (List ℕ) → ℕ
+longest [] = 0
+longest (text ∷ texts) = max (min (length text) 1000) (longest texts)
+
+-- a text beside its lane
+abbrev pub style_text : Bool → List ℕ
+style_text stuck = if stuck then codes "<text class=\"b\"" else codes "<text class=\"t\""
+
+abbrev pub ending_text : Grid → List Blocked → ℕ → ℕ → List ℕ → List ℕ
+ending_text grid all x rank text =
+    style_text (is_blocked all rank) ++ filled (codes " x=\"%\" y=\"%\">") (Number x ∷ Number (y_of grid rank + 4) ∷ []) ++ text ++ codes "</text>\n"
+
+-- those of the ranks below a number
+abbrev pub endings_text : Grid → List Blocked → ℕ → List (List ℕ) → ℕ → List ℕ
+endings_text grid all x texts ranks = for_ranks (λ rank. ending_text grid all x rank (slice_index_or texts rank [])) ranks

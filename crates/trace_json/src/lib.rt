@@ -1,0 +1,5 @@
+//! The drawing of a run as trace events in JSON.
+#![tactic(auto)]
+
+pub mod json;
+pub mod laws;
