@@ -1,5 +1,5 @@
 //! The picture of a run as SVG.
-ghost use Rattle.std.specs.Prelude.{◌≡◌, ◌+◌, ◌-◌, ◌≤◌, ◌<◌, ◌^◌, ◌++◌, IfOk, OnOk, codes, flat_map, length};
+ghost use Rattle.std.specs.Prelude.{◌≡◌, ◌+◌, ◌-◌, ◌≤◌, ◌<◌, ◌^◌, ◌++◌, IfOk, OnOk, codes, flat_map, if◌then◌else◌, length};
 ghost use Rattle.run_model.specs.Views.{view_of};
 ghost use Rattle.svg_text.specs.Endings.{arc_text, arcs_of, beside, beside_texts, blocked_of, cycles_of, cycles_text, endings_text, farthest, longest};
 ghost use Rattle.svg_text.specs.Grids.{bottom_of, grid_by, right_of};
