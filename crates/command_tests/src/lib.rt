@@ -16,6 +16,8 @@ mod forged;
 #[cfg(test)]
 mod logs;
 #[cfg(test)]
+mod pictures;
+#[cfg(test)]
 mod programs;
 #[cfg(test)]
 mod races;

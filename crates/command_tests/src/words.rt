@@ -42,7 +42,7 @@ fn words_in_form_ask_for_a_command(rt: HostRuntime) {
         stop: Some((63, 999_999)),
         ..serial_replay
     };
-    let table: [(&[&str], bool, Command<&str>); 45] = [
+    let table: [(&[&str], bool, Command<&str>); 49] = [
         (
             &["record", "P", "Q", "A"],
             true,
@@ -292,6 +292,42 @@ fn words_in_form_ask_for_a_command(rt: HostRuntime) {
             Command::Waits(ordered_run),
         ),
         (
+            &["picture", "P", "Q", "F"],
+            true,
+            Command::Picture {
+                run: RUN,
+                file: "F",
+                is_trace: false,
+            },
+        ),
+        (
+            &["picture", "P", "--trace", "Q", "F"],
+            true,
+            Command::Picture {
+                run: RUN,
+                file: "F",
+                is_trace: true,
+            },
+        ),
+        (
+            &["picture", "P", "Q", "F", "--trace", "--serial"],
+            false,
+            Command::Picture {
+                run: serial_run,
+                file: "F",
+                is_trace: true,
+            },
+        ),
+        (
+            &["picture", "P", "Q", "--order=F", "--", "--trace"],
+            false,
+            Command::Picture {
+                run: ordered_run,
+                file: "--trace",
+                is_trace: false,
+            },
+        ),
+        (
             &["watch", "L", "63", "x"],
             false,
             Command::Watch {
@@ -346,7 +382,7 @@ fn ask_for_nothing(alloc: Global, words: &[&str]) -> bool {
 
 #[test]
 fn words_out_of_form_ask_for_nothing(rt: HostRuntime) {
-    let table: [&[&str]; 75] = [
+    let table: [&[&str]; 81] = [
         &[],
         &[""],
         &["play"],
@@ -360,6 +396,12 @@ fn words_out_of_form_ask_for_nothing(rt: HostRuntime) {
         &["waits", "P"],
         &["waits", "P", "Q", "A"],
         &["waits", "P", "Q", "--serial", "--order", "F"],
+        &["picture", "P", "Q"],
+        &["picture", "P", "Q", "F", "G"],
+        &["picture", "P", "Q", "F", "--trace", "--trace"],
+        &["picture", "P", "Q", "F", "--trace=true"],
+        &["picture", "P", "Q", "F", "--order", "F", "--serial"],
+        &["waits", "P", "Q", "--trace"],
         &["record", "P", "Q"],
         &["record", "P", "Q", "A", "B"],
         &["record", "P", "Q", "A", "--order"],

@@ -65,7 +65,7 @@ status_by s.Starved text replayed = refl
 status_by s.OutOfMemory text replayed = refl
 status_by s.TooLong text replayed = refl
 status_by s.Groups text replayed = refl
-status_by s.TooManyRaces text replayed = refl
+status_by s.TooMany text replayed = refl
 status_by s.Parted text replayed = refl
 
 pub view_status : (replayed : Replayed) (text : List ℕ) (outcome : Outcome) → outcome ≡ view_outcome text replayed → outcome.status ≡ of_stands replayed.ends
@@ -87,7 +87,7 @@ not_done s.Starved text replayed apart = refl
 not_done s.OutOfMemory text replayed apart = refl
 not_done s.TooLong text replayed apart = refl
 not_done s.Groups text replayed apart = refl
-not_done s.TooManyRaces text replayed apart = refl
+not_done s.TooMany text replayed apart = refl
 not_done s.Parted text replayed apart = refl
 
 -- what is asked is told where the replay is done

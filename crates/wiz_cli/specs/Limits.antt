@@ -11,6 +11,7 @@ use Rattle.other_picks.specs.declared.other.TheConstants.{MOST_OTHER_PICKS}
 use Rattle.srr_text.specs.declared.limits.TheConstants.{GREATEST_NUMBER, MOST_ENTRIES, MOST_PROGRAM_BYTES}
 use Rattle.wiz_words.specs.Limits.{fewest_ranks, fewest_rounds, greatest_call, greatest_rank, greatest_seed, greatest_start, most_ranks, most_rounds}
 use Rattle.wiz_tool.specs.Inputs.{order_limit, text_limit}
+use Rattle.wiz_cli.specs.declared.commands.picture.TheConstants.{MOST_DRAWN}
 
 pub record AreTheLimits : Type 0 where
   -- an input file: the most bytes of a program or a plan
@@ -53,6 +54,8 @@ pub record AreTheLimits : Type 0 where
   pub others : most_others ≡ 1000000
   -- the most order files of its other picks
   pub other_picks : MOST_OTHER_PICKS ≡ 10000
+  -- the most events of a picture as SVG
+  pub drawn : MOST_DRAWN ≡ 4000
   -- a log: the greatest number of a start, a communicator or an index
   pub number : GREATEST_NUMBER ≡ 999999
   -- the most entries of a rank

@@ -16,6 +16,7 @@ use crate::commands::convert::convert;
 use crate::commands::demo::demo;
 use crate::commands::diff::diff;
 use crate::commands::join::join;
+use crate::commands::picture::picture;
 use crate::commands::races::races;
 use crate::commands::record::record;
 use crate::commands::refine::refine;
@@ -208,6 +209,11 @@ fn answer<'a, S: Store, K: Sink, R: Runner>(
         Command::Join { one, other, file } => { join(alloc, one, other, file, store, out, runner) }
         Command::Diff { one, other } => diff(alloc, one, other, store, out, runner),
         Command::Waits(run) => waits(alloc, &run, store, out, runner),
+        Command::Picture {
+            run,
+            file,
+            is_trace,
+        } => { picture(alloc, &run, file, is_trace, store, out, runner) }
         Command::Watch { replay, rank, name } => {
             let asked = View::Changes { rank, name };
             view(alloc, &replay, &asked, store, out, runner)

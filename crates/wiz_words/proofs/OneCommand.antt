@@ -4,7 +4,7 @@ use Rattle.wiz_base.specs.Decimals.{decimal_text}
 use Rattle.wiz_base.proofs.DecimalLaws.{decimal_text-and_rest, decimal_text_injective}
 use Rattle.clap.specs.Words.{Row, Text, matches_of}
 use Rattle.wiz_words.specs.declared.command.Command.{Command}
-use Rattle.wiz_words.specs.declared.command.Command.TheVariants.{Record, Check, Races, Advise, Demo, Replay, Show, Stats, Convert, Refine, Join, Diff, Waits, Watch, At, Where}
+use Rattle.wiz_words.specs.declared.command.Command.TheVariants.{Record, Check, Races, Advise, Demo, Replay, Show, Stats, Convert, Refine, Join, Diff, Waits, Picture, Watch, At, Where}
 use Rattle.wiz_words.specs.declared.command.ReplayWords.{ReplayWords}
 use Rattle.wiz_words.specs.declared.command.RunWords.{RunWords}
 use Rattle.wiz_words.specs.declared.command.Verb.{Verb}
@@ -78,6 +78,9 @@ refine_is l l' p p' f f' ll pp ff = rw (ll, pp, ff) refl
 join_is : (l l' o o' f f' : Text) → l ≡ l' → o ≡ o' → f ≡ f' → Join l o f ≡ Join l' o' f'
 join_is l l' o o' f f' ll oo ff = rw (ll, oo, ff) refl
 
+picture_is : (r s : RunWords Text) (f g : Text) (b c : Bool) → r ≡ s → f ≡ g → b ≡ c → Picture r f b ≡ Picture s g c
+picture_is r s f g b c rr ff bb = rw (rr, ff, bb) refl
+
 watch_is : (r s : ReplayWords Text) (rank other : ℕ) (n m : Text) → r ≡ s → rank ≡ other → n ≡ m → Watch r rank n ≡ Watch s other m
 watch_is r s rank other n m rr kk nn = rw (rr, kk, nn) refl
 
@@ -101,6 +104,8 @@ one_said given (Join one other file) (Join first second name) same a b =
     join_is _ _ _ _ _ _ (one_text _ _ _ a.0 b.0) (one_text _ _ _ a.1 b.1) (one_text _ _ _ a.2 b.2)
 one_said given (Diff one other) (Diff first second) same a b = ap₂ Diff (one_text _ _ _ a.0 b.0) (one_text _ _ _ a.1 b.1)
 one_said given (Waits r) (Waits s) same a b = ap Waits (one_run given _ r s a b)
+one_said given (Picture r file is_trace) (Picture s name is_one) same a b =
+    picture_is _ _ _ _ _ _ (one_run given _ r s a.0 b.0) (one_text _ _ _ a.1 b.1) (a.2 ∙ sym b.2)
 one_said given (Watch r rank name) (Watch s other text) same a b =
     watch_is _ _ _ _ _ _ (one_replay given r s a.0 b.0) (one_number _ _ _ _ _ _ a.1 b.1) (one_text _ _ _ a.2 b.2)
 one_said given (At r) (At s) same a b = ap At (one_replay given r s a b)

@@ -3,7 +3,7 @@ use Rattle.std.specs.Prelude.{◌≡◌, ◌&&◌, List, [], Bool, false, not, i
 use Rattle.std.specs.Borrow.{Bor}
 use Rattle.clap.specs.Words.{Row, Text, fault_of, matches_of}
 use Rattle.wiz_words.specs.declared.command.Command.{Command}
-use Rattle.wiz_words.specs.declared.command.Command.TheVariants.{Record, Check, Races, Advise, Demo, Replay, Show, Stats, Convert, Refine, Join, Diff, Waits, Watch, At, Where}
+use Rattle.wiz_words.specs.declared.command.Command.TheVariants.{Record, Check, Races, Advise, Demo, Replay, Show, Stats, Convert, Refine, Join, Diff, Waits, Picture, Watch, At, Where}
 use Rattle.wiz_words.specs.declared.command.ReplayWords.{ReplayWords}
 use Rattle.wiz_words.specs.declared.command.RunWords.{RunWords}
 use Rattle.wiz_words.specs.declared.command.Verb.{Verb}
@@ -28,6 +28,7 @@ verb_of (Refine log plan prefix) = verb.Refine
 verb_of (Join one other file) = verb.Join
 verb_of (Diff one other) = verb.Diff
 verb_of (Waits run) = verb.Waits
+verb_of (Picture run file is_trace) = verb.Picture
 verb_of (Watch replay rank name) = verb.Watch
 verb_of (At replay) = verb.At
 verb_of (Where replay source start) = verb.Where
@@ -68,6 +69,8 @@ AreWordsOf given (Join one other file) =
     (value_in given (codes "LOG") ≡ Some one) × (value_in given (codes "OTHER") ≡ Some other) × (value_in given (codes "FILE") ≡ Some file)
 AreWordsOf given (Diff one other) = (value_in given (codes "LOG") ≡ Some one) × (value_in given (codes "OTHER") ≡ Some other)
 AreWordsOf given (Waits run) = AreRunWords given (value_in given (codes "order")) run
+AreWordsOf given (Picture run file is_trace) =
+    AreRunWords given (value_in given (codes "order")) run × (value_in given (codes "FILE") ≡ Some file) × (is_trace ≡ flag_in given (codes "trace"))
 AreWordsOf given (Watch replay rank name) =
     AreReplayWords given replay × IsNumberIn given (codes "RANK") 0 greatest_rank rank × (value_in given (codes "NAME") ≡ Some name)
 AreWordsOf given (At replay) = AreReplayWords given replay
@@ -111,6 +114,7 @@ is_threaded (Refine log plan prefix) = false
 is_threaded (Join one other file) = false
 is_threaded (Diff one other) = false
 is_threaded (Waits run) = is_threaded_run run
+is_threaded (Picture run file is_trace) = is_threaded_run run
 is_threaded (Watch replay rank name) = false
 is_threaded (At replay) = false
 is_threaded (Where replay source start) = false

@@ -17,6 +17,7 @@ pub enum Verb {
     Join,
     Diff,
     Waits,
+    Picture,
     Watch,
     At,
     Where,
@@ -102,6 +103,12 @@ pub enum Command<T> {
     },
     /// Records a run and tells, where it is stuck, who waits for whom.
     Waits(RunWords<T>),
+    /// Records a run and writes a picture of it to this file: as trace events where `is_trace`, else as SVG.
+    Picture {
+        run: RunWords<T>,
+        file: T,
+        is_trace: bool,
+    },
     /// Replays the group of a log and tells each change of a variable of a rank, at most 63.
     Watch {
         replay: ReplayWords<T>,
@@ -130,6 +137,7 @@ impl<T> Command<T> {
             | Command::Check(run)
             | Command::Races { run, .. }
             | Command::Waits(run)
+            | Command::Picture { run, .. }
             | Command::Advise { run, .. } => { !run.is_serial && run.order.is_none() }
             Command::Replay(replay) => !replay.is_serial,
             Command::Demo { .. } | Command::Show(_) | Command::Stats(_) => false,

@@ -77,6 +77,7 @@ fn command_from<'a>(verb: Verb, matches: &ArgMatches<'a>) -> Option<Command<&'a 
         Verb::Join => join_from(matches),
         Verb::Diff => diff_from(matches),
         Verb::Waits => Some(Command::Waits(ordered_run(matches)?)),
+        Verb::Picture => picture_from(matches),
         Verb::Watch => watch_from(matches),
         Verb::At => Some(Command::At(replay_words(matches)?)),
         Verb::Where => where_from(matches),
@@ -151,6 +152,19 @@ fn diff_from<'a>(matches: &ArgMatches<'a>) -> Option<Command<&'a str>>
     let one = value_in(matches, "LOG")?;
     let other = value_in(matches, "OTHER")?;
     Some(Command::Diff { one, other })
+}
+
+fn picture_from<'a>(matches: &ArgMatches<'a>) -> Option<Command<&'a str>>
+    ensures { IsCommandIn (given_by matches.now) verb.Picture result }
+{
+    let run = ordered_run(matches)?;
+    let file = value_in(matches, "FILE")?;
+    let is_trace = flag_in(matches, "trace");
+    Some(Command::Picture {
+        run,
+        file,
+        is_trace,
+    })
 }
 
 fn watch_from<'a>(matches: &ArgMatches<'a>) -> Option<Command<&'a str>>

@@ -23,6 +23,7 @@ returns c = record {
   size = refl;
   others = refl;
   other_picks = refl;
+  drawn = refl;
   number = refl;
   entries = refl;
   program = refl;
