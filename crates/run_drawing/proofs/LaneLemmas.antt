@@ -96,7 +96,7 @@ parted [] u x h = absurd (cc)
 parted (y ∷ xs) zero x h = (let same : x ≡ y = cc in ap (λ z. z ∷ xs) same)
 parted (y ∷ xs) (suc u) x h = ap (λ l. y ∷ l) (parted xs u x h)
 
-get_take : {A : Type 0} (xs : List A) (u t : ℕ) (x : A) → t < u → slice_get xs t ≡ Some x → slice_get (take u xs) t ≡ Some x
+pub get_take : {A : Type 0} (xs : List A) (u t : ℕ) (x : A) → t < u → slice_get xs t ≡ Some x → slice_get (take u xs) t ≡ Some x
 get_take [] u t x less h = absurd (cc)
 get_take (y ∷ xs) zero t x less h = absurd (omega (arith, less))
 get_take (y ∷ xs) (suc u) zero x less h = h
