@@ -1,6 +1,5 @@
 -- Lists and options whose elements are alike, one by one.
-use Rattle.std.proofs.Common.{◌≡◌, ◌<◌, ◌++◌, ◌∷◌, [], ℕ, zero, suc, Bool, List, Option, Some, None, true, false, find, flat_map, inl, inr, refl, ap, sym, ◌∙◌, arith, length, map, slice_get, subst}
-use Rattle.std.specs.List.{list_any}
+use Rattle.std.proofs.Common.{◌≡◌, ◌++◌, ◌∷◌, [], ℕ, zero, suc, Bool, List, Option, Some, None, true, false, find, flat_map, inl, inr, refl, ap, sym, ◌∙◌, arith, length, slice_get, subst}
 use Rattle.mpi_call.specs.Lists.{IsIn}
 use Rattle.run_model.proofs.Views.{test_cases}
 use Rattle.causes.specs.Positions.{listed}

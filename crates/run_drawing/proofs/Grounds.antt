@@ -1,5 +1,5 @@
 -- What the replies of a run rest on is there.
-use Rattle.std.proofs.Common.{◌≡◌, ◌<◌, ◌+◌, ◌==◌, ◌&&◌, ◌||◌, ◌++◌, ◌∷◌, [], ℕ, ℤ, zero, suc, Bool, List, Option, Some, None, Result, Ok, Err, true, false, if◌then◌else◌, not, inl, inr, is_some, map, refl, ap, sym, ◌∙◌, arith, slice_get, slice_index, subst, take}
+use Rattle.std.proofs.Common.{◌≡◌, ◌+◌, ◌∷◌, [], ℕ, ℤ, zero, suc, Bool, List, Option, Some, None, Result, Ok, Err, true, false, not, inl, inr, is_some, map, refl, ap, sym, ◌∙◌, arith, slice_get, slice_index, subst}
 use Rattle.mpi_call.specs.declared.call.Call.{Call}
 use Rattle.mpi_call.specs.declared.call.Call.TheVariants.{Abort, End, Enter, Peek, Post, Send, Take, Trap}
 use Rattle.mpi_call.specs.declared.call.Halt.{Halt}
@@ -9,25 +9,26 @@ use Rattle.mpi_call.specs.declared.call.Tag.{Tag}
 use Rattle.mpi_call.specs.declared.call.TakeMode.{TakeMode}
 use Rattle.mpi_call.specs.declared.call.TakeMode.TheVariants.{All, Any as AnyOne, Several, TestAll, TestAny, TestSeveral}
 use Rattle.mpi_call.specs.declared.reply.Got.{Got}
-use Rattle.mpi_call.specs.declared.reply.Got.TheVariants.{Joined, Made, Message as GotMessage, Nothing, Sent}
+use Rattle.mpi_call.specs.declared.reply.Got.TheVariants.{Message as GotMessage, Nothing, Sent}
 use Rattle.mpi_call.specs.declared.reply.Item.{Item}
 use Rattle.mpi_call.specs.declared.reply.Reply.{Reply}
-use Rattle.mpi_call.specs.declared.reply.Reply.TheVariants.{Done, NotYet, Peeked, Stopped, Took}
-use Rattle.mpi_call.specs.Calls.{listed_by, makes}
+use Rattle.mpi_call.specs.declared.reply.Reply.TheVariants.{Done, Peeked, Stopped, Took}
+use Rattle.mpi_call.specs.Calls.{ints_of, listed_by, makes}
 use Rattle.mpi_call.specs.Collectives.{is_uncoloured}
 use Rattle.mpi_call.specs.Lists.{IsIn}
 use Rattle.mpi_call.specs.Needs.{needs}
 use Rattle.run_model.specs.declared.event.Event.{Event}
-use Rattle.run_model.specs.Allowed.{AreChosen, IsAllowedBy, IsAnswer, IsHeld, IsOne, IsPeekAnswer, IsStuck, IsTakeAnswer, IsTaken, first_long, flags_of, has_open, holds, taken_reply, true_places}
+use Rattle.run_model.specs.Allowed.{AreChosen, IsAllowedBy, IsAnswer, IsHeld, IsOne, IsPeekAnswer, IsStuck, IsTakeAnswer, first_long, flags_of, has_open, holds, taken_reply, true_places}
 use Rattle.run_model.specs.Communicators.{Entered, enter_at, instance_of, members_in}
 use Rattle.run_model.specs.Due.{due}
-use Rattle.run_model.specs.Inputs.{gather, inputs_of, is_gathered, push_ints, with_ints}
+use Rattle.run_model.specs.Inputs.{gather, inputs_of, is_gathered}
 use Rattle.run_model.specs.Pairs.{Name, named, pairs_of, partner_of}
-use Rattle.run_model.specs.Readiness.{AreGots, IsCollected, IsFrom, IsGot, IsMessage, is_ready}
+use Rattle.run_model.specs.Readiness.{AreGots, IsFrom, IsGot, IsMessage, is_ready}
 use Rattle.run_model.specs.Run.{IsEvent}
 use Rattle.run_model.specs.Shape.{is_test}
 use Rattle.run_model.specs.Views.{Next, View, start_at, view_of}
-use Rattle.run_model.proofs.TrueReplies.{IsPeekedSend, allowed_true}
+use Rattle.run_model.proofs.Gathering.{pushed, with_some}
+use Rattle.run_model.proofs.TrueReplies.{allowed_true}
 use Rattle.run_model.proofs.Views.{option_cases, test_cases}
 
 -- a start that a reply completes is ready, and gives this
@@ -192,31 +193,22 @@ from_partner n before me number source start tag ints is =
 
 -- 2. the members that a collective needs have entered
 
-pushed_ok : (ints : List ℤ) (rest : Result (List (List ℤ)) ℕ) (inputs : List (List ℤ)) → push_ints ints rest ≡ Ok inputs → (others : List (List ℤ)) × (rest ≡ Ok others)
-pushed_ok ints (Ok others) inputs h = (others, refl)
-pushed_ok ints (Err m) inputs h = absurd (cc)
-
-with_some : (m : ℕ) (o : Option Entered) (rest : Result (List (List ℤ)) ℕ) (inputs : List (List ℤ)) → with_ints m o rest ≡ Ok inputs
-    → (entered : Entered) × (o ≡ Some entered) × ((others : List (List ℤ)) × (rest ≡ Ok others))
-with_some m None rest inputs h = absurd (cc)
-with_some m (Some entered) rest inputs h =
-    (let others = pushed_ok _ rest inputs h in (entered, refl, others))
-
 gathered_found : (needed : ℕ → Bool) (find : ℕ → Option Entered) (members : List ℕ) (inputs : List (List ℤ)) (m : ℕ) → gather needed find members ≡ Ok inputs → IsIn m members → needed m ≡ true
     → (entered : Entered) × (find m ≡ Some entered)
 gathered_found needed find [] inputs m h there need = absurd there
 gathered_found needed find (x ∷ members) inputs m h there need = elim (test_cases (needed x)) [
   | inl t ↦ (
-      let parts = with_some x (find x) (gather needed find members) inputs (rw t at h) in
+      let some = with_some x (find x) (gather needed find members) inputs (rw t at h) in
+      let rest = pushed (ints_of some.0.call) (gather needed find members) inputs some.2 in
       elim there [
-        | inl e ↦ (let F : ℕ → Type 0 = λ y. (entered : Entered) × (find y ≡ Some entered) in subst F e (parts.0, parts.1))
-        | inr later ↦ gathered_found needed find members parts.2.0 m parts.2.1 later need
+        | inl e ↦ (let F : ℕ → Type 0 = λ y. (entered : Entered) × (find y ≡ Some entered) in subst F e (some.0, some.1))
+        | inr later ↦ gathered_found needed find members rest.0 m rest.1 later need
       ])
   | inr t ↦ (
-      let parts = pushed_ok [] (gather needed find members) inputs (rw t at h) in
+      let rest = pushed [] (gather needed find members) inputs (rw t at h) in
       elim there [
         | inl e ↦ (let no : false ≡ true = sym t ∙ (ap needed e ∙ need) in absurd (cc))
-        | inr later ↦ gathered_found needed find members parts.0 m parts.1 later need
+        | inr later ↦ gathered_found needed find members rest.0 m rest.1 later need
       ])
 ]
 

@@ -1,19 +1,19 @@
 -- The positions of a start's mates are those of its partner.
-use Rattle.std.proofs.Common.{◌≡◌, ◌≤◌, ◌<◌, ◌+◌, ◌==◌, ◌++◌, ◌∷◌, [], ℕ, zero, suc, Bool, List, Option, Some, None, true, false, if◌then◌else◌, inl, inr, append_assoc, append-nil, refl, ap, sym, ◌∙◌, arith, drop, length, length-append, slice_get, subst, take}
+use Rattle.std.proofs.Common.{◌≡◌, ◌≤◌, ◌<◌, ◌+◌, ◌==◌, ◌++◌, ◌∷◌, [], ℕ, zero, suc, Bool, List, Option, Some, None, true, false, if◌then◌else◌, inl, inr, append_assoc, append-nil, refl, ap, sym, ◌∙◌, arith, length, length-append, slice_get, subst}
 use Rattle.std.proofs.lemmas.Bool.{cases_order, eq-eqb, eqb-true}
 use Rattle.std.proofs.lemmas.List.{take-append-le}
 use Rattle.std.proofs.Math.Seq.{take-append_seam}
 use Rattle.std.specs.Prelude.{IsTrue}
 use Rattle.run_model.specs.declared.event.Event.{Event}
-use Rattle.run_model.specs.Pairs.{AreMatched, IsMatched, Name, name_at, named, pair_of, pairs_of, partner_of, same_name}
+use Rattle.run_model.specs.Pairs.{IsMatched, Name, name_at, named, pairs_of, partner_of, same_name}
 use Rattle.run_model.specs.Run.{HasMate, IsEvent, IsRun}
-use Rattle.run_model.specs.Views.{Next, is_start, starts_of, view_of}
+use Rattle.run_model.specs.Views.{Next, is_start}
 use Rattle.run_model.proofs.Along.{Along-keeps}
 use Rattle.run_model.proofs.Matched.{none_matched}
 use Rattle.run_model.proofs.Positions.{name_at-below, name_at-rises, new_name}
-use Rattle.run_model.proofs.StartLemmas.{slice_get-append, slice_get-below, slice_get-last}
-use Rattle.run_model.proofs.Views.{option_cases, test_cases}
-use Rattle.picked_runs.proofs.Pairing.{new_free, new_partner, old_partner, partner_of-past, same_name-true}
+use Rattle.run_model.proofs.StartLemmas.{slice_get-last}
+use Rattle.run_model.proofs.Views.{test_cases}
+use Rattle.picked_runs.proofs.Pairing.{new_free, new_partner, old_partner, same_name-true}
 use Rattle.picked_runs.proofs.Grown.{Grows-event, pairs_of-push}
 use Rattle.causes.specs.Positions.{is_mate_of, is_there, listed, mate_in, mates_of, positions}
 use Rattle.causes.proofs.PositionLemmas.{positions-push}
@@ -30,9 +30,6 @@ pub record HasMates (events : List Event) : Type 0 where
   pub placed : (at : ℕ) (name : Name) → name_at events at ≡ Some name → IsPlaced events (partner_of (pairs_of events) name) (mates_of events at)
   pub early : (at : ℕ) → length events ≤ at → positions (is_mate_of at) 0 events ≡ []
 
-take_front : {A : Type 0} (xs ys : List A) (k : ℕ) → k ≤ length xs → take k (xs ++ ys) ≡ take k xs
-take_front xs ys k low = take-append-le k xs ys low
-
 get_front : {A : Type 0} (xs ys : List A) (k : ℕ) → k < length xs → slice_get (xs ++ ys) k ≡ slice_get xs k
 get_front [] ys k low = absurd (omega (arith, low))
 get_front (x ∷ xs) ys zero low = refl
@@ -44,7 +41,7 @@ seam_name before event t = rw (take-append_seam before (event ∷ []), slice_get
 
 -- names stay
 pub name_front : (before rest : List Event) (at : ℕ) → at < length before → name_at (before ++ rest) at ≡ name_at before at
-name_front before rest at low = rw (take_front before rest at (omega (arith, low)), get_front before rest at low) refl
+name_front before rest at low = rw (take-append-le at before rest (omega (arith, low)), get_front before rest at low) refl
 
 name_stays : (before rest : List Event) (at : ℕ) (name : Name) → name_at before at ≡ Some name → name_at (before ++ rest) at ≡ Some name
 name_stays before rest at name h = name_front before rest at (name_at-below before at name h) ∙ h

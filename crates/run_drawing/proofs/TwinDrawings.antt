@@ -1,6 +1,6 @@
 -- Two such runs have one drawing.
-use Rattle.std.proofs.Common.{◌≡◌, ◌≤◌, ◌<◌, ◌+◌, ◌-◌, ◌==◌, ◌&&◌, ◌⊎◌, ◌↔◌, ◌++◌, ◌∷◌, [], ℕ, ℤ, zero, suc, Bool, List, Option, Some, None, true, false, not, if◌then◌else◌, find, flat_map, inl, inr, refl, ap, sym, ◌∙◌, arith, get_or, length, map, max, nat_lt, slice_get, slice_index, subst, take}
-use Rattle.std.proofs.lemmas.Bool.{and_parts, cases_lt, eq-eqb, eqb-true, false_from_ne_true}
+use Rattle.std.proofs.Common.{◌≡◌, ◌≤◌, ◌+◌, ◌-◌, ◌==◌, ◌&&◌, ◌⊎◌, ◌↔◌, ◌∷◌, [], ℕ, ℤ, zero, suc, Bool, List, Option, Some, None, true, false, not, if◌then◌else◌, inl, inr, refl, ap, sym, ◌∙◌, arith, get_or, length, map, max, slice_get, slice_index, subst, take}
+use Rattle.std.proofs.lemmas.Bool.{and_parts, cases_lt, eqb-true, false_from_ne_true}
 use Rattle.std.specs.List.{list_any}
 use Rattle.mpi_call.specs.declared.call.Call.{Call}
 use Rattle.mpi_call.specs.declared.call.Call.TheVariants.{Abort, End, Enter, Peek, Post, Send, Take, Trap}
@@ -14,7 +14,7 @@ use Rattle.mpi_call.specs.Acceptance.{accepts}
 use Rattle.mpi_call.specs.Calls.{listed_by}
 use Rattle.mpi_call.specs.Lists.{IsIn}
 use Rattle.run_model.specs.declared.event.Event.{Event}
-use Rattle.run_model.specs.Views.{Next, View, is_start, view_of}
+use Rattle.run_model.specs.Views.{Next, View, is_start}
 use Rattle.run_model.proofs.ChosenGots.{accepted_send}
 use Rattle.run_model.proofs.StartLemmas.{slice_get-below}
 use Rattle.run_model.proofs.Views.{test_cases}
@@ -26,7 +26,7 @@ use Rattle.causes.specs.Steps.{rests_on}
 use Rattle.causes.proofs.PositionLemmas.{placed-in}
 use Rattle.msg_races.specs.declared.sends.Way.{Way}
 use Rattle.msg_races.specs.Listing.{joined}
-use Rattle.msg_races.specs.Ways.{goes, tag_named, tag_of}
+use Rattle.msg_races.specs.Ways.{goes, tag_of}
 use Rattle.run_drawing.specs.declared.drawing.Arrow.{Arrow}
 use Rattle.run_drawing.specs.declared.drawing.Collective.{Collective}
 use Rattle.run_drawing.specs.declared.drawing.Mark.{Mark}
@@ -36,16 +36,16 @@ use Rattle.run_drawing.specs.declared.drawing.Receive.{Receive}
 use Rattle.run_drawing.specs.declared.drawing.Unreceived.{Unreceived}
 use Rattle.run_drawing.specs.declared.links.Link.{Link}
 use Rattle.run_drawing.specs.Basis.{Basis}
-use Rattle.run_drawing.specs.Choices.{choice_beside, choice_of, choices, first_open, is_done_before, is_open, unless_late, way_of}
+use Rattle.run_drawing.specs.Choices.{choice_beside, first_open, is_done_before, is_open, unless_late, way_of}
 use Rattle.run_drawing.specs.Columns.{behind_all, behind_first, column, column_behind, column_by, columns_of, point, rank_in, stops}
-use Rattle.run_drawing.specs.Drawings.{IsDrawing, arrow_from, choices_by, collective_at, collective_by, collective_in, collective_of, column_in, drawn, end_of, groups_of, is_any, is_wildcard, is_wildcard_at, is_wildcard_in, latest_of, mark_at, marks_from, marks_of, message_by, message_from, of_events, of_starts, probe_at, probe_by, probe_in, receive_at, receive_by, receive_in, receive_of, takes_wildcard, takes_wildcard_in, unreceived_at, unreceived_by, unreceived_in, unreceived_of}
+use Rattle.run_drawing.specs.Drawings.{arrow_from, choices_by, collective_at, collective_by, collective_in, collective_of, column_in, drawn, end_of, groups_of, is_any, is_wildcard, is_wildcard_at, is_wildcard_in, latest_of, mark_at, marks_from, marks_of, message_by, message_from, of_events, of_starts, probe_at, probe_by, probe_in, receive_at, receive_by, receive_in, receive_of, takes_wildcard, takes_wildcard_in, unreceived_at, unreceived_by, unreceived_in, unreceived_of}
 use Rattle.run_drawing.specs.Drawn.{Drawn}
 use Rattle.run_drawing.specs.Laws.{SameDrawing}
 use Rattle.run_drawing.specs.Links.{cause_at, cause_in, completion_in, deepest, last_of, taker_in}
 use Rattle.run_drawing.proofs.Alike.{AreAlike, IsAlike, alike_find, find_found, same_flat, same_joined}
 use Rattle.run_drawing.proofs.ColumnLemmas.{going_behind}
-use Rattle.run_drawing.proofs.Twins.{AreSaid, IsTwin, as_many_seen, longer_twins, own_twins, place_of, said, same_less, same_test, turned, twin_there}
-use Rattle.run_drawing.proofs.TwinLinks.{AreTwinSides, IsTwinLink, as_deep, completion_twins, deepest_twins, fronts_deep, links_of, turned_sides}
+use Rattle.run_drawing.proofs.Twins.{AreSaid, IsTwin, as_many_seen, own_twins, place_of, said, same_less, same_test, turned, twin_there}
+use Rattle.run_drawing.proofs.TwinLinks.{AreTwinSides, IsTwinLink, as_deep, completion_twins, deepest_twins, fronts_deep, links_of, longer_alike, turned_sides}
 use Rattle.run_drawing.proofs.TwinRuns.{before_over, moment, rests_twins, turned_runs, whole_agree}
 use Rattle.run_drawing.proofs.TwinStarts.{IsTestOf, all_passing, both_or_none, start_test, start_twins}
 use Rattle.run_drawing.proofs.TwinTakers.{taker_rank, taker_twins}
@@ -568,12 +568,6 @@ probe_same_by pair Done p q twin causes = refl
 probe_same_by pair NotYet p q twin causes = refl
 probe_same_by pair (Took items) p q twin causes = refl
 probe_same_by pair (Stopped halt) p q twin causes = refl
-
-longer_alike : (one other : List Event) (j k : ℕ) (o o' : Option ℕ) → IsAlike (IsTwin (take j one) (take k other)) o o' → IsAlike (IsTwin one other) o o'
-longer_alike one other j k None None is = tt
-longer_alike one other j k None (Some q) is = absurd is
-longer_alike one other j k (Some p) None is = absurd is
-longer_alike one other j k (Some p) (Some q) is = longer_twins one other j k p q is
 
 causes_same : (pair : Pair) (p q : ℕ) → Twin pair p q → IsAlike (Twin pair) (cause_at pair.n pair.one pair.depths p) (cause_at pair.n pair.other pair.depths' q)
 causes_same pair p q twin =

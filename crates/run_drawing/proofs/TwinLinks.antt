@@ -1,41 +1,32 @@
 -- In two such runs the links of twins are twins.
-use Rattle.std.proofs.Common.{◌≡◌, ◌≤◌, ◌<◌, ◌+◌, ◌==◌, ◌&&◌, ◌++◌, ◌∷◌, [], ℕ, ℤ, zero, suc, Bool, List, Option, Some, None, true, false, if◌then◌else◌, find, inl, inr, refl, ap, sym, ◌∙◌, arith, get_or, length, length-take-le, nat_lt, slice_get, slice_index, subst, take}
-use Rattle.std.proofs.lemmas.Bool.{and_parts, eq-eqb, eqb-true}
+use Rattle.std.proofs.Common.{◌≡◌, ◌<◌, ◌==◌, ◌++◌, ◌∷◌, [], ℕ, zero, suc, List, Option, Some, None, true, false, inl, inr, refl, ap, sym, ◌∙◌, arith, get_or, length, length-take-le, nat_lt, slice_get, slice_index, subst, take}
+use Rattle.std.proofs.lemmas.Bool.{eq-eqb, eqb-true}
 use Rattle.mpi_call.specs.declared.call.Call.{Call}
-use Rattle.mpi_call.specs.declared.call.Call.TheVariants.{Abort, End, Enter, Peek, Post, Send, Take, Trap}
-use Rattle.mpi_call.specs.declared.reply.Got.{Got}
-use Rattle.mpi_call.specs.declared.reply.Got.TheVariants.{Joined, Made, Message as GotMessage, Nothing, Sent}
 use Rattle.mpi_call.specs.declared.reply.Item.{Item}
 use Rattle.mpi_call.specs.declared.reply.Reply.{Reply}
 use Rattle.mpi_call.specs.declared.reply.Reply.TheVariants.{Done, NotYet, Peeked, Stopped, Took}
-use Rattle.mpi_call.specs.Acceptance.{accepts, source_agrees, tag_agrees}
 use Rattle.mpi_call.specs.Calls.{listed_by}
 use Rattle.mpi_call.specs.Lists.{IsIn}
 use Rattle.mpi_call.specs.Members.{is_distinct, is_member}
-use Rattle.mpi_call.specs.Needs.{needs}
 use Rattle.run_model.specs.declared.event.Event.{Event}
-use Rattle.run_model.specs.Communicators.{is_on, members_in}
-use Rattle.run_model.specs.Pairs.{Name, Takes, name_at, named, pairs_of, partner_of, post_accepts}
+use Rattle.run_model.specs.Pairs.{Name, name_at}
 use Rattle.run_model.specs.Run.{IsRun}
-use Rattle.run_model.specs.Views.{Next, is_start, items_taken, start_at, view_of}
+use Rattle.run_model.specs.Views.{Next, items_taken}
 use Rattle.run_model.proofs.StartLemmas.{slice_get-below}
 use Rattle.run_model.proofs.Taken.{TakesAt, distinct_parts, event_there, reply_taken, taken_once}
-use Rattle.run_model.proofs.Views.{option_cases, test_cases}
-use Rattle.causes.specs.Positions.{enter_position, instance_at, is_enter_of, is_start_of, is_there, listed, mates_of, positions, start_position}
-use Rattle.causes.specs.Steps.{collected_from, completed_from, entered_by, entered_one, given_at, given_by, given_from, received_at}
-use Rattle.causes.proofs.PositionLemmas.{placed-in}
+use Rattle.run_model.proofs.Views.{test_cases}
+use Rattle.causes.specs.Positions.{is_start_of, start_position}
+use Rattle.causes.specs.Steps.{completed_from}
 use Rattle.msg_races.specs.Listing.{joined}
 use Rattle.msg_races.proofs.SortedLists.{in_back, in_front, in_parts, joined_in}
 use Rattle.run_drawing.specs.declared.links.Link.{Link}
 use Rattle.run_drawing.specs.Depths.{AreDepths}
-use Rattle.run_drawing.specs.Links.{completion_in, deeper, deepest, link_by, links_at, links_by, links_from, links_in, taker_in, with_depth}
+use Rattle.run_drawing.specs.Links.{completion_in, deeper, deepest, link_by, links_at, links_by, links_from, links_in, with_depth}
 use Rattle.run_drawing.proofs.Alike.{AreAlike, IsAlike, alike_found, alike_some}
-use Rattle.run_drawing.proofs.ArrowLemmas.{get_in, in_joined}
-use Rattle.run_drawing.proofs.Deepest.{deepest_among, there_known}
-use Rattle.run_drawing.proofs.Grounds.{IsCompleted, from_partner, item_completed, sync_paired}
-use Rattle.run_drawing.proofs.Mates.{HasMates, IsPlaced, run_mates}
+use Rattle.run_drawing.proofs.ArrowLemmas.{in_joined}
+use Rattle.run_drawing.proofs.Deepest.{there_known}
 use Rattle.run_drawing.proofs.Twins.{IsTwin, longer_passing, longer_twins, one_twin, place_of, turned, twin_there}
-use Rattle.run_drawing.proofs.TwinRuns.{AreTwinRuns, IsMoment, call_there, front_run, item_taken, item_twins, moment, partner_later, same_depth, start_later, turned_runs}
+use Rattle.run_drawing.proofs.TwinRuns.{AreTwinRuns, item_taken, item_twins, moment, same_depth, turned_runs}
 use Rattle.run_drawing.proofs.TwinStarts.{start_named, start_twins}
 
 -- 1. the deepest of twins
@@ -243,7 +234,7 @@ pub record IsTwinLink (one other : List Event) (link link' : Link) : Type 0 wher
   pub at : IsTwin one other link.at link'.at
   pub cause : IsAlike (IsTwin one other) link.cause link'.cause
 
-longer_alike : (one other : List Event) (j k : ℕ) (o o' : Option ℕ) → IsAlike (IsTwin (take j one) (take k other)) o o' → IsAlike (IsTwin one other) o o'
+pub longer_alike : (one other : List Event) (j k : ℕ) (o o' : Option ℕ) → IsAlike (IsTwin (take j one) (take k other)) o o' → IsAlike (IsTwin one other) o o'
 longer_alike one other j k None None is = tt
 longer_alike one other j k None (Some q) is = absurd is
 longer_alike one other j k (Some p) None is = absurd is

@@ -1,24 +1,20 @@
 -- Two runs with the same views and the same mates: twins rest on twins, have one depth, and are before twins.
-use Rattle.std.proofs.Common.{◌≡◌, ◌≤◌, ◌<◌, ◌+◌, ◌==◌, ◌&&◌, ◌++◌, ◌∷◌, [], ℕ, ℤ, zero, suc, Bool, List, Option, Some, None, true, false, if◌then◌else◌, inl, inr, append-nil, refl, ap, sym, ◌∙◌, arith, drop, length, slice_get, slice_index, subst, take}
+use Rattle.std.proofs.Common.{◌≡◌, ◌<◌, ◌==◌, ◌++◌, ◌∷◌, [], ℕ, zero, suc, List, Option, Some, None, true, false, inl, inr, refl, ap, sym, ◌∙◌, arith, drop, length, slice_get, slice_index, subst, take}
 use Rattle.std.proofs.lemmas.Bool.{eq-eqb, or_left, or_right}
-use Rattle.std.proofs.lemmas.List.{take-append-le}
+use Rattle.std.proofs.lemmas.List.{take-append-drop}
+use Rattle.std.proofs.lemmas.List.Folds.{list_any-append}
 use Rattle.mpi_call.specs.declared.call.Call.{Call}
-use Rattle.mpi_call.specs.declared.call.Call.TheVariants.{Abort, End, Enter, Peek, Post, Send, Take, Trap}
 use Rattle.mpi_call.specs.declared.reply.Got.{Got}
-use Rattle.mpi_call.specs.declared.reply.Got.TheVariants.{Joined, Made, Message as GotMessage, Nothing, Sent}
 use Rattle.mpi_call.specs.declared.reply.Item.{Item}
 use Rattle.mpi_call.specs.declared.reply.Reply.{Reply}
 use Rattle.mpi_call.specs.declared.reply.Reply.TheVariants.{Done, NotYet, Peeked, Stopped, Took}
 use Rattle.mpi_call.specs.Calls.{listed_by}
 use Rattle.mpi_call.specs.Lists.{IsIn}
 use Rattle.mpi_call.specs.Members.{is_member}
-use Rattle.mpi_call.specs.Needs.{needs}
 use Rattle.run_model.specs.declared.event.Event.{Event}
-use Rattle.run_model.specs.Communicators.{Entered, count_on, enter_at, instance_of, is_on, known_first, members_in}
-use Rattle.run_model.specs.Pairs.{Name, name_at, named, pairs_from, pairs_of, partner_of, same_name}
+use Rattle.run_model.specs.Pairs.{Name, pairs_from, pairs_of, partner_of, same_name}
 use Rattle.run_model.specs.Run.{IsEvent, IsRun}
-use Rattle.run_model.specs.Views.{Next, View, is_start, items_taken, start_at, starts_of, taken_of, view_of}
-use Rattle.run_model.proofs.Enters.{entered_from-count}
+use Rattle.run_model.specs.Views.{Next, View, items_taken, start_at, starts_of, taken_of, view_of}
 use Rattle.run_model.proofs.Places.{view_at}
 use Rattle.run_model.proofs.RunLaws.{IsRun-front}
 use Rattle.run_model.proofs.StartLemmas.{slice_get-append, slice_get-below, starts_of-append}
@@ -27,10 +23,8 @@ use Rattle.run_model.proofs.Views.{option_cases, test_cases, view_of-append}
 use Rattle.picked_runs.proofs.Grown.{pairs_from-append}
 use Rattle.causes.specs.Before.{IsBefore, IsDirectlyBefore, IsOwn, IsStep}
 use Rattle.causes.specs.Before.IsBefore.{path, step}
-use Rattle.causes.specs.Positions.{enter_position, instance_at, is_enter_of, is_of, is_start_of, listed, mates_of, positions, start_position}
-use Rattle.causes.specs.Steps.{collected_from, completed_from, entered_by, entered_one, given_at, given_by, given_from, received_at, rests_on, taken_from}
-use Rattle.causes.specs.Tables.{count_below}
-use Rattle.causes.proofs.Deciding.{below_some}
+use Rattle.causes.specs.Positions.{is_start_of, start_position}
+use Rattle.causes.specs.Steps.{completed_from, given_at, given_by, given_from, rests_on, taken_from}
 use Rattle.causes.proofs.NewClocks.{own_step}
 use Rattle.causes.proofs.Paths.{step-less}
 use Rattle.causes.proofs.PositionLemmas.{count_below-positions}
@@ -38,10 +32,11 @@ use Rattle.msg_races.proofs.StartNames.{start_of_name}
 use Rattle.run_drawing.specs.Depths.{IsChain, IsDepth}
 use Rattle.run_drawing.specs.Depths.IsChain.{alone, longer}
 use Rattle.run_drawing.specs.Laws.{HaveSameMates, HaveSameViews, IsAwaited, is_synchronous}
-use Rattle.run_drawing.proofs.Alike.{AreAlike, IsAlike, alike_append, alike_in, alike_listed}
+use Rattle.run_drawing.proofs.Alike.{AreAlike, IsAlike, alike_append, alike_in}
 use Rattle.run_drawing.proofs.DepthLemmas.{get_taken}
-use Rattle.run_drawing.proofs.Grounds.{IsCompleted, from_partner, item_completed, needed_entered, peeked_sent, sync_paired}
-use Rattle.run_drawing.proofs.Mates.{HasMates, IsPlaced, run_mates}
+use Rattle.run_drawing.proofs.Grounds.{IsCompleted, item_completed, peeked_sent}
+use Rattle.run_drawing.proofs.LaneLemmas.{parted}
+use Rattle.run_drawing.proofs.Mates.{run_mates}
 use Rattle.run_drawing.proofs.Twins.{AreSaid, HaveOneFuture, IsTwin, agree_fronts, longer_twins, number_there, one_twin, place_of, said, same_order, turned, twin_there}
 use Rattle.run_drawing.proofs.TwinStarts.{many_starts, start_named, start_twins}
 use Rattle.run_drawing.proofs.TwinSteps.{AreFronts, HasOnePartner, given_twins, sent_twins}
@@ -70,14 +65,9 @@ turned_runs next n one other runs =
           })));
     }
 
-taken_dropped : {A : Type 0} (k : ℕ) (xs : List A) → take k xs ++ drop k xs ≡ xs
-taken_dropped zero xs = refl
-taken_dropped (suc k) [] = refl
-taken_dropped (suc k) (x ∷ xs) = ap (λ l. x ∷ l) (taken_dropped k xs)
-
 -- a view is its beginning and the rest
 view_parts : (events : List Event) (k rank : ℕ) → view_of (take k events) rank ++ view_of (drop k events) rank ≡ view_of events rank
-view_parts events k rank = sym (view_of-append (take k events) (drop k events) rank) ∙ ap (λ l. view_of l rank) (taken_dropped k events)
+view_parts events k rank = sym (view_of-append (take k events) (drop k events) rank) ∙ ap (λ l. view_of l rank) (take-append-drop k events)
 
 pub fronts_agree : (one other : List Event) (j k : ℕ) → HaveSameViews one other → HaveOneFuture (take j one) (take k other)
 fronts_agree one other j k views rank =
@@ -90,7 +80,7 @@ whole_agree one other views rank = agree_fronts (view_of one rank) (view_of othe
 pub front_run : (next : Next) (n : ℕ) (events : List Event) (k : ℕ) → IsRun next n events → IsRun next n (take k events)
 front_run next n events k run =
     let R : List Event → Type 0 = λ l. IsRun next n l in
-    IsRun-front next n (take k events) (drop k events) (subst R (sym (taken_dropped k events)) run)
+    IsRun-front next n (take k events) (drop k events) (subst R (sym (take-append-drop k events)) run)
 
 -- 2. twins and the events before them
 
@@ -130,7 +120,7 @@ pub partner_later : (events : List Event) (k : ℕ) (a b : Name) → partner_of 
 partner_later events k a b h =
     let front : List Event = take k events in
     let rest : List Event = drop k events in
-    let grown : pairs_of events ≡ pairs_of front ++ pairs_from front rest = ap pairs_of (sym (taken_dropped k events)) ∙ pairs_from-append [] front rest in
+    let grown : pairs_of events ≡ pairs_of front ++ pairs_from front rest = ap pairs_of (sym (take-append-drop k events)) ∙ pairs_from-append [] front rest in
     ap (λ l. partner_of l a) grown ∙ partner_stays (pairs_of front) (pairs_from front rest) a b h
 
 -- starts stay
@@ -158,17 +148,6 @@ item_taken starts (first ∷ items) item there =
       | inr later ↦ or_right (number first == number item) (is_member (items_taken starts items) (number item)) (item_taken starts items item later)
     ]
 
-member_front : (xs ys : List ℕ) (k : ℕ) → is_member xs k ≡ true → is_member (xs ++ ys) k ≡ true
-member_front [] ys k h = absurd (cc)
-member_front (x ∷ xs) ys k h = elim (test_cases (x == k)) [
-  | inl t ↦ or_left (x == k) (is_member (xs ++ ys) k) t
-  | inr t ↦ or_right (x == k) (is_member (xs ++ ys) k) (member_front xs ys k (rw t at h))
-]
-
-member_back : (xs ys : List ℕ) (k : ℕ) → is_member ys k ≡ true → is_member (xs ++ ys) k ≡ true
-member_back [] ys k h = h
-member_back (x ∷ xs) ys k h = or_right (x == k) (is_member (xs ++ ys) k) (member_back xs ys k h)
-
 taken_seen : (view : View) (i : ℕ) (call : Call) (reply : Reply) (items : List Item) (k : ℕ) → slice_get view i ≡ Some (call, reply) → reply ≡ Took items
     → is_member (items_taken (listed_by call) items) k ≡ true → is_member (taken_of view) k ≡ true
 taken_seen [] i call reply items k h took there = absurd (cc)
@@ -178,9 +157,10 @@ taken_seen ((c, r) ∷ view) zero call reply items k h took there =
     let called : call ≡ c = ap (λ (p : Call × Reply). p.0) (sym pair) in
     let C : Call → Type 0 = λ x. is_member (items_taken (listed_by x) items) k ≡ true in
     let R : Reply → Type 0 = λ x. is_member (taken_of ((c, x) ∷ view)) k ≡ true in
-    subst R (sym replied) (member_front (items_taken (listed_by c) items) (taken_of view) k (subst C called there))
+    subst R (sym replied) (list_any-append (λ x. x == k) (items_taken (listed_by c) items) (taken_of view) ∙ or_left (is_member (items_taken (listed_by c) items) k) (is_member (taken_of view) k) (subst C called there))
 taken_seen ((c, Took others) ∷ view) (suc i) call reply items k h took there =
-    member_back (items_taken (listed_by c) others) (taken_of view) k (taken_seen view i call reply items k h took there)
+    list_any-append (λ x. x == k) (items_taken (listed_by c) others) (taken_of view)
+    ∙ or_right (is_member (items_taken (listed_by c) others) k) (is_member (taken_of view) k) (taken_seen view i call reply items k h took there)
 taken_seen ((c, Done) ∷ view) (suc i) call reply items k h took there = taken_seen view i call reply items k h took there
 taken_seen ((c, NotYet) ∷ view) (suc i) call reply items k h took there = taken_seen view i call reply items k h took there
 taken_seen ((c, Peeked source start tag count) ∷ view) (suc i) call reply items k h took there = taken_seen view i call reply items k h took there
@@ -219,11 +199,6 @@ call_there events rank number at event here there =
     ∙ (ap (slice_get (starts_of (view_of front rank) ++ is.event.call ∷ starts_of (view_of rest rank))) counted
     ∙ (seam (starts_of (view_of front rank)) (starts_of (view_of rest rank)) is.event.call ∙ ap (λ (e : Event). Some e.call) same))
   where
-    parted : {A : Type 0} (xs : List A) (u : ℕ) (x : A) → slice_get xs u ≡ Some x → take u xs ++ x ∷ drop (suc u) xs ≡ xs
-    parted [] u x h = absurd (cc)
-    parted (y ∷ xs) zero x h = (let same : x ≡ y = cc in ap (λ z. z ∷ xs) same)
-    parted (y ∷ xs) (suc u) x h = ap (λ l. y ∷ l) (parted xs u x h)
-
     seam : {A : Type 0} (xs ys : List A) (x : A) → slice_get (xs ++ x ∷ ys) (length xs) ≡ Some x
     seam [] ys x = refl
     seam (y ∷ xs) ys x = seam xs ys x

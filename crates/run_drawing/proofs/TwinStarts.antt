@@ -1,15 +1,14 @@
 -- Twin starts and Enters: the same number in the same rank's view.
-use Rattle.std.proofs.Common.{◌≡◌, ◌<◌, ◌+◌, ◌==◌, ◌&&◌, ◌++◌, ◌∷◌, [], ℕ, zero, suc, Bool, List, Option, Some, None, true, false, if◌then◌else◌, inl, inr, refl, ap, sym, ◌∙◌, arith, drop, length, slice_get, subst, take}
-use Rattle.std.proofs.lemmas.Bool.{eq-eqb}
+use Rattle.std.proofs.Common.{◌≡◌, ◌+◌, ◌==◌, ◌&&◌, ◌++◌, ◌∷◌, [], ℕ, zero, suc, Bool, List, Some, true, false, if◌then◌else◌, inl, inr, refl, ap, sym, ◌∙◌, arith, length, slice_get, subst}
 use Rattle.mpi_call.specs.declared.call.Call.{Call}
 use Rattle.mpi_call.specs.declared.reply.Reply.{Reply}
 use Rattle.run_model.specs.declared.event.Event.{Event}
 use Rattle.run_model.specs.Communicators.{count_on, is_on}
 use Rattle.run_model.specs.Pairs.{Name, name_at}
 use Rattle.run_model.specs.Views.{View, is_start, start_at, starts_of, view_of}
-use Rattle.run_model.proofs.StartLemmas.{slice_get-below, starts_of-append}
-use Rattle.run_model.proofs.Views.{option_cases, test_cases, view_of-append}
-use Rattle.causes.specs.Positions.{enter_position, is_enter_of, is_of, is_start_of, positions, start_position}
+use Rattle.run_model.proofs.StartLemmas.{slice_get-below}
+use Rattle.run_model.proofs.Views.{test_cases}
+use Rattle.causes.specs.Positions.{is_enter_of, is_of, is_start_of, positions, start_position}
 use Rattle.causes.proofs.Deciding.{below_some}
 use Rattle.causes.proofs.PositionLemmas.{in-placed}
 use Rattle.msg_races.proofs.StartNames.{AreNumbered, start_of_name, starts_numbered}

@@ -1,48 +1,30 @@
 -- In two runs with the same views and the same mates twins rest on twins, and have one depth.
-use Rattle.std.proofs.Common.{◌≡◌, ◌≤◌, ◌<◌, ◌+◌, ◌==◌, ◌&&◌, ◌++◌, ◌∷◌, [], ℕ, ℤ, zero, suc, Bool, List, Option, Some, None, true, false, if◌then◌else◌, inl, inr, append-nil, refl, ap, sym, ◌∙◌, arith, drop, length, slice_get, slice_index, subst, take}
-use Rattle.std.proofs.lemmas.Bool.{eq-eqb, or_left, or_right}
-use Rattle.std.proofs.lemmas.List.{take-append-le}
+use Rattle.std.proofs.Common.{◌≡◌, ◌++◌, ◌∷◌, [], ℕ, Bool, List, Option, Some, true, false, inl, inr, refl, ap, sym, ◌∙◌, arith, drop, length, subst, take, take_all}
+use Rattle.std.proofs.lemmas.List.{take-append-drop, take-append-le}
 use Rattle.mpi_call.specs.declared.call.Call.{Call}
 use Rattle.mpi_call.specs.declared.call.Call.TheVariants.{Abort, End, Enter, Peek, Post, Send, Take, Trap}
 use Rattle.mpi_call.specs.declared.reply.Got.{Got}
 use Rattle.mpi_call.specs.declared.reply.Got.TheVariants.{Joined, Made, Message as GotMessage, Nothing, Sent}
-use Rattle.mpi_call.specs.declared.reply.Item.{Item}
-use Rattle.mpi_call.specs.declared.reply.Reply.{Reply}
-use Rattle.mpi_call.specs.declared.reply.Reply.TheVariants.{Done, NotYet, Peeked, Stopped, Took}
-use Rattle.mpi_call.specs.Calls.{listed_by}
 use Rattle.mpi_call.specs.Lists.{IsIn}
-use Rattle.mpi_call.specs.Members.{is_member}
 use Rattle.mpi_call.specs.Needs.{needs}
 use Rattle.run_model.specs.declared.event.Event.{Event}
-use Rattle.run_model.specs.Communicators.{Entered, count_on, enter_at, instance_of, is_on, known_first, members_in}
-use Rattle.run_model.specs.Pairs.{Name, name_at, named, pairs_from, pairs_of, partner_of, same_name}
-use Rattle.run_model.specs.Run.{IsEvent, IsRun}
-use Rattle.run_model.specs.Views.{Next, View, is_start, items_taken, start_at, starts_of, taken_of, view_of}
+use Rattle.run_model.specs.Communicators.{Entered, count_on, enter_at, instance_of, known_first, members_in}
+use Rattle.run_model.specs.Pairs.{Name, pairs_of, partner_of}
+use Rattle.run_model.specs.Views.{View, is_start, start_at, starts_of, view_of}
 use Rattle.run_model.proofs.Enters.{entered_from-count}
-use Rattle.run_model.proofs.RunLaws.{IsRun-front}
-use Rattle.run_model.proofs.StartLemmas.{slice_get-append, slice_get-below, starts_of-append}
-use Rattle.run_model.proofs.Taken.{event_there}
-use Rattle.run_model.proofs.Views.{option_cases, test_cases, view_of-append}
-use Rattle.picked_runs.proofs.Grown.{pairs_from-append}
-use Rattle.causes.specs.Before.{IsBefore, IsDirectlyBefore, IsOwn, IsStep}
-use Rattle.causes.specs.Before.IsBefore.{path, step}
-use Rattle.causes.specs.Positions.{enter_position, instance_at, is_enter_of, is_of, is_start_of, listed, mates_of, positions, start_position}
-use Rattle.causes.specs.Steps.{collected_from, completed_from, entered_by, entered_one, given_at, given_by, given_from, received_at, rests_on, taken_from}
-use Rattle.causes.specs.Tables.{count_below}
+use Rattle.run_model.proofs.StartLemmas.{slice_get-below, starts_of-append}
+use Rattle.run_model.proofs.Views.{test_cases, view_of-append}
+use Rattle.causes.specs.Positions.{enter_position, instance_at, is_enter_of, is_start_of, listed, mates_of, positions, start_position}
+use Rattle.causes.specs.Steps.{collected_from, entered_by, given_from, received_at}
 use Rattle.causes.proofs.Deciding.{below_some}
-use Rattle.causes.proofs.NewClocks.{own_step}
-use Rattle.causes.proofs.Paths.{step-less}
 use Rattle.causes.proofs.PositionLemmas.{count_below-positions}
 use Rattle.msg_races.proofs.StartNames.{start_of_name}
-use Rattle.run_drawing.specs.Depths.{IsChain, IsDepth}
-use Rattle.run_drawing.specs.Depths.IsChain.{alone, longer}
-use Rattle.run_drawing.specs.Laws.{HaveSameMates, HaveSameViews, IsAwaited, is_synchronous}
-use Rattle.run_drawing.proofs.Alike.{AreAlike, IsAlike, alike_append, alike_in, alike_listed}
-use Rattle.run_drawing.proofs.DepthLemmas.{get_taken}
-use Rattle.run_drawing.proofs.Grounds.{IsCompleted, from_partner, item_completed, needed_entered, peeked_sent, sync_paired}
-use Rattle.run_drawing.proofs.Mates.{HasMates, IsPlaced, run_mates}
-use Rattle.run_drawing.proofs.Twins.{AreSaid, HaveOneFuture, IsTwin, agree_fronts, longer_twins, number_there, one_twin, place_of, said, same_order, turned, twin_there}
-use Rattle.run_drawing.proofs.TwinStarts.{enter_test, is_enter_on, many_enters, many_starts, named_start, named_twins, passing_twins, start_named, start_test, start_there, start_twins}
+use Rattle.run_drawing.specs.Laws.{is_synchronous}
+use Rattle.run_drawing.proofs.Alike.{AreAlike}
+use Rattle.run_drawing.proofs.Grounds.{IsCompleted, from_partner, needed_entered, sync_paired}
+use Rattle.run_drawing.proofs.Mates.{HasMates, IsPlaced}
+use Rattle.run_drawing.proofs.Twins.{HaveOneFuture, IsTwin}
+use Rattle.run_drawing.proofs.TwinStarts.{enter_test, is_enter_on, many_enters, many_starts, named_twins, passing_twins, start_named, start_test, start_there}
 
 -- 1. what a start's completion rests on
 
@@ -60,23 +42,14 @@ instance_is events me number comm at there =
     let rest : List Event = drop at events in
     let is = start_of_name events me number at (start_named events me number at there) in
     let counted : number ≡ length (starts_of (view_of front me)) = is.number_is ∙ (count_below-positions (is_start_of me) at events ∙ many_starts me 0 front) in
-    let whole : view_of events me ≡ view_of front me ++ view_of rest me = ap (λ l. view_of l me) (sym (taken_dropped at events)) ∙ view_of-append front rest me in
+    let whole : view_of events me ≡ view_of front me ++ view_of rest me = ap (λ l. view_of l me) (sym (take-append-drop at events)) ∙ view_of-append front rest me in
     let starts : starts_of (view_of events me) ≡ starts_of (view_of front me) ++ starts_of (view_of rest me) = ap starts_of whole ∙ starts_of-append (view_of front me) (view_of rest me) in
     let cut : take number (starts_of (view_of events me)) ≡ starts_of (view_of front me) =
     ap (take number) starts
     ∙ (ap (λ k. take k (starts_of (view_of front me) ++ starts_of (view_of rest me))) counted
     ∙ (take-append-le (length (starts_of (view_of front me))) (starts_of (view_of front me)) (starts_of (view_of rest me)) (omega arith)
-    ∙ all_taken (starts_of (view_of front me)))) in
+    ∙ take_all (length (starts_of (view_of front me))) (starts_of (view_of front me)) (omega arith))) in
     many_enters me comm 0 front ∙ ap (count_on comm) (sym cut)
-  where
-    taken_dropped : {A : Type 0} (k : ℕ) (xs : List A) → take k xs ++ drop k xs ≡ xs
-    taken_dropped zero xs = refl
-    taken_dropped (suc k) [] = refl
-    taken_dropped (suc k) (x ∷ xs) = ap (λ l. x ∷ l) (taken_dropped k xs)
-
-    all_taken : {A : Type 0} (xs : List A) → take (length xs) xs ≡ xs
-    all_taken [] = refl
-    all_taken (x ∷ xs) = ap (λ l. x ∷ l) (all_taken xs)
 
 -- an Enter that is there has a position
 enter_there : (n : ℕ) (events : List Event) (m comm instance : ℕ) (entered : Entered) → enter_at n (view_of events m) comm instance ≡ Some entered

@@ -1,13 +1,11 @@
 -- Who took a message: the links whose cause is a Send.
-use Rattle.std.proofs.Common.{◌≡◌, ◌≤◌, ◌<◌, ◌+◌, ◌==◌, ◌&&◌, ◌++◌, ◌∷◌, [], ℕ, ℤ, zero, suc, Bool, List, Option, Some, None, true, false, inl, inr, refl, ap, sym, ◌∙◌, arith, length, length-take-le, slice_get, slice_index, subst, take}
+use Rattle.std.proofs.Common.{◌≡◌, ◌≤◌, ◌==◌, ◌&&◌, ◌∷◌, [], ℕ, ℤ, zero, suc, Bool, List, Option, Some, None, true, false, inl, inr, refl, ap, sym, ◌∙◌, arith, length, slice_get, slice_index, subst, take}
 use Rattle.std.proofs.lemmas.Bool.{and_parts, eq-eqb, eqb-true}
 use Rattle.mpi_call.specs.declared.call.Call.{Call}
 use Rattle.mpi_call.specs.declared.call.Call.TheVariants.{Abort, End, Enter, Peek, Post, Send, Take, Trap}
-use Rattle.mpi_call.specs.declared.call.Source.{Source}
-use Rattle.mpi_call.specs.declared.call.Tag.{Tag}
 use Rattle.mpi_call.specs.declared.reply.Got.{Got}
 use Rattle.mpi_call.specs.declared.reply.Got.TheVariants.{Joined, Made, Message as GotMessage, Nothing, Sent}
-use Rattle.mpi_call.specs.Acceptance.{accepts, source_agrees, tag_agrees}
+use Rattle.mpi_call.specs.Acceptance.{source_agrees, tag_agrees}
 use Rattle.mpi_call.specs.Calls.{listed_by}
 use Rattle.mpi_call.specs.Lists.{IsIn}
 use Rattle.mpi_call.specs.Needs.{needs}
@@ -18,7 +16,7 @@ use Rattle.run_model.specs.Run.{IsRun}
 use Rattle.run_model.specs.Views.{Next, is_start, start_at, view_of}
 use Rattle.run_model.proofs.Taken.{event_there}
 use Rattle.run_model.proofs.Views.{test_cases}
-use Rattle.causes.specs.Positions.{enter_position, instance_at, is_enter_of, is_start_of, is_there, listed, mates_of, positions, start_position}
+use Rattle.causes.specs.Positions.{enter_position, instance_at, is_enter_of, is_start_of, is_there, mates_of, positions, start_position}
 use Rattle.causes.specs.Steps.{collected_from, completed_from, entered_by, entered_one, given_at, given_by, given_from, received_at}
 use Rattle.causes.proofs.PositionLemmas.{placed-in}
 use Rattle.msg_races.proofs.SortedLists.{in_parts}
@@ -31,7 +29,7 @@ use Rattle.run_drawing.proofs.Deepest.{deepest_among}
 use Rattle.run_drawing.proofs.Grounds.{IsCompleted, from_partner, item_completed, sync_paired}
 use Rattle.run_drawing.proofs.LaneLemmas.{get_take}
 use Rattle.run_drawing.proofs.Mates.{HasMates, IsPlaced, run_mates}
-use Rattle.run_drawing.proofs.Twins.{IsTwin, longer_passing, one_twin, place_of, said, turned}
+use Rattle.run_drawing.proofs.Twins.{IsTwin, longer_passing, one_twin, said, turned}
 use Rattle.run_drawing.proofs.TwinLinks.{AreTwinSides, IsLink, IsTwinLink, cut_at, link_found, link_over, links_of, one_of_name, same_parts, turned_sides}
 use Rattle.run_drawing.proofs.TwinRuns.{call_there, front_run, partner_later, whole_agree}
 use Rattle.run_drawing.proofs.TwinStarts.{named_start, start_named}

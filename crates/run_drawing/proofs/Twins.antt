@@ -1,17 +1,19 @@
 -- Twins: positions of two histories at which a rank has its event of one number.
-use Rattle.std.proofs.Common.{◌≡◌, ◌≤◌, ◌<◌, ◌+◌, ◌==◌, ◌&&◌, ◌++◌, ◌∷◌, [], ℕ, zero, suc, Bool, List, Option, Some, None, true, false, inl, inr, refl, ap, sym, ◌∙◌, arith, drop, length, length-take-le, nat_lt, slice_get, subst, take}
+use Rattle.std.proofs.Common.{◌≡◌, ◌<◌, ◌+◌, ◌==◌, ◌++◌, ◌∷◌, [], ℕ, zero, suc, Bool, List, Some, true, false, inl, inr, refl, ap, sym, ◌∙◌, arith, drop, length, nat_lt, slice_get, subst, take}
 use Rattle.std.proofs.lemmas.Bool.{cases_lt, cases_order, eq-eqb, eqb-true, le-ltb, lt-ltb}
+use Rattle.std.proofs.lemmas.List.{take-append-drop}
 use Rattle.mpi_call.specs.declared.call.Call.{Call}
 use Rattle.mpi_call.specs.declared.reply.Reply.{Reply}
-use Rattle.mpi_call.specs.Lists.{IsIn, Rises}
+use Rattle.mpi_call.specs.Lists.{IsIn}
 use Rattle.run_model.specs.declared.event.Event.{Event}
 use Rattle.run_model.specs.Views.{View, view_of}
 use Rattle.run_model.proofs.StartLemmas.{slice_get-append, slice_get-below}
-use Rattle.run_model.proofs.Views.{test_cases, view_of-append}
+use Rattle.run_model.proofs.Views.{test_cases}
 use Rattle.causes.specs.Positions.{is_of, positions}
 use Rattle.causes.proofs.Deciding.{below_some}
 use Rattle.causes.proofs.PositionLemmas.{in-placed, positions-append, positions-rise}
 use Rattle.run_drawing.proofs.Alike.{AreAlike, alike_each}
+use Rattle.run_drawing.proofs.LaneLemmas.{rising_less}
 
 -- where a rank's event of a number stands, and what its view says of it
 pub record IsPlace (events : List Event) (rank number at : ℕ) : Type 0 where
@@ -112,12 +114,7 @@ longer_passing test events k number p h =
     let parts : positions test 0 (front ++ rest) ≡ positions test 0 front ++ positions test (0 + length front) rest = positions-append test 0 front rest in
     let P : List Event → Type 0 = λ l. slice_get (positions test 0 l) number ≡ Some p in
     let Q : List ℕ → Type 0 = λ l. slice_get l number ≡ Some p in
-    subst P (taken_dropped k events) (subst Q (sym parts) (slice_get-append (positions test 0 front) (positions test (0 + length front) rest) number p h))
-  where
-    taken_dropped : {A : Type 0} (k : ℕ) (xs : List A) → take k xs ++ drop k xs ≡ xs
-    taken_dropped zero xs = refl
-    taken_dropped (suc k) [] = refl
-    taken_dropped (suc k) (x ∷ xs) = ap (λ l. x ∷ l) (taken_dropped k xs)
+    subst P (take-append-drop k events) (subst Q (sym parts) (slice_get-append (positions test 0 front) (positions test (0 + length front) rest) number p h))
 
 pub longer_twins : (one other : List Event) (j k p q : ℕ) → IsTwin (take j one) (take k other) p q → IsTwin one other p q
 longer_twins one other j k p q twin = record {
@@ -126,19 +123,6 @@ longer_twins one other j k p q twin = record {
   first = longer_passing (is_of twin.rank) one j twin.number p twin.first;
   second = longer_passing (is_of twin.rank) other k twin.number q twin.second;
 }
-
--- rising positions of one rank
-rising_from : (low : ℕ) (xs : List ℕ) (j q : ℕ) → Rises low xs → slice_get xs j ≡ Some q → low ≤ q
-rising_from low [] j q rises h = absurd (cc)
-rising_from low (x ∷ xs) zero q rises h = (let same : x ≡ q = cc in let first = rises.0 in omega (arith, same, first))
-rising_from low (x ∷ xs) (suc j) q rises h = (let first = rises.0 in let rest = rising_from (x + 1) xs j q rises.1 h in omega (arith, first, rest))
-
-pub rising_less : (low : ℕ) (xs : List ℕ) (i j p q : ℕ) → Rises low xs → i < j → slice_get xs i ≡ Some p → slice_get xs j ≡ Some q → p < q
-rising_less low [] i j p q rises h one other = absurd (cc)
-rising_less low (x ∷ xs) i zero p q rises h one other = absurd (omega (arith, h))
-rising_less low (x ∷ xs) zero (suc j) p q rises h one other =
-    (let same : x ≡ p = cc in let rest = rising_from (x + 1) xs j q rises.1 other in omega (arith, same, rest))
-rising_less low (x ∷ xs) (suc i) (suc j) p q rises h one other = rising_less (x + 1) xs i j p q rises.1 (omega (arith, h)) one other
 
 -- the numbers of positions of one rank rise with them
 pub numbers_rise : (events : List Event) (rank i j p q : ℕ) → slice_get (positions (is_of rank) 0 events) i ≡ Some p → slice_get (positions (is_of rank) 0 events) j ≡ Some q → p < q → i < j
