@@ -2,9 +2,10 @@
 use Rattle.std.proofs.Common.{◌≡◌, ◌∙◌, ap, refl, ℕ, List, [], ◌∷◌, Err, IfOk, Ok, OnErr, Result, None, Some, true}
 use Rattle.std.specs.declared.alloc.AllocError.{AllocError}
 use Rattle.c_program.specs.Program.{next_of}
+use Rattle.group_plan.specs.Plans.{number_of_ranks}
 use Rattle.run_drawing.specs.Drawings.{IsDrawing}
 use Rattle.run_drawing.specs.Drawn.{Drawn}
-use Rattle.run_drawing.specs.Laws.{ArrowsGoRight, ColumnsRise, LanesRise}
+use Rattle.run_drawing.specs.Laws.{ArrowsGoRight, ColumnsRise, LanesRise, SameDrawing, SameMates}
 use Rattle.srr_record.specs.declared.recording.Recording.{Recording}
 use Rattle.trace_json.specs.Laws.{SpansAreDisjoint}
 use Rattle.wiz_io.specs.Files.{FilesTold}
@@ -28,8 +29,9 @@ use Rattle.wiz_cli.proofs.EndLemmas.{put_same, put_short, put_told, told_text}
 -- in the drawing of a recording all goes right
 pub goes_right : (ready : Ready) (recording : Recording) (drawing : Drawn) → IsMade true ready recording
     → IsDrawing ready.plan recording.history.events drawing → ColumnsRise → ArrowsGoRight → LanesRise (next_of ready.program)
-    → SpansAreDisjoint (next_of ready.program) → IsDrawingOf ready.plan recording.history.events drawing
-goes_right ready recording drawing made is columns arrows lanes spans =
+    → SpansAreDisjoint (next_of ready.program) → SameDrawing (next_of ready.program) → SameMates (next_of ready.program)
+    → IsDrawingOf ready.program ready.plan recording.history.events drawing
+goes_right ready recording drawing made is columns arrows lanes spans same mates =
     let run = made.is_recording.recorded.picked.run in
     record {
       is_drawing = is;
@@ -37,6 +39,8 @@ goes_right ready recording drawing made is columns arrows lanes spans =
       arrows = arrows ready.plan recording.history.events drawing is;
       lanes = λ one other. lanes ready.plan recording.history.events drawing one other run is;
       spans = λ one other. spans ready.plan recording.history.events drawing one other run is;
+      same = λ other another is_run views pairs drawn. same ready.plan recording.history.events other drawing another run is_run views pairs is drawn;
+      mates = λ other is_run views all. mates (number_of_ranks ready.plan) recording.history.events other run is_run views all;
     }
 
 -- what is told when the file is written

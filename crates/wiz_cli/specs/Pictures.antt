@@ -2,6 +2,7 @@
 use Rattle.std.specs.Prelude.{◌≡◌, ◌<◌, ◌≤◌, ◌||◌, ℕ, List, [], ◌∷◌, ◌++◌, Option, Some, None, Bool, true, false, codes, length, nat_le, slice_get}
 use Rattle.clap.specs.Words.{Text}
 use Rattle.c_program.specs.declared.program.CProgram.{CProgram}
+use Rattle.c_program.specs.Program.{next_of}
 use Rattle.causes.specs.Before.{IsBefore}
 use Rattle.group_plan.specs.Plans.{number_of_ranks}
 use Rattle.mpi_call.specs.Lists.{IsIn}
@@ -10,8 +11,9 @@ use Rattle.run_drawing.specs.Basis.{Basis}
 use Rattle.run_drawing.specs.Columns.{column, stops}
 use Rattle.run_drawing.specs.Drawings.{IsDrawing}
 use Rattle.run_drawing.specs.Drawn.{Drawn}
-use Rattle.run_drawing.specs.Laws.{GoesRight}
+use Rattle.run_drawing.specs.Laws.{GoesRight, HasAllReceived, HaveSameMates, HaveSameViews}
 use Rattle.run_model.specs.declared.event.Event.{Event}
+use Rattle.run_model.specs.Run.{IsRun}
 use Rattle.srr_record.specs.declared.recording.Recording.{Recording}
 use Rattle.svg_text.specs.SvgTexts.{svg_text}
 use Rattle.trace_json.specs.JsonTexts.{trace_json}
@@ -41,8 +43,9 @@ basis_in groups events drawing is =
 
 -- a drawing of these events, in which all goes right: what was before a call stands to its left, unless it stops its rank; so do the message of
 -- each receive and each probe, and who entered a collective last; each call of a rank stands to the right of its earlier ones, and in trace
--- events begins when these have ended
-pub record IsDrawingOf (groups : Plan) (events : List Event) (drawing : Drawn) : Type 0 where
+-- events begins when these have ended. Each run of the program with the same views has this drawing, in whatever order its ranks ran, if the
+-- synchronous sends that were completed have the same mates; so they have where the message of each was received
+pub record IsDrawingOf (program : CProgram) (groups : Plan) (events : List Event) (drawing : Drawn) : Type 0 where
   pub is_drawing : IsDrawing groups events drawing
   pub columns : (t u : ℕ) (event : Event) → slice_get events t ≡ Some event → stops event.reply ≡ false → IsBefore (number_of_ranks groups) events t u
       → column (basis_in groups events drawing is_drawing) t < column (basis_in groups events drawing is_drawing) u
@@ -51,13 +54,17 @@ pub record IsDrawingOf (groups : Plan) (events : List Event) (drawing : Drawn) :
       → one.column < other.column
   pub spans : (one other : Mark) → IsIn one drawing.marks → IsIn other drawing.marks → one.rank ≡ other.rank → one.number < other.number
       → end_of one ≤ begin_of other
+  pub same : (other : List Event) (another : Drawn) → IsRun (next_of program) (number_of_ranks groups) other → HaveSameViews events other
+      → HaveSameMates events other → IsDrawing groups other another → drawing ≡ another
+  pub mates : (other : List Event) → IsRun (next_of program) (number_of_ranks groups) other → HaveSameViews events other
+      → HasAllReceived events → HaveSameMates events other
 
 -- the picture of a run: the text of its drawing, or none where it has too many events
-abbrev pub IsPictureOf : Bool → Plan → Recording → Option Text → Type 0
-IsPictureOf is_trace groups recording None = is_drawn is_trace recording ≡ false
-IsPictureOf is_trace groups recording (Some text) =
+abbrev pub IsPictureOf : Bool → CProgram → Plan → Recording → Option Text → Type 0
+IsPictureOf is_trace program groups recording None = is_drawn is_trace recording ≡ false
+IsPictureOf is_trace program groups recording (Some text) =
     (is_drawn is_trace recording ≡ true)
-    × ((drawing : Drawn) × IsDrawingOf groups recording.history.events drawing × (text ≡ drawing_text is_trace (number_of_ranks groups) recording drawing))
+    × ((drawing : Drawn) × IsDrawingOf program groups recording.history.events drawing × (text ≡ drawing_text is_trace (number_of_ranks groups) recording drawing))
 
 -- the message of a run with too many events
 abbrev pub picture_over_text : Text
@@ -72,5 +79,5 @@ picture_outcome file recording (Some text) =
 -- the picture of a run is written, where it has one
 pub record TellsPicture (file : Text) (is_trace : Bool) (program : CProgram) (groups : Plan) (recording : Recording) (outcome : Outcome) : Type 0 where
   pub picture : Option Text
-  pub is_picture : IsPictureOf is_trace groups recording picture
+  pub is_picture : IsPictureOf is_trace program groups recording picture
   pub is_outcome : outcome ≡ picture_outcome file recording picture

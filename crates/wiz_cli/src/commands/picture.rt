@@ -17,7 +17,7 @@ use crate::recording::ready::{Ready, read_run};
 use crate::runner::Runner;
 use run_drawing::draw::draw;
 use run_drawing::drawing::Drawing;
-use run_drawing::laws::{arrows_go_right, columns_rise, lanes_rise};
+use run_drawing::laws::{arrows_go_right, columns_rise, lanes_rise, same_drawing, same_mates};
 use srr_record::Recording;
 use std::alloc::{AllocError, Global};
 use svg_text::svg::svg_text;
@@ -66,7 +66,7 @@ fn picture_of(
     recording: &Recording,
 ) -> Result<Option<Bytes>, AllocError>
     requires { IsMade true ready.now recording.now }
-    ensures { IfOk result (IsPictureOf is_trace ready.now.plan recording.now) }
+    ensures { IfOk result (IsPictureOf is_trace ready.now.program ready.now.plan recording.now) }
 {
     if !is_trace && recording.history.len() > MOST_DRAWN {
         return Ok(None);
@@ -81,12 +81,14 @@ fn picture_of(
 fn all_goes_right(ready: &Ready, recording: &Recording, drawing: &Drawing)
     requires made { IsMade true ready.now recording.now }
     requires drawn { IsDrawing ready.now.plan recording.now.history.events drawing.now }
-    ensures { IsDrawingOf ready.now.plan recording.now.history.events drawing.now }
+    ensures { IsDrawingOf ready.now.program ready.now.plan recording.now.history.events drawing.now }
 {
     columns_rise();
     arrows_go_right();
     lanes_rise(&ready.program);
     spans_are_disjoint(&ready.program);
+    same_drawing(&ready.program);
+    same_mates(&ready.program);
 }
 
 /// The text of a drawing of a run of n ranks.
