@@ -10,6 +10,8 @@ mod conversions;
 #[cfg(test)]
 mod diffs;
 #[cfg(test)]
+mod explorations;
+#[cfg(test)]
 mod faults;
 #[cfg(test)]
 mod forged;

@@ -5,3 +5,13 @@ mod Begun
 mod Answering
 mod Told
 mod Probing
+mod StuckReplies
+mod Noting
+mod Tried
+mod Joining
+mod Offering
+mod Looking
+mod Coded
+mod Stepping
+mod RankTries
+mod Sameness

@@ -15,6 +15,7 @@ use crate::commands::check::check;
 use crate::commands::convert::convert;
 use crate::commands::demo::demo;
 use crate::commands::diff::diff;
+use crate::commands::explore::explore;
 use crate::commands::join::join;
 use crate::commands::picture::picture;
 use crate::commands::races::races;
@@ -34,6 +35,7 @@ use crate::threaded::Threaded;
 use crate::viewing::ask::View;
 use c_program::CProgram;
 use c_types::one_program;
+use explore::search::Bounds;
 use group_plan::one_reading;
 use msg_races::names::Name;
 use rank_threads::Gate;
@@ -230,5 +232,11 @@ fn answer<'a, S: Store, K: Sink, R: Runner>(
             });
             view(alloc, &replay, &asked, store, out, runner)
         }
+        Command::Explore {
+            run,
+            prefix,
+            most,
+            polls,
+        } => explore(alloc, &run, prefix, Bounds { most, polls }, store, out),
     }
 }

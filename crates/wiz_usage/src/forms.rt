@@ -2,7 +2,7 @@
 ghost use Rattle.std.specs.Prelude.{◌≡◌, ◌<◌, ◌⊎◌, ⊤, MatchOption, length};
 
 /// How many commands there are.
-const COMMANDS: usize = 17;
+const COMMANDS: usize = 18;
 
 /// The forms, in the order of docs/COMMANDS.md.
 static FORMS: [&'static str; COMMANDS] = [
@@ -23,6 +23,7 @@ static FORMS: [&'static str; COMMANDS] = [
     "wiz watch LOG R NAME [--program FILE] [--serial]\n    replays a log and tells each change of the variable NAME of rank R\n",
     "wiz at LOG R:C [--program FILE] [--serial]\n    replays a log to call C of rank R and tells where each rank stands\n",
     "wiz where LOG S.K [--program FILE] [--serial]\n    replays a log and tells where message K of rank S was sent, found and taken\n",
+    "wiz explore PROGRAM PLAN PREFIX [--most N] [--polls K] [--under FILE]\n    lists every outcome that runs of a program have, each with an order that makes it again\n",
 ];
 
 /// The form of the command that the first argument names, or all forms. Each ends with a newline.
@@ -60,6 +61,7 @@ fn row_of(name: &str) -> Option<usize>
         "watch" => Some(14),
         "at" => Some(15),
         "where" => Some(16),
+        "explore" => Some(17),
         _ => None,
     }
 }

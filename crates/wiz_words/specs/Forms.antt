@@ -4,7 +4,7 @@ use Rattle.std.specs.Str.{bytes_eq}
 use Rattle.clap.specs.Words.{App, Rule, Text, new_app, new_rule, with_rule}
 use Rattle.clap.specs.declared.builder.action.ArgAction.TheVariants.{SetTrue}
 use Rattle.wiz_words.specs.declared.command.Verb.{Verb}
-use Rattle.wiz_words.specs.declared.command.Verb.TheVariants.{Record, Check, Races, Advise, Demo, Replay, Show, Stats, Convert, Refine, Join, Diff, Waits, Picture, Watch, At, Where}
+use Rattle.wiz_words.specs.declared.command.Verb.TheVariants.{Record, Check, Races, Advise, Demo, Replay, Show, Stats, Convert, Refine, Join, Diff, Waits, Picture, Watch, At, Where, Explore}
 
 -- the first word of each command
 abbrev pub name_of : Verb → Text
@@ -25,9 +25,10 @@ name_of Picture = codes "picture"
 name_of Watch = codes "watch"
 name_of At = codes "at"
 name_of Where = codes "where"
+name_of Explore = codes "explore"
 
 abbrev pub verbs : List Verb
-verbs = Record ∷ Check ∷ Races ∷ Advise ∷ Demo ∷ Replay ∷ Show ∷ Stats ∷ Convert ∷ Refine ∷ Join ∷ Diff ∷ Waits ∷ Picture ∷ Watch ∷ At ∷ Where ∷ []
+verbs = Record ∷ Check ∷ Races ∷ Advise ∷ Demo ∷ Replay ∷ Show ∷ Stats ∷ Convert ∷ Refine ∷ Join ∷ Diff ∷ Waits ∷ Picture ∷ Watch ∷ At ∷ Where ∷ Explore ∷ []
 
 -- the command of a name
 abbrev pub verb_named : Text → Option Verb
@@ -72,6 +73,8 @@ arguments_of Watch =
     positional (codes "LOG") ∷ positional (codes "RANK") ∷ positional (codes "NAME") ∷ option (codes "program") ∷ flag (codes "serial") ∷ []
 arguments_of At = positional (codes "LOG") ∷ positional (codes "break") ∷ option (codes "program") ∷ flag (codes "serial") ∷ []
 arguments_of Where = positional (codes "LOG") ∷ positional (codes "MESSAGE") ∷ option (codes "program") ∷ flag (codes "serial") ∷ []
+arguments_of Explore =
+    positional (codes "PROGRAM") ∷ positional (codes "PLAN") ∷ positional (codes "PREFIX") ∷ option (codes "most") ∷ option (codes "polls") ∷ option (codes "under") ∷ []
 
 -- the clap command that reads the arguments of a command: its name and its arguments, and no other setting
 abbrev pub form_of : Verb → App

@@ -21,10 +21,11 @@ pub enum Verb {
     Watch,
     At,
     Where,
+    Explore,
 }
 
 /// The program and the plan of a run, and how its ranks take their turns. With neither an order nor `is_serial` each rank
-/// has a thread of its own; the two never stand together.
+/// has a thread of its own; the two stand together in a search alone.
 #[derive(Clone, Copy, Debug, PartialEq, Eq)]
 pub struct RunWords<T> {
     pub program: T,
@@ -123,6 +124,14 @@ pub enum Command<T> {
         source: u8,
         start: u32,
     },
+    /// Searches for every outcome of the runs, or of those that begin with an order's turns; `prefix` is the front of the names of the files that
+    /// are written. It looks at `most` states, at most 1,000,000, and a rank looks in vain at most `polls` times in a row, at most 1,000.
+    Explore {
+        run: RunWords<T>,
+        prefix: T,
+        most: u32,
+        polls: u32,
+    },
 }
 
 impl<T> Command<T> {
@@ -144,6 +153,7 @@ impl<T> Command<T> {
             Command::Convert { .. } | Command::Refine { .. } => false,
             Command::Join { .. } | Command::Diff { .. } => false,
             Command::Watch { .. } | Command::At(_) | Command::Where { .. } => false,
+            Command::Explore { .. } => false,
         }
     }
 }

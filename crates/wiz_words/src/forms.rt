@@ -3,7 +3,7 @@ ghost use Rattle.std.specs.Prelude.{◌≡◌, IfOk, codes, fold, map};
 ghost use Rattle.clap.specs.Words.{app_of, new_app, with_rule};
 ghost use Rattle.wiz_words.specs.Forms.{flag, form_of, option, positional, verb_named};
 ghost use Rattle.wiz_words.specs.Texts.{texts};
-ghost use Rattle.wiz_words.specs.declared.command.Verb.TheVariants.{Picture};
+ghost use Rattle.wiz_words.specs.declared.command.Verb.TheVariants.{Explore, Picture};
 
 use crate::command::Verb;
 use clap::{Arg, ArgAction, Command};
@@ -31,6 +31,7 @@ pub fn verb_named(name: &str) -> Option<Verb>
         "watch" => Some(Verb::Watch),
         "at" => Some(Verb::At),
         "where" => Some(Verb::Where),
+        "explore" => Some(Verb::Explore),
         _ => None,
     }
 }
@@ -71,6 +72,7 @@ pub fn form_of<'a>(alloc: Global, verb: Verb) -> Result<Command<'a>, AllocError>
         Verb::Watch => replay_form(alloc, "watch", &["LOG", "RANK", "NAME"]),
         Verb::At => replay_form(alloc, "at", &["LOG", "break"]),
         Verb::Where => replay_form(alloc, "where", &["LOG", "MESSAGE"]),
+        Verb::Explore => explore_form(alloc),
     }
 }
 
@@ -106,6 +108,16 @@ fn replay_form<'a>(
     let form = form_named(alloc, name, values)?;
     let form = with_option(alloc, form, "program")?;
     with_flag(alloc, form, "serial")
+}
+
+/// The form of a search.
+fn explore_form<'a>(alloc: Global) -> Result<Command<'a>, AllocError>
+    ensures { IfOk result (λ form. app_of form ≡ form_of Explore) }
+{
+    let form = form_named(alloc, "explore", &["PROGRAM", "PLAN", "PREFIX"])?;
+    let form = with_option(alloc, form, "most")?;
+    let form = with_option(alloc, form, "polls")?;
+    with_option(alloc, form, "under")
 }
 
 /// The form of this name with these values that have to be there, each by its place.

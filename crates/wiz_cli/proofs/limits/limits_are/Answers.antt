@@ -35,4 +35,10 @@ returns c = record {
   seed = refl;
   rounds_from = refl;
   rounds = refl;
+  states_from = refl;
+  states = refl;
+  usual = refl;
+  polls_from = refl;
+  polls = refl;
+  patience = refl;
 }
