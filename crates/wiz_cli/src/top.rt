@@ -15,7 +15,7 @@ use crate::commands::check::check;
 use crate::commands::convert::convert;
 use crate::commands::demo::demo;
 use crate::commands::diff::diff;
-use crate::commands::explore::explore;
+use crate::commands::explore_runs::explore;
 use crate::commands::join::join;
 use crate::commands::picture::picture;
 use crate::commands::races::races;

@@ -5,7 +5,7 @@ use Rattle.wiz_tool.specs.Files.{NamedFile}
 use Rattle.wiz_tool.specs.inside.Told.{outcome_of}
 use Rattle.wiz_tool.proofs.FinishLemmas.{told_same}
 use Rattle.wiz_cli.proofs.SearchLemmas.{search_is_told}
-use Rattle.wiz_cli.proofs.commands.explore.write.Goals as goal
+use Rattle.wiz_cli.proofs.commands.explore_runs.write.Goals as goal
 
 pub returns-clause-told : goal.returns-clause-told
 returns-clause-told g c =

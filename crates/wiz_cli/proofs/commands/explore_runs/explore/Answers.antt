@@ -7,7 +7,7 @@ use Rattle.wiz_cli.specs.Explorations.{search_outcome}
 use Rattle.wiz_tool.specs.Environment.{environment}
 use Rattle.wiz_cli.proofs.EndLemmas.{command_failed, command_short, done_short, done_told, told_from}
 use Rattle.wiz_cli.proofs.SearchLemmas.{explore_done}
-use Rattle.wiz_cli.proofs.commands.explore.explore.Goals as goal
+use Rattle.wiz_cli.proofs.commands.explore_runs.explore.Goals as goal
 
 pub search-requires : goal.search-requires
 search-requires g c = (run_texts c.in_ok-ready.ensures.ready.0, c.in_ok-ready.ensures.ready.2)
