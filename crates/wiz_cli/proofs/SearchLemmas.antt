@@ -1,5 +1,5 @@
 -- What a search of what is run found.
-use Rattle.std.proofs.Common.{◌≡◌, ◌<◌, ◌+◌, ◌∙◌, ◌++◌, ◌∷◌, ◌||◌, ℕ, Bool, Result, Ok, Err, IfOk, subst, List, [], None, Some, All, slice_get, suc, take, zero, true, false, inl, inr, ap, arith, refl, sym, not, if◌then◌else◌}
+use Rattle.std.proofs.Common.{◌≡◌, ◌<◌, ◌+◌, ◌∙◌, ◌++◌, ◌∷◌, ◌||◌, ℕ, Bool, Result, Ok, Err, IfOk, subst, List, [], None, Some, All, slice_get, suc, take, zero, true, false, inl, inr, ap, arith, refl, sym, if◌then◌else◌}
 use Rattle.std.specs.List.{AllByRecursion, AllZip, list_any}
 use Rattle.std.specs.declared.alloc.AllocError.{AllocError}
 use Rattle.std.proofs.lemmas.List.Elements.{All-head, All-tail}
@@ -9,7 +9,6 @@ use Rattle.explore.specs.declared.found.Found.{Found}
 use Rattle.explore.specs.Explored.{AreTurnsOf, IsExplored, IsListed, made_by}
 use Rattle.explore_text.specs.ExploreTexts.{explore_text}
 use Rattle.group_plan.specs.Plans.{number_of_ranks}
-use Rattle.mpi_call.specs.declared.call.Halt.{Halt}
 use Rattle.mpi_call.specs.declared.call.Halt.TheVariants.{Aborted, Trapped, Truncated, Mismatched, BadRequest, Limit, Stuck}
 use Rattle.mpi_call.specs.Lists.{IsIn}
 use Rattle.picked_runs.specs.declared.turn.Turn.{Turn}

@@ -1,4 +1,4 @@
-use Rattle.std.proofs.Common.{◌∙◌, List, [], ap, refl}
+use Rattle.std.proofs.Common.{List, refl}
 use Rattle.wiz_cli.specs.Explorations.{search_files, search_outcome}
 use Rattle.wiz_tool.specs.Environment.{Environment, environment}
 use Rattle.wiz_tool.specs.Files.{NamedFile}

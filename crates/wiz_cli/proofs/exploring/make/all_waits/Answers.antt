@@ -1,8 +1,6 @@
-use Rattle.std.proofs.Common.{◌≡◌, ◌∙◌, ◌++◌, ◌∷◌, List, [], Some, ap, subst, sym, take}
-use Rattle.std.specs.List.{AllZip}
+use Rattle.std.proofs.Common.{◌∙◌, Some, ap, sym}
 use Rattle.std.proofs.lemmas.Option.{slice_get-get_or}
 use Rattle.c_program.specs.Program.{next_of}
-use Rattle.explore.specs.declared.found.Found.{Found}
 use Rattle.group_plan.specs.Plans.{number_of_ranks}
 use Rattle.wiz_cli.specs.Explorations.{IsWaiting}
 use Rattle.wiz_cli.proofs.SearchLemmas.{one_in, zip_next}
