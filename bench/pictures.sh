@@ -88,6 +88,9 @@ for args in "$top"/examples/*/*args; do
   for ((at = 3; at < ${#words[@]}; at++)); do
     [ "${words[at]}" = --order ] && options=(--order "${words[at + 1]}")
   done
+  # A refused command has no run, and an order that an earlier command writes is not there.
+  [ ! -f "${args%args}status" ] || [ "$(cat "${args%args}status")" -eq 7 ] || continue
+  [ "${options[0]}" = --serial ] || [ -f "$folder/${options[1]}" ] || continue
   run="$(basename "$folder")/${words[1]}/${words[2]}${options[1]:+/${options[1]}}"
   [ -z "${done_already[$run]:-}" ] || continue
   done_already[$run]=yes
