@@ -15,3 +15,5 @@ mod Coded
 mod Stepping
 mod RankTries
 mod Sameness
+mod Patience
+mod Dividing

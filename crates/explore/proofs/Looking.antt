@@ -9,23 +9,25 @@ use Rattle.mpi_call.specs.Lists.{IsIn}
 use Rattle.run_model.specs.declared.event.Event.{Event}
 use Rattle.run_model.specs.Allowed.{IsStuck, can_go}
 use Rattle.run_model.specs.Due.{halt_in, halted}
-use Rattle.run_model.specs.Lists.{IsPrefixOf}
+use Rattle.run_model.specs.Lists.{Along, IsPrefixOf}
 use Rattle.run_model.specs.Run.{IsRun}
 use Rattle.run_model.specs.Serial.{call_after, goes}
 use Rattle.run_model.specs.Views.{Next, view_of}
+use Rattle.run_model.proofs.Along.{Along-front}
 use Rattle.run_model.proofs.Views.{option_cases}
 use Rattle.picked_runs.specs.declared.turn.Pick.{Pick}
 use Rattle.picked_runs.specs.declared.turn.Turn.{Turn}
 use Rattle.picked_runs.specs.Picks.{picked_event, picked_reply}
 use Rattle.run_states.specs.Moves.{IsHalting}
-use Rattle.run_states.specs.Outcomes.{IsWhole, Outcome, Output, halted_outcome, outcome_of}
-use Rattle.run_states.specs.StateLaws.{HaltsDecideOutcomes}
+use Rattle.run_states.specs.Outcomes.{IsPatientEvent, IsProbeKept, IsWhole, Outcome, Output, halted_outcome, outcome_of}
+use Rattle.run_states.specs.StateLaws.{EveryStepIsMade, FuturesAreSame, HaltsDecideOutcomes}
 use Rattle.explore.specs.declared.found.Explored.{Explored}
 use Rattle.explore.specs.declared.found.Found.{Found}
 use Rattle.explore.specs.declared.met.Met.{Met}
-use Rattle.explore.specs.Explored.{AreApart, IsExplored, IsFound, IsListed, made_by}
+use Rattle.explore.specs.Explored.{AreApart, IsBehind, IsExplored, IsFound, IsLeft, IsLeftPatient, IsListed, made_by}
 use Rattle.explore.specs.Searching.{Grows, HasBegun, HasLookedAt, HasTriedRanks, IsAtEnd, IsNoted, IsSearched, IsState, IsUnderWay}
 use Rattle.explore.specs.SearchLaws.{AllRunsAreListed, PatientRunsAreListed}
+use Rattle.explore.proofs.Dividing.{GoesOnLeft, IsDivided, IsFree, divided, free_kept, left_whole, patient_kept, taken_or_left}
 use Rattle.explore.proofs.Joining.{held_reply}
 use Rattle.explore.proofs.Recorded.{ended_comes, taken_begins}
 use Rattle.explore.proofs.Tried.{stopped_by, stuck_listed}
@@ -212,20 +214,72 @@ root_listed next output n under first met halt more law begun grows there whole 
     listed_longer first.found met.found _ grows.listed_stay
     (listed_as first.found noted.outcome _ (c.outcome_is ∙ (ap (outcome_of output n) (sym begins.1) ∙ same)) noted.listed_is)
 
+-- what is kept of runs that go on from what is left
+left_of : (next : Next) (output : Output) (n : ℕ) (root : List Event) (IsSteady : List Event → List Event → Type 0) (outcome : Outcome) (left : List (List Turn)) → Along IsProbeKept [] root
+    → GoesOnLeft next output n IsSteady outcome root left → IsLeft next output n left outcome
+left_of next output n root IsSteady outcome left probes on =
+    record {
+      turns = on.turns;
+      there = on.there;
+      more = on.rest;
+      whole = left_whole next output n root IsSteady outcome on.turns on.rest probes on.state on.onward;
+      outcome_is = on.onward.outcome_is;
+    }
+
+patient_left : (next : Next) (output : Output) (n polls : ℕ) (root : List Event) (outcome : Outcome) (left : List (List Turn)) → Along IsProbeKept [] root
+    → GoesOnLeft next output n (λ before events. Along (IsPatientEvent polls) before events) outcome root left → IsLeftPatient next output n polls left outcome
+patient_left next output n polls root outcome left probes on =
+    record {
+      left = record {
+        turns = on.turns;
+        there = on.there;
+        more = on.rest;
+        whole = left_whole next output n root (λ before events. Along (IsPatientEvent polls) before events) outcome on.turns on.rest probes on.state on.onward;
+        outcome_is = on.onward.outcome_is;
+      };
+      patient = on.onward.steady;
+    }
+
+divides : (next : Next) (output : Output) (n polls : ℕ) (root : List Event) (met : Met) (looked : ℕ) → IsUnderWay next output n root met
+    → ((turns : List Turn) → IsIn turns (take looked met.states) → HasLookedAt next output n polls met turns)
+    → IsDivided next output n polls root met.states (drop looked met.states) met.found met.polled
+divides next output n polls root met looked way all =
+    record {
+      are_states = way.are_states;
+      looked = λ turns there. (elim (taken_or_left looked met.states turns there) [ inl t ↦ inl (all turns t) | inr l ↦ inr l ]);
+    }
+
 in_dropped : {A : Type 0} (k : ℕ) (xs : List A) (x : A) → IsIn x (drop k xs) → IsIn x xs
 in_dropped zero xs x there = there
 in_dropped (suc k) [] x there = there
 in_dropped (suc k) (y ∷ xs) x there = inr (in_dropped k xs x there)
 
+behind_root : (next : Next) (output : Output) (n : ℕ) (root : List Event) (met : Met) (looked : ℕ) → IsUnderWay next output n root met
+    → (turns : List Turn) → IsIn turns (drop looked met.states) → IsBehind next n root turns
+behind_root next output n root met looked way turns there =
+    let under = (way.are_states turns (in_dropped looked met.states turns there)).under in
+    record { more = under.more; made = under.made; probes = under.probes }
+
+-- the laws of histories that a search rests on
+pub record AreLawful (next : Next) (output : Output) (n : ℕ) : Type 0 where
+  pub steps : EveryStepIsMade next n
+  pub futures : FuturesAreSame next output n
+  pub halts : HaltsDecideOutcomes next output n
+  pub patient : PatientRunsAreListed next output n
+  pub all : AllRunsAreListed next output n
+
 pub explored_all : (next : Next) (output : Output) (n polls : ℕ) (under : List Turn) (first met : Met) (looked : ℕ) (explored : Explored)
-    → HaltsDecideOutcomes next output n → PatientRunsAreListed next output n → AllRunsAreListed next output n
-    → HasBegun next output n under first → IsUnderWay next output n (made_by next n under) met
+    → AreLawful next output n → HasBegun next output n under first → IsUnderWay next output n (made_by next n under) met
     → Grows first.states met.states first.found met.found first.polled met.polled
     → ((turns : List Turn) → IsIn turns (take looked met.states) → HasLookedAt next output n polls met turns)
     → explored.found ≡ met.found → explored.left ≡ drop looked met.states → explored.polled ≡ met.polled
     → IsExplored next output n polls under explored
-explored_all next output n polls under first met looked explored law patient every begun way grows all found left polled =
+explored_all next output n polls under first met looked explored laws begun way grows all found left polled =
     let root : List Event = made_by next n under in
+    let law : HaltsDecideOutcomes next output n = laws.halts in
+    let rest : List (List Turn) = drop looked met.states in
+    let d : IsDivided next output n polls root met.states rest met.found met.polled = divides next output n polls root met looked way all in
+    let B : List (List Turn) → Type 0 = λ l. (turns : List Turn) → IsIn turns l → IsBehind next n root turns in
     let A : List Found → Type 0 = λ l. AreApart l in
     let S : List Found → Type 0 = λ l. (one : Found) → IsIn one l → IsFound next output n root one in
     record {
@@ -239,14 +293,37 @@ explored_all next output n polls under first met looked explored law patient eve
           let L : List Found → Type 0 = λ l. IsListed l (outcome_of output n (root ++ more)) in
           subst L (sym found) (elim (option_cases (halted root)) [
             | inl some ↦ root_listed next output n under first met some.0 more law begun grows some.1 whole
-            | inr free ↦ patient polls root more met.states met.found met.polled
+            | inr free ↦ laws.patient polls root more met.states met.found met.polled
                 (searched next output n polls under first met looked begun grows free all (sym left ∙ none)) free whole steady
           ]));
       complete = λ none never more whole. (
           let L : List Found → Type 0 = λ l. IsListed l (outcome_of output n (root ++ more)) in
           subst L (sym found) (elim (option_cases (halted root)) [
             | inl some ↦ root_listed next output n under first met some.0 more law begun grows some.1 whole
-            | inr free ↦ every polls root more met.states met.found met.polled
+            | inr free ↦ laws.all polls root more met.states met.found met.polled
                 (searched next output n polls under first met looked begun grows free all (sym left ∙ none)) (sym polled ∙ never) free whole
           ]));
+      behind = subst B (sym left) (behind_root next output n root met looked way);
+      divided_patient = λ more whole steady. (
+          let outcome : Outcome = outcome_of output n (root ++ more) in
+          let G : List Found → List (List Turn) → Type 0 = λ l r. IsListed l outcome ⊎ IsLeftPatient next output n polls r outcome in
+          subst (λ l. G l explored.left) (sym found) (subst (λ r. G met.found r) (sym left) (elim (option_cases (halted root)) [
+            | inl some ↦ inl (root_listed next output n under first met some.0 more law begun grows some.1 whole)
+            | inr free ↦ elim (divided next output n polls root met.states rest met.found met.polled (λ before events. Along (IsPatientEvent polls) before events) laws.steps laws.futures law
+                (patient_kept n polls met.polled) d (met_longer next n first.states met.states root grows.states_stay (begun.free free)) more whole steady) [
+                  | inl listed ↦ inl listed
+                  | inr on ↦ inr (patient_left next output n polls root outcome rest (Along-front IsProbeKept [] root more whole.probes) on)
+                ]
+          ])));
+      divided = λ never more whole. (
+          let outcome : Outcome = outcome_of output n (root ++ more) in
+          let G : List Found → List (List Turn) → Type 0 = λ l r. IsListed l outcome ⊎ IsLeft next output n r outcome in
+          subst (λ l. G l explored.left) (sym found) (subst (λ r. G met.found r) (sym left) (elim (option_cases (halted root)) [
+            | inl some ↦ inl (root_listed next output n under first met some.0 more law begun grows some.1 whole)
+            | inr free ↦ elim (divided next output n polls root met.states rest met.found met.polled (IsFree met.polled) laws.steps laws.futures law
+                (free_kept n polls met.polled) d (met_longer next n first.states met.states root grows.states_stay (begun.free free)) more whole (sym polled ∙ never)) [
+                  | inl listed ↦ inl listed
+                  | inr on ↦ inr (left_of next output n root (IsFree met.polled) outcome rest (Along-front IsProbeKept [] root more whole.probes) on)
+                ]
+          ])));
     }

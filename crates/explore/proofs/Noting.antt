@@ -35,7 +35,7 @@ use Rattle.explore.proofs.Trying.{grows_not, in_longer}
 
 -- 1. behind an end probes are kept
 
-along_join : {E : Type 0} (S : List E → E → Type 0) (before xs ys : List E) → Along S before xs → Along S (before ++ xs) ys → Along S before (xs ++ ys)
+pub along_join : {E : Type 0} (S : List E → E → Type 0) (before xs ys : List E) → Along S before xs → Along S (before ++ xs) ys → Along S before (xs ++ ys)
 along_join {E} S before [] ys one two = (let F : List E → Type 0 = λ l. Along S l ys in subst F (append-nil before) two)
 along_join {E} S before (x ∷ xs) ys one two =
     let F : List E → Type 0 = λ l. Along S l ys in

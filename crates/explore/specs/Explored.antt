@@ -1,5 +1,5 @@
 -- What a search for every outcome answers. It says nothing of how was searched.
-use Rattle.std.specs.Prelude.{◌≡◌, ◌<◌, ℕ, List, [], ◌∷◌, ◌++◌, All, false}
+use Rattle.std.specs.Prelude.{◌≡◌, ◌<◌, ◌⊎◌, ℕ, List, [], ◌∷◌, ◌++◌, All, false}
 use Rattle.mpi_call.specs.Lists.{IsIn}
 use Rattle.run_model.specs.declared.event.Event.{Event}
 use Rattle.run_model.specs.Lists.{Along}
@@ -41,12 +41,33 @@ abbrev pub AreApart : List Found → Type 0
 AreApart [] = Unit {0}
 AreApart (found ∷ listed) = (IsListed listed found.outcome → ⊥) × AreApart listed
 
+-- turns that make a run which goes on from the root, and keeps its probes from there on
+pub record IsBehind (next : Next) (n : ℕ) (root : List Event) (turns : List Turn) : Type 0 where
+  pub more : List Event
+  pub made : made_by next n turns ≡ root ++ more
+  pub probes : Along IsProbeKept root more
+
+-- a whole run comes to this that begins with what the turns of one of these states make
+pub record IsLeft (next : Next) (output : Output) (n : ℕ) (states : List (List Turn)) (outcome : Outcome) : Type 0 where
+  pub turns : List Turn
+  pub there : IsIn turns states
+  pub more : List Event
+  pub whole : IsWhole next n (made_by next n turns ++ more)
+  pub outcome_is : outcome ≡ outcome_of output n (made_by next n turns ++ more)
+
+-- and no rank of it looks in vain too often from there on
+pub record IsLeftPatient (next : Next) (output : Output) (n polls : ℕ) (states : List (List Turn)) (outcome : Outcome) : Type 0 where
+  pub left : IsLeft next output n states outcome
+  pub patient : Along (IsPatientEvent polls) (made_by next n left.turns) left.more
+
 -- what is answered of a program on n ranks, of the runs that begin with what the turns `under` make; without turns, of all runs
 -- sound: each listed outcome is that of a run, which the recording by its turns makes
 -- apart: none is listed twice
 -- left: each state that is left is kept as turns of the ranks
 -- patient: where no state is left, the outcome of each whole run in which no rank looks in vain more than `polls` times in a row is listed
 -- complete: where besides no rank was held back for that, the outcome of each whole run is
+-- behind: each goes on from the root, so that what is found under it counts here
+-- divided: whatever is left, the outcome of each such whole run is listed, or is met where what is left is searched
 pub record IsExplored (next : Next) (output : Output) (n polls : ℕ) (under : List Turn) (explored : Explored) : Type 0 where
   pub sound : (found : Found) → IsIn found explored.found → IsFound next output n (made_by next n under) found
   pub apart : AreApart explored.found
@@ -55,3 +76,8 @@ pub record IsExplored (next : Next) (output : Output) (n polls : ℕ) (under : L
       → Along (IsPatientEvent polls) (made_by next n under) more → IsListed explored.found (outcome_of output n (made_by next n under ++ more))
   pub complete : explored.left ≡ [] → explored.polled ≡ false → (more : List Event) → IsWhole next n (made_by next n under ++ more)
       → IsListed explored.found (outcome_of output n (made_by next n under ++ more))
+  pub behind : (turns : List Turn) → IsIn turns explored.left → IsBehind next n (made_by next n under) turns
+  pub divided_patient : (more : List Event) → IsWhole next n (made_by next n under ++ more) → Along (IsPatientEvent polls) (made_by next n under) more
+      → IsListed explored.found (outcome_of output n (made_by next n under ++ more)) ⊎ IsLeftPatient next output n polls explored.left (outcome_of output n (made_by next n under ++ more))
+  pub divided : explored.polled ≡ false → (more : List Event) → IsWhole next n (made_by next n under ++ more)
+      → IsListed explored.found (outcome_of output n (made_by next n under ++ more)) ⊎ IsLeft next output n explored.left (outcome_of output n (made_by next n under ++ more))

@@ -23,7 +23,9 @@ use picked_runs::turn::{Pick, Turn, Turns};
 use run_model::history::History;
 use run_model::program::{Program, RankRun, Want};
 use run_states::key::code_of_run;
-use run_states::laws::{codes_fix_keys, halts_decide_outcomes, keys_fix_futures};
+use run_states::laws::{
+    codes_fix_keys, every_step_is_made, futures_are_same, halts_decide_outcomes, keys_fix_futures,
+};
 use std::alloc::{AllocError, Global};
 
 /// A copy of turns.
@@ -416,9 +418,12 @@ pub fn explore<P: Program, R: RankRun<Of = P>, S: StartRanks<P, R>>(
     requires picks { All (λ turn. IsPickOf setting.now.ranks turn.pick) setting.now.under.now }
     ensures { IfOk result (λ explored. IsExplored (P.next setting.now.program.now) (P.output setting.now.program.now) setting.now.ranks bounds.polls setting.now.under.now explored) }
 {
-    // Laws: where every state was looked at, nothing is missed; what a halted run comes to is decided by what was before.
+    // Laws: where every state was looked at, nothing is missed; what a halted run comes to is decided by what was before; runs that leave
+    // the same come to the same, step by step.
     nothing_is_missed(setting.program, setting.ranks);
     halts_decide_outcomes(setting.program, setting.ranks);
+    futures_are_same(setting.program, setting.ranks);
+    every_step_is_made(setting.program, setting.ranks);
     let mut met = Met::new(setting.alloc);
     begin(setting, &mut met)?;
     let looked = look_at_all(setting, bounds, &mut met)?;

@@ -15,6 +15,12 @@ returns g c =
     let root : List Event = made_by next n c.args.setting.now.under.now in
     let looked : ℕ = c.in_ok-looked.looked in
     let went = c.in_ok-looked.ensures.went in
-    explored_all next output n c.args.bounds.polls c.args.setting.now.under.now c.begin.new.met c.look_at_all.new.met looked _ c.halts_decide_outcomes.ensures
-    c.nothing_is_missed.ensures.patient c.nothing_is_missed.ensures.all c.in_ok-begin.ensures.begun went.under_way went.grows c.in_ok-looked.ensures.looked refl
+    explored_all next output n c.args.bounds.polls c.args.setting.now.under.now c.begin.new.met c.look_at_all.new.met looked _
+    (record {
+      steps = c.every_step_is_made.ensures;
+      futures = c.futures_are_same.ensures;
+      halts = c.halts_decide_outcomes.ensures;
+      patient = c.nothing_is_missed.ensures.patient;
+      all = c.nothing_is_missed.ensures.all;
+    }) c.in_ok-begin.ensures.begun went.under_way went.grows c.in_ok-looked.ensures.looked refl
     (c.in_ok-left.ensures ∙ ap (λ l. drop looked l) c.as_slice.ensures) refl
