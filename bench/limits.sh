@@ -1,7 +1,8 @@
 #!/usr/bin/env bash
 # Runs at the limits of a run, each at a quarter, at half and whole: recorded on one thread, and its first group replayed from
 # its log on one thread. Then three runs of messages alone, recorded, the races of two runs of 64 ranks, and advice on their groups; two runs
-# that part in their last message, compared; a run of 64 ranks that is stuck at its end, explained; and a variable beside a large one, watched.
+# that part in their last message, compared; a run of 64 ranks that is stuck at its end, explained; a variable beside a large one, watched; a run of
+# 4,000 events, drawn as SVG, and long ones as trace events.
 # Needs `rt` and GNU time (`apt-get install time`). A row gives
 # wall-clock seconds from start to end (the least of five runs), the growth against the row above, peak memory in MB, and the
 # bytes of all logs, without the program's text in them, for each event. `bench/limits.sh NAME` does the rows of one name alone.
@@ -198,6 +199,27 @@ watched() {
   done
 }
 
+# A picture of at most 4,000 events, and the trace events of long runs, beside their recording.
+drawn() {
+  local what size recorded most seconds memory above
+  [ -z "$only" ] || [ "$only" = picture ] || return 0
+  ranks 4000
+  read -r seconds memory <<<"$(measure 0 '' picture program plan run.svg --serial)"
+  printf '%-10s %-6s %8d events SVG %8s s %6d MB %9d bytes\n' picture ranks "$(grep -c '<g><title>' run.svg)" "$seconds" "$memory" "$(wc -c <run.svg)"
+  for what in events ranks; do
+    above=0
+    for size in $((999000 / 4)) $((999000 / 2)) 999000; do
+      "$what" "$size"
+      rm -f run.*
+      read -r recorded most <<<"$(measure 0 finished record program plan run --serial)"
+      read -r seconds memory <<<"$(measure 0 '' picture program plan run.json --trace --serial)"
+      printf '%-10s %-6s %8d events record %8s s %6d MB trace %8s s growth %s %6d MB %9d bytes\n' picture "$what" "$(wc -l <run.order)" "$recorded" "$most" \
+        "$seconds" "$(growth "$above" "$seconds")" "$memory" "$(wc -c <run.json)"
+      above=$seconds
+    done
+  done
+}
+
 echo "$(nproc) processors, load $(cut -d' ' -f1 /proc/loadavg) before the run"
 printf '%-10s %8s %8s %8s %7s %6s %9s %7s %6s %9s\n' what size events 'record s' growth MB 'replay s' growth MB 'bytes/ev'
 rows events 999000
@@ -220,3 +242,5 @@ parted
 explained_stuck
 echo 'a variable, watched, beside its replay'
 watched
+echo 'pictures, beside their recording'
+drawn

@@ -10,11 +10,15 @@ mod conversions;
 #[cfg(test)]
 mod diffs;
 #[cfg(test)]
+mod explorations;
+#[cfg(test)]
 mod faults;
 #[cfg(test)]
 mod forged;
 #[cfg(test)]
 mod logs;
+#[cfg(test)]
+mod pictures;
 #[cfg(test)]
 mod programs;
 #[cfg(test)]

@@ -42,7 +42,11 @@ fn words_in_form_ask_for_a_command(rt: HostRuntime) {
         stop: Some((63, 999_999)),
         ..serial_replay
     };
-    let table: [(&[&str], bool, Command<&str>); 45] = [
+    let searched_run = RunWords {
+        order: Some("F"),
+        ..serial_run
+    };
+    let table: [(&[&str], bool, Command<&str>); 52] = [
         (
             &["record", "P", "Q", "A"],
             true,
@@ -292,6 +296,42 @@ fn words_in_form_ask_for_a_command(rt: HostRuntime) {
             Command::Waits(ordered_run),
         ),
         (
+            &["picture", "P", "Q", "F"],
+            true,
+            Command::Picture {
+                run: RUN,
+                file: "F",
+                is_trace: false,
+            },
+        ),
+        (
+            &["picture", "P", "--trace", "Q", "F"],
+            true,
+            Command::Picture {
+                run: RUN,
+                file: "F",
+                is_trace: true,
+            },
+        ),
+        (
+            &["picture", "P", "Q", "F", "--trace", "--serial"],
+            false,
+            Command::Picture {
+                run: serial_run,
+                file: "F",
+                is_trace: true,
+            },
+        ),
+        (
+            &["picture", "P", "Q", "--order=F", "--", "--trace"],
+            false,
+            Command::Picture {
+                run: ordered_run,
+                file: "--trace",
+                is_trace: false,
+            },
+        ),
+        (
             &["watch", "L", "63", "x"],
             false,
             Command::Watch {
@@ -328,6 +368,44 @@ fn words_in_form_ask_for_a_command(rt: HostRuntime) {
                 start: 999_999,
             },
         ),
+        (
+            &["explore", "P", "Q", "A"],
+            false,
+            Command::Explore {
+                run: serial_run,
+                prefix: "A",
+                most: 10_000,
+                polls: 3,
+            },
+        ),
+        (
+            &["explore", "P", "Q", "A", "--most", "1", "--polls", "1"],
+            false,
+            Command::Explore {
+                run: serial_run,
+                prefix: "A",
+                most: 1,
+                polls: 1,
+            },
+        ),
+        (
+            &[
+                "explore",
+                "--polls=1000",
+                "P",
+                "--under=F",
+                "Q",
+                "--most=1000000",
+                "A",
+            ],
+            false,
+            Command::Explore {
+                run: searched_run,
+                prefix: "A",
+                most: 1_000_000,
+                polls: 1000,
+            },
+        ),
     ];
     for (words, threads, wanted) in table {
         let found = read_command(rt.alloc(), words).expect(&rt, "memory");
@@ -346,7 +424,7 @@ fn ask_for_nothing(alloc: Global, words: &[&str]) -> bool {
 
 #[test]
 fn words_out_of_form_ask_for_nothing(rt: HostRuntime) {
-    let table: [&[&str]; 75] = [
+    let table: [&[&str]; 94] = [
         &[],
         &[""],
         &["play"],
@@ -360,6 +438,12 @@ fn words_out_of_form_ask_for_nothing(rt: HostRuntime) {
         &["waits", "P"],
         &["waits", "P", "Q", "A"],
         &["waits", "P", "Q", "--serial", "--order", "F"],
+        &["picture", "P", "Q"],
+        &["picture", "P", "Q", "F", "G"],
+        &["picture", "P", "Q", "F", "--trace", "--trace"],
+        &["picture", "P", "Q", "F", "--trace=true"],
+        &["picture", "P", "Q", "F", "--order", "F", "--serial"],
+        &["waits", "P", "Q", "--trace"],
         &["record", "P", "Q"],
         &["record", "P", "Q", "A", "B"],
         &["record", "P", "Q", "A", "--order"],
@@ -422,6 +506,19 @@ fn words_out_of_form_ask_for_nothing(rt: HostRuntime) {
         &["where", "L"],
         &["where", "L", "0:1"],
         &["where", "L", "0.1000000"],
+        &["explore", "P", "Q"],
+        &["explore", "P", "Q", "A", "B"],
+        &["explore", "P", "Q", "A", "--serial"],
+        &["explore", "P", "Q", "A", "--order", "F"],
+        &["explore", "P", "Q", "A", "--most"],
+        &["explore", "P", "Q", "A", "--most", "0"],
+        &["explore", "P", "Q", "A", "--most", "01"],
+        &["explore", "P", "Q", "A", "--most", "1000001"],
+        &["explore", "P", "Q", "A", "--polls", "0"],
+        &["explore", "P", "Q", "A", "--polls", "1001"],
+        &["explore", "P", "Q", "A", "--most", "1", "--most", "1"],
+        &["explore", "P", "Q", "A", "--under"],
+        &["explore", "P", "Q", "A", "--under", "F", "--under", "F"],
     ];
     for words in table {
         assert!(&rt; ask_for_nothing(rt.alloc(), words), "{words:?}");

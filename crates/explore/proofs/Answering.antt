@@ -1,5 +1,5 @@
 -- What an attempt of a machine does, in terms of picks.
-use Rattle.std.proofs.Common.{◌≡◌, ◌≢◌, ◌<◌, ◌≤◌, ◌+◌, ◌∙◌, ◌&&◌, ◌||◌, ◌++◌, ◌∷◌, if◌then◌else◌, Bool, ℕ, zero, suc, List, [], Option, Some, None, arith, false, true, inl, inr, not, refl, ap, sym, subst}
+use Rattle.std.proofs.Common.{◌≡◌, ◌≢◌, ◌<◌, ◌≤◌, ◌+◌, ◌∙◌, ◌&&◌, ◌||◌, ◌++◌, ◌∷◌, if◌then◌else◌, Bool, MatchBool, ℕ, zero, suc, List, [], Option, Some, None, arith, false, true, inl, inr, is_some, not, refl, ap, sym, subst}
 use Rattle.std.specs.List.{list_all}
 use Rattle.std.proofs.lemmas.Bool.{and_parts, cases_order, or_cases}
 use Rattle.mpi_call.specs.declared.call.Call.{Call}
@@ -16,6 +16,7 @@ use Rattle.picked_runs.specs.Picks.{has_pick, picked_reply}
 use Rattle.picked_runs.proofs.Firsts.{first_event}
 use Rattle.mpi_machine.specs.Picking.{after_pick, picked_of}
 use Rattle.mpi_machine.specs.Turns.{MachineState, after_answer, answer_by, answer_of, is_answered, stage_of}
+use Rattle.mpi_machine.specs.declared.answer.Answer.{Answer}
 use Rattle.mpi_machine.specs.declared.answer.Answer.TheVariants.{Replied, Wait}
 use Rattle.explore.specs.Courses.{IsAnswered, IsHeldBack}
 
@@ -116,3 +117,21 @@ pick_held {P} one two rank call pick apart said after =
       absent = λ other. none_picked (has_pick one.ranks one.events rank call pick) (picked_reply one.ranks one.events rank call pick) said;
       held = λ first. absurd (apart first);
     }
+
+-- 4. whether there was an answer
+
+pub first_done : {P : Type 0} (next : Next) (one two : MachineState P) (rank : ℕ) (call : Call) (answer : Answer) (said : Bool)
+    → MatchBool said ((reply : Reply) × (answer ≡ Replied reply)) (answer ≡ Wait) → answer ≡ answer_of next one.ranks one.events one.kept rank call
+    → two ≡ after_answer one rank call answer → MatchBool said (IsAnswered next one.ranks one.events two.events rank call First) (IsHeldBack one.ranks one.events two.events rank call First)
+first_done {P} next one two rank call answer true is said after =
+    first_answered next one two rank call is.0 (sym is.1 ∙ said) (after ∙ ap (after_answer one rank call) is.1)
+first_done {P} next one two rank call answer false is said after =
+    first_held next one two rank call (sym is ∙ said) (after ∙ ap (after_answer one rank call) is)
+
+pub pick_done : {P : Type 0} (next : Next) (one two : MachineState P) (rank : ℕ) (call : Call) (pick : Pick) (answer : Option Reply) (said : Bool) → pick ≢ First
+    → said ≡ is_some answer → answer ≡ picked_of one.ranks one.events rank call pick → two ≡ after_pick one rank call pick answer
+    → MatchBool said (IsAnswered next one.ranks one.events two.events rank call pick) (IsHeldBack one.ranks one.events two.events rank call pick)
+pick_done {P} next one two rank call pick (Some reply) true apart is said after = pick_answered next one two rank call pick reply apart said after
+pick_done {P} next one two rank call pick None false apart is said after = pick_held one two rank call pick apart said after
+pick_done {P} next one two rank call pick (Some reply) false apart is said after = absurd (cc)
+pick_done {P} next one two rank call pick None true apart is said after = absurd (cc)

@@ -5,3 +5,15 @@ mod Begun
 mod Answering
 mod Told
 mod Probing
+mod StuckReplies
+mod Noting
+mod Tried
+mod Joining
+mod Offering
+mod Looking
+mod Coded
+mod Stepping
+mod RankTries
+mod Sameness
+mod Patience
+mod Dividing

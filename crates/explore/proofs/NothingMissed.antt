@@ -13,7 +13,7 @@ use Rattle.explore.specs.Searching.{IsLookedAt, IsSearched, histories}
 use Rattle.explore.specs.SearchLaws.{AllRunsAreListed, PatientRunsAreListed}
 
 -- a history among those of some states is that of one of them
-history_in : (next : Next) (n : ℕ) (states : List (List Turn)) (before : List Event) → IsIn before (histories next n states)
+pub history_in : (next : Next) (n : ℕ) (states : List (List Turn)) (before : List Event) → IsIn before (histories next n states)
     → (turns : List Turn) × IsIn turns states × (made_by next n turns ≡ before)
 history_in next n [] before there = absurd there
 history_in next n (turns ∷ states) before there =
@@ -30,7 +30,7 @@ looked_in next output n polls root states listed polled searched before there =
     let F : List Event → Type 0 = λ l. IsLookedAt next output n polls states listed polled l in
     subst F state.2 (searched.looked state.0 state.1)
 
-listed_as : (listed : List Found) (one other : Outcome) → one ≡ other → IsListed listed one → IsListed listed other
+pub listed_as : (listed : List Found) (one other : Outcome) → one ≡ other → IsListed listed one → IsListed listed other
 listed_as listed one other same there = (let F : Outcome → Type 0 = λ o. IsListed listed o in subst F same there)
 
 -- what is met among the histories is listed

@@ -170,7 +170,7 @@ stopped_again next n now event halt h step =
     (IsStuck next n now) n now event.rank (view_of now event.rank) event.call event.reply in
     subst F h step.reply
 
-halted-append : (xs ys : List Event) → halted (xs ++ ys) ≡ or_else (halted xs) (halted ys)
+pub halted-append : (xs ys : List Event) → halted (xs ++ ys) ≡ or_else (halted xs) (halted ys)
 halted-append [] ys = refl
 halted-append (x ∷ xs) ys = rw (halted-append xs ys) (or_else-more (halt_in x.reply) (halted xs) (halted ys))
   where
@@ -178,7 +178,7 @@ halted-append (x ∷ xs) ys = rw (halted-append xs ys) (or_else-more (halt_in x.
     or_else-more None b c = refl
     or_else-more (Some halt) b c = refl
 
-kept_stopped : (before : List Event) (event : Event) (halt : Halt) → event.reply ≡ Stopped halt → IsProbeKept before event
+pub kept_stopped : (before : List Event) (event : Event) (halt : Halt) → event.reply ≡ Stopped halt → IsProbeKept before event
 kept_stopped before event halt stopped earlier comm source tag wait room sender start sent count view call done =
     let no : Stopped halt ≡ Done = sym stopped ∙ done in
     absurd (cc)

@@ -1,5 +1,5 @@
 -- What is told of a run by its ending and its outputs is what it comes to.
-use Rattle.std.proofs.Common.{◌≡◌, ◌<◌, ◌+◌, ◌∙◌, ◌∷◌, ℕ, zero, suc, List, [], Some, true, false, arith, inl, inr, map, nat_lt, refl, ap, sym}
+use Rattle.std.proofs.Common.{◌≡◌, ◌<◌, ◌+◌, ◌∙◌, ◌∷◌, ℕ, zero, suc, List, [], Some, true, false, arith, inl, inr, map, nat_lt, refl, ap, sym, subst}
 use Rattle.std.specs.List.{slice_index_or}
 use Rattle.std.proofs.lemmas.Bool.{and_from, and_parts, cases_lt, eq-eqb, lt-ltb, ltb-true}
 use Rattle.mpi_call.specs.declared.call.Halt.{Halt}
@@ -16,9 +16,12 @@ use Rattle.run_model.proofs.Halts.{names, was_stopped}
 use Rattle.run_model.proofs.MemberLists.{AreMembers-world}
 use Rattle.run_model.proofs.RunLaws.{Kept, Lawful, kept_run}
 use Rattle.run_model.proofs.Views.{option_cases}
+use Rattle.picked_runs.specs.declared.turn.Turn.{Turn}
 use Rattle.srr_entry.specs.Outputs.{printed_of}
+use Rattle.srr_record.specs.Recordings.{IsRecording}
+use Rattle.srr_record.specs.declared.recording.Recording.{Recording}
 use Rattle.run_states.specs.Outcomes.{Outcome, Output, ending_told, outcome_of, ranks_told}
-use Rattle.explore.specs.Courses.{outcome_told}
+use Rattle.explore.specs.Courses.{ComesTo, outcome_told}
 
 -- 1. the ranks that are told are ranks of the run
 
@@ -85,3 +88,22 @@ pub told_is : (next : Next) (output : Output) (n : ℕ) (run : List Event) → L
 told_is next output n run lawful is =
     let same = printed_same (printed_of output n run) n (ranks_told n (ending_of run)) (all_below next n run is.some (kept_run next n run lawful is)) in
     ap (outcome_with (ending_of run)) same
+
+-- 3. what a recording comes to
+
+pub comes_to : (next : Next) (output : Output) (n planned : ℕ) (text : List ℕ) (groups : List (List ℕ)) (turns : List Turn) (recording : Recording) (outcome : Outcome) → Lawful next
+    → planned ≡ n → IsRecording next output planned text groups turns recording → outcome ≡ outcome_told n recording.ending recording.outputs
+    → ComesTo next output n turns outcome
+comes_to next output n planned text groups turns recording outcome lawful many is said =
+    let F : ℕ → Type 0 = λ m. IsRecording next output m text groups turns recording in
+    let here : IsRecording next output n text groups turns recording = subst F many is in
+    let run : List Event = recording.history.events in
+    let told : outcome ≡ outcome_told n (ending_of run) (map (printed_of output n run) (world n 0)) =
+    said ∙ (ap (λ e. outcome_told n e recording.outputs) here.recorded.ending ∙ ap (outcome_told n (ending_of run)) here.recorded.outputs) in
+    record {
+      run = run;
+      picks = recording.picks.written;
+      taken = here.made;
+      picked = here.recorded.picked;
+      outcome_is = told ∙ told_is next output n run lawful here.recorded.picked.run;
+    }

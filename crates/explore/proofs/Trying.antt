@@ -1,5 +1,5 @@
 -- What was tried stays tried, and from all that was tried a state is looked at.
-use Rattle.std.proofs.Common.{◌≡◌, ◌∙◌, ◌++◌, ◌∷◌, Bool, ℕ, List, [], append_assoc, append-nil, inl, inr, map, refl, ap, sym, subst}
+use Rattle.std.proofs.Common.{◌≡◌, ◌∙◌, ◌++◌, ◌∷◌, Bool, ℕ, List, [], append_assoc, append-nil, Err, IfOk, Ok, OnOk, Result, inl, inr, map, refl, ap, sym, subst}
 use Rattle.mpi_call.specs.Lists.{IsIn}
 use Rattle.run_model.specs.declared.event.Event.{Event}
 use Rattle.run_model.specs.Lists.{IsPrefixOf}
@@ -26,7 +26,7 @@ in_longer {A} x xs ys longer there =
     let F : List A → Type 0 = λ l. IsIn x l in
     subst F longer.1 (in_front x xs longer.0 there)
 
-map_append : {A B : Type 0} (f : A → B) (xs ys : List A) → map f (xs ++ ys) ≡ map f xs ++ map f ys
+pub map_append : {A B : Type 0} (f : A → B) (xs ys : List A) → map f (xs ++ ys) ≡ map f xs ++ map f ys
 map_append f [] ys = refl
 map_append f (x ∷ xs) ys = ap (λ l. f x ∷ l) (map_append f xs ys)
 
@@ -77,3 +77,16 @@ grows_on one two three found more all p q r a b =
       listed_stay = longer_trans found more all a.listed_stay b.listed_stay;
       polled_stays = λ h. b.polled_stays (a.polled_stays h);
     }
+
+-- 2. what is known of an answer
+pub if_ok_map : {A E : Type 0} (W : Type 0) (P Q : A → Type 0) (r : Result A E) → ((x : A) → W → P x → Q x) → OnOk r W → IfOk r P → IfOk r Q
+if_ok_map W P Q (Ok x) f w h = f x w h
+if_ok_map W P Q (Err e) f w h = tt
+
+pub on_ok_two : {A E : Type 0} (P Q R : Type 0) (r : Result A E) → (P → Q → R) → OnOk r P → OnOk r Q → OnOk r R
+on_ok_two P Q R (Ok x) f a b = f a b
+on_ok_two P Q R (Err e) f a b = tt
+
+pub on_ok_map : {A E : Type 0} (P Q : Type 0) (r : Result A E) → (P → Q) → OnOk r P → OnOk r Q
+on_ok_map P Q (Ok x) f h = f h
+on_ok_map P Q (Err e) f h = tt

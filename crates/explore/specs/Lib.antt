@@ -3,3 +3,4 @@ pub mod Probes
 pub mod Courses
 pub mod Searching
 pub mod SearchLaws
+pub mod Meeting

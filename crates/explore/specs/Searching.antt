@@ -15,26 +15,21 @@ use Rattle.run_model.specs.Views.{Next, view_of}
 use Rattle.picked_runs.specs.declared.turn.Pick.{Pick}
 use Rattle.picked_runs.specs.declared.turn.Pick.TheVariants.{First, Sender, Index}
 use Rattle.picked_runs.specs.declared.turn.Turn.{Turn}
+use Rattle.picked_runs.specs.Numbering.{AreNumberedInOrder}
 use Rattle.picked_runs.specs.Picks.{has_pick, picked_event, picked_reply}
+use Rattle.picked_runs.specs.Turns.{IsPickOf}
 use Rattle.run_states.specs.Codes.{code_of}
 use Rattle.run_states.specs.Keys.{key_of}
 use Rattle.run_states.specs.Moves.{IsHalting, IsMet, IsMove}
-use Rattle.run_states.specs.Outcomes.{IsPatientEvent, IsProbeKept, Output, halted_outcome, outcome_of}
+use Rattle.run_states.specs.Outcomes.{IsPatientEvent, IsProbeKept, Outcome, Output, halted_outcome, outcome_of}
 use Rattle.explore.specs.declared.found.Found.{Found}
+use Rattle.explore.specs.declared.met.Met.{Met}
+use Rattle.explore.specs.Courses.{ComesTo, IsAnswered}
 use Rattle.explore.specs.Explored.{AreApart, IsFound, IsListed, made_by}
 
 -- the histories of some states, each of which is kept as the turns that make it
 abbrev pub histories : Next → ℕ → List (List Turn) → List (List Event)
 histories next n states = map (made_by next n) states
-
--- a state under a root: turns of ranks that make a run, without a halt, which goes on from the root and keeps its probes from there on
-pub record IsState (next : Next) (n : ℕ) (root : List Event) (turns : List Turn) : Type 0 where
-  pub more : List Event
-  pub made : made_by next n turns ≡ root ++ more
-  pub ranks : All (λ turn. turn.rank < n) turns
-  pub run : IsRun next n (root ++ more)
-  pub free : halted (root ++ more) ≡ None
-  pub probes : Along IsProbeKept root more
 
 -- the code of a state's key
 abbrev pub code_at : Next → ℕ → List Turn → List ℤ
@@ -108,9 +103,86 @@ pub record AreRanksTried (next : Next) (output : Output) (n polls : ℕ) (states
   pub some : made ≡ true → (rank : ℕ) × (call : Call) × (rank < n) × (call_after next n before rank ≡ Some call)
   pub stuck : made ≡ true → IsStuck next n before → IsListed listed (halted_outcome next output n before Stuck)
 
+-- turns of ranks that make a run with a recording machine's numbers, which goes on from the root and keeps its probes from there on
+pub record IsUnder (next : Next) (n : ℕ) (root : List Event) (turns : List Turn) : Type 0 where
+  pub more : List Event
+  pub made : made_by next n turns ≡ root ++ more
+  pub ranks : All (λ turn. turn.rank < n) turns
+  pub picks : All (λ turn. IsPickOf n turn.pick) turns
+  pub run : IsRun next n (made_by next n turns)
+  pub numbered : AreNumberedInOrder n (made_by next n turns)
+  pub probes : Along IsProbeKept root more
+
+-- a state under a root: such turns, without a halt
+pub record IsState (next : Next) (n : ℕ) (root : List Event) (turns : List Turn) : Type 0 where
+  pub under : IsUnder next n root turns
+  pub free : halted (made_by next n turns) ≡ None
+
+-- nothing but halts follows: no call can go, or there is a halt
+abbrev pub IsAtEnd : Next → ℕ → List Event → Type 0
+IsAtEnd next n events = IsStuck next n events ⊎ ((halt : Halt) × (halted events ≡ Some halt))
+
 -- a search under way: its states are states under the root, and each code that it has is that of one of them; what is listed was found, once
-pub record IsUnderWay (next : Next) (output : Output) (n : ℕ) (root : List Event) (states : List (List Turn)) (has_code : List ℤ → Bool) (listed : List Found) : Type 0 where
-  pub are_states : (turns : List Turn) → IsIn turns states → IsState next n root turns
-  pub coded : (code : List ℤ) → has_code code ≡ true → (turns : List Turn) × IsIn turns states × (code_at next n turns ≡ code)
-  pub found : (found : Found) → IsIn found listed → IsFound next output n root found
-  pub apart : AreApart listed
+pub record IsUnderWay (next : Next) (output : Output) (n : ℕ) (root : List Event) (met : Met) : Type 0 where
+  pub are_states : (turns : List Turn) → IsIn turns met.states → IsState next n root turns
+  pub coded : (code : List ℤ) → IsIn code met.codes → (turns : List Turn) × IsIn turns met.states × (code_at next n turns ≡ code)
+  pub found : (found : Found) → IsIn found met.found → IsFound next output n root found
+  pub apart : AreApart met.found
+
+-- a search went on: it is under way, and what it has met stays met
+pub record WentOn (next : Next) (output : Output) (n : ℕ) (root : List Event) (met met' : Met) : Type 0 where
+  pub under_way : IsUnderWay next output n root met'
+  pub grows : Grows met.states met'.states met.found met'.found met.polled met'.polled
+
+-- what the recording by these turns comes to is listed
+pub record IsNoted (next : Next) (output : Output) (n : ℕ) (turns : List Turn) (listed : List Found) : Type 0 where
+  pub outcome : Outcome
+  pub comes : ComesTo next output n turns outcome
+  pub listed_is : IsListed listed outcome
+
+-- these events are those that a state's turns make, and one more, which is no halt
+pub record IsStep (next : Next) (n : ℕ) (root : List Event) (turns : List Turn) (before : List Event) (event : Event) (events : List Event) : Type 0 where
+  pub whole : events ≡ before ++ event ∷ []
+  pub made : made_by next n turns ≡ events
+  pub more : List Event
+  pub begins : before ≡ root ++ more
+  pub probes : Along IsProbeKept root more
+  pub ranks : All (λ turn. turn.rank < n) turns
+  pub picks : All (λ turn. IsPickOf n turn.pick) turns
+  pub run : IsRun next n events
+  pub numbered : AreNumberedInOrder n events
+  pub free : halted events ≡ None
+
+-- of events with one more behind these before, that one was followed
+abbrev pub IsStepFollowed : Next → ℕ → ℕ → Met → List Event → Type 0
+IsStepFollowed next n polls met events =
+    (before : List Event) (event : Event) → events ≡ before ++ event ∷ [] → IsProbeKept before event → IsFollowed next n polls met.states met.polled before event
+
+-- a rank's turn was made: its next call was answered with what it picks
+pub record IsTurnMade (next : Next) (n : ℕ) (before after : List Event) (turn : Turn) : Type 0 where
+  pub call : Call
+  pub asked : call_after next n before turn.rank ≡ Some call
+  pub answered : IsAnswered next n before after turn.rank call turn.pick
+
+-- any pick
+abbrev pub IsAnyPick : Pick → Type 0
+IsAnyPick pick = Unit {0}
+
+-- what was tried of a search that has met this: one turn, or all turns of a rank that pick one of these, or of the ranks below a number
+abbrev pub HasTried : Next → Output → ℕ → ℕ → Met → List Event → Turn → Type 0
+HasTried next output n polls met before turn = IsTried next output n polls met.states met.found met.polled before turn
+
+abbrev pub HasTriedPicks : Next → Output → ℕ → ℕ → Met → List Event → ℕ → (Pick → Type 0) → Bool → Type 0
+HasTriedPicks next output n polls met before rank IsOne made = ArePicksTried next output n polls met.states met.found met.polled before rank IsOne made
+
+abbrev pub HasTriedRanks : Next → Output → ℕ → ℕ → Met → List Event → ℕ → Bool → Type 0
+HasTriedRanks next output n polls met before below made = AreRanksTried next output n polls met.states met.found met.polled before below made
+
+-- a state was looked at
+abbrev pub HasLookedAt : Next → Output → ℕ → ℕ → Met → List Turn → Type 0
+HasLookedAt next output n polls met turns = IsLookedAt next output n polls met.states met.found met.polled (made_by next n turns)
+
+-- where a search begins: the root is met, or it is halted, and what it comes to is listed
+pub record HasBegun (next : Next) (output : Output) (n : ℕ) (under : List Turn) (met : Met) : Type 0 where
+  pub free : halted (made_by next n under) ≡ None → IsMet n (histories next n met.states) (made_by next n under)
+  pub ended : (halt : Halt) → halted (made_by next n under) ≡ Some halt → IsNoted next output n under met.found

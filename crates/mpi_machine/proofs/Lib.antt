@@ -4,6 +4,7 @@ pub mod Beginning
 pub mod Completing
 pub mod Counting
 pub mod Entering
+pub mod Needed
 pub mod Growing
 pub mod Moving
 pub mod Probing
@@ -13,5 +14,6 @@ pub mod Serially
 pub mod Standing
 pub mod Waiting
 pub mod WaitingRanks
+mod Written
 mod Picking
 mod Indexing

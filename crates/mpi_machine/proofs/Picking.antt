@@ -6,10 +6,11 @@ use Rattle.mpi_call.specs.declared.call.Call.TheVariants.{Peek, Post}
 use Rattle.mpi_call.specs.declared.call.Halt.{Halt}
 use Rattle.mpi_call.specs.declared.reply.Reply.{Reply}
 use Rattle.mpi_call.specs.declared.reply.Reply.TheVariants.{Done}
-use Rattle.match_core.specs.Starts.{is_post}
+use Rattle.match_core.specs.Starts.{is_peek, is_post}
 use Rattle.run_model.specs.declared.event.Event.{Event}
-use Rattle.run_model.specs.Chosen.{halt_or}
+use Rattle.run_model.specs.Chosen.{halt_or, peek_reply, peeked_at}
 use Rattle.run_model.specs.Due.{due}
+use Rattle.run_model.specs.Pairs.{name_at}
 use Rattle.run_model.specs.Program.{MayGive}
 use Rattle.run_model.specs.Run.{IsRun}
 use Rattle.run_model.specs.Serial.{Stage, call_after}
@@ -19,24 +20,26 @@ use Rattle.run_model.proofs.Views.{test_cases}
 use Rattle.picked_runs.specs.declared.turn.Pick.{Pick}
 use Rattle.picked_runs.specs.declared.turn.Pick.TheVariants.{First, Sender, Index}
 use Rattle.picked_runs.specs.declared.turn.Turn.{Turn}
+use Rattle.picked_runs.specs.PickLaws.{AreMorePicked}
 use Rattle.picked_runs.specs.Picked.{IsPicked, picks_and}
 use Rattle.picked_runs.specs.Picks.{has_pick, looks, picked_choice, picked_event, picked_mate, picked_reply}
 use Rattle.picked_runs.specs.Turns.{take_turn, turn_with}
-use Rattle.picked_runs.proofs.Allowing.{picks_can_go}
 use Rattle.picked_runs.proofs.GoingOn.{picks_go_on}
 use Rattle.picked_runs.proofs.Making.{event_is, has_it}
 use Rattle.picked_runs.proofs.Padding.{length-picks}
 use Rattle.requests.specs.Histories.{Knows}
 use Rattle.requests.specs.States.{State}
 use Rattle.mpi_machine.specs.Courses.{bound_of}
-use Rattle.mpi_machine.specs.Made.{IsMade}
-use Rattle.mpi_machine.specs.Picking.{HasPicked, after_pick, picked_of}
+use Rattle.mpi_machine.specs.Made.{IsMade, IsNeeded, noted}
+use Rattle.mpi_machine.specs.Picking.{HasPicked, IsWritten, after_pick, picked_of}
 use Rattle.mpi_machine.specs.Turns.{IsAsked, MachineState, StandsAt}
 use Rattle.mpi_machine.specs.Waits.{AreKept, Keeps}
 use Rattle.mpi_machine.proofs.Answering.{due_free}
-use Rattle.mpi_machine.proofs.Growing.{event_with, kept_after}
+use Rattle.mpi_machine.proofs.Growing.{event_with, few_more, kept_after}
 use Rattle.mpi_machine.proofs.Moving.{machine_with}
+use Rattle.mpi_machine.proofs.Needed.{needed_more, needed_same}
 use Rattle.mpi_machine.proofs.Serially.{Waiting, answered_waiting}
+use Rattle.mpi_machine.proofs.Written.{has_written}
 
 -- no attempt changes the program
 pub same_pick_program : {P : Type 0} (machine : MachineState P) (rank : ℕ) (call : Call) (pick : Pick) (answer : Option Reply) → (after_pick machine rank call pick answer).program ≡ machine.program
@@ -46,21 +49,33 @@ same_pick_program machine rank call pick (Some reply) = refl
 few_after : (picks : List Pick) (events : List Event) (event : Event) (pick : Pick) → length (picks_and picks (length events) pick) ≤ length (events ++ event ∷ [])
 few_after picks events event pick = omega (arith, length-picks picks (length events) pick, length-append events (event ∷ []))
 
+-- the events and what they picked, with one more
+made_more : (next : Next) (n : ℕ) (picks : List Pick) (events : List Event) (event : Event) (pick : Pick) → IsMade next n picks events
+    → AreMorePicked next n picks events pick event → IsNeeded n events event pick → IsMade next n (noted picks (length events) pick) (events ++ event ∷ [])
+made_more next n picks events event First made m needed =
+    let same = m.same refl made.few in
+    record { run = same.run; along = same.along; needed = needed_same n [] events picks event made.needed made.few; few = few_more picks events event made.few }
+made_more next n picks events event (Sender sender) made m needed =
+    let pick : Pick = Sender sender in
+    record { run = m.more.run; along = m.more.along; needed = needed_more n [] events picks event pick made.needed needed; few = few_after picks events event pick }
+made_more next n picks events event (Index index) made m needed =
+    let pick : Pick = Index index in
+    record { run = m.more.run; along = m.more.along; needed = needed_more n [] events picks event pick made.needed needed; few = few_after picks events event pick }
+
 -- what is kept after it
 pub picked_keeps : (next : Next) (n : ℕ) (picks : List Pick) (events : List Event) (kept : List (Option Call)) (state : State) (rank : ℕ) (call : Call) (pick : Pick) (reply : Reply) (event : Event)
     → Lawful next → IsMade next n picks events → AreKept next n events kept → HasPicked next n events rank call pick reply
     → picked_event n events rank call pick ≡ event → Knows n (events ++ event ∷ []) state
-    → Keeps next n (picks_and picks (length events) pick) (events ++ event ∷ []) (slice_set kept rank None) state
+    → Keeps next n (noted picks (length events) pick) (events ++ event ∷ []) (slice_set kept rank None) state
 picked_keeps next n picks events kept state rank call pick reply event lawful made are has is knows =
     let one : Event = picked_event n events rank call pick in
     let F : Event → Type 0 = λ e. Knows n (events ++ e ∷ []) state in
-    let G : Event → Type 0 = λ e. Keeps next n (picks_and picks (length events) pick) (events ++ e ∷ []) (slice_set kept rank None) state in
+    let G : Event → Type 0 = λ e. Keeps next n (noted picks (length events) pick) (events ++ e ∷ []) (slice_set kept rank None) state in
     let here : F one = subst F (sym is) knows in
     let run : IsPicked next n picks events = record { run = made.run; along = made.along } in
-    let goes = picks_can_go next n picks events rank call pick run has.apart has.offered in
-    let more = (picks_go_on next n lawful picks events rank call pick run has.asked.below has.asked.asked has.offered (inl goes) here.matcher.matched).more in
+    let more = picks_go_on next n lawful picks events rank call pick run has.asked.below has.asked.asked has.offered (inl has.go) here.matcher.matched in
     let after : G one = record {
-      made = record { run = more.run; along = more.along; few = few_after picks events one pick };
+      made = made_more next n picks events one pick made more has.needed;
       knows = here;
       kept_are = kept_after next n events one kept are has.asked.below;
     } in
@@ -85,25 +100,44 @@ sender_offered n events me call sender at h free found =
     has_it n events me call (Sender sender) (looks_free n events me call h free)
     (both (looks call) (is_some (picked_choice events me call (Sender sender))) h (ap is_some found))
 
--- a receive that takes the message of a sender
-pub post_picks : (next : Next) (n : ℕ) (events : List Event) (rank : ℕ) (call : Call) (sender mate : ℕ) → IsAsked next n events rank call → is_post call ≡ true
-    → bound_of events ≡ None → picked_choice events rank call (Sender sender) ≡ Some mate → HasPicked next n events rank call (Sender sender) Done
-post_picks next n events rank (Post comm source tag room) sender mate asked post free found =
+-- a receive that takes the message of a sender, with what is written down of it
+pub post_picks : (next : Next) (n : ℕ) (picks : List Pick) (events : List Event) (rank : ℕ) (call : Call) (sender mate : ℕ) (written : Pick) → IsMade next n picks events
+    → IsAsked next n events rank call → is_post call ≡ true → bound_of events ≡ None → picked_choice events rank call (Sender sender) ≡ Some mate
+    → (has_pick n events rank call (Sender sender) ≡ true → IsWritten n events rank call (Sender sender) written) → HasPicked next n events rank call written Done
+post_picks next n picks events rank (Post comm source tag room) sender mate written made asked post free found is =
     let call : Call = Post comm source tag room in
-    record {
-      asked = asked;
-      apart = sender_apart sender;
-      offered = sender_offered n events rank call sender mate refl free found;
-      reply_is = ap (λ (o : Option Halt). halt_or o Done) (looks_free n events rank call refl free);
-    }
-post_picks next n events rank call sender mate asked post free found = absurd (cc)
+    let offered = sender_offered n events rank call sender mate refl free found in
+    has_written next n picks events rank call (Sender sender) written Done made asked (sender_apart sender) offered
+    (ap (λ (o : Option Halt). halt_or o Done) (looks_free n events rank call refl free)) (is offered)
+post_picks next n picks events rank call sender mate written made asked post free found is = absurd (cc)
 
-pub post_event : (next : Next) (n : ℕ) (events : List Event) (rank : ℕ) (call : Call) (sender mate : ℕ) → is_post call ≡ true
-    → HasPicked next n events rank call (Sender sender) Done → picked_choice events rank call (Sender sender) ≡ Some mate
-    → picked_event n events rank call (Sender sender) ≡ event_with rank call Done (Some mate)
-post_event next n events rank (Post comm source tag room) sender mate post has found =
-    event_is n events rank (Post comm source tag room) (Sender sender) Done (Some mate) has.reply_is found
-post_event next n events rank call sender mate post has found = absurd (cc)
+pub post_event : (n : ℕ) (events : List Event) (rank : ℕ) (call : Call) (sender mate : ℕ) (written : Pick) → is_post call ≡ true → bound_of events ≡ None
+    → picked_choice events rank call (Sender sender) ≡ Some mate → (has_pick n events rank call (Sender sender) ≡ true → IsWritten n events rank call (Sender sender) written)
+    → picked_event n events rank call written ≡ event_with rank call Done (Some mate)
+post_event n events rank (Post comm source tag room) sender mate written post free found is =
+    let call : Call = Post comm source tag room in
+    let reply : picked_reply n events rank call (Sender sender) ≡ Done = ap (λ (o : Option Halt). halt_or o Done) (looks_free n events rank call refl free) in
+    sym (is (sender_offered n events rank call sender mate refl free found)).picked.event_is ∙ event_is n events rank call (Sender sender) Done (Some mate) reply found
+post_event n events rank call sender mate written post free found is = absurd (cc)
+
+-- a probe that finds the message of a sender
+pub peek_offered : (n : ℕ) (events : List Event) (rank : ℕ) (call : Call) (sender at : ℕ) → is_peek call ≡ true → bound_of events ≡ None
+    → picked_choice events rank call (Sender sender) ≡ Some at → has_pick n events rank call (Sender sender) ≡ true
+peek_offered n events rank (Peek comm source tag wait) sender at peek free found = sender_offered n events rank (Peek comm source tag wait) sender at refl free found
+peek_offered n events rank call sender at peek free found = absurd (cc)
+
+pub peek_picks : (next : Next) (n : ℕ) (picks : List Pick) (events : List Event) (rank : ℕ) (call : Call) (sender at : ℕ) (written : Pick) (reply : Reply) → IsMade next n picks events
+    → IsAsked next n events rank call → is_peek call ≡ true → bound_of events ≡ None → picked_choice events rank call (Sender sender) ≡ Some at
+    → reply ≡ peeked_at events (name_at events at)
+    → (has_pick n events rank call (Sender sender) ≡ true → IsWritten n events rank call (Sender sender) written) → HasPicked next n events rank call written reply
+peek_picks next n picks events rank (Peek comm source tag wait) sender at written reply made asked peek free found same is =
+    let call : Call = Peek comm source tag wait in
+    let offered = sender_offered n events rank call sender at refl free found in
+    let reply_is : picked_reply n events rank call (Sender sender) ≡ reply =
+    ap (λ (o : Option Halt). halt_or o (peek_reply events wait (picked_choice events rank call (Sender sender)))) (looks_free n events rank call refl free)
+    ∙ (ap (peek_reply events wait) found ∙ sym same) in
+    has_written next n picks events rank call (Sender sender) written reply made asked (sender_apart sender) offered reply_is (is offered)
+peek_picks next n picks events rank call sender at written reply made asked peek free found same is = absurd (cc)
 
 pub idle_picked : (next : Next) (n : ℕ) (events : List Event) (rank : ℕ) (call : Call) (pick : Pick) (reply : Reply) → HasPicked next n events rank call pick reply
     → is_start (call, reply) ≡ false → picked_event n events rank call pick ≡ event_with rank call reply None

@@ -5,6 +5,7 @@ ghost use Rattle.mpi_call.specs.Calls.{is_starting};
 ghost use Rattle.mpi_call.specs.declared.limits.TheConstants.{MOST_RANKS};
 ghost use Rattle.mpi_call.specs.declared.call.Call.{Call};
 ghost use Rattle.mpi_call.specs.declared.call.Call.TheVariants.{Peek, Take};
+ghost use Rattle.mpi_call.specs.declared.call.TakeMode.{TakeMode};
 ghost use Rattle.mpi_call.specs.declared.reply.Reply.{Reply};
 ghost use Rattle.mpi_call.specs.declared.reply.Reply.TheVariants.{Took as TookReply};
 ghost use Rattle.run_model.specs.Allowed.{can_go};
@@ -18,7 +19,10 @@ ghost use Rattle.picked_runs.specs.declared.turn.Pick.TheVariants.{Index, Sender
 ghost use Rattle.picked_runs.specs.Picked.{IsPicked};
 ghost use Rattle.picked_runs.specs.Turns.{take_turn};
 ghost use Rattle.match_core.specs.Starts.{is_peek, is_post};
-ghost use Rattle.mpi_machine.specs.Picking.{after_pick, picked_of, HasPicked};
+ghost use Rattle.picked_runs.specs.Picks.{has_pick, looks};
+ghost use Rattle.run_model.specs.Choice.{choice};
+ghost use Rattle.mpi_machine.specs.Made.{noted, AreNeeded, IsPlain};
+ghost use Rattle.mpi_machine.specs.Picking.{after_pick, picked_of, HasPicked, IsWritten};
 ghost use Rattle.run_model.specs.Views.{is_start, replies_in, taken_of, view_of};
 ghost use Rattle.requests.specs.Histories.{took_event, Knows};
 ghost use Rattle.requests.specs.States.{with_rows, State};
@@ -31,7 +35,7 @@ ghost use Rattle.mpi_machine.specs.Waits.{waits, AreKept};
 
 use crate::answer::Answer;
 use crate::course::Course;
-use crate::waits::is_there;
+use crate::waits::{is_there, none_before};
 use mpi_call::call::{Call, Comm, Halt, Source, Tag, TakeMode};
 use mpi_call::lists::Starts;
 use mpi_call::reply;
@@ -161,6 +165,7 @@ impl<'a, P: Program> Machine<'a, P> {
         ensures after { IfOk result (λ answer. self.new ≡ after_pick self.old rank call (Sender sender) answer) }
         ensures err { OnErr result (self.new ≡ self.old) }
     {
+        let pick = self.pick_of_sender(rank, &call, sender);
         self.requests.knows_on();
         self.course.reserve()?;
         let at = self.course.history().len();
@@ -168,7 +173,7 @@ impl<'a, P: Program> Machine<'a, P> {
         let Some(mate) = self.requests.post_from(at, rank, &call, sender)? else {
             return Ok(None);
         };
-        self.picks.put(at, Pick::Sender(sender));
+        note(&mut self.picks, at, pick);
         self.course.append(Event {
             rank,
             call,
@@ -192,7 +197,45 @@ impl<'a, P: Program> Machine<'a, P> {
             return Ok(None);
         };
         let reply = self.peeked(at);
-        self.picked(rank, call, Pick::Sender(sender), reply)
+        let pick = self.pick_of_sender(rank, &call, sender);
+        self.picked(rank, call, pick, reply)
+    }
+
+    /// What is written down of a receive or a probe that takes a message of this sender: nothing where it would take that message
+    /// anyhow. Takes no memory.
+    fn pick_of_sender(&self, rank: u8, call: &Call, sender: u8) -> Pick
+        requires { looks call.now ≡ true }
+        ensures { has_pick self.now.ranks self.now.events rank call.now (Sender sender) ≡ true → IsWritten self.now.ranks self.now.events rank call.now (Sender sender) result }
+    {
+        let narrowed = call_from(sender, call);
+        if self.choice(rank, call) == self.choice(rank, &narrowed) {
+            return Pick::First;
+        }
+        Pick::Sender(sender)
+    }
+
+    /// The position of the message that a receive or a probe takes where nothing is picked. Takes no memory.
+    fn choice(&self, rank: u8, call: &Call) -> Option<u32>
+        requires { looks call.now ≡ true }
+        ensures { result ≡ choice self.now.events rank call.now }
+    {
+        match call {
+            Call::Post {
+                comm,
+                source,
+                tag,
+                ..
+            } => {
+                let probe = Call::Peek {
+                    comm: *comm,
+                    source: *source,
+                    tag: *tag,
+                    wait: true,
+                };
+                self.requests.peek(rank, &probe)
+            }
+            _ => self.requests.peek(rank, call),
+        }
     }
 
     /// One attempt of a rank with its next call that completes the start at this index of its list, where it completes one start. Where
@@ -258,6 +301,7 @@ impl<'a, P: Program> Machine<'a, P> {
         ensures after { IfOk result (λ answer. self.new ≡ after_pick self.old rank (Take starts mode) (Index index) answer) }
         ensures err { OnErr result (self.new ≡ self.old) }
     {
+        let pick = self.pick_of_index(rank, &starts, index);
         let at = self.course.history().len();
         self.picks.reserve(at)?;
         let Some(answer) = self.requests.take_at(rank, &starts, index)? else {
@@ -274,12 +318,12 @@ impl<'a, P: Program> Machine<'a, P> {
                     mode,
                     items,
                 )?;
-                self.picks.put(at, Pick::Index(index));
+                note(&mut self.picks, at, pick);
                 Ok(Some(reply))
             }
             TakeAnswer::TooLong { start } => {
                 let halt = Halt::Truncated { rank, start };
-                self.picks.put(at, Pick::Index(index));
+                note(&mut self.picks, at, pick);
                 self.course.append(Event {
                     rank,
                     call: Call::Take { starts, mode },
@@ -290,6 +334,17 @@ impl<'a, P: Program> Machine<'a, P> {
             }
             _ => unreachable!(),
         }
+    }
+
+    /// What is written down of a completion of one start that completes the one at this index: nothing where it would complete that
+    /// start anyhow. Takes no memory.
+    fn pick_of_index(&self, rank: u8, starts: &Starts, index: u32) -> Pick
+        ensures { (mode : TakeMode) → has_pick self.now.ranks self.now.events rank (Take starts.now mode) (Index index) ≡ true → IsWritten self.now.ranks self.now.events rank (Take starts.now mode) (Index index) result }
+    {
+        if none_before(&self.requests, rank, starts.as_slice(), index) {
+            return Pick::First;
+        }
+        Pick::Index(index)
     }
 
     /// A reply to a call that picked, which is not the rank's last, and changes nothing that is known of starts.
@@ -314,7 +369,7 @@ impl<'a, P: Program> Machine<'a, P> {
         let at = self.course.history().len();
         self.picks.reserve(at)?;
         let copied = reply::copy_of(&reply)?;
-        self.picks.put(at, pick);
+        note(&mut self.picks, at, pick);
         self.course.append(Event {
             rank,
             call,
@@ -630,10 +685,15 @@ impl<'a, P: Program> Machine<'a, P> {
         self.course.history()
     }
 
-    /// The events so far, and what they picked: a run of the program that these picks make. Takes no memory.
+    /// The events so far, and what they picked: a run of the program that these picks make, and a pick only where an event needs one.
+    /// Takes no memory.
     pub fn into_run(self) -> (History, Picks)
         ensures events { result.0.events ≡ self.entry.events }
         ensures picked { IsPicked (P.next self.entry.program) self.entry.ranks result.1.written result.0.events }
+        ensures needed { AreNeeded self.entry.ranks [] result.1.written result.0.events }
+
+        // So where the machine would have made all of them without picks, nothing is picked.
+        ensures plain { IsPlain self.entry.ranks result.1.written result.0.events }
     {
         (self.course.into_history(), self.picks)
     }
@@ -662,6 +722,18 @@ fn last_reply(halt: Option<Halt>) -> Reply
     match halt {
         Some(halt) => Reply::Stopped(halt),
         None => Reply::Done,
+    }
+}
+
+/// Writes down what the event at a position picked, where it picked. Takes no memory.
+fn note(picks: &mut Picks, at: u32, pick: Pick)
+    requires few { length picks.old.written ≤ at }
+    requires room { at < picks.old.room }
+    ensures { picks.new.written ≡ noted picks.old.written at pick }
+{
+    match pick {
+        Pick::First => {}
+        _ => picks.put(at, pick),
     }
 }
 

@@ -75,7 +75,7 @@ record IsStarted (before : List Event) (s : ℕ) : Type 0 where
   there : slice_get before s ≡ Some event
   start : is_start (event.call, event.reply) ≡ true
 
-listed_is : (o : Option ℕ) (s : ℕ) → IsIn s (listed o) → o ≡ Some s
+pub listed_is : (o : Option ℕ) (s : ℕ) → IsIn s (listed o) → o ≡ Some s
 listed_is None s h = absurd h
 listed_is (Some p) s h = elim h [ inl e ↦ ap Some e | inr never ↦ absurd never ]
 

@@ -30,7 +30,7 @@ before_deeper n events depths _ _ are (path s t u first is) =
     omega (arith, one, other)
 
 -- what stops its rank stands behind the others
-going_behind : (events : List Event) (depths : List ℕ) (p k : ℕ) (event : Event) → slice_get events p ≡ Some event → stops event.reply ≡ false → p < k
+pub going_behind : (events : List Event) (depths : List ℕ) (p k : ℕ) (event : Event) → slice_get events p ≡ Some event → stops event.reply ≡ false → p < k
     → get_or depths p 0 < behind_first events depths k
 going_behind events depths p zero event there going low = absurd (omega (arith, low))
 going_behind events depths p (suc k) event there going low = elim (equal_or_less p k (omega (arith, low))) [

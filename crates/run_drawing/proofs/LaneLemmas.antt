@@ -61,7 +61,7 @@ rising_at low [] j q rises h = absurd (cc)
 rising_at low (x ∷ xs) zero q rises h = (let same : x ≡ q = cc in let first = rises.0 in omega (arith, same, first))
 rising_at low (x ∷ xs) (suc j) q rises h = (let first = rises.0 in let rest = rising_at (x + 1) xs j q rises.1 h in omega (arith, first, rest))
 
-rising_less : (low : ℕ) (xs : List ℕ) (i j p q : ℕ) → Rises low xs → i < j → slice_get xs i ≡ Some p → slice_get xs j ≡ Some q → p < q
+pub rising_less : (low : ℕ) (xs : List ℕ) (i j p q : ℕ) → Rises low xs → i < j → slice_get xs i ≡ Some p → slice_get xs j ≡ Some q → p < q
 rising_less low [] i j p q rises h one other = absurd (cc)
 rising_less low (x ∷ xs) i zero p q rises h one other = absurd (omega (arith, h))
 rising_less low (x ∷ xs) zero (suc j) p q rises h one other =
@@ -91,12 +91,12 @@ has_ended (x ∷ events) rank (suc t) event at own h =
     ]
 
 -- the events before a position, the one there, and those behind it
-parted : {A : Type 0} (xs : List A) (u : ℕ) (x : A) → slice_get xs u ≡ Some x → take u xs ++ x ∷ drop (suc u) xs ≡ xs
+pub parted : {A : Type 0} (xs : List A) (u : ℕ) (x : A) → slice_get xs u ≡ Some x → take u xs ++ x ∷ drop (suc u) xs ≡ xs
 parted [] u x h = absurd (cc)
 parted (y ∷ xs) zero x h = (let same : x ≡ y = cc in ap (λ z. z ∷ xs) same)
 parted (y ∷ xs) (suc u) x h = ap (λ l. y ∷ l) (parted xs u x h)
 
-get_take : {A : Type 0} (xs : List A) (u t : ℕ) (x : A) → t < u → slice_get xs t ≡ Some x → slice_get (take u xs) t ≡ Some x
+pub get_take : {A : Type 0} (xs : List A) (u t : ℕ) (x : A) → t < u → slice_get xs t ≡ Some x → slice_get (take u xs) t ≡ Some x
 get_take [] u t x less h = absurd (cc)
 get_take (y ∷ xs) zero t x less h = absurd (omega (arith, less))
 get_take (y ∷ xs) (suc u) zero x less h = h

@@ -7,4 +7,15 @@ pub mod ChoiceLemmas
 pub mod ColumnLemmas
 pub mod ArrowLemmas
 pub mod LaneLemmas
+pub mod Alike
+pub mod Twins
+pub mod TwinStarts
+pub mod Mates
+pub mod Grounds
+pub mod TwinSteps
+pub mod TwinRuns
+pub mod TwinLinks
+pub mod TwinTakers
+pub mod TwinDrawings
+pub mod ReceivedMates
 mod WorkedExamples

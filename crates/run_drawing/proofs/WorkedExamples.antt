@@ -1,5 +1,5 @@
 -- Drawings of small runs, worked by hand.
-use Rattle.std.proofs.Common.{◌≡◌, List, [], ◌∷◌, ℕ, Bool, Option, None, Some, true, false, refl}
+use Rattle.std.proofs.Common.{◌≡◌, ◌+◌, List, [], ◌∷◌, ℕ, Bool, Option, None, Some, true, false, refl}
 use Rattle.mpi_call.specs.declared.call.Call.{Call}
 use Rattle.mpi_call.specs.declared.call.Call.TheVariants.{End, Enter, Peek, Post, Send, Take}
 use Rattle.mpi_call.specs.declared.call.Halt.TheVariants.{Stuck}
@@ -7,10 +7,12 @@ use Rattle.mpi_call.specs.declared.call.Kind.TheVariants.{Barrier}
 use Rattle.mpi_call.specs.declared.call.Source.TheVariants.{Any, From, Null}
 use Rattle.mpi_call.specs.declared.call.Tag.TheVariants.{Any as AnyTag, Is}
 use Rattle.mpi_call.specs.declared.call.TakeMode.TheVariants.{All}
-use Rattle.mpi_call.specs.declared.reply.Got.TheVariants.{Joined, Message as GotMessage}
+use Rattle.mpi_call.specs.declared.reply.Got.TheVariants.{Joined, Message as GotMessage, Sent}
 use Rattle.mpi_call.specs.declared.reply.Reply.{Reply}
 use Rattle.mpi_call.specs.declared.reply.Reply.TheVariants.{Done, Peeked, Stopped, Took}
 use Rattle.run_model.specs.declared.event.Event.{Event}
+use Rattle.run_model.specs.Pairs.{pairs_of, partner_of}
+use Rattle.run_model.specs.Views.{view_of}
 use Rattle.run_drawing.specs.declared.drawing.Mark.{Mark}
 use Rattle.run_drawing.specs.declared.drawing.Point.{Point}
 use Rattle.run_drawing.specs.Basis.{Basis}
@@ -131,3 +133,53 @@ stuck_drawn : drawn ((0 ∷ 1 ∷ []) ∷ []) (basis_of 2 stuck (0 ∷ 1 ∷ 2 �
   unreceived = record { rank = 0; column = 0; receiver = 1 } ∷ [];
 }
 stuck_drawn = refl
+
+-- 5. views alone do not tell a drawing: ranks 0 and 2 each send to rank 1 and wait until they are matched, and rank 1 completes neither of its
+-- two receives from any source. Who sent first has the first receive, and so the other one's wait stands to the right
+
+abbrev crossed : ℕ → ℕ → List Event
+crossed one other =
+    event_of 1 (Post 0 Any AnyTag 1) Done None
+    ∷ event_of 1 (Post 0 Any AnyTag 1) Done None
+    ∷ event_of one (Send 0 1 9 [] true) Done (Some 0)
+    ∷ event_of other (Send 0 1 9 [] true) Done (Some 1)
+    ∷ event_of 0 (Take (0 ∷ []) All) (Took (record { index = 0; got = Sent } ∷ [])) None
+    ∷ event_of 2 (Take (0 ∷ []) All) (Took (record { index = 0; got = Sent } ∷ [])) None
+    ∷ event_of 0 End Done None
+    ∷ event_of 1 End Done None
+    ∷ event_of 2 End Done None
+    ∷ []
+
+same_views_0 : view_of (crossed 0 2) 0 ≡ view_of (crossed 2 0) 0
+same_views_0 = refl
+
+same_views_1 : view_of (crossed 0 2) 1 ≡ view_of (crossed 2 0) 1
+same_views_1 = refl
+
+same_views_2 : view_of (crossed 0 2) 2 ≡ view_of (crossed 2 0) 2
+same_views_2 = refl
+
+first_of_0 : partner_of (pairs_of (crossed 0 2)) (0, 0) ≡ Some (1, 0)
+first_of_0 = refl
+
+second_of_0 : partner_of (pairs_of (crossed 2 0)) (0, 0) ≡ Some (1, 1)
+second_of_0 = refl
+
+abbrev waits_at : ℕ → ℕ → List Mark
+waits_at one other =
+    mark 0 0 0 false
+    ∷ mark 0 1 one false
+    ∷ mark 0 2 (one + 1) false
+    ∷ mark 1 0 0 false
+    ∷ mark 1 1 1 false
+    ∷ mark 1 2 2 false
+    ∷ mark 2 0 0 false
+    ∷ mark 2 1 other false
+    ∷ mark 2 2 (other + 1) false
+    ∷ []
+
+zero_first : (drawn ((0 ∷ 1 ∷ 2 ∷ []) ∷ []) (basis_of 3 (crossed 0 2) (0 ∷ 1 ∷ 0 ∷ 0 ∷ 1 ∷ 2 ∷ 2 ∷ 2 ∷ 3 ∷ []))).marks ≡ waits_at 1 2
+zero_first = refl
+
+two_first : (drawn ((0 ∷ 1 ∷ 2 ∷ []) ∷ []) (basis_of 3 (crossed 2 0) (0 ∷ 1 ∷ 0 ∷ 0 ∷ 2 ∷ 1 ∷ 3 ∷ 2 ∷ 2 ∷ []))).marks ≡ waits_at 2 1
+two_first = refl

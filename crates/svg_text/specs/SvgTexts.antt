@@ -150,10 +150,6 @@ sides_text grid right all cycles texts ranks high =
     ++ endings_text grid all (beside right (farthest (arcs_of all))) texts ranks
     ++ legend_text (high - 30) ++ choices_legend grid (high - 30) ++ codes "</svg>\n"
 
--- a picture has at most so many calls
-abbrev pub most_calls : ℕ
-most_calls = 4000
-
 -- the whole picture
 unfoldable pub picture_text : Grid → ℕ → ℕ → List Event → Drawn → Ending → List Blocked → List (List ℕ) → List (List ℕ) → List ℕ
 picture_text grid right high events drawing ending all cycles texts =

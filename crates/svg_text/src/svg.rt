@@ -1,11 +1,11 @@
 //! The picture of a run as SVG.
-ghost use Rattle.std.specs.Prelude.{◌≡◌, ◌+◌, ◌-◌, ◌≤◌, ◌<◌, ◌↔◌, ◌^◌, ◌++◌, ℕ, IfOk, IsTrue, OnOk, codes, flat_map, if◌then◌else◌, length};
+ghost use Rattle.std.specs.Prelude.{◌≡◌, ◌+◌, ◌-◌, ◌≤◌, ◌<◌, ◌^◌, ◌++◌, IfOk, OnOk, codes, flat_map, if◌then◌else◌, length};
 ghost use Rattle.run_model.specs.Views.{view_of};
 ghost use Rattle.svg_text.specs.Endings.{arc_text, arcs_of, beside, beside_texts, blocked_of, cycles_of, cycles_text, endings_text, farthest, longest};
 ghost use Rattle.svg_text.specs.Grids.{bottom_of, grid_by, right_of};
 ghost use Rattle.svg_text.specs.Marks.{mark_text};
 ghost use Rattle.svg_text.specs.Shapes.{choices_text, collective_text, lane_text, message_text, probe_text, receive_text, unreceived_text};
-ghost use Rattle.svg_text.specs.SvgTexts.{choices_legend, count_raced, count_wild, end_text, frame_text, ground_text, groups_in, had_choice, head_text, heading_text, heads_text, high_of, lanes_text, legend_text, most_calls, picture_text, plural_text, shapes_text, sides_text, some_choice, style_text, subtitle_text, svg_text, took_any, top_text, wide_of};
+ghost use Rattle.svg_text.specs.SvgTexts.{choices_legend, count_raced, count_wild, end_text, frame_text, ground_text, groups_in, had_choice, head_text, heading_text, heads_text, high_of, lanes_text, legend_text, picture_text, plural_text, shapes_text, sides_text, some_choice, style_text, subtitle_text, svg_text, took_any, top_text, wide_of};
 
 use crate::endings::{
     Arc, arcs_of, beside, beside_texts, blocked_of, cycles_of, farthest, longest, push_arc,
@@ -28,16 +28,6 @@ use std::alloc::{AllocError, Global};
 use wait_graph::graph::{Blocked, Graph};
 use wiz_base::{Bytes, push_decimal, push_text};
 use wiz_trace::call_text::push_halt;
-
-/// The most calls of a picture.
-pub const MOST_CALLS: usize = 4_000;
-
-/// Whether a drawing is small enough for a picture.
-pub fn fits(drawing: &Drawing) -> bool
-    ensures { IsTrue result ↔ (length drawing.now.marks ≤ most_calls) }
-{
-    drawing.marks().len() <= MOST_CALLS
-}
 
 /// The picture of a run: its history and drawing, who waits for whom, how it ended, and what its ranks printed.
 pub fn svg_text(

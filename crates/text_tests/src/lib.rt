@@ -26,6 +26,8 @@ mod named;
 #[cfg(test)]
 mod orders;
 #[cfg(test)]
+mod picture_rows;
+#[cfg(test)]
 mod pictures;
 #[cfg(test)]
 mod plans;

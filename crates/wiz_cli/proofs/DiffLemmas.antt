@@ -197,8 +197,9 @@ not_done s.Starved first second ranks apart = refl
 not_done s.OutOfMemory first second ranks apart = refl
 not_done s.TooLong first second ranks apart = refl
 not_done s.Groups first second ranks apart = refl
-not_done s.TooManyRaces first second ranks apart = refl
+not_done s.TooMany first second ranks apart = refl
 not_done s.Parted first second ranks apart = refl
+not_done s.Incomplete first second ranks apart = refl
 
 -- the comparison is told where both replays are done
 pub compared_is : (first second : Replayed) (ranks : List Compared) (both status : Status) (text : List ℕ) (replays : List Replayed) (done : Told) → both ≡ s.Done

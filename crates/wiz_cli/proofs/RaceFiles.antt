@@ -56,15 +56,15 @@ earlier_apart prefix recording (x ∷ others) (suc k) other apart h =
 -- ---- files
 
 -- those up to one, it, and those behind it
-split_others : (others : List OtherPick) (k : ℕ) (other : OtherPick) → slice_get others k ≡ Some other
-    → (take (suc k) others ≡ take k others ++ other ∷ []) × (others ≡ (take k others ++ other ∷ []) ++ drop (suc k) others)
-split_others [] k other h = absurd (cc)
-split_others (x ∷ others) zero other h =
-    let same : x ≡ other = cc in
-    (ap (λ (o : OtherPick). o ∷ []) same, ap (λ (o : OtherPick). o ∷ others) same)
-split_others (x ∷ others) (suc k) other h =
-    let rest = split_others others k other h in
-    (ap (λ (l : List OtherPick). x ∷ l) rest.0, ap (λ (l : List OtherPick). x ∷ l) rest.1)
+pub split_at : {A : Type 0} (xs : List A) (k : ℕ) (one : A) → slice_get xs k ≡ Some one
+    → (take (suc k) xs ≡ take k xs ++ one ∷ []) × (xs ≡ (take k xs ++ one ∷ []) ++ drop (suc k) xs)
+split_at [] k one h = absurd (cc)
+split_at {A} (x ∷ xs) zero one h =
+    let same : x ≡ one = cc in
+    (ap (λ (o : A). o ∷ []) same, ap (λ (o : A). o ∷ xs) same)
+split_at {A} (x ∷ xs) (suc k) one h =
+    let rest = split_at xs k one h in
+    (ap (λ (l : List A). x ∷ l) rest.0, ap (λ (l : List A). x ∷ l) rest.1)
 
 pub more_written : (prefix : List ℕ) (recording : Recording) (others : List OtherPick) (k : ℕ) (other : OtherPick) (before mid after : Option Files) → AreApart others
     → slice_get others k ≡ Some other → AreWritten before mid (map (other_file prefix recording) (take k others)) []
@@ -72,7 +72,7 @@ pub more_written : (prefix : List ℕ) (recording : Recording) (others : List Ot
 more_written prefix recording others k other before mid after apart there first second =
     let f : OtherPick → NamedFile = other_file prefix recording in
     let next : k + 1 ≡ suc k = omega arith in
-    let split = split_others others k other there in
+    let split = split_at others k other there in
     let files : map f (take (k + 1) others) ≡ map f (take k others) ++ f other ∷ [] =
     ap (λ c. map f (take c others)) next ∙ (ap (map f) split.0 ∙ map-append f (take k others) (other ∷ [])) in
     let F : List NamedFile → Type 0 = λ l. AreWritten before after l [] in
@@ -85,7 +85,7 @@ pub then_stopped : (prefix : List ℕ) (recording : Recording) (others : List Ot
     → IsStopped before after (map (other_file prefix recording) others) why
 then_stopped prefix recording others k other before mid after why apart there first stopped later =
     let f : OtherPick → NamedFile = other_file prefix recording in
-    let split = split_others others k other there in
+    let split = split_at others k other there in
     let files : map f others ≡ (map f (take k others) ++ f other ∷ []) ++ map f (drop (suc k) others) =
     ap (map f) split.1
     ∙ (map-append f (take k others ++ other ∷ []) (drop (suc k) others) ∙ ap (λ l. l ++ map f (drop (suc k) others)) (map-append f (take k others) (other ∷ []))) in

@@ -65,8 +65,9 @@ status_by s.Starved text replayed = refl
 status_by s.OutOfMemory text replayed = refl
 status_by s.TooLong text replayed = refl
 status_by s.Groups text replayed = refl
-status_by s.TooManyRaces text replayed = refl
+status_by s.TooMany text replayed = refl
 status_by s.Parted text replayed = refl
+status_by s.Incomplete text replayed = refl
 
 pub view_status : (replayed : Replayed) (text : List ℕ) (outcome : Outcome) → outcome ≡ view_outcome text replayed → outcome.status ≡ of_stands replayed.ends
 view_status replayed text outcome is = ap (λ (o : Outcome). o.status) is ∙ status_by (of_stands replayed.ends) text replayed
@@ -87,8 +88,9 @@ not_done s.Starved text replayed apart = refl
 not_done s.OutOfMemory text replayed apart = refl
 not_done s.TooLong text replayed apart = refl
 not_done s.Groups text replayed apart = refl
-not_done s.TooManyRaces text replayed apart = refl
+not_done s.TooMany text replayed apart = refl
 not_done s.Parted text replayed apart = refl
+not_done s.Incomplete text replayed apart = refl
 
 -- what is asked is told where the replay is done
 pub asked_is : (replayed : Replayed) (whole text : List ℕ) (both : Status) (done : Told) → both ≡ s.Done → both ≡ of_stands replayed.ends → text ≡ whole

@@ -3,7 +3,7 @@ use Rattle.std.proofs.Common.{◌≡◌, ◌∙◌, ap, inl, refl, sym, Bool, Bo
 use Rattle.std.specs.Prelude.{◌&&◌, not, option_map}
 use Rattle.clap.specs.Words.{Text}
 use Rattle.wiz_words.specs.declared.command.Command.{Command}
-use Rattle.wiz_words.specs.declared.command.Command.TheVariants.{Record, Check, Races, Advise, Demo, Replay, Show, Stats, Convert, Refine, Join, Diff, Waits, Watch, At, Where}
+use Rattle.wiz_words.specs.declared.command.Command.TheVariants.{Record, Check, Races, Advise, Demo, Replay, Show, Stats, Convert, Refine, Join, Diff, Waits, Picture, Watch, At, Where, Explore}
 use Rattle.wiz_words.specs.declared.command.RunWords.{RunWords}
 use Rattle.wiz_words.specs.Texts.{run_with_texts, with_texts}
 use Rattle.wiz_words.specs.Words.{AskFor, AskForOneThing, is_threaded, is_threaded_run}
@@ -39,9 +39,11 @@ is_threaded-with_texts (Refine log plan prefix) = refl
 is_threaded-with_texts (Join one other file) = refl
 is_threaded-with_texts (Diff one other) = refl
 is_threaded-with_texts (Waits run) = run_is_threaded-texts run
+is_threaded-with_texts (Picture run file is_trace) = run_is_threaded-texts run
 is_threaded-with_texts (Watch replay rank name) = refl
 is_threaded-with_texts (At replay) = refl
 is_threaded-with_texts (Where replay source start) = refl
+is_threaded-with_texts (Explore run prefix most polls) = refl
 
 -- arguments that ask for threads ask for nothing without them
 none_serially : (words : List Text) (command : Command Text) → AskForOneThing → AskFor words command → is_threaded command ≡ true

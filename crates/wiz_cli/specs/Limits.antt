@@ -9,8 +9,9 @@ use Rattle.mpi_call.specs.declared.limits.TheConstants.{GREATEST_TAG, MOST_EVENT
 use Rattle.msg_races.specs.Names.{most_others}
 use Rattle.other_picks.specs.declared.other.TheConstants.{MOST_OTHER_PICKS}
 use Rattle.srr_text.specs.declared.limits.TheConstants.{GREATEST_NUMBER, MOST_ENTRIES, MOST_PROGRAM_BYTES}
-use Rattle.wiz_words.specs.Limits.{fewest_ranks, fewest_rounds, greatest_call, greatest_rank, greatest_seed, greatest_start, most_ranks, most_rounds}
+use Rattle.wiz_words.specs.Limits.{fewest_polls, fewest_ranks, fewest_rounds, fewest_states, greatest_call, greatest_rank, greatest_seed, greatest_start, most_polls, most_ranks, most_rounds, most_states, usual_polls, usual_states}
 use Rattle.wiz_tool.specs.Inputs.{order_limit, text_limit}
+use Rattle.wiz_cli.specs.declared.commands.picture.TheConstants.{MOST_DRAWN}
 
 pub record AreTheLimits : Type 0 where
   -- an input file: the most bytes of a program or a plan
@@ -53,6 +54,8 @@ pub record AreTheLimits : Type 0 where
   pub others : most_others ≡ 1000000
   -- the most order files of its other picks
   pub other_picks : MOST_OTHER_PICKS ≡ 10000
+  -- the most events of a picture as SVG
+  pub drawn : MOST_DRAWN ≡ 4000
   -- a log: the greatest number of a start, a communicator or an index
   pub number : GREATEST_NUMBER ≡ 999999
   -- the most entries of a rank
@@ -75,3 +78,15 @@ pub record AreTheLimits : Type 0 where
   pub rounds_from : fewest_rounds ≡ 1
   -- the most
   pub rounds : most_rounds ≡ 1000
+  -- a search: the fewest states that it looks at
+  pub states_from : fewest_states ≡ 1
+  -- the most
+  pub states : most_states ≡ 1000000
+  -- how many where nothing is said
+  pub usual : usual_states ≡ 10000
+  -- the fewest times in a row that a rank looks in vain
+  pub polls_from : fewest_polls ≡ 1
+  -- the most
+  pub polls : most_polls ≡ 1000
+  -- how many where nothing is said
+  pub patience : usual_polls ≡ 3

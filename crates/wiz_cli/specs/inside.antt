@@ -1,6 +1,7 @@
 -- What the inner steps of the crate answer, by subjects.
 pub mod Comparing
 pub mod Ends
+pub mod Exploring
 pub mod Races
 pub mod Recording
 pub mod Refusals

@@ -4,6 +4,7 @@
 mod accept;
 pub mod commands;
 pub mod comparing;
+pub mod exploring;
 pub mod limits;
 pub mod ranks;
 pub mod recording;

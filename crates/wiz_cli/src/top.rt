@@ -15,7 +15,9 @@ use crate::commands::check::check;
 use crate::commands::convert::convert;
 use crate::commands::demo::demo;
 use crate::commands::diff::diff;
+use crate::commands::explore_runs::explore;
 use crate::commands::join::join;
+use crate::commands::picture::picture;
 use crate::commands::races::races;
 use crate::commands::record::record;
 use crate::commands::refine::refine;
@@ -33,6 +35,7 @@ use crate::threaded::Threaded;
 use crate::viewing::ask::View;
 use c_program::CProgram;
 use c_types::one_program;
+use explore::search::Bounds;
 use group_plan::one_reading;
 use msg_races::names::Name;
 use rank_threads::Gate;
@@ -208,6 +211,11 @@ fn answer<'a, S: Store, K: Sink, R: Runner>(
         Command::Join { one, other, file } => { join(alloc, one, other, file, store, out, runner) }
         Command::Diff { one, other } => diff(alloc, one, other, store, out, runner),
         Command::Waits(run) => waits(alloc, &run, store, out, runner),
+        Command::Picture {
+            run,
+            file,
+            is_trace,
+        } => { picture(alloc, &run, file, is_trace, store, out, runner) }
         Command::Watch { replay, rank, name } => {
             let asked = View::Changes { rank, name };
             view(alloc, &replay, &asked, store, out, runner)
@@ -224,5 +232,11 @@ fn answer<'a, S: Store, K: Sink, R: Runner>(
             });
             view(alloc, &replay, &asked, store, out, runner)
         }
+        Command::Explore {
+            run,
+            prefix,
+            most,
+            polls,
+        } => explore(alloc, &run, prefix, Bounds { most, polls }, store, out),
     }
 }

@@ -32,7 +32,7 @@ report_of status outcome = record { status = number_of status; run = outcome.run
 abbrev pub out_of_memory : Report
 out_of_memory = record { status = number_of OutOfMemory; run = None; replayed = [] }
 
--- the text is out; or a part of it is, the sink's count of faults rose, and 0, 7, 9 and 10 become 4. Of an empty text there is nothing to
+-- the text is out; or a part of it is, the sink's count of faults rose, and a status of work done becomes 4. Of an empty text there is nothing to
 -- put, so an output that fails is no cause
 abbrev pub IsPut : Outcome → OutTold → OutTold → Report → Type 0
 IsPut outcome before after report =

@@ -24,7 +24,8 @@ use wiz_io::{PutFault, Sink};
 pub struct Report {
     /// The exit status, by its number.
     pub status: u8,
-    /// The run that was recorded: of `record`, `check`, `advise` and `demo` where the status is 0, 4 or 7, of `races` also where it is 14.
+    /// The run that was recorded: of `record`, `check`, `advise`, `demo` and `waits` where the status is 0, 4 or 7, of `races` and `picture` also where it
+    /// is 14.
     pub run: Option<History>,
     /// The replays that were made: of `replay` and `refine` one where the status is 0, 4, 9 or 10, of `join` two; of `check` and `demo` one
     /// for each group where it is 0, 4 or 7.

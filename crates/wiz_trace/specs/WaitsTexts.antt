@@ -101,6 +101,10 @@ abbrev pub blocked_text : ℕ → List Event → Blocked → List ℕ
 blocked_text n G blocked =
     head_text blocked ++ flat_map (wait_text n G blocked.rank (opens_to n G blocked.rank)) blocked.waits
 
+-- the ranks that wait in a run that is stuck
+abbrev pub waiting_text : ℕ → List Event → Graph → List ℕ
+waiting_text n events graph = flat_map (blocked_text n (going events)) graph.blocked
+
 -- cycle R R ..
 abbrev pub cycle_text : List ℕ → List ℕ
 cycle_text ranks = codes "cycle" ++ group_text ranks ++ codes "\n"

@@ -9,7 +9,7 @@ ghost use Rattle.wait_graph.specs.declared.difference.Difference.TheVariants.{Co
 ghost use Rattle.wait_graph.specs.Opens.{differences, opens_to, unless};
 ghost use Rattle.wait_graph.specs.Register.{IsRegister};
 ghost use Rattle.wait_graph.specs.Taken.{taken_last};
-ghost use Rattle.wiz_trace.specs.WaitsTexts.{awaited_text, blocked_text, call_messages_text, cycle_text, difference_text, ended_text, from_ranks_text, from_text, graph_text, head_text, hopeless_ranks_text, hopeless_text, messages_text, open_text, start_text, stuck_text, taken_text, taken_text_from, taken_texts, wait_text, waits_text};
+ghost use Rattle.wiz_trace.specs.WaitsTexts.{awaited_text, blocked_text, call_messages_text, cycle_text, difference_text, ended_text, from_ranks_text, from_text, graph_text, head_text, hopeless_ranks_text, hopeless_text, messages_text, open_text, start_text, stuck_text, taken_text, taken_text_from, taken_texts, wait_text, waiting_text, waits_text};
 
 use crate::call_text::{push_call, push_name};
 use crate::recording::push_ending;
@@ -43,6 +43,30 @@ pub fn waits_text(
     let mut out = Bytes::new(alloc);
     push_stuck(alloc, &mut out, n, history, graph, ending)?;
     push_ending(&mut out, ending)?;
+    Ok(out)
+}
+
+/// The ranks that wait in a run of n ranks that is stuck, and what each waits for. Reads the events once, and for each such rank all starts.
+pub fn waiting_text(
+    alloc: Global,
+    n: u8,
+    history: &History,
+    graph: &Graph,
+) -> Result<Bytes, AllocError>
+    requires { AreOfRanks n history.now.events }
+    ensures { IfOk result (λ text. text ≡ waiting_text n history.now.events graph.now) }
+{
+    let mut out = Bytes::new(alloc);
+    let ranks = all_ranks(alloc, n)?;
+    let run = read(alloc, n, history.as_slice())?;
+    push_all_blocked(
+        alloc,
+        &mut out,
+        n,
+        ranks.as_slice(),
+        &run.register,
+        graph.blocked.as_slice(),
+    )?;
     Ok(out)
 }
 

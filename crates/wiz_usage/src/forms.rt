@@ -2,7 +2,7 @@
 ghost use Rattle.std.specs.Prelude.{◌≡◌, ◌<◌, ◌⊎◌, ⊤, MatchOption, length};
 
 /// How many commands there are.
-const COMMANDS: usize = 16;
+const COMMANDS: usize = 18;
 
 /// The forms, in the order of docs/COMMANDS.md.
 static FORMS: [&'static str; COMMANDS] = [
@@ -19,9 +19,11 @@ static FORMS: [&'static str; COMMANDS] = [
     "wiz join LOG LOG FILE\n    writes the log of two groups together\n",
     "wiz diff LOG LOG\n    replays two logs and tells where what their ranks saw parts\n",
     "wiz waits PROGRAM PLAN [--order FILE] [--serial]\n    runs a program and tells, where it is stuck, who waits for whom\n",
+    "wiz picture PROGRAM PLAN FILE [--order FILE] [--trace] [--serial]\n    runs a program and draws its messages as SVG, or with --trace as trace events in JSON\n",
     "wiz watch LOG R NAME [--program FILE] [--serial]\n    replays a log and tells each change of the variable NAME of rank R\n",
     "wiz at LOG R:C [--program FILE] [--serial]\n    replays a log to call C of rank R and tells where each rank stands\n",
     "wiz where LOG S.K [--program FILE] [--serial]\n    replays a log and tells where message K of rank S was sent, found and taken\n",
+    "wiz explore PROGRAM PLAN PREFIX [--most N] [--polls K] [--under FILE]\n    lists every outcome that runs of a program have, each with an order that makes it again\n",
 ];
 
 /// The form of the command that the first argument names, or all forms. Each ends with a newline.
@@ -55,9 +57,11 @@ fn row_of(name: &str) -> Option<usize>
         "join" => Some(10),
         "diff" => Some(11),
         "waits" => Some(12),
-        "watch" => Some(13),
-        "at" => Some(14),
-        "where" => Some(15),
+        "picture" => Some(13),
+        "watch" => Some(14),
+        "at" => Some(15),
+        "where" => Some(16),
+        "explore" => Some(17),
         _ => None,
     }
 }

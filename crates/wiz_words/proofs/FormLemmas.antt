@@ -8,7 +8,7 @@ use Rattle.clap.specs.Words.{App, Row, Text, fault_of, is_simple_and_free, match
 use Rattle.clap.proofs.OnLiterals.{clap_on_literals}
 use Rattle.wiz_words.specs.declared.command.Command.{Command}
 use Rattle.wiz_words.specs.declared.command.Verb.{Verb}
-use Rattle.wiz_words.specs.declared.command.Verb.TheVariants.{Record, Check, Races, Advise, Demo, Replay, Show, Stats, Convert, Refine, Join, Diff, Waits, Watch, At, Where}
+use Rattle.wiz_words.specs.declared.command.Verb.TheVariants.{Record, Check, Races, Advise, Demo, Replay, Show, Stats, Convert, Refine, Join, Diff, Waits, Picture, Watch, At, Where, Explore}
 use Rattle.wiz_words.specs.Forms.{form_of, name_of, verb_named, verbs}
 use Rattle.wiz_words.specs.Texts.{texts, with_texts}
 use Rattle.wiz_words.specs.Words.{AskFor, AskForNothing, IsCommandIn, verb_of}
@@ -29,9 +29,11 @@ form_is_simple Refine = refl
 form_is_simple Join = refl
 form_is_simple Diff = refl
 form_is_simple Waits = refl
+form_is_simple Picture = refl
 form_is_simple Watch = refl
 form_is_simple At = refl
 form_is_simple Where = refl
+form_is_simple Explore = refl
 
 -- each command is that of its name
 verb_of_name : (verb : Verb) → verb_named (name_of verb) ≡ Some verb
@@ -48,9 +50,11 @@ verb_of_name Refine = refl
 verb_of_name Join = refl
 verb_of_name Diff = refl
 verb_of_name Waits = refl
+verb_of_name Picture = refl
 verb_of_name Watch = refl
 verb_of_name At = refl
 verb_of_name Where = refl
+verb_of_name Explore = refl
 
 pub some_is : {A : Type 0} (a b : A) → Some a ≡ Some b → a ≡ b
 some_is a b h = cc

@@ -4,7 +4,7 @@ use Rattle.std.specs.Str.{bytes_eq}
 use Rattle.clap.specs.Words.{App, Rule, Text, new_app, new_rule, with_rule}
 use Rattle.clap.specs.declared.builder.action.ArgAction.TheVariants.{SetTrue}
 use Rattle.wiz_words.specs.declared.command.Verb.{Verb}
-use Rattle.wiz_words.specs.declared.command.Verb.TheVariants.{Record, Check, Races, Advise, Demo, Replay, Show, Stats, Convert, Refine, Join, Diff, Waits, Watch, At, Where}
+use Rattle.wiz_words.specs.declared.command.Verb.TheVariants.{Record, Check, Races, Advise, Demo, Replay, Show, Stats, Convert, Refine, Join, Diff, Waits, Picture, Watch, At, Where, Explore}
 
 -- the first word of each command
 abbrev pub name_of : Verb → Text
@@ -21,12 +21,14 @@ name_of Refine = codes "refine"
 name_of Join = codes "join"
 name_of Diff = codes "diff"
 name_of Waits = codes "waits"
+name_of Picture = codes "picture"
 name_of Watch = codes "watch"
 name_of At = codes "at"
 name_of Where = codes "where"
+name_of Explore = codes "explore"
 
 abbrev pub verbs : List Verb
-verbs = Record ∷ Check ∷ Races ∷ Advise ∷ Demo ∷ Replay ∷ Show ∷ Stats ∷ Convert ∷ Refine ∷ Join ∷ Diff ∷ Waits ∷ Watch ∷ At ∷ Where ∷ []
+verbs = Record ∷ Check ∷ Races ∷ Advise ∷ Demo ∷ Replay ∷ Show ∷ Stats ∷ Convert ∷ Refine ∷ Join ∷ Diff ∷ Waits ∷ Picture ∷ Watch ∷ At ∷ Where ∷ Explore ∷ []
 
 -- the command of a name
 abbrev pub verb_named : Text → Option Verb
@@ -65,10 +67,14 @@ arguments_of Refine = positional (codes "LOG") ∷ positional (codes "PLAN") ∷
 arguments_of Join = positional (codes "LOG") ∷ positional (codes "OTHER") ∷ positional (codes "FILE") ∷ []
 arguments_of Diff = positional (codes "LOG") ∷ positional (codes "OTHER") ∷ []
 arguments_of Waits = arguments_of_run
+arguments_of Picture =
+    positional (codes "PROGRAM") ∷ positional (codes "PLAN") ∷ positional (codes "FILE") ∷ option (codes "order") ∷ flag (codes "trace") ∷ flag (codes "serial") ∷ []
 arguments_of Watch =
     positional (codes "LOG") ∷ positional (codes "RANK") ∷ positional (codes "NAME") ∷ option (codes "program") ∷ flag (codes "serial") ∷ []
 arguments_of At = positional (codes "LOG") ∷ positional (codes "break") ∷ option (codes "program") ∷ flag (codes "serial") ∷ []
 arguments_of Where = positional (codes "LOG") ∷ positional (codes "MESSAGE") ∷ option (codes "program") ∷ flag (codes "serial") ∷ []
+arguments_of Explore =
+    positional (codes "PROGRAM") ∷ positional (codes "PLAN") ∷ positional (codes "PREFIX") ∷ option (codes "most") ∷ option (codes "polls") ∷ option (codes "under") ∷ []
 
 -- the clap command that reads the arguments of a command: its name and its arguments, and no other setting
 abbrev pub form_of : Verb → App

@@ -28,3 +28,23 @@ fewest_rounds = 1
 
 abbrev pub most_rounds : ℕ
 most_rounds = 1000
+
+-- the states that a search looks at, and how many where `--most` is not given
+abbrev pub fewest_states : ℕ
+fewest_states = 1
+
+abbrev pub most_states : ℕ
+most_states = 1000000
+
+abbrev pub usual_states : ℕ
+usual_states = 10000
+
+-- how often in a row a rank looks in vain in a search, and how often where `--polls` is not given
+abbrev pub fewest_polls : ℕ
+fewest_polls = 1
+
+abbrev pub most_polls : ℕ
+most_polls = 1000
+
+abbrev pub usual_polls : ℕ
+usual_polls = 3

@@ -4,7 +4,7 @@ use Rattle.std.specs.Borrow.{Bor}
 use Rattle.std.specs.Option.{option_map}
 use Rattle.clap.specs.Words.{Text}
 use Rattle.wiz_words.specs.declared.command.Command.{Command}
-use Rattle.wiz_words.specs.declared.command.Command.TheVariants.{Record, Check, Races, Advise, Demo, Replay, Show, Stats, Convert, Refine, Join, Diff, Waits, Watch, At, Where}
+use Rattle.wiz_words.specs.declared.command.Command.TheVariants.{Record, Check, Races, Advise, Demo, Replay, Show, Stats, Convert, Refine, Join, Diff, Waits, Picture, Watch, At, Where, Explore}
 use Rattle.wiz_words.specs.declared.command.ReplayWords.{ReplayWords}
 use Rattle.wiz_words.specs.declared.command.RunWords.{RunWords}
 
@@ -33,6 +33,8 @@ with_texts (Refine log plan prefix) = Refine log.now plan.now prefix.now
 with_texts (Join one other file) = Join one.now other.now file.now
 with_texts (Diff one other) = Diff one.now other.now
 with_texts (Waits run) = Waits (run_with_texts run)
+with_texts (Picture run file is_trace) = Picture (run_with_texts run) file.now is_trace
 with_texts (Watch replay rank name) = Watch (replay_with_texts replay) rank name.now
 with_texts (At replay) = At (replay_with_texts replay)
 with_texts (Where replay source start) = Where (replay_with_texts replay) source start
+with_texts (Explore run prefix most polls) = Explore (run_with_texts run) prefix.now most polls

@@ -1,5 +1,5 @@
 -- What clap finds in the arguments, and the values that it gives.
-use Rattle.std.specs.Prelude.{◌≡◌, ◌≢◌, ◌≤◌, ℕ, List, [], ◌∷◌, ◌++◌, Bool, false, Option, Some, None, codes}
+use Rattle.std.specs.Prelude.{◌≡◌, ◌≢◌, ◌≤◌, ◌⊎◌, ℕ, List, [], ◌∷◌, ◌++◌, Bool, false, Option, Some, None, codes}
 use Rattle.std.specs.Option.{option_map_or}
 use Rattle.std.specs.Str.{bytes_eq}
 use Rattle.clap.specs.Words.{App, Row, Text, fault_of, first_of, found_of, matches_of, rows_of}
@@ -29,6 +29,11 @@ pub record IsNumberIn (given : List Row) (name : Text) (least most number : ℕ)
   pub spelled : value_in given name ≡ Some (decimal_text number)
   pub from : least ≤ number
   pub to : number ≤ most
+
+-- the value of an argument is such a number where it has one, and else this one is meant
+abbrev pub IsNumberOr : List Row → Text → ℕ → ℕ → ℕ → ℕ → Type 0
+IsNumberOr given name least most usual number =
+    IsNumberIn given name least most number ⊎ ((value_in given name ≡ None) × (number ≡ usual))
 
 -- R:C, a rank and the number of a call, each a number as above
 pub record IsBreakpointText (text : Text) (stop : ℕ × ℕ) : Type 0 where

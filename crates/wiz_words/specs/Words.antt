@@ -1,17 +1,17 @@
 -- The arguments of the commands.
-use Rattle.std.specs.Prelude.{◌≡◌, ◌&&◌, List, [], Bool, false, not, is_some, Option, Some, None, codes, slice_get}
+use Rattle.std.specs.Prelude.{◌≡◌, ◌&&◌, List, [], Bool, false, true, not, is_some, Option, Some, None, codes, slice_get}
 use Rattle.std.specs.Borrow.{Bor}
 use Rattle.clap.specs.Words.{Row, Text, fault_of, matches_of}
 use Rattle.wiz_words.specs.declared.command.Command.{Command}
-use Rattle.wiz_words.specs.declared.command.Command.TheVariants.{Record, Check, Races, Advise, Demo, Replay, Show, Stats, Convert, Refine, Join, Diff, Waits, Watch, At, Where}
+use Rattle.wiz_words.specs.declared.command.Command.TheVariants.{Record, Check, Races, Advise, Demo, Replay, Show, Stats, Convert, Refine, Join, Diff, Waits, Picture, Watch, At, Where, Explore}
 use Rattle.wiz_words.specs.declared.command.ReplayWords.{ReplayWords}
 use Rattle.wiz_words.specs.declared.command.RunWords.{RunWords}
 use Rattle.wiz_words.specs.declared.command.Verb.{Verb}
 use Rattle.wiz_words.specs.declared.command.Verb.TheVariants as verb
 use Rattle.wiz_words.specs.Forms.{form_of, name_of}
-use Rattle.wiz_words.specs.Limits.{fewest_ranks, fewest_rounds, greatest_rank, greatest_seed, most_ranks, most_rounds}
+use Rattle.wiz_words.specs.Limits.{fewest_polls, fewest_ranks, fewest_rounds, fewest_states, greatest_rank, greatest_seed, most_polls, most_ranks, most_rounds, most_states, usual_polls, usual_states}
 use Rattle.wiz_words.specs.Texts.{with_texts}
-use Rattle.wiz_words.specs.Values.{IsBreakpoint, IsNameIn, IsNumberIn, flag_in, value_in}
+use Rattle.wiz_words.specs.Values.{IsBreakpoint, IsNameIn, IsNumberIn, IsNumberOr, flag_in, value_in}
 
 -- the name of a command
 abbrev pub verb_of : {T : Type 0} → Command T → Verb
@@ -28,9 +28,11 @@ verb_of (Refine log plan prefix) = verb.Refine
 verb_of (Join one other file) = verb.Join
 verb_of (Diff one other) = verb.Diff
 verb_of (Waits run) = verb.Waits
+verb_of (Picture run file is_trace) = verb.Picture
 verb_of (Watch replay rank name) = verb.Watch
 verb_of (At replay) = verb.At
 verb_of (Where replay source start) = verb.Where
+verb_of (Explore run prefix most polls) = verb.Explore
 
 -- what is given are the arguments of a run with that file for its order; an order and `--serial` exclude each other
 pub record AreRunWords (given : List Row) (file : Option Text) (run : RunWords Text) : Type 0 where
@@ -39,6 +41,13 @@ pub record AreRunWords (given : List Row) (file : Option Text) (run : RunWords T
   pub order : run.order ≡ file
   pub is_serial : run.is_serial ≡ flag_in given (codes "serial")
   pub not_both : (is_some run.order && run.is_serial) ≡ false
+
+-- what is given are the arguments of a search, which is on one thread: the file of a search's first turns is its order
+pub record AreSearchWords (given : List Row) (run : RunWords Text) : Type 0 where
+  pub program : value_in given (codes "PROGRAM") ≡ Some run.program
+  pub plan : value_in given (codes "PLAN") ≡ Some run.plan
+  pub order : run.order ≡ value_in given (codes "under")
+  pub is_serial : run.is_serial ≡ true
 
 -- what is given are the arguments of a replay
 pub record AreReplayWords (given : List Row) (replay : ReplayWords Text) : Type 0 where
@@ -68,10 +77,16 @@ AreWordsOf given (Join one other file) =
     (value_in given (codes "LOG") ≡ Some one) × (value_in given (codes "OTHER") ≡ Some other) × (value_in given (codes "FILE") ≡ Some file)
 AreWordsOf given (Diff one other) = (value_in given (codes "LOG") ≡ Some one) × (value_in given (codes "OTHER") ≡ Some other)
 AreWordsOf given (Waits run) = AreRunWords given (value_in given (codes "order")) run
+AreWordsOf given (Picture run file is_trace) =
+    AreRunWords given (value_in given (codes "order")) run × (value_in given (codes "FILE") ≡ Some file) × (is_trace ≡ flag_in given (codes "trace"))
 AreWordsOf given (Watch replay rank name) =
     AreReplayWords given replay × IsNumberIn given (codes "RANK") 0 greatest_rank rank × (value_in given (codes "NAME") ≡ Some name)
 AreWordsOf given (At replay) = AreReplayWords given replay
 AreWordsOf given (Where replay source start) = AreReplayWords given replay × IsNameIn given (codes "MESSAGE") (source, start)
+AreWordsOf given (Explore run prefix most polls) =
+    AreSearchWords given run × (value_in given (codes "PREFIX") ≡ Some prefix)
+    × IsNumberOr given (codes "most") fewest_states most_states usual_states most
+    × IsNumberOr given (codes "polls") fewest_polls most_polls usual_polls polls
 
 -- what was found is the command of this name with the arguments that are given; nothing, where they are out of form
 abbrev pub IsCommandIn : List Row → Verb → Option (Command (Bor Text)) → Type 0
@@ -111,6 +126,8 @@ is_threaded (Refine log plan prefix) = false
 is_threaded (Join one other file) = false
 is_threaded (Diff one other) = false
 is_threaded (Waits run) = is_threaded_run run
+is_threaded (Picture run file is_trace) = is_threaded_run run
 is_threaded (Watch replay rank name) = false
 is_threaded (At replay) = false
 is_threaded (Where replay source start) = false
+is_threaded (Explore run prefix most polls) = false

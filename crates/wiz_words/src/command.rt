@@ -17,13 +17,15 @@ pub enum Verb {
     Join,
     Diff,
     Waits,
+    Picture,
     Watch,
     At,
     Where,
+    Explore,
 }
 
 /// The program and the plan of a run, and how its ranks take their turns. With neither an order nor `is_serial` each rank
-/// has a thread of its own; the two never stand together.
+/// has a thread of its own; the two stand together in a search alone.
 #[derive(Clone, Copy, Debug, PartialEq, Eq)]
 pub struct RunWords<T> {
     pub program: T,
@@ -102,6 +104,12 @@ pub enum Command<T> {
     },
     /// Records a run and tells, where it is stuck, who waits for whom.
     Waits(RunWords<T>),
+    /// Records a run and writes a picture of it to this file: as trace events where `is_trace`, else as SVG.
+    Picture {
+        run: RunWords<T>,
+        file: T,
+        is_trace: bool,
+    },
     /// Replays the group of a log and tells each change of a variable of a rank, at most 63.
     Watch {
         replay: ReplayWords<T>,
@@ -115,6 +123,14 @@ pub enum Command<T> {
         replay: ReplayWords<T>,
         source: u8,
         start: u32,
+    },
+    /// Searches for every outcome of the runs, or of those that begin with an order's turns; `prefix` is the front of the names of the files that
+    /// are written. It looks at `most` states, at most 1,000,000, and a rank looks in vain at most `polls` times in a row, at most 1,000.
+    Explore {
+        run: RunWords<T>,
+        prefix: T,
+        most: u32,
+        polls: u32,
     },
 }
 
@@ -130,12 +146,14 @@ impl<T> Command<T> {
             | Command::Check(run)
             | Command::Races { run, .. }
             | Command::Waits(run)
+            | Command::Picture { run, .. }
             | Command::Advise { run, .. } => { !run.is_serial && run.order.is_none() }
             Command::Replay(replay) => !replay.is_serial,
             Command::Demo { .. } | Command::Show(_) | Command::Stats(_) => false,
             Command::Convert { .. } | Command::Refine { .. } => false,
             Command::Join { .. } | Command::Diff { .. } => false,
             Command::Watch { .. } | Command::At(_) | Command::Where { .. } => false,
+            Command::Explore { .. } => false,
         }
     }
 }

@@ -1,8 +1,9 @@
 //! The commands by name, and one clap command for each.
-ghost use Rattle.std.specs.Prelude.{◌≡◌, [], ◌∷◌, IfOk, codes, fold, map};
+ghost use Rattle.std.specs.Prelude.{◌≡◌, IfOk, codes, fold, map};
 ghost use Rattle.clap.specs.Words.{app_of, new_app, with_rule};
 ghost use Rattle.wiz_words.specs.Forms.{flag, form_of, option, positional, verb_named};
 ghost use Rattle.wiz_words.specs.Texts.{texts};
+ghost use Rattle.wiz_words.specs.declared.command.Verb.TheVariants.{Explore, Picture};
 
 use crate::command::Verb;
 use clap::{Arg, ArgAction, Command};
@@ -26,9 +27,11 @@ pub fn verb_named(name: &str) -> Option<Verb>
         "join" => Some(Verb::Join),
         "diff" => Some(Verb::Diff),
         "waits" => Some(Verb::Waits),
+        "picture" => Some(Verb::Picture),
         "watch" => Some(Verb::Watch),
         "at" => Some(Verb::At),
         "where" => Some(Verb::Where),
+        "explore" => Some(Verb::Explore),
         _ => None,
     }
 }
@@ -38,22 +41,16 @@ pub fn form_of<'a>(alloc: Global, verb: Verb) -> Result<Command<'a>, AllocError>
     ensures { IfOk result (λ form. app_of form ≡ form_of verb) }
 {
     match verb {
-        Verb::Record => {
-            let form = form_named(alloc, "record", &["PROGRAM", "PLAN", "PREFIX"])?;
-            with_turns(alloc, form)
-        }
+        Verb::Record => run_form(alloc, "record", &["PROGRAM", "PLAN", "PREFIX"]),
         Verb::Check => {
             let form = form_named(alloc, "check", &["PROGRAM", "PLAN"])?;
             with_flag(alloc, form, "serial")
         }
         Verb::Races => {
-            let form = run_form(alloc, "races")?;
+            let form = run_form(alloc, "races", &["PROGRAM", "PLAN"])?;
             with_option(alloc, form, "orders")
         }
-        Verb::Advise => {
-            let form = form_named(alloc, "advise", &["PROGRAM", "PLAN", "K"])?;
-            with_turns(alloc, form)
-        }
+        Verb::Advise => run_form(alloc, "advise", &["PROGRAM", "PLAN", "K"]),
         Verb::Demo => form_named(alloc, "demo", &["SEED", "ROUNDS"]),
         Verb::Replay => {
             let form = form_named(alloc, "replay", &["LOG"])?;
@@ -70,28 +67,57 @@ pub fn form_of<'a>(alloc: Global, verb: Verb) -> Result<Command<'a>, AllocError>
         Verb::Refine => form_named(alloc, "refine", &["LOG", "PLAN", "PREFIX"]),
         Verb::Join => form_named(alloc, "join", &["LOG", "OTHER", "FILE"]),
         Verb::Diff => form_named(alloc, "diff", &["LOG", "OTHER"]),
-        Verb::Waits => run_form(alloc, "waits"),
-        Verb::Watch => {
-            let form = form_named(alloc, "watch", &["LOG", "RANK", "NAME"])?;
-            with_replay(alloc, form)
-        }
-        Verb::At => {
-            let form = form_named(alloc, "at", &["LOG", "break"])?;
-            with_replay(alloc, form)
-        }
-        Verb::Where => {
-            let form = form_named(alloc, "where", &["LOG", "MESSAGE"])?;
-            with_replay(alloc, form)
-        }
+        Verb::Waits => run_form(alloc, "waits", &["PROGRAM", "PLAN"]),
+        Verb::Picture => picture_form(alloc),
+        Verb::Watch => replay_form(alloc, "watch", &["LOG", "RANK", "NAME"]),
+        Verb::At => replay_form(alloc, "at", &["LOG", "break"]),
+        Verb::Where => replay_form(alloc, "where", &["LOG", "MESSAGE"]),
+        Verb::Explore => explore_form(alloc),
     }
 }
 
-/// The form of a command that records a run and tells of it.
-fn run_form<'a>(alloc: Global, name: &'a str) -> Result<Command<'a>, AllocError>
-    ensures { IfOk result (λ form. app_of form ≡ fold with_rule (new_app name.entry.now) (positional (codes "PROGRAM") ∷ positional (codes "PLAN") ∷ option (codes "order") ∷ flag (codes "serial") ∷ [])) }
+/// The form of a picture.
+fn picture_form<'a>(alloc: Global) -> Result<Command<'a>, AllocError>
+    ensures { IfOk result (λ form. app_of form ≡ form_of Picture) }
 {
-    let form = form_named(alloc, name, &["PROGRAM", "PLAN"])?;
-    with_turns(alloc, form)
+    let form = form_named(alloc, "picture", &["PROGRAM", "PLAN", "FILE"])?;
+    let form = with_option(alloc, form, "order")?;
+    let form = with_flag(alloc, form, "trace")?;
+    with_flag(alloc, form, "serial")
+}
+
+/// The form of this name with these values that have to be there, and with what says how the ranks of a run take their turns.
+fn run_form<'a>(alloc: Global, name: &'a str, values: &[&'a str]) -> Result<Command<'a>, AllocError>
+    ensures { IfOk result (λ form. app_of form
+        ≡ with_rule (with_rule (fold with_rule (new_app name.entry.now) (map positional (texts values.now))) (option (codes "order"))) (flag (codes "serial"))) }
+{
+    let form = form_named(alloc, name, values)?;
+    let form = with_option(alloc, form, "order")?;
+    with_flag(alloc, form, "serial")
+}
+
+/// The form of this name with these values that have to be there, and with what says which program a log is replayed with, and how.
+fn replay_form<'a>(
+    alloc: Global,
+    name: &'a str,
+    values: &[&'a str],
+) -> Result<Command<'a>, AllocError>
+    ensures { IfOk result (λ form. app_of form
+        ≡ with_rule (with_rule (fold with_rule (new_app name.entry.now) (map positional (texts values.now))) (option (codes "program"))) (flag (codes "serial"))) }
+{
+    let form = form_named(alloc, name, values)?;
+    let form = with_option(alloc, form, "program")?;
+    with_flag(alloc, form, "serial")
+}
+
+/// The form of a search.
+fn explore_form<'a>(alloc: Global) -> Result<Command<'a>, AllocError>
+    ensures { IfOk result (λ form. app_of form ≡ form_of Explore) }
+{
+    let form = form_named(alloc, "explore", &["PROGRAM", "PLAN", "PREFIX"])?;
+    let form = with_option(alloc, form, "most")?;
+    let form = with_option(alloc, form, "polls")?;
+    with_option(alloc, form, "under")
 }
 
 /// The form of this name with these values that have to be there, each by its place.
@@ -109,24 +135,6 @@ fn form_named<'a>(
         rest = after;
     }
     Ok(form)
-}
-
-/// A form with what says how the ranks of a run take their turns.
-fn with_turns<'a>(alloc: Global, form: Command<'a>) -> Result<Command<'a>, AllocError>
-    ensures { IfOk result (λ more. app_of more
-        ≡ with_rule (with_rule (app_of form.entry) (option (codes "order"))) (flag (codes "serial"))) }
-{
-    let form = with_option(alloc, form, "order")?;
-    with_flag(alloc, form, "serial")
-}
-
-/// A form with what says which program a log is replayed with, and how.
-fn with_replay<'a>(alloc: Global, form: Command<'a>) -> Result<Command<'a>, AllocError>
-    ensures { IfOk result (λ more. app_of more
-        ≡ with_rule (with_rule (app_of form.entry) (option (codes "program"))) (flag (codes "serial"))) }
-{
-    let form = with_option(alloc, form, "program")?;
-    with_flag(alloc, form, "serial")
 }
 
 /// A form with one more value that has to be there, by its place.

@@ -7,11 +7,11 @@ ghost use Rattle.wiz_words.specs.declared.command.RunWords.{RunWords};
 ghost use Rattle.wiz_words.specs.declared.command.Verb.TheVariants as verb;
 ghost use Rattle.wiz_words.specs.Texts.{replay_with_texts, run_with_texts, texts, with_texts};
 ghost use Rattle.wiz_words.specs.Values.{given_by, value_in};
-ghost use Rattle.wiz_words.specs.Words.{AreReplayWords, AreRunWords, AskFor, AskForNothing, AskForOneThing, IsCommandIn};
+ghost use Rattle.wiz_words.specs.Words.{AreReplayWords, AreRunWords, AreSearchWords, AskFor, AskForNothing, AskForOneThing, IsCommandIn};
 
 use crate::command::{Command, ReplayWords, RunWords, Verb};
 use crate::forms::{form_of, verb_named};
-use crate::values::{breakpoint, flag_in, matches_of, name_in, number_in, value_in};
+use crate::values::{breakpoint, flag_in, matches_of, name_in, number_in, number_or, value_in};
 use clap::ArgMatches;
 use std::alloc::{AllocError, Global};
 
@@ -32,6 +32,24 @@ const FEWEST_ROUNDS: u32 = 1;
 
 /// The most rounds of a demo.
 const MOST_ROUNDS: u32 = 1000;
+
+/// The fewest states that a search looks at.
+const FEWEST_STATES: u32 = 1;
+
+/// The most states that a search looks at.
+const MOST_STATES: u32 = 1_000_000;
+
+/// How many states a search looks at where nothing is said.
+const USUAL_STATES: u32 = 10_000;
+
+/// The fewest times in a row that a rank may look in vain.
+const FEWEST_POLLS: u32 = 1;
+
+/// The most times in a row that a rank may look in vain.
+const MOST_POLLS: u32 = 1000;
+
+/// How many times in a row a rank may look in vain where nothing is said.
+const USUAL_POLLS: u32 = 3;
 
 /// The command that the arguments ask for, or nothing where they are in no command's form. The program's own name is not among
 /// the arguments.
@@ -77,9 +95,11 @@ fn command_from<'a>(verb: Verb, matches: &ArgMatches<'a>) -> Option<Command<&'a 
         Verb::Join => join_from(matches),
         Verb::Diff => diff_from(matches),
         Verb::Waits => Some(Command::Waits(ordered_run(matches)?)),
+        Verb::Picture => picture_from(matches),
         Verb::Watch => watch_from(matches),
         Verb::At => Some(Command::At(replay_words(matches)?)),
         Verb::Where => where_from(matches),
+        Verb::Explore => explore_from(matches),
     }
 }
 
@@ -153,6 +173,19 @@ fn diff_from<'a>(matches: &ArgMatches<'a>) -> Option<Command<&'a str>>
     Some(Command::Diff { one, other })
 }
 
+fn picture_from<'a>(matches: &ArgMatches<'a>) -> Option<Command<&'a str>>
+    ensures { IsCommandIn (given_by matches.now) verb.Picture result }
+{
+    let run = ordered_run(matches)?;
+    let file = value_in(matches, "FILE")?;
+    let is_trace = flag_in(matches, "trace");
+    Some(Command::Picture {
+        run,
+        file,
+        is_trace,
+    })
+}
+
 fn watch_from<'a>(matches: &ArgMatches<'a>) -> Option<Command<&'a str>>
     ensures { IsCommandIn (given_by matches.now) verb.Watch result }
 {
@@ -175,6 +208,21 @@ fn where_from<'a>(matches: &ArgMatches<'a>) -> Option<Command<&'a str>>
         replay,
         source,
         start,
+    })
+}
+
+fn explore_from<'a>(matches: &ArgMatches<'a>) -> Option<Command<&'a str>>
+    ensures { IsCommandIn (given_by matches.now) verb.Explore result }
+{
+    let run = search_words(matches)?;
+    let prefix = value_in(matches, "PREFIX")?;
+    let most = number_or(matches, "most", FEWEST_STATES, MOST_STATES, USUAL_STATES)?;
+    let polls = number_or(matches, "polls", FEWEST_POLLS, MOST_POLLS, USUAL_POLLS)?;
+    Some(Command::Explore {
+        run,
+        prefix,
+        most,
+        polls,
     })
 }
 
@@ -202,6 +250,19 @@ fn run_words<'a>(matches: &ArgMatches<'a>, order: Option<&'a str>) -> Option<Run
         plan: value_in(matches, "PLAN")?,
         order,
         is_serial,
+    })
+}
+
+/// The program and the plan of a search, on one thread, and the file of its first turns, where there is one.
+fn search_words<'a>(matches: &ArgMatches<'a>) -> Option<RunWords<&'a str>>
+    ensures { MatchOption result ((run : RunWords Text) → AreSearchWords (given_by matches.now) run → ⊥)
+        (λ run. AreSearchWords (given_by matches.now) (run_with_texts run)) }
+{
+    Some(RunWords {
+        program: value_in(matches, "PROGRAM")?,
+        plan: value_in(matches, "PLAN")?,
+        order: value_in(matches, "under"),
+        is_serial: true,
     })
 }
 

@@ -3,7 +3,7 @@ ghost use Rattle.std.specs.Prelude.{◌≡◌, ℕ, IfOk, MatchOption, true};
 ghost use Rattle.std.specs.Option.{option_map};
 ghost use Rattle.clap.specs.Words.{app_of, is_simple_and_free};
 ghost use Rattle.wiz_words.specs.Texts.{texts};
-ghost use Rattle.wiz_words.specs.Values.{AreMatchesOf, IsBreakpointText, IsNameIn, IsNameText, IsNumberIn, flag_in, given_by, value_in};
+ghost use Rattle.wiz_words.specs.Values.{AreMatchesOf, IsBreakpointText, IsNameIn, IsNameText, IsNumberIn, IsNumberOr, flag_in, given_by, value_in};
 
 use clap::error::ErrorKind;
 use clap::{ArgMatches, Command};
@@ -64,6 +64,23 @@ pub fn number_in(matches: &ArgMatches<'_>, name: &str, least: u32, most: u32) ->
         return None;
     }
     Some(value as u32)
+}
+
+/// The same, or this one where the argument has no value.
+pub fn number_or(
+    matches: &ArgMatches<'_>,
+    name: &str,
+    least: u32,
+    most: u32,
+    usual: u32,
+) -> Option<u32>
+    ensures { MatchOption result ((value : ℕ) → IsNumberOr (given_by matches.now) name.now least most usual value → ⊥)
+        (λ value. IsNumberOr (given_by matches.now) name.now least most usual value) }
+{
+    match value_in(matches, name) {
+        Some(_) => number_in(matches, name, least, most),
+        None => Some(usual),
+    }
 }
 
 /// The breakpoint that `R:C` spells.

@@ -78,7 +78,7 @@ fn races_of(alloc: Global, ready: &Ready, recording: &Recording) -> Result<Races
         }),
         Err(RaceFault::TooMany) => Ok(RacesText {
             text: races_over(alloc)?,
-            status: Status::TooManyRaces,
+            status: Status::TooMany,
         }),
         Err(RaceFault::NoMemory) => Err(AllocError),
     }

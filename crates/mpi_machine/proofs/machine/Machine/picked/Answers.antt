@@ -23,7 +23,7 @@ invariant_of-self-2 g c =
     let has = rw (← c.self.view_is) at c.requires.reply in
     let idle = idle_with c.args.rank c.args.call c.args.reply c.requires.no_start c.requires.none_taken in
     let at : c.len-at.result ≡ length events = c.len-at.ensures ∙ ap (λ (l : List Event). length l) (c.history.ensures ∙ c.reserve.ensures.events) in
-    rw (c.append.ensures.ranks ∙ c.reserve.ensures.ranks, c.append.ensures.events, c.append.ensures.kept, c.reserve.ensures.events, c.reserve.ensures.kept, c.put.ensures, c.reserve-2.ensures.picks, at) (
+    rw (c.append.ensures.ranks ∙ c.reserve.ensures.ranks, c.append.ensures.events, c.append.ensures.kept, c.reserve.ensures.events, c.reserve.ensures.kept, c.note.ensures, c.reserve-2.ensures.picks, at) (
     picked_keeps next n c.self.inside.picks.written events c.self.inside.course.kept c.self.inside.requests
     c.args.rank c.args.call c.args.pick c.args.reply event
     (record { ends = g.P.Program.ends_exactly c.self.inside.program.now; enters = g.P.Program.enters_in_form c.self.inside.program.now })

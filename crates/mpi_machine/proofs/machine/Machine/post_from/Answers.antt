@@ -1,7 +1,6 @@
 use Rattle.std.proofs.Common.{◌≡◌, ◌∙◌, List, Option, Some, ap, length, subst, ℕ}
 use Rattle.mpi_call.specs.declared.reply.Reply.TheVariants.{Done}
 use Rattle.run_model.specs.declared.event.Event.{Event}
-use Rattle.picked_runs.specs.declared.turn.Pick.TheVariants.{Sender}
 use Rattle.requests.specs.Histories.{KnowsPosted}
 use Rattle.mpi_machine.proofs.Growing.{event_with}
 use Rattle.mpi_machine.proofs.Moving.{live_in}
@@ -27,9 +26,11 @@ invariant_of-self-2 g c =
     let at : c.len-at.result ≡ length events = c.len-at.ensures ∙ ap (λ (l : List Event). length l) (c.history.ensures ∙ c.reserve.ensures.events) in
     let F : Option ℕ → Type 0 = λ m. KnowsPosted n events c.args.rank c.args.call c.args.sender m c.post_from.new.self in
     let posted : F (Some c.in-Some.mate) = subst F c.in-Some.is (c.in_ok-mate.ensures.knows n events c.self.invariant.knows at) in
-    let has = post_picks next n events c.args.rank c.args.call c.args.sender c.in-Some.mate asked c.requires.kind free posted.0 in
-    rw (c.append.ensures.ranks ∙ c.reserve.ensures.ranks, c.append.ensures.events, c.append.ensures.kept, c.reserve.ensures.events, c.reserve.ensures.kept, c.put.ensures, c.reserve-2.ensures.picks, at) (
+    let written = c.pick_of_sender-pick.result in
+    let is = rw (← c.self.view_is) at c.pick_of_sender-pick.ensures in
+    let has = post_picks next n c.self.inside.picks.written events c.args.rank c.args.call c.args.sender c.in-Some.mate written c.self.invariant.made asked c.requires.kind free posted.0 is in
+    rw (c.append.ensures.ranks ∙ c.reserve.ensures.ranks, c.append.ensures.events, c.append.ensures.kept, c.reserve.ensures.events, c.reserve.ensures.kept, c.note.ensures, c.reserve-2.ensures.picks, at) (
     picked_keeps next n c.self.inside.picks.written events c.self.inside.course.kept c.post_from.new.self
-    c.args.rank c.args.call (Sender c.args.sender) Done (event_with c.args.rank c.args.call Done (Some c.in-Some.mate))
+    c.args.rank c.args.call written Done (event_with c.args.rank c.args.call Done (Some c.in-Some.mate))
     (record { ends = g.P.Program.ends_exactly c.self.inside.program.now; enters = g.P.Program.enters_in_form c.self.inside.program.now })
-    c.self.invariant.made c.self.invariant.kept_are has (post_event next n events c.args.rank c.args.call c.args.sender c.in-Some.mate c.requires.kind has posted.0) posted.1)
+    c.self.invariant.made c.self.invariant.kept_are has (post_event n events c.args.rank c.args.call c.args.sender c.in-Some.mate written c.requires.kind free posted.0 is) posted.1)

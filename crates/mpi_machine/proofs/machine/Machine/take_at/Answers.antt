@@ -4,7 +4,6 @@ use Rattle.mpi_call.specs.declared.call.Call.TheVariants.{Take}
 use Rattle.mpi_call.specs.declared.call.Halt.TheVariants.{Truncated}
 use Rattle.mpi_call.specs.declared.reply.Reply.{Reply}
 use Rattle.mpi_call.specs.declared.reply.Reply.TheVariants.{Stopped, Took as TookReply}
-use Rattle.picked_runs.specs.declared.turn.Pick.TheVariants.{Index}
 use Rattle.run_model.specs.declared.event.Event.{Event}
 use Rattle.requests.specs.declared.requests.TakeAnswer.{TakeAnswer}
 use Rattle.requests.specs.declared.requests.TakeAnswer.TheVariants.{Took, TooLong}
@@ -54,15 +53,17 @@ invariant_of-self-in-Took g c =
     let is : c.in_ok-answer.field-0 ≡ Some (Took c.in-Took.items) = c.in-Some.is ∙ ap (λ (a : TakeAnswer). Some a) c.in-Took.is in
     let F : Option TakeAnswer → Type 0 = λ a. AnswersAt n events c.args.rank c.args.starts c.args.index a in
     let taken : IsTakenAt n events c.args.rank c.args.starts c.args.index (TookReply c.in-Took.items) = subst F is (c.in_ok-answer.ensures.knows n events c.self.invariant.knows) in
-    let has = at_picks next n events c.args.rank c.args.starts c.args.mode c.args.index (TookReply c.in-Took.items) asked free c.requires.one taken in
+    let written = c.pick_of_index-pick.result in
+    let picks = rw (← c.self.view_is) at c.pick_of_index-pick.ensures in
+    let has = at_picks next n c.self.inside.picks.written events c.args.rank c.args.starts c.args.mode c.args.index written (TookReply c.in-Took.items) c.self.invariant.made asked free c.requires.one taken (picks c.args.mode) in
     let at : c.len-at.result ≡ length events = c.len-at.ensures ∙ ap (λ (l : List Event). length l) c.history.ensures in
     let G : Option TakeAnswer → Type 0 = λ a. KnowsTakenAt n events c.args.rank c.args.starts a c.take_at.new.self in
     let knows = subst G is (c.in_ok-answer.ensures.knows_on n events c.self.invariant.knows) c.args.mode in
-    rw (c.took.ensures.ranks, c.in_ok-reply-in-Took.ensures.events, c.in_ok-reply-in-Took.ensures.kept, c.in_ok-reply-in-Took.ensures.known, c.put.ensures, c.reserve.ensures.picks, at) (
+    rw (c.took.ensures.ranks, c.in_ok-reply-in-Took.ensures.events, c.in_ok-reply-in-Took.ensures.kept, c.in_ok-reply-in-Took.ensures.known, c.note.ensures, c.reserve.ensures.picks, at) (
     picked_keeps next n c.self.inside.picks.written events c.self.inside.course.kept c.take_at.new.self
-    c.args.rank call (Index c.args.index) (TookReply c.in-Took.items) (took_event c.args.rank c.args.starts c.args.mode c.in-Took.items)
+    c.args.rank call written (TookReply c.in-Took.items) (took_event c.args.rank c.args.starts c.args.mode c.in-Took.items)
     (record { ends = g.P.Program.ends_exactly c.self.inside.program.now; enters = g.P.Program.enters_in_form c.self.inside.program.now })
-    c.self.invariant.made c.self.invariant.kept_are has (idle_picked next n events c.args.rank call (Index c.args.index) (TookReply c.in-Took.items) has refl) knows)
+    c.self.invariant.made c.self.invariant.kept_are has (idle_picked next n events c.args.rank call written (TookReply c.in-Took.items) has refl) knows)
 
 pub invariant_of-self-in-TooLong : goal.invariant_of-self-in-TooLong
 invariant_of-self-in-TooLong g c =
@@ -75,18 +76,20 @@ invariant_of-self-in-TooLong g c =
     let is : c.in_ok-answer.field-0 ≡ Some (TooLong c.in-TooLong.start) = c.in-Some.is ∙ ap (λ (a : TakeAnswer). Some a) c.in-TooLong.is in
     let F : Option TakeAnswer → Type 0 = λ a. AnswersAt n events c.args.rank c.args.starts c.args.index a in
     let taken : IsTakenAt n events c.args.rank c.args.starts c.args.index (Stopped (Truncated c.args.rank c.in-TooLong.start)) = subst F is (c.in_ok-answer.ensures.knows n events c.self.invariant.knows) in
-    let has = at_picks next n events c.args.rank c.args.starts c.args.mode c.args.index (Stopped (Truncated c.args.rank c.in-TooLong.start)) asked free c.requires.one taken in
+    let written = c.pick_of_index-pick.result in
+    let picks = rw (← c.self.view_is) at c.pick_of_index-pick.ensures in
+    let has = at_picks next n c.self.inside.picks.written events c.args.rank c.args.starts c.args.mode c.args.index written (Stopped (Truncated c.args.rank c.in-TooLong.start)) c.self.invariant.made asked free c.requires.one taken (picks c.args.mode) in
     let at : c.len-at.result ≡ length events = c.len-at.ensures ∙ ap (λ (l : List Event). length l) c.history.ensures in
     let G : Option TakeAnswer → Type 0 = λ a. KnowsTakenAt n events c.args.rank c.args.starts a c.take_at.new.self in
     let knows = subst G is (c.in_ok-answer.ensures.knows_on n events c.self.invariant.knows) c.args.mode in
     let reply : Reply = Stopped (Truncated c.args.rank c.in-TooLong.start) in
     let event : Event = event_with c.args.rank call reply None in
     let longer = c.knows_on.ensures.idle n events event knows (last_idle c.args.rank call (Some (Truncated c.args.rank c.in-TooLong.start)) refl) in
-    rw (c.append.ensures.ranks, c.append.ensures.events, c.append.ensures.kept, c.put-in-TooLong.ensures, c.reserve.ensures.picks, at) (
+    rw (c.append.ensures.ranks, c.append.ensures.events, c.append.ensures.kept, c.note-in-TooLong.ensures, c.reserve.ensures.picks, at) (
     picked_keeps next n c.self.inside.picks.written events c.self.inside.course.kept c.take_at.new.self
-    c.args.rank call (Index c.args.index) reply event
+    c.args.rank call written reply event
     (record { ends = g.P.Program.ends_exactly c.self.inside.program.now; enters = g.P.Program.enters_in_form c.self.inside.program.now })
-    c.self.invariant.made c.self.invariant.kept_are has (idle_picked next n events c.args.rank call (Index c.args.index) reply has refl) longer)
+    c.self.invariant.made c.self.invariant.kept_are has (idle_picked next n events c.args.rank call written reply has refl) longer)
 
 pub unreachable-requires : goal.unreachable-requires
 unreachable-requires g c =

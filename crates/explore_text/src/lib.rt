@@ -1,0 +1,4 @@
+//! The text of a search for every outcome.
+#![tactic(auto)]
+
+pub mod text;
