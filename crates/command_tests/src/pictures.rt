@@ -39,10 +39,10 @@ const CYCLE_TRACED: &[u8] = b"{\"traceEvents\":[\n\
 ]}\n";
 
 /// Whether a command answers this, and afterwards the file A begins and ends so.
-fn draws(
+fn draws<'a>(
     alloc: Global,
-    program: &[u8],
-    plan: &[u8],
+    program: &'a [u8],
+    plan: &'a [u8],
     words: &[&str],
     status: u8,
     begin: &[u8],
