@@ -1,8 +1,10 @@
 //! The commands, with what their arguments say. A text `T` is a list of bytes in definitions, and a borrowed one in code.
 ghost use Rattle.std.specs.Prelude.{◌≡◌};
 
+use std::alloc::AllocError;
+
 /// The name of a command: its first word.
-#[derive(Clone, Copy, Debug, PartialEq, Eq)]
+#[derive(Clone, Copy)]
 pub enum Verb {
     Record,
     Check,
@@ -26,7 +28,7 @@ pub enum Verb {
 
 /// The program and the plan of a run, and how its ranks take their turns. With neither an order nor `is_serial` each rank
 /// has a thread of its own; the two stand together in a search alone.
-#[derive(Clone, Copy, Debug, PartialEq, Eq)]
+#[derive(PartialEq, Eq)]
 pub struct RunWords<T> {
     pub program: T,
     pub plan: T,
@@ -36,8 +38,20 @@ pub struct RunWords<T> {
     pub is_serial: bool,
 }
 
+impl<T: Copy> Clone for RunWords<T> {
+    ghost is_clone = { λ one other. other ≡ one };
+
+    ghost is_infallible = { λ _. Unit {0} };
+
+    fn clone(&self) -> Result<RunWords<T>, AllocError> {
+        Ok(*self)
+    }
+}
+
+impl<T: Copy> Copy for RunWords<T> {}
+
 /// The log of a replay, and how it is replayed.
-#[derive(Clone, Copy, Debug, PartialEq, Eq)]
+#[derive(PartialEq, Eq)]
 pub struct ReplayWords<T> {
     pub log: T,
     /// The file of a program that takes the place of the log's own.
@@ -48,8 +62,20 @@ pub struct ReplayWords<T> {
     pub is_serial: bool,
 }
 
+impl<T: Copy> Clone for ReplayWords<T> {
+    ghost is_clone = { λ one other. other ≡ one };
+
+    ghost is_infallible = { λ _. Unit {0} };
+
+    fn clone(&self) -> Result<ReplayWords<T>, AllocError> {
+        Ok(*self)
+    }
+}
+
+impl<T: Copy> Copy for ReplayWords<T> {}
+
 /// A command with what its arguments say.
-#[derive(Clone, Copy, Debug, PartialEq, Eq)]
+#[derive(PartialEq, Eq)]
 pub enum Command<T> {
     /// Records a run; `prefix` is the front of the names of the files that are written.
     Record {
@@ -133,6 +159,18 @@ pub enum Command<T> {
         polls: u32,
     },
 }
+
+impl<T: Copy> Clone for Command<T> {
+    ghost is_clone = { λ one other. other ≡ one };
+
+    ghost is_infallible = { λ _. Unit {0} };
+
+    fn clone(&self) -> Result<Command<T>, AllocError> {
+        Ok(*self)
+    }
+}
+
+impl<T: Copy> Copy for Command<T> {}
 
 impl<T> Command<T> {
     ghost use Rattle.wiz_words.specs.Words.{is_threaded};
