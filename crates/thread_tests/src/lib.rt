@@ -1,8 +1,10 @@
-//! Tests of recording and replay on threads, with C programs: gates that ranks pass, what they print, and traces.
+//! Tests of recording and replay on threads, with C programs: gates that ranks pass, what they print, and traces; and the turn lock.
 #![tactic(auto)]
 
 #[cfg(test)]
 mod gates;
+#[cfg(test)]
+mod locks;
 #[cfg(test)]
 mod recordings;
 #[cfg(test)]

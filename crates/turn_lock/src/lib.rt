@@ -13,6 +13,3 @@ mod view;
 pub use lock::TurnLock;
 pub use seat::{Held, Seat};
 pub use told::Told;
-
-#[cfg(test)]
-mod tests;

@@ -2,12 +2,12 @@ ghost use Rattle.std.specs.Prelude.{◌≡◌, ◌<◌, ◌≤◌, false, length
 ghost use Rattle.turn_lock.specs.Entries.{Grows};
 ghost use Rattle.turn_lock.specs.Seats.{AllIdle};
 
-use crate::{Seat, Told, TurnLock};
 use std::alloc::{AllocError, Global};
 use std::sync::Wait;
 use std::test::Fail;
 use std::thread;
 use std::thread::Threads;
+use turn_lock::{Seat, Told, TurnLock};
 
 /// Numbers, each with the seat that added it.
 #[derive(Drop)]
@@ -37,7 +37,7 @@ impl Numbers {
 }
 
 /// A turn of the seat k, which adds a number or none. Says how many entries it found.
-#[tactic(auto, using(crate::proofs::Callers::idle_set))]
+#[tactic(auto, using(turn_lock::proofs::Callers::idle_set))]
 fn turn<R: Wait>(
     rt: &R,
     lock: &TurnLock<Numbers>,
@@ -78,7 +78,7 @@ fn empty_turn<T: Told, R: Wait>(rt: &R, lock: &TurnLock<T>, seat: &mut Seat<T>)
     lock.release(seat, held);
 }
 
-#[tactic(auto, using(crate::proofs::Callers::idle_from_fresh))]
+#[tactic(auto, using(turn_lock::proofs::Callers::idle_from_fresh))]
 fn lock_of(alloc: Global, seats: u32) -> Result<(TurnLock<Numbers>, Vec<Seat<Numbers>>), AllocError>
     requires { (0 < seats) × (seats ≤ 64) }
     ensures count { IfOk result (λ r. r.0.seats ≡ seats) }
@@ -90,7 +90,7 @@ fn lock_of(alloc: Global, seats: u32) -> Result<(TurnLock<Numbers>, Vec<Seat<Num
     TurnLock::new(alloc, numbers, seats)
 }
 
-#[tactic(auto, using(crate::proofs::Callers::idle_all))]
+#[tactic(auto, using(turn_lock::proofs::Callers::idle_all))]
 fn closed(lock: TurnLock<Numbers>, seats: Vec<Seat<Numbers>>) -> Numbers
     requires { AllIdle lock seats.items }
 {
