@@ -1,6 +1,6 @@
 //! Each read, write and put of each command failing in turn, on one thread and on threads.
 use crate::programs::{FIRST, FIRST_LOG};
-use crate::tool::{Answer, answer, answer_of, files, joined, run, words_of};
+use crate::tool::{Answer, answer_of, ask, files, joined, run, words_of};
 use crate::words::asks_for_threads;
 use std::alloc::Global;
 use std::sync::Wait;
@@ -127,7 +127,7 @@ fn tells_fault<R: Threads + Wait + Sync + AllocGlobal>(
     let alloc = rt.alloc();
     let mut store = inputs(alloc)?;
     store.fail(u32::try_from(call).ok()?).ok()?;
-    let found = answer(rt, &mut store, row.words)?;
+    let found = ask(rt, &mut store, row.words)?;
     let before = call.saturating_sub(row.read.len());
     let so = match (row.read.get(call), row.written.get(before)) {
         (Some(name), _) => tells(alloc, &found, 3, b"cannot read ", name)? && found.replays == 0,
@@ -163,7 +163,7 @@ fn ends_at_put<R: Threads + Wait + Sync + AllocGlobal>(
 /// Whether a command tells each of its reads, writes and puts that fails.
 fn tells_each<R: Threads + Wait + Sync + AllocGlobal>(rt: &R, line: &str) -> Option<bool> {
     let row = row_of(rt.alloc(), line)?;
-    let sound = answer(rt, &mut inputs(rt.alloc())?, row.words)?;
+    let sound = ask(rt, &mut inputs(rt.alloc())?, row.words)?;
     let calls = row.read.len().checked_add(row.written.len())?;
     for call in 0..calls {
         if !tells_fault(rt, &row, &sound, call)? {
@@ -185,7 +185,7 @@ fn each_read_write_and_put_of_a_command_fails_in_turn(rt: HostRuntime) {
 fn is_same_alone<R: Threads + Wait + Sync + AllocGlobal>(rt: &R, line: &str) -> Option<bool> {
     let alloc = rt.alloc();
     let row = row_of(alloc, line)?;
-    let sound = answer(rt, &mut inputs(alloc)?, row.words)?;
+    let sound = ask(rt, &mut inputs(alloc)?, row.words)?;
     let words = words_of(alloc, row.words)?;
     let mut store = inputs(alloc)?;
     let mut out = MemorySink::new(alloc);

@@ -1,6 +1,6 @@
 //! Each byte of a log raised by one.
 use crate::programs::FIRST_LOG;
-use crate::tool::{answer, files, joined};
+use crate::tool::{ask, files, joined};
 use std::alloc::Global;
 use std::sync::Wait;
 use std::thread::Threads;
@@ -26,9 +26,9 @@ fn ends_alike<R: Threads + Wait + Sync + AllocGlobal>(
 ) -> Option<bool> {
     let forged = raised(rt.alloc(), log, at)?;
     let mut store = files(rt.alloc(), &[("L", forged.as_slice())])?;
-    let serial = answer(rt, &mut store, "replay L --serial")?;
+    let serial = ask(rt, &mut store, "replay L --serial")?;
     let is_one = matches!(serial.status, 0 | 5 | 8 | 9 | 10);
-    Some(is_one && answer(rt, &mut store, "replay L")?.is(&serial))
+    Some(is_one && ask(rt, &mut store, "replay L")?.is(&serial))
 }
 
 #[test]

@@ -77,7 +77,7 @@ pub fn answer_of(alloc: Global, report: &Report, out: &MemorySink) -> Option<Ans
 }
 
 /// Runs a command over these files.
-pub fn answer<R: Threads + Wait + Sync + AllocGlobal>(
+pub fn ask<R: Threads + Wait + Sync + AllocGlobal>(
     rt: &R,
     store: &mut MemoryStore,
     words: &str,

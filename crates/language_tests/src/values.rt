@@ -19,7 +19,7 @@ fn printed(alloc: Global, format: &str, value: i32) -> Result<Vec<u8>, Fail> {
 #[test]
 fn ints_are_printed(rt: HostRuntime) -> Result<(), Fail> {
     let text = printed(rt.alloc(), "%05d|", -42)?;
-    assert_eq!(rt; text.as_slice(), b"-0042|");
+    assert_eq!(rt; text.as_slice(), b"-0042|".as_slice());
     Ok(())
 }
 
