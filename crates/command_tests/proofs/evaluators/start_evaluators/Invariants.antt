@@ -2,7 +2,7 @@ use Rattle.std.proofs.Common.{◌≡◌, ◌<◌, ℕ, [], length, slice_index}
 use Rattle.std.specs.List.{slice_index_or}
 use Rattle.run_model.specs.Program.{IsAfter, Standing}
 use Rattle.c_program.specs.declared.program.CProgram.{CProgram}
-use Rattle.command_tests.proofs.replays.start_evaluators.Given as goal
+use Rattle.command_tests.proofs.evaluators.start_evaluators.Given as goal
 
 abbrev pub invariant-loop-rank : goal.invariant-loop-rank
 invariant-loop-rank l =

@@ -1,5 +1,5 @@
 use Rattle.wiz_cli.proofs.LogLemmas.{IsReplayable-text}
-use Rattle.command_tests.proofs.replays.trace_of_both.Goals as goal
+use Rattle.command_tests.proofs.evaluators.trace_of_both.Goals as goal
 
 pub replay_suspended-requires : goal.replay_suspended-requires
 replay_suspended-requires c = IsReplayable-text _ c.in-Ok.log c.in-Ok.ensures.log

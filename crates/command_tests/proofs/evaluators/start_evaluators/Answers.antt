@@ -3,7 +3,7 @@ use Rattle.run_model.specs.Program.{IsAfter}
 use Rattle.wiz_cli.proofs.RunLemmas.{each_more, started}
 use Rattle.srr_replay.proofs.LogLemmas.{below_at}
 use Rattle.srr_replay.proofs.RoundsLemmas.{member_of}
-use Rattle.command_tests.proofs.replays.start_evaluators.Goals as goal
+use Rattle.command_tests.proofs.evaluators.start_evaluators.Goals as goal
 
 pub start-requires-clause-member : goal.start-requires-clause-member
 start-requires-clause-member c =
