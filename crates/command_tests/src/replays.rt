@@ -7,6 +7,7 @@ use crate::serial::files;
 use c_eval::rank::EvalRank;
 use c_program::CProgram;
 use c_types::read_program;
+use explore::watch::Silent;
 use rank_threads::OpenGate;
 use replay_model::replayed::Replayed;
 use srr_entry::log::Log;
@@ -91,7 +92,15 @@ pub fn answers<R: Threads + Wait + Sync + AllocGlobal>(
         return false;
     };
     let mut out = MemorySink::new(rt.alloc());
-    let report = wiz(rt, rt.alloc(), words, &mut store, &mut out, &OpenGate);
+    let report = wiz(
+        rt,
+        rt.alloc(),
+        words,
+        &mut store,
+        &mut out,
+        &OpenGate,
+        &mut Silent,
+    );
     report.status == status && out.bytes() == printed
 }
 

@@ -4,6 +4,7 @@ use crate::programs::{
     SUM_PLAN,
 };
 use crate::serial::files;
+use explore::watch::Silent;
 use rank_threads::OpenGate;
 use std::sync::Wait;
 use std::thread::Threads;
@@ -19,7 +20,15 @@ fn answers<R: Threads + Wait + Sync + AllocGlobal>(
     back: &[u8],
 ) -> bool {
     let mut out = MemorySink::new(rt.alloc());
-    let report = wiz(rt, rt.alloc(), words, store, &mut out, &OpenGate);
+    let report = wiz(
+        rt,
+        rt.alloc(),
+        words,
+        store,
+        &mut out,
+        &OpenGate,
+        &mut Silent,
+    );
     report.status == 0 && out.bytes().starts_with(front) && out.bytes().ends_with(back)
 }
 
@@ -96,7 +105,15 @@ fn runs_are_checked_on_threads(rt: HostRuntime) {
         let mut store = inputs(&rt, program, plan).expect(&rt, "files");
         let mut out = MemorySink::new(rt.alloc());
         let words: &[&str] = &["check", "P", "Q"];
-        let report = wiz(&rt, rt.alloc(), words, &mut store, &mut out, &OpenGate);
+        let report = wiz(
+            &rt,
+            rt.alloc(),
+            words,
+            &mut store,
+            &mut out,
+            &OpenGate,
+            &mut Silent,
+        );
         assert!(&rt; report.status == 0 && out.bytes() == printed, "{name}");
     }
 }

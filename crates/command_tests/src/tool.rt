@@ -1,4 +1,5 @@
 //! Commands run over files in memory by the tool with threads.
+use explore::watch::Silent;
 use rank_threads::OpenGate;
 use std::sync::Wait;
 use std::thread::Threads;
@@ -12,7 +13,7 @@ pub fn run<R: Threads + Wait + Sync + AllocGlobal>(
     words: &[&str],
     out: &mut MemorySink,
 ) -> u8 {
-    wiz(rt, rt.alloc(), words, store, out, &OpenGate).status
+    wiz(rt, rt.alloc(), words, store, out, &OpenGate, &mut Silent).status
 }
 
 /// Runs a command over these files, and compares its status and output.
