@@ -1,4 +1,5 @@
 //! Files in memory, and commands run over them by the tool with threads.
+use explore::watch::Silent;
 use rank_threads::OpenGate;
 use std::alloc::Global;
 use std::sync::Wait;
@@ -43,7 +44,7 @@ pub fn run<R: Threads + Wait + Sync + AllocGlobal>(
     out: &mut MemorySink,
 ) -> Option<Report> {
     let words = words_of(rt.alloc(), words)?;
-    Some(wiz(rt, rt.alloc(), &words, store, out, &OpenGate))
+    Some(wiz(rt, rt.alloc(), &words, store, out, &OpenGate, &mut Silent))
 }
 
 /// What a command answers: its status, what is printed, and how many replays it made.

@@ -9,3 +9,4 @@ mod probes;
 pub mod ranks;
 pub mod search;
 mod telling;
+pub mod watch;

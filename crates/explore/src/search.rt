@@ -17,6 +17,7 @@ use crate::laws::nothing_is_missed;
 use crate::met::Met;
 use crate::probes::{is_patient, keeps_probe};
 use crate::ranks::StartRanks;
+use crate::watch::{Progress, WATCHED_STATES, Watcher};
 use mpi_call::call::{Call, Halt};
 use picked_runs::laws::picks_go_on;
 use picked_runs::turn::{Pick, Turn, Turns};
@@ -371,11 +372,24 @@ fn begin<'a, P: Program, R: RankRun<Of = P>, S: StartRanks<P, R>>(
     met.add_state(code, turns)
 }
 
+/// Tells how far a search is, each time that it has looked at so many more states.
+fn tell<W: Watcher>(met: &Met, looked: u32, watcher: &mut W) {
+    if looked % WATCHED_STATES == 0 {
+        let states = met.states.as_slice().len();
+        watcher.looked(Progress {
+            outcomes: met.found.as_slice().len(),
+            states,
+            left: states.saturating_sub(looked as usize),
+        });
+    }
+}
+
 /// Looks at states in the order in which they were met, until all or enough are looked at: how many were looked at.
-fn look_at_all<P: Program, R: RankRun<Of = P>, S: StartRanks<P, R>>(
+fn look_at_all<P: Program, R: RankRun<Of = P>, S: StartRanks<P, R>, W: Watcher>(
     setting: &Setting<'_, P, S>,
     bounds: Bounds,
     met: &mut Met,
+    watcher: &mut W,
 ) -> Result<u32, AllocError>
     requires setting { IsSetting (S.program setting.now.starter.now) setting.now.program.now (number_of_ranks setting.now.plan.now) setting.now.ranks }
     requires met { IsUnderWay (P.next setting.now.program.now) (P.output setting.now.program.now) setting.now.ranks (made_by (P.next setting.now.program.now) setting.now.ranks setting.now.under.now) met.old }
@@ -388,6 +402,7 @@ fn look_at_all<P: Program, R: RankRun<Of = P>, S: StartRanks<P, R>>(
         };
         let turns = copy_of(setting.alloc, turns.as_slice())?;
         look_at(setting, bounds, met, turns)?;
+        tell(met, at + 1, watcher);
     }
     Ok(bounds.most)
 }
@@ -408,10 +423,12 @@ fn from_place(alloc: Global, states: &[Turns], place: u32) -> Result<States, All
     Ok(left)
 }
 
-/// Every outcome of the runs that begin with what the setting's turns make; without turns, of all runs.
-pub fn explore<P: Program, R: RankRun<Of = P>, S: StartRanks<P, R>>(
+/// Every outcome of the runs that begin with what the setting's turns make; without turns, of all runs. `watcher` is told on the way how far
+/// the search is.
+pub fn explore<P: Program, R: RankRun<Of = P>, S: StartRanks<P, R>, W: Watcher>(
     setting: &Setting<'_, P, S>,
     bounds: Bounds,
+    watcher: &mut W,
 ) -> Result<Explored, AllocError>
     requires setting { IsSetting (S.program setting.now.starter.now) setting.now.program.now (number_of_ranks setting.now.plan.now) setting.now.ranks }
     requires turns { All (λ turn. turn.rank < setting.now.ranks) setting.now.under.now }
@@ -426,7 +443,7 @@ pub fn explore<P: Program, R: RankRun<Of = P>, S: StartRanks<P, R>>(
     every_step_is_made(setting.program, setting.ranks);
     let mut met = Met::new(setting.alloc);
     begin(setting, &mut met)?;
-    let looked = look_at_all(setting, bounds, &mut met)?;
+    let looked = look_at_all(setting, bounds, &mut met, watcher)?;
     let left = from_place(setting.alloc, met.states.as_slice(), looked)?;
     let states = met.states.as_slice().len();
     Ok(Explored {

@@ -7,6 +7,7 @@ use Rattle.picked_runs.specs.declared.turn.Turn.{Turn}
 use Rattle.run_states.specs.Outcomes.{Outcome}
 use Rattle.explore.specs.declared.found.Explored.{Explored}
 use Rattle.explore.specs.declared.found.Found.{Found}
+use Rattle.explore.specs.declared.watch.Progress.{Progress}
 use Rattle.wiz_base.specs.Decimals.{decimal_text}
 use Rattle.wiz_trace.specs.RecordTexts.{ending_text}
 use Rattle.wiz_trace.specs.TraceTexts.{output_text}
@@ -53,3 +54,8 @@ verdict_text most polls (turns ∷ left) polled = codes "incomplete most " ++ de
 abbrev pub explore_text : ℕ → ℕ → Explored → List (List ℕ) → List ℕ
 explore_text most polls explored waits =
     all_found_text 0 explored.found waits ++ counts_text explored ++ verdict_text most polls explored.left explored.polled
+
+-- outcomes O states S left L, how far a search is
+abbrev pub progress_text : Progress → List ℕ
+progress_text progress =
+    codes "outcomes " ++ decimal_text progress.outcomes ++ codes " states " ++ decimal_text progress.states ++ codes " left " ++ decimal_text progress.left ++ codes "\n"

@@ -1,10 +1,11 @@
 //! The text of a search.
 ghost use Rattle.std.specs.Prelude.{◌≡◌, ◌++◌, IfOk, OnOk, codes, flat_map};
 ghost use Rattle.wiz_base.specs.Decimals.{decimal_text};
-ghost use Rattle.explore_text.specs.ExploreTexts.{counts_text, explore_text, found_text, all_found_text, looked_text, outcome_text, printed_text, told_ending_text, verdict_text};
+ghost use Rattle.explore_text.specs.ExploreTexts.{counts_text, explore_text, found_text, all_found_text, looked_text, outcome_text, printed_text, progress_text, told_ending_text, verdict_text};
 
 use explore::found::{Explored, Found, Outcome};
 use explore::search::Bounds;
+use explore::watch::Progress;
 use mpi_call::call::Halt;
 use run_model::ending::Ending;
 use std::alloc::{AllocError, Global};
@@ -139,4 +140,19 @@ fn push_number(out: &mut Bytes, words: &[u8], number: u32) -> Result<(), AllocEr
     push_text(out, words)?;
     push_decimal(out, number as u64)?;
     push_text(out, b"\n")
+}
+
+/// How far a search is, as a line.
+pub fn progress_text(alloc: Global, progress: Progress) -> Result<Bytes, AllocError>
+    ensures { IfOk result (λ text. text ≡ progress_text progress) }
+{
+    let mut out = Bytes::new(alloc);
+    push_text(&mut out, b"outcomes ")?;
+    push_decimal(&mut out, progress.outcomes as u64)?;
+    push_text(&mut out, b" states ")?;
+    push_decimal(&mut out, progress.states as u64)?;
+    push_text(&mut out, b" left ")?;
+    push_decimal(&mut out, progress.left as u64)?;
+    push_text(&mut out, b"\n")?;
+    Ok(out)
 }

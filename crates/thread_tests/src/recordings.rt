@@ -1,6 +1,7 @@
 //! An ordinary program recorded on threads, and its groups replayed on threads.
 use crate::starting::{Source, are, program_of, read_back, record, replay};
 use c_program::CProgram;
+use explore::watch::Silent;
 use group_plan::read_plan;
 use rank_threads::Gate;
 use run_model::ending::Ending;
@@ -118,7 +119,15 @@ fn a_check_passes_the_gate_twice_at_each_call(rt: HostRuntime) {
         passes: AtomicU64::new(0),
     };
     let words: &[&str] = &["check", "P", "Q"];
-    let report = wiz(&rt, rt.alloc(), words, &mut store, &mut out, &gate);
+    let report = wiz(
+        &rt,
+        rt.alloc(),
+        words,
+        &mut store,
+        &mut out,
+        &gate,
+        &mut Silent,
+    );
     assert!(&rt; report.status == 0 && out.bytes() == CHECKED);
     assert!(&rt; gate.passes.load(Ordering::SeqCst) == 2 * CALLS);
 }

@@ -1,12 +1,15 @@
 //! The command line tool `wiz`.
 //!
 //! It hands the arguments of its command line, the host's files and the standard output to the top call, and ends with the
-//! status of the report. Beside a refusal the error output shows what helps: the form of the command, or the line of the program.
+//! status of the report. Beside a refusal the error output shows what helps: the form of the command, or the line of the program. Of a long
+//! search it shows how far it is.
 #![tactic(auto)]
 
 use c_lex::Why;
 use c_lex::limits::MOST_BYTES;
 use c_types::read_program;
+use explore::watch::{Progress, Watcher};
+use explore_text::text::progress_text;
 use rank_threads::OpenGate;
 use std::alloc::{AllocError, Global};
 use std::env::Env;
@@ -43,6 +46,10 @@ fn run<R: Files + Print + Threads + Wait + Sync + Env + AllocGlobal, E: Print>(
     let program = program_named(rt.alloc(), words.as_slice());
     let mut store = WatchedStore::new(HostStore::new(rt), program);
     let mut out = HostSink::new(rt);
+    let mut lines = Lines {
+        alloc: rt.alloc(),
+        errors,
+    };
     let report = wiz(
         rt,
         rt.alloc(),
@@ -50,6 +57,7 @@ fn run<R: Files + Print + Threads + Wait + Sync + Env + AllocGlobal, E: Print>(
         &mut store,
         &mut out,
         &OpenGate,
+        &mut lines,
     );
     if report.status == Status::Words.number() {
         show_usage(errors, words.as_slice());
@@ -87,6 +95,8 @@ fn program_named<'a>(alloc: Global, words: &'a [&'a str]) -> Option<&'a str> {
             | Command::Check(run)
             | Command::Races { run, .. }
             | Command::Waits(run)
+            | Command::Picture { run, .. }
+            | Command::Explore { run, .. }
             | Command::Advise { run, .. } => Some(run.program),
             Command::Replay(replay)
             | Command::Watch { replay, .. }
@@ -95,6 +105,22 @@ fn program_named<'a>(alloc: Global, words: &'a [&'a str]) -> Option<&'a str> {
             _ => None,
         },
         _ => None,
+    }
+}
+
+/// Shows how far a search is, a line each time.
+#[derive(Drop)]
+struct Lines<'a, E: Print> {
+    alloc: Global,
+    errors: &'a E,
+}
+
+impl<'a, E: Print> Watcher for Lines<'a, E> {
+    /// Shows the line. What cannot be made or shown is left out.
+    fn looked(&mut self, progress: Progress) {
+        if let Ok(line) = progress_text(self.alloc, progress) {
+            let _ = io::writer(self.errors).write_all(line.as_slice());
+        }
     }
 }
 

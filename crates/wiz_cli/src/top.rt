@@ -3,6 +3,7 @@ ghost use Rattle.std.specs.Prelude.{◌≡◌, false};
 ghost use Rattle.srr_replay.specs.Rounds.{IsReplayable};
 ghost use Rattle.wiz_cli.specs.Commands.{AskForSerially, IsReport};
 ghost use Rattle.wiz_cli.specs.Promises.{IsComplete, NeverDiverges, ShowsEveryRun};
+ghost use Rattle.wiz_cli.specs.declared.viewing.ask.View.TheVariants.{Changes, Places};
 ghost use Rattle.wiz_cli.specs.inside.Ends.{AllowsBlocks, Ends, EndsWords, refused_words};
 ghost use Rattle.wiz_cli.specs.inside.Recording.{CanRun};
 ghost use Rattle.wiz_tool.specs.inside.Told.{IsFailureBy};
@@ -36,6 +37,7 @@ use crate::viewing::ask::View;
 use c_program::CProgram;
 use c_types::one_program;
 use explore::search::Bounds;
+use explore::watch::{Silent, Watcher};
 use group_plan::one_reading;
 use msg_races::names::Name;
 use rank_threads::Gate;
@@ -53,7 +55,8 @@ use wiz_tool::report::{Report, settle};
 use wiz_words::command::Command;
 use wiz_words::read::{read_command, words_ask_for_one_thing};
 
-/// The tool as a function of its arguments, its files and its output, without threads: arguments that ask for threads are refused.
+/// The tool as a function of its arguments, its files and its output, without threads: arguments that ask for threads are refused. Nobody is
+/// told how far a search is.
 pub fn wiz_serial<S: Store, K: Sink>(
     alloc: Global,
     words: &[&str],
@@ -79,27 +82,28 @@ pub fn wiz_serial<S: Store, K: Sink>(
 
 /// The tool with threads: a recording or a replay has a thread for each of its ranks, where the system gives one, unless its arguments
 /// ask for one thread. Each thread passes the gate before each of its rank's calls. The call returns where the threads do: of waiting
-/// nothing is promised.
+/// nothing is promised. `watcher` is told on the way how far a search is.
 ///
 /// `report` says what comes of the arguments and how it is told. `headline` is what the tool is for: for every program of a replayed log,
 /// and every run with this log that the matching rules allow, whatever the order of the replay's events, at every moment each rank of
 /// the group has a prefix of its recorded calls, replies and printed output; a replay that can go no further has given all of them; no
 /// rank outside the group takes a step. `never_diverges` says that such a replay is never told as diverged or starved. `complete` says
 /// that nothing but the named causes keeps a command from its work.
-pub fn wiz<R: Threads + Wait + Sync, S: Store, K: Sink, G: Gate + Sync>(
+pub fn wiz<R: Threads + Wait + Sync, S: Store, K: Sink, G: Gate + Sync, W: Watcher>(
     rt: &R,
     alloc: Global,
     words: &[&str],
     store: &mut S,
     out: &mut K,
     gate: &G,
+    watcher: &mut W,
 ) -> Report
     ensures report { IsReport AskFor (texts words.now) (around S.told K.told store out) result }
     ensures headline { ShowsEveryRun AskFor (texts words.now) (around S.told K.told store out) result }
     ensures never_diverges { NeverDiverges AskFor (texts words.now) (around S.told K.told store out) result }
     ensures complete { IsComplete AskFor (texts words.now) (around S.told K.told store out) result }
 {
-    let answered = answer_words_on_threads(rt, alloc, words, store, out, gate);
+    let answered = answer_words_on_threads(rt, alloc, words, store, out, gate, watcher);
     // Laws: arguments ask for one thing, and a program, a plan, an order or a log has one reading or one first fault, so that what is accepted
     // is not refused.
     words_ask_for_one_thing();
@@ -126,17 +130,25 @@ fn answer_words<'a, S: Store, K: Sink>(
     if command.is_threaded() {
         return Err(refused_words());
     }
-    answer_serially(alloc, command, store, out)
+    answer_serially(alloc, command, store, out, &mut Silent)
 }
 
 /// What the arguments come to with threads.
-fn answer_words_on_threads<'a, R: Threads + Wait + Sync, S: Store, K: Sink, G: Gate + Sync>(
+fn answer_words_on_threads<
+    'a,
+    R: Threads + Wait + Sync,
+    S: Store,
+    K: Sink,
+    G: Gate + Sync,
+    W: Watcher,
+>(
     rt: &R,
     alloc: Global,
     words: &'a [&'a str],
     store: &mut S,
     out: &mut K,
     gate: &G,
+    watcher: &mut W,
 ) -> Result<Report, Failure<'a>>
     ensures { EndsWords AskFor (texts words.now) (around S.told K.told store out) result }
 {
@@ -144,7 +156,7 @@ fn answer_words_on_threads<'a, R: Threads + Wait + Sync, S: Store, K: Sink, G: G
         return Err(refused_words());
     };
     if !command.is_threaded() {
-        return answer_serially(alloc, command, store, out);
+        return answer_serially(alloc, command, store, out, watcher);
     }
     let recorder = |ready: &Ready| -> Result<Recording, AllocError>
         requires { CanRun ready.now }
@@ -155,7 +167,14 @@ fn answer_words_on_threads<'a, R: Threads + Wait + Sync, S: Store, K: Sink, G: G
     >
         requires { IsReplayable log.now }
     { replay_on_threads(rt, alloc, program, log, stop, gate) };
-    answer(alloc, command, store, out, &Threaded { recorder, replayer })
+    answer(
+        alloc,
+        command,
+        store,
+        out,
+        &Threaded { recorder, replayer },
+        watcher,
+    )
 }
 
 fn refused_words() -> Failure<'static>
@@ -168,27 +187,29 @@ fn refused_words() -> Failure<'static>
 }
 
 /// What a command comes to on one thread.
-fn answer_serially<'a, S: Store, K: Sink>(
+fn answer_serially<'a, S: Store, K: Sink, W: Watcher>(
     alloc: Global,
     command: Command<&'a str>,
     store: &mut S,
     out: &mut K,
+    watcher: &mut W,
 ) -> Result<Report, Failure<'a>>
     requires serial { is_threaded (with_texts command) ≡ false }
     requires blocks { AllowsBlocks (with_texts command) }
     ensures serial { is_threaded (with_texts command.entry) ≡ false }
     ensures ends { Ends (with_texts command.entry) (around S.told K.told store out) result }
 {
-    answer(alloc, command, store, out, &Serial)
+    answer(alloc, command, store, out, &Serial, watcher)
 }
 
-/// What a command comes to: `runner` runs the ranks.
-fn answer<'a, S: Store, K: Sink, R: Runner>(
+/// What a command comes to: `runner` runs the ranks, `watcher` is told how far a search is.
+fn answer<'a, S: Store, K: Sink, R: Runner, W: Watcher>(
     alloc: Global,
     command: Command<&'a str>,
     store: &mut S,
     out: &mut K,
     runner: &R,
+    watcher: &mut W,
 ) -> Result<Report, Failure<'a>>
     requires blocks { AllowsBlocks (with_texts command) }
     requires threads { R.is_threaded ≡ is_threaded (with_texts command) }
@@ -217,26 +238,36 @@ fn answer<'a, S: Store, K: Sink, R: Runner>(
             is_trace,
         } => { picture(alloc, &run, file, is_trace, store, out, runner) }
         Command::Watch { replay, rank, name } => {
-            let asked = View::Changes { rank, name };
-            view(alloc, &replay, &asked, store, out, runner)
+            view(alloc, &replay, &changes(rank, name), store, out, runner)
         }
         Command::At(replay) => view(alloc, &replay, &View::Snapshots, store, out, runner),
         Command::Where {
             replay,
             source,
             start,
-        } => {
-            let asked = View::Places(Name {
-                rank: source,
-                start,
-            });
-            view(alloc, &replay, &asked, store, out, runner)
-        }
+        } => { view(alloc, &replay, &places(source, start), store, out, runner) }
         Command::Explore {
             run,
             prefix,
             most,
             polls,
-        } => explore(alloc, &run, prefix, Bounds { most, polls }, store, out),
+        } => {
+            let bounds = Bounds { most, polls };
+            explore(alloc, &run, prefix, bounds, store, out, watcher)
+        }
     }
+}
+
+/// What is asked about a variable of a rank.
+fn changes(rank: u8, name: &str) -> View<&str>
+    ensures { result ≡ Changes rank name }
+{
+    View::Changes { rank, name }
+}
+
+/// What is asked about a message.
+fn places(rank: u8, start: u32) -> View<&'static str>
+    ensures { result ≡ Places (record { rank = rank; start = start }) }
+{
+    View::Places(Name { rank, start })
 }

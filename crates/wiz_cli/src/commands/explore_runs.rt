@@ -15,6 +15,7 @@ use crate::exploring::make::{Searched, search};
 use crate::recording::ready::read_run;
 use explore::found::{Explored, Found};
 use explore::search::Bounds;
+use explore::watch::Watcher;
 use explore_text::text::explore_text;
 use replay_model::replayed::Replays;
 use run_model::ending::Ending;
@@ -26,19 +27,21 @@ use wiz_tool::report::{Report, text_of_replays};
 use wiz_tool::status::Status;
 use wiz_words::command::RunWords;
 
-/// Searches the runs of what the arguments name, within these bounds, and lists what they come to.
-pub fn explore<'a, S: Store, K: Sink>(
+/// Searches the runs of what the arguments name, within these bounds, and lists what they come to. `watcher` is told on the way how far the
+/// search is.
+pub fn explore<'a, S: Store, K: Sink, W: Watcher>(
     alloc: Global,
     run: &RunWords<&'a str>,
     prefix: &str,
     bounds: Bounds,
     store: &mut S,
     out: &mut K,
+    watcher: &mut W,
 ) -> Result<Report, Failure<'a>>
     ensures { Ends (Explore (run_with_texts run.now) prefix.now bounds.most bounds.polls) (around S.told K.told store out) result }
 {
     let ready = read_run(alloc, run, store)?;
-    let searched = search(alloc, &ready, bounds)?;
+    let searched = search(alloc, &ready, bounds, watcher)?;
     let report = write(alloc, prefix, bounds, &searched, store, out)?;
     Ok(report)
 }

@@ -20,6 +20,7 @@ use c_program::CProgram;
 use explore::course::Setting;
 use explore::found::{Explored, Found};
 use explore::search::{Bounds, explore};
+use explore::watch::Watcher;
 use mpi_call::call::Halt;
 use picked_runs::turn::Turn;
 use run_model::ending::Ending;
@@ -37,8 +38,13 @@ pub struct Searched {
     pub waits: Outputs,
 }
 
-/// The search of what is run: the runs that begin with what its turns make.
-pub fn search(alloc: Global, ready: &Ready, bounds: Bounds) -> Result<Searched, AllocError>
+/// The search of what is run: the runs that begin with what its turns make. `watcher` is told on the way how far it is.
+pub fn search<W: Watcher>(
+    alloc: Global,
+    ready: &Ready,
+    bounds: Bounds,
+    watcher: &mut W,
+) -> Result<Searched, AllocError>
     requires { CanRun ready.now }
     ensures { IfOk result (IsSearchOf ready.now bounds.polls) }
 {
@@ -51,7 +57,7 @@ pub fn search(alloc: Global, ready: &Ready, bounds: Bounds) -> Result<Searched, 
         ranks: ready.plan.n(),
         under: ready.turns.as_slice(),
     };
-    let explored = explore::<CProgram, Rank<'_>, Starter<'_>>(&setting, bounds)?;
+    let explored = explore::<CProgram, Rank<'_>, Starter<'_>, W>(&setting, bounds, watcher)?;
     let waits = all_waits(alloc, ready, explored.found.as_slice())?;
     Ok(Searched { explored, waits })
 }
