@@ -1,0 +1,14 @@
+mod Still
+mod Beside
+mod Unseen
+mod Room
+mod Staying
+mod Going
+mod Runs
+mod Swapping
+mod Commuting
+mod Fronting
+mod Patience
+mod Stopping
+mod Telling
+mod GoingFirst
