@@ -107,7 +107,7 @@ name_on before more at name h =
     let below : at < length before = slice_get-below before at p.event p.there in
     rw (take-append-le at before more (omega (arith, below)), slice_get-append before more at p.event p.there, p.start) (ap (λ (x : Name). Some x) p.name_is)
 
-one_place : (events : List Event) (i j : ℕ) (name : Name) → name_at events i ≡ Some name → name_at events j ≡ Some name → i ≡ j
+pub one_place : (events : List Event) (i j : ℕ) (name : Name) → name_at events i ≡ Some name → name_at events j ≡ Some name → i ≡ j
 one_place events i j name h k =
     elim (cases_order i j) [
       | inl same ↦ same

@@ -21,7 +21,7 @@ use Rattle.picked_runs.proofs.Making.{event_picked}
 use Rattle.run_states.specs.Futures.{SameFuture, mate_in}
 use Rattle.run_states.specs.Outcomes.{IsProbeKept}
 use Rattle.quiet_calls.proofs.Still.{IsStill}
-use Rattle.quiet_calls.proofs.Unseen.{IsBeside, unseen}
+use Rattle.quiet_calls.proofs.Unseen.{LeavesAlone, still_leaves, unseen}
 use Rattle.quiet_calls.proofs.Staying.{IsAnswered, IsAnsweredOn, answered_on, free_parts, one_event, quiet_event, reply_free}
 use Rattle.quiet_calls.proofs.Going.{allowed_goes}
 use Rattle.quiet_calls.proofs.Runs.{IsGood, made_in, matched_same, matched_still, quiet_goes, step_on}
@@ -33,7 +33,7 @@ or_else-more : (a b c : Option Halt) → or_else a (or_else b c) ≡ or_else (or
 or_else-more None b c = refl
 or_else-more (Some halt) b c = refl
 
-or_else-last : (a : Option Halt) → or_else a None ≡ a
+pub or_else-last : (a : Option Halt) → or_else a None ≡ a
 or_else-last None = refl
 or_else-last (Some halt) = refl
 
@@ -68,6 +68,32 @@ first_run next n lawful before me call good is =
     step_on next n lawful before me call First good is.below is.asked refl (inl (quiet_goes n before me call is.answered))
     (matched_still before (picked_event n before me call First) (quiet_event n before me call is.answered.kind) (kept_run next n before lawful good.run).matched)
 
+-- another rank's event can be made behind it, if it is left alone
+pub other_run : (next : Next) (n : ℕ) → Lawful next → (before : List Event) (q x : Event) → IsGood next n before → IsGood next n (before ++ q ∷ [])
+    → IsEvent next n before x → IsNumberedInOrder n before x → LeavesAlone n before q x.rank → (IsStuck next n before → ⊥)
+    → IsMatched ((before ++ q ∷ []) ++ x ∷ []) → IsGood next n ((before ++ q ∷ []) ++ x ∷ [])
+other_run next n lawful before q x good first step ordered alone unstuck matched =
+    let after : List Event = before ++ q ∷ [] in
+    let kept = kept_run next n before lawful good.run in
+    let pick : Pick = pick_of n before x in
+    let picked : IsPickedEvent n before x pick = event_picked next n before x kept.matched kept.below step ordered in
+    let u = unseen n before q x.rank x.call pick alone in
+    let event : picked_event n after x.rank x.call pick ≡ x = u.same ∙ sym picked.event_is in
+    let F : Event → Type 0 = λ e. IsMatched (after ++ e ∷ []) in
+    let G : Event → Type 0 = λ e. IsGood next n (after ++ e ∷ []) in
+    let asked : call_after next n after x.rank ≡ Some x.call = ap (λ (v : View). next n x.rank (replies_in v)) alone.own ∙ step.call in
+    let goes : (can_go n after x.rank (view_of after x.rank) x.call ≡ true) ⊎ IsStuck next n after =
+    elim (allowed_goes next n before x.rank x.call x.reply step.reply) [
+      | inl can ↦ inl (u.goes ∙ can)
+      | inr stuck ↦ absurd (unstuck stuck)
+    ] in
+    subst G event (step_on next n lawful after x.rank x.call pick first step.rank asked (u.offered ∙ picked.offered) goes (subst F (sym event) matched))
+
+pub unstuck : (next : Next) (n : ℕ) (before : List Event) (me : ℕ) (call : Call) → IsAsked next n before me call → IsStuck next n before → ⊥
+unstuck next n before me call is stuck =
+    let no : true ≡ false = sym (quiet_goes n before me call is.answered) ∙ stuck me call is.below is.asked in
+    cc
+
 -- what else is called has it in the other order too
 pub behind_run : (next : Next) (n : ℕ) → Lawful next → (before : List Event) (me : ℕ) (call : Call) (x : Event) → IsGood next n before → IsAsked next n before me call
     → IsEvent next n before x → IsNumberedInOrder n before x → (x.rank == me) ≡ false → is_full (before ++ picked_event n before me call First ∷ []) ≡ false
@@ -76,28 +102,12 @@ behind_run next n lawful before me call x good is step ordered apart full =
     let q : Event = picked_event n before me call First in
     let after : List Event = before ++ q ∷ [] in
     let still : IsStill q = quiet_event n before me call is.answered.kind in
-    let kept = kept_run next n before lawful good.run in
     let parts = free_parts n before me call (reply_free n before me call First is.answered.free) in
-    let beside : IsBeside before q = record { still = still; halts = quiet_halts n before me call is.answered; full = full ∙ sym parts.full } in
-    let pick : Pick = pick_of n before x in
-    let picked : IsPickedEvent n before x pick = event_picked next n before x kept.matched kept.below step ordered in
-    let u = unseen n before q x.rank x.call pick beside (other_way x.rank me apart) in
-    let event : picked_event n after x.rank x.call pick ≡ x = u.same ∙ sym picked.event_is in
+    let alone : LeavesAlone n before q x.rank =
+    still_leaves n before q x.rank still (quiet_halts n before me call is.answered) (full ∙ sym parts.full) (other_way x.rank me apart) in
     let future : SameFuture n ((before ++ x ∷ []) ++ q ∷ []) (after ++ x ∷ []) = future_swapped n before x q still step.mate apart in
     let matched = matched_same n ((before ++ x ∷ []) ++ q ∷ []) (after ++ x ∷ []) future (matched_still (before ++ x ∷ []) q still step.matched) in
-    let F : Event → Type 0 = λ e. IsMatched (after ++ e ∷ []) in
-    let G : Event → Type 0 = λ e. IsGood next n (after ++ e ∷ []) in
-    let asked : call_after next n after x.rank ≡ Some x.call =
-    ap (λ (v : View). next n x.rank (replies_in v)) (view_of-other before q x.rank (other_way x.rank me apart)) ∙ step.call in
-    let goes : (can_go n after x.rank (view_of after x.rank) x.call ≡ true) ⊎ IsStuck next n after =
-    elim (allowed_goes next n before x.rank x.call x.reply step.reply) [
-      | inl can ↦ inl (u.goes ∙ can)
-      | inr stuck ↦
-          let no : true ≡ false = sym (quiet_goes n before me call is.answered) ∙ stuck me call is.below is.asked in
-          absurd (cc)
-    ] in
-    subst G event
-    (step_on next n lawful after x.rank x.call pick (first_run next n lawful before me call good is) step.rank asked (u.offered ∙ picked.offered) goes (subst F (sym event) matched))
+    other_run next n lawful before q x good (first_run next n lawful before me call good is) step ordered alone (unstuck next n before me call is) matched
 
 -- 3. it stays behind what another rank does
 

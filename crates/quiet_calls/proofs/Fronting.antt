@@ -1,30 +1,30 @@
 -- A quiet call moves to the front of what goes on without a halt; where it does not come there, it is put in.
-use Rattle.std.proofs.Common.{◌≡◌, ◌∙◌, ◌++◌, ◌==◌, ◌||◌, ◌∷◌, ◌⊎◌, ℕ, suc, List, [], None, Bool, false, append-nil, append_assoc, inl, inr, length, refl, ap, sym, subst}
+use Rattle.std.proofs.Common.{◌≡◌, ◌∙◌, ◌++◌, ◌==◌, ◌+◌, ◌||◌, ◌∷◌, ◌⊎◌, ℕ, suc, List, [], None, Bool, true, false, append-nil, append_assoc, inl, inr, length, refl, ap, sym, subst}
 use Rattle.std.proofs.lemmas.Bool.{eqb-true}
 use Rattle.std.proofs.lemmas.List.{length-map}
 use Rattle.std.specs.List.{list_any}
 use Rattle.mpi_call.specs.declared.call.Call.{Call}
+use Rattle.mpi_call.specs.declared.reply.Reply.{Reply}
+use Rattle.mpi_call.specs.Calls.{ints_of, listed_by}
 use Rattle.run_model.specs.declared.event.Event.{Event}
 use Rattle.run_model.specs.Chosen.{order_of}
-use Rattle.run_model.specs.Due.{halted, is_full}
+use Rattle.run_model.specs.Due.{halted, size_of, size_of_reply}
 use Rattle.run_model.specs.Lists.{Along}
 use Rattle.run_model.specs.Run.{IsEvent}
 use Rattle.run_model.specs.Views.{Next}
 use Rattle.run_model.proofs.Along.{Along-back, Along-front}
 use Rattle.run_model.proofs.RunLaws.{IsRun-front, Lawful}
 use Rattle.run_model.proofs.Views.{test_cases}
-use Rattle.picked_runs.specs.declared.turn.Pick.TheVariants.{First}
 use Rattle.picked_runs.specs.Numbering.{IsNumberedInOrder}
-use Rattle.picked_runs.specs.Picks.{picked_event}
 use Rattle.run_states.specs.Futures.{SameFuture}
 use Rattle.run_states.specs.Outcomes.{IsProbeKept, Output}
 use Rattle.run_states.specs.StateLaws.{FuturesAreSame, HasLike}
-use Rattle.quiet_calls.proofs.Still.{IsStill}
-use Rattle.quiet_calls.proofs.Room.{HasRoom, not_full, room_front, room_swapped}
-use Rattle.quiet_calls.proofs.Staying.{quiet_event}
+use Rattle.quiet_calls.specs.Quiet.{is_calm}
+use Rattle.quiet_calls.proofs.Room.{HasRoom, not_full, room_front, room_like, room_swapped}
 use Rattle.quiet_calls.proofs.Runs.{IsGood}
-use Rattle.quiet_calls.proofs.Swapping.{future_swapped, other_way}
-use Rattle.quiet_calls.proofs.Commuting.{IsAsked, behind_run, first_run, halted_front, other_probe, own_event, own_probe, stays_asked}
+use Rattle.quiet_calls.proofs.Commuting.{halted_front}
+use Rattle.quiet_calls.proofs.Crossing.{with_mate}
+use Rattle.quiet_calls.proofs.Diamond.{IsBesideFirst, IsDiamond, IsFirst, diamond, first_good, own_first}
 
 -- 1. lists
 
@@ -65,44 +65,45 @@ pub record IsMoved (n : ℕ) (root front rest : List Event) (q : Event) : Type 0
   pub count : suc (length rest) ≡ length front
 
 -- it was not, and can be made behind it: it is as if it had been made first, and the rest behind it
-pub record IsPutIn (next : Next) (n : ℕ) (root front rest : List Event) (me : ℕ) (call : Call) (q : Event) : Type 0 where
-  pub asked : IsAsked next n (root ++ front) me call
-  pub event : picked_event n (root ++ front) me call First ≡ q
-  pub future : SameFuture n ((root ++ front) ++ q ∷ []) (root ++ q ∷ rest)
+pub record IsPutIn (next : Next) (n : ℕ) (racy : ℕ → Bool) (root front rest : List Event) (me : ℕ) (call : Call) (q : Event) : Type 0 where
+  pub last : Event
+  pub there : IsFirst next n racy (root ++ front) me call last
+  pub reply : last.reply ≡ q.reply
+  pub future : SameFuture n ((root ++ front) ++ last ∷ []) (root ++ q ∷ rest)
   pub count : length rest ≡ length front
   pub none : has_event me front ≡ false
 
-pub record GoesBehind (next : Next) (n : ℕ) (root front : List Event) (me : ℕ) (call : Call) (q : Event) : Type 0 where
+pub record GoesBehind (next : Next) (n : ℕ) (racy : ℕ → Bool) (root front : List Event) (me : ℕ) (call : Call) (q : Event) : Type 0 where
   pub rest : List Event
   pub good : IsGood next n (root ++ q ∷ rest)
   pub probes : Along IsProbeKept root front → Along IsProbeKept root (q ∷ rest)
-  pub left : IsMoved n root front rest q ⊎ IsPutIn next n root front rest me call q
+  pub left : IsMoved n root front rest q ⊎ IsPutIn next n racy root front rest me call q
 
 -- 3. along the events
 
--- what is needed to go on
-pub record IsAt (next : Next) (n : ℕ) (root front : List Event) (me : ℕ) (call : Call) (q : Event) : Type 0 where
+-- what is needed to go on, with what comes behind a first halt
+pub record IsAt (next : Next) (n : ℕ) (racy : ℕ → Bool) (root front tail : List Event) (me : ℕ) (call : Call) (q : Event) : Type 0 where
   pub good : IsGood next n (root ++ front)
-  pub asked : IsAsked next n root me call
-  pub event : picked_event n root me call First ≡ q
-  pub probe : IsProbeKept root q
+  pub first : IsFirst next n racy root me call q
+  pub calm : is_calm racy (root ++ (front ++ tail)) ≡ true
   pub free : halted (root ++ front) ≡ None
   pub room : HasRoom (root ++ q ∷ front)
 
-at_end : (next : Next) (n : ℕ) → Lawful next → (root : List Event) (me : ℕ) (call : Call) (q : Event) → IsAt next n root [] me call q → GoesBehind next n root [] me call q
-at_end next n lawful root me call q at =
+at_end : (next : Next) (n : ℕ) → Lawful next → (racy : ℕ → Bool) (root tail : List Event) (me : ℕ) (call : Call) (q : Event) → IsAt next n racy root [] tail me call q
+    → GoesBehind next n racy root [] me call q
+at_end next n lawful racy root tail me call q at =
     let end : root ≡ root ++ [] = sym (append-nil root) in
     let G : List Event → Type 0 = λ l. IsGood next n l in
     let good : IsGood next n root = subst G (sym end) at.good in
-    let E : Event → Type 0 = λ e. IsGood next n (root ++ e ∷ []) in
-    let A : List Event → Type 0 = λ l. IsAsked next n l me call in
+    let A : List Event → Type 0 = λ l. IsFirst next n racy l me call q in
     record {
       rest = [];
-      good = subst E at.event (first_run next n lawful root me call good at.asked);
-      probes = λ kept. (at.probe, tt);
+      good = first_good next n lawful racy root tail me call q good at.first at.calm (halted_front root [] at.free);
+      probes = λ kept. (at.first.probe, tt);
       left = inr (record {
-        asked = subst A end at.asked;
-        event = ap (λ l. picked_event n l me call First) (sym end) ∙ at.event;
+        last = q;
+        there = subst A end at.first;
+        reply = refl;
         future = same_as n (root ++ q ∷ []) (root ++ q ∷ []) ((root ++ []) ++ q ∷ []) (root ++ q ∷ []) (ap (λ l. l ++ q ∷ []) end) refl (same_itself n (root ++ q ∷ []));
         count = refl;
         none = refl;
@@ -110,13 +111,13 @@ at_end next n lawful root me call q at =
     }
 
 -- the rank's own event comes next
-at_own : (next : Next) (n : ℕ) → Lawful next → (root front : List Event) (x : Event) (me : ℕ) (call : Call) (q : Event) → IsAt next n root (x ∷ front) me call q
-    → x.rank ≡ me → GoesBehind next n root (x ∷ front) me call q
-at_own next n lawful root front x me call q at own =
+at_own : (next : Next) (n : ℕ) → Lawful next → (racy : ℕ → Bool) (root front tail : List Event) (x : Event) (me : ℕ) (call : Call) (q : Event) → IsAt next n racy root (x ∷ front) tail me call q
+    → x.rank ≡ me → GoesBehind next n racy root (x ∷ front) me call q
+at_own next n lawful racy root front tail x me call q at own =
     let good : IsGood next n root = good_front next n root (x ∷ front) at.good in
     let steps = Along-back (IsEvent next n) [] root (x ∷ front) at.good.run.along in
     let ordered = Along-back (IsNumberedInOrder n) [] root (x ∷ front) at.good.numbered in
-    let same : x ≡ q = own_event next n lawful root me call x good at.asked steps.0 ordered.0 own ∙ at.event in
+    let same : x ≡ q = own_first next n lawful racy root me call q x good at.first steps.0 ordered.0 own in
     let G : Event → Type 0 = λ e. IsGood next n (root ++ e ∷ front) in
     let P : Event → Type 0 = λ e. Along IsProbeKept root (e ∷ front) in
     record {
@@ -129,88 +130,108 @@ at_own next n lawful root front x me call q at own =
       });
     }
 
-later : (next : Next) (n : ℕ) → Lawful next → (root front : List Event) (x : Event) (me : ℕ) (call : Call) (q : Event) → IsAt next n root (x ∷ front) me call q
-    → (x.rank == me) ≡ false → IsAt next n (root ++ x ∷ []) front me call q
-later next n lawful root front x me call q at apart =
+-- another rank's event comes next
+beside_at : (next : Next) (n : ℕ) (racy : ℕ → Bool) (root front tail : List Event) (x : Event) (me : ℕ) (call : Call) (q : Event) → IsAt next n racy root (x ∷ front) tail me call q
+    → (x.rank == me) ≡ false → IsBesideFirst next n racy root me call q x (front ++ tail)
+beside_at next n racy root front tail x me call q at apart =
+    let R : List Event → Type 0 = λ l. HasRoom l in
+    let room : HasRoom (root ++ q ∷ []) = room_front (root ++ q ∷ []) (x ∷ front) (subst R (sym (append_assoc root (q ∷ []) (x ∷ front))) at.room) in
+    record {
+      good = good_front next n root (x ∷ front) at.good;
+      first = at.first;
+      step = (Along-back (IsEvent next n) [] root (x ∷ front) at.good.run.along).0;
+      ordered = (Along-back (IsNumberedInOrder n) [] root (x ∷ front) at.good.numbered).0;
+      apart = apart;
+      calm = at.calm;
+      halts = halted_front root (x ∷ front) at.free;
+      full = not_full (root ++ q ∷ []) room;
+    }
+
+as_room : (root front : List Event) (q later : Event) → size_of later ≡ size_of q → HasRoom (root ++ q ∷ front) → HasRoom (root ++ later ∷ front)
+as_room root front q later same room = room_like root front q later (sym same) room
+
+at_diamond : (next : Next) (n : ℕ) → Lawful next → (racy : ℕ → Bool) (root front tail : List Event) (x : Event) (me : ℕ) (call : Call) (q : Event) → IsAt next n racy root (x ∷ front) tail me call q
+    → (x.rank == me) ≡ false → IsDiamond next n racy root me call q x
+at_diamond next n lawful racy root front tail x me call q at apart =
     let whole : (root ++ x ∷ []) ++ front ≡ root ++ x ∷ front = append_assoc root (x ∷ []) front in
-    let G : List Event → Type 0 = λ l. IsGood next n l in
     let H : List Event → Type 0 = λ l. halted l ≡ None in
     let free : halted ((root ++ x ∷ []) ++ front) ≡ None = subst H (sym whole) at.free in
     let room : HasRoom ((root ++ x ∷ []) ++ q ∷ front) = room_swapped root front q x at.room in
-    let good : IsGood next n root = good_front next n root (x ∷ front) at.good in
-    let s = stays_asked next n lawful root me call x good at.asked apart (halted_front (root ++ x ∷ []) front free)
-    (not_full (root ++ x ∷ []) (room_front (root ++ x ∷ []) (q ∷ front) room)) in
-    let still : IsStill q = subst IsStill at.event (quiet_event n root me call at.asked.answered.kind) in
-    let F : ℕ → Type 0 = λ r. (x.rank == r) ≡ false in
+    diamond next n lawful racy root me call q x (front ++ tail) (beside_at next n racy root front tail x me call q at apart) (halted_front (root ++ x ∷ []) front free)
+    (not_full (root ++ x ∷ []) (room_front (root ++ x ∷ []) (q ∷ front) room))
+
+pub later_size : (next : Next) (n : ℕ) (racy : ℕ → Bool) (before after : List Event) (me : ℕ) (call : Call) (q later : Event) → IsFirst next n racy before me call q
+    → IsFirst next n racy after me call later → later.reply ≡ q.reply → size_of later ≡ size_of q
+later_size next n racy before after me call q later f g same =
+    let S : Call → Reply → ℕ = λ c r. length (ints_of c) + (length (listed_by c) + size_of_reply r) in
+    ap (λ c. S c later.reply) (ap (λ (e : Event). e.call) (sym g.event) ∙ ap (λ (e : Event). e.call) f.event) ∙ ap (S q.call) same
+
+later : (next : Next) (n : ℕ) (racy : ℕ → Bool) (root front tail : List Event) (x : Event) (me : ℕ) (call : Call) (q : Event) → IsAt next n racy root (x ∷ front) tail me call q
+    → (d : IsDiamond next n racy root me call q x) → IsAt next n racy (root ++ x ∷ []) front tail me call d.later
+later next n racy root front tail x me call q at d =
+    let whole : (root ++ x ∷ []) ++ front ≡ root ++ x ∷ front = append_assoc root (x ∷ []) front in
+    let all : (root ++ x ∷ []) ++ (front ++ tail) ≡ root ++ x ∷ (front ++ tail) = append_assoc root (x ∷ []) (front ++ tail) in
+    let G : List Event → Type 0 = λ l. IsGood next n l in
+    let H : List Event → Type 0 = λ l. halted l ≡ None in
+    let C : List Event → Type 0 = λ l. is_calm racy l ≡ true in
     record {
       good = subst G (sym whole) at.good;
-      asked = s.there;
-      event = s.same ∙ at.event;
-      probe = own_probe root q x still (subst F (ap (λ (e : Event). e.rank) at.event) apart) at.probe;
-      free = free;
-      room = room;
+      first = d.there;
+      calm = subst C (sym all) at.calm;
+      free = subst H (sym whole) at.free;
+      room = as_room (root ++ x ∷ []) front q d.later (later_size next n racy root (root ++ x ∷ []) me call q d.later at.first d.there d.reply) (room_swapped root front q x at.room);
     }
 
--- another rank's event comes next
-at_other : (next : Next) (output : Output) (n : ℕ) → Lawful next → FuturesAreSame next output n → (root front : List Event) (x : Event) (me : ℕ) (call : Call) (q : Event)
-    → IsAt next n root (x ∷ front) me call q → (x.rank == me) ≡ false → GoesBehind next n (root ++ x ∷ []) front me call q → GoesBehind next n root (x ∷ front) me call q
-at_other next output n lawful futures root front x me call q at apart g =
-    let good : IsGood next n root = good_front next n root (x ∷ front) at.good in
-    let step = (Along-back (IsEvent next n) [] root (x ∷ front) at.good.run.along).0 in
-    let ordered = (Along-back (IsNumberedInOrder n) [] root (x ∷ front) at.good.numbered).0 in
-    let still : IsStill q = subst IsStill at.event (quiet_event n root me call at.asked.answered.kind) in
-    let F : ℕ → Type 0 = λ r. (x.rank == r) ≡ false in
-    let beside : (x.rank == q.rank) ≡ false = subst F (ap (λ (e : Event). e.rank) at.event) apart in
-    let one : List Event = (root ++ x ∷ []) ++ q ∷ [] in
-    let other : List Event = (root ++ q ∷ []) ++ x ∷ [] in
-    let R : List Event → Type 0 = λ l. HasRoom l in
-    let room : HasRoom (root ++ q ∷ []) = room_front (root ++ q ∷ []) (x ∷ front) (subst R (sym (append_assoc root (q ∷ []) (x ∷ front))) at.room) in
-    let N : Event → Type 0 = λ e. is_full (root ++ e ∷ []) ≡ false in
-    let E : Event → Type 0 = λ e. IsGood next n ((root ++ e ∷ []) ++ x ∷ []) in
-    let swapped : IsGood next n other =
-    subst E at.event (behind_run next n lawful root me call x good at.asked step ordered apart (subst N (sym at.event) (not_full (root ++ q ∷ []) room))) in
-    let future : SameFuture n one other = future_swapped n root x q still step.mate beside in
+at_other : (next : Next) (output : Output) (n : ℕ) → Lawful next → FuturesAreSame next output n → (racy : ℕ → Bool) (root front tail : List Event) (x : Event) (me : ℕ) (call : Call) (q : Event)
+    → IsAt next n racy root (x ∷ front) tail me call q → (x.rank == me) ≡ false → (d : IsDiamond next n racy root me call q x)
+    → GoesBehind next n racy (root ++ x ∷ []) front me call d.later → GoesBehind next n racy root (x ∷ front) me call q
+at_other next output n lawful futures racy root front tail x me call q at apart d g =
+    let one : List Event = (root ++ x ∷ []) ++ d.later ∷ [] in
+    let like_x : Event = with_mate x d.mate in
+    let other : List Event = (root ++ q ∷ []) ++ like_x ∷ [] in
     let G : List Event → Type 0 = λ l. IsGood next n l in
-    let longer : one ++ g.rest ≡ (root ++ x ∷ []) ++ q ∷ g.rest = append_assoc (root ++ x ∷ []) (q ∷ []) g.rest in
+    let longer : one ++ g.rest ≡ (root ++ x ∷ []) ++ d.later ∷ g.rest = append_assoc (root ++ x ∷ []) (d.later ∷ []) g.rest in
     let is : IsGood next n (one ++ g.rest) = subst G (sym longer) g.good in
-    let like : HasLike next output n one other g.rest = futures one other g.rest is.run is.numbered swapped.run swapped.numbered future in
+    let like : HasLike next output n one other g.rest = futures one other g.rest is.run is.numbered d.good.run d.good.numbered d.future in
     let rest : List Event = like.rest in
-    let whole : other ++ rest ≡ root ++ q ∷ x ∷ rest = two_more root rest q x in
+    let whole : other ++ rest ≡ root ++ q ∷ like_x ∷ rest = two_more root rest q like_x in
     let here : (root ++ x ∷ []) ++ front ≡ root ++ x ∷ front = append_assoc root (x ∷ []) front in
     let count : length rest ≡ length g.rest = as_long rest g.rest like.order in
-    let after : SameFuture n ((root ++ x ∷ []) ++ q ∷ g.rest) (root ++ q ∷ x ∷ rest) =
-    same_as n (one ++ g.rest) (other ++ rest) ((root ++ x ∷ []) ++ q ∷ g.rest) (root ++ q ∷ x ∷ rest) longer whole like.future in
+    let after : SameFuture n ((root ++ x ∷ []) ++ d.later ∷ g.rest) (root ++ q ∷ like_x ∷ rest) =
+    same_as n (one ++ g.rest) (other ++ rest) ((root ++ x ∷ []) ++ d.later ∷ g.rest) (root ++ q ∷ like_x ∷ rest) longer whole like.future in
     record {
-      rest = x ∷ rest;
+      rest = like_x ∷ rest;
       good = subst G whole (record { run = like.run; numbered = like.numbered });
-      probes = λ kept. (at.probe, (other_probe next n root q x step (other_way x.rank q.rank beside) kept.0, like.probes (g.probes kept.1).1));
+      probes = λ kept. (at.first.probe, (d.probe kept.0, like.probes (g.probes kept.1).1));
       left = elim g.left [
         | inl moved ↦ inl (record {
-          future = same_on n (root ++ x ∷ front) ((root ++ x ∷ []) ++ q ∷ g.rest) (root ++ q ∷ x ∷ rest)
-              (same_as n ((root ++ x ∷ []) ++ front) ((root ++ x ∷ []) ++ q ∷ g.rest) (root ++ x ∷ front) ((root ++ x ∷ []) ++ q ∷ g.rest) here refl moved.future) after;
+          future = same_on n (root ++ x ∷ front) ((root ++ x ∷ []) ++ d.later ∷ g.rest) (root ++ q ∷ like_x ∷ rest)
+              (same_as n ((root ++ x ∷ []) ++ front) ((root ++ x ∷ []) ++ d.later ∷ g.rest) (root ++ x ∷ front) ((root ++ x ∷ []) ++ d.later ∷ g.rest) here refl moved.future) after;
           count = ap suc (ap suc count ∙ moved.count);
         })
         | inr put ↦
-            let A : List Event → Type 0 = λ l. IsAsked next n l me call in
+            let A : List Event → Type 0 = λ l. IsFirst next n racy l me call put.last in
             inr (record {
-              asked = subst A here put.asked;
-              event = ap (λ l. picked_event n l me call First) (sym here) ∙ put.event;
-              future = same_on n ((root ++ x ∷ front) ++ q ∷ []) ((root ++ x ∷ []) ++ q ∷ g.rest) (root ++ q ∷ x ∷ rest)
-                  (same_as n (((root ++ x ∷ []) ++ front) ++ q ∷ []) ((root ++ x ∷ []) ++ q ∷ g.rest) ((root ++ x ∷ front) ++ q ∷ []) ((root ++ x ∷ []) ++ q ∷ g.rest)
-                  (ap (λ l. l ++ q ∷ []) here) refl put.future) after;
+              last = put.last;
+              there = subst A here put.there;
+              reply = put.reply ∙ d.reply;
+              future = same_on n ((root ++ x ∷ front) ++ put.last ∷ []) ((root ++ x ∷ []) ++ d.later ∷ g.rest) (root ++ q ∷ like_x ∷ rest)
+                  (same_as n (((root ++ x ∷ []) ++ front) ++ put.last ∷ []) ((root ++ x ∷ []) ++ d.later ∷ g.rest) ((root ++ x ∷ front) ++ put.last ∷ []) ((root ++ x ∷ []) ++ d.later ∷ g.rest)
+                  (ap (λ l. l ++ put.last ∷ []) here) refl put.future) after;
               count = ap suc (count ∙ put.count);
               none = ap (λ (b : Bool). b || has_event me front) apart ∙ put.none;
             })
       ];
     }
 
-pub goes_behind : (next : Next) (output : Output) (n : ℕ) → Lawful next → FuturesAreSame next output n → (root front : List Event) (me : ℕ) (call : Call) (q : Event)
-    → IsAt next n root front me call q → GoesBehind next n root front me call q
-goes_behind next output n lawful futures root [] me call q at = at_end next n lawful root me call q at
-goes_behind next output n lawful futures root (x ∷ front) me call q at =
+pub goes_behind : (next : Next) (output : Output) (n : ℕ) → Lawful next → FuturesAreSame next output n → (racy : ℕ → Bool) (root front tail : List Event) (me : ℕ) (call : Call) (q : Event)
+    → IsAt next n racy root front tail me call q → GoesBehind next n racy root front me call q
+goes_behind next output n lawful futures racy root [] tail me call q at = at_end next n lawful racy root tail me call q at
+goes_behind next output n lawful futures racy root (x ∷ front) tail me call q at =
     elim (test_cases (x.rank == me)) [
-      | inl t ↦ at_own next n lawful root front x me call q at (eqb-true x.rank me t)
+      | inl t ↦ at_own next n lawful racy root front tail x me call q at (eqb-true x.rank me t)
       | inr f ↦
-          at_other next output n lawful futures root front x me call q at f
-          (goes_behind next output n lawful futures (root ++ x ∷ []) front me call q (later next n lawful root front x me call q at f))
+          let d = at_diamond next n lawful racy root front tail x me call q at f in
+          at_other next output n lawful futures racy root front tail x me call q at f d
+          (goes_behind next output n lawful futures racy (root ++ x ∷ []) front tail me call d.later (later next n racy root front tail x me call q at d))
     ]

@@ -1,12 +1,12 @@
 -- A whole run comes to what one comes to that makes a quiet call first.
-use Rattle.std.proofs.Common.{◌≡◌, ◌≢◌, ◌<◌, ◌≤◌, ◌∙◌, ◌++◌, ◌==◌, ◌+◌, ◌||◌, ◌∷◌, ℕ, suc, List, [], Some, None, Bool, true, false, append-nil, append_assoc, inl, inr, length, length-append, refl, ap, sym, subst, arith}
+use Rattle.std.proofs.Common.{◌≡◌, ◌<◌, ◌≤◌, ◌∙◌, ◌++◌, ◌==◌, ◌+◌, ◌||◌, ◌∷◌, ℕ, suc, List, [], Some, None, Bool, true, false, append-nil, append_assoc, inl, inr, length, length-append, refl, ap, sym, subst, arith}
 use Rattle.std.proofs.lemmas.Bool.{eq-eqb, eqb-true, false_from_ne_true, or_left, or_parts, or_right}
 use Rattle.mpi_call.specs.declared.call.Call.{Call}
 use Rattle.mpi_call.specs.declared.call.Halt.{Halt}
 use Rattle.mpi_call.specs.declared.reply.Reply.{Reply}
-use Rattle.mpi_call.specs.declared.reply.Reply.TheVariants.{Done, NotYet, Stopped}
+use Rattle.mpi_call.specs.declared.reply.Reply.TheVariants.{Done, Stopped}
 use Rattle.run_model.specs.declared.event.Event.{Event}
-use Rattle.run_model.specs.Due.{halt_in, halted, is_full, or_else}
+use Rattle.run_model.specs.Due.{halt_in, halted, is_full, or_else, size_of}
 use Rattle.run_model.specs.Lists.{Along}
 use Rattle.run_model.specs.Run.{IsEvent, IsRun}
 use Rattle.run_model.specs.Serial.{call_after}
@@ -16,19 +16,20 @@ use Rattle.run_model.proofs.Prefixes.{append-cancel}
 use Rattle.run_model.proofs.RunLaws.{Lawful}
 use Rattle.run_model.proofs.Taken.{none_parts}
 use Rattle.run_model.proofs.Views.{option_cases, test_cases, view_of-append, view_of-mine, view_of-other}
-use Rattle.picked_runs.specs.declared.turn.Pick.TheVariants.{First}
+use Rattle.picked_runs.specs.declared.turn.Pick.{Pick}
 use Rattle.picked_runs.specs.Numbering.{AreNumberedInOrder, IsNumberedInOrder}
-use Rattle.picked_runs.specs.Picks.{picked_event, picked_reply}
+use Rattle.picked_runs.specs.Picks.{picked_event}
 use Rattle.run_states.specs.Futures.{SameFuture}
 use Rattle.run_states.specs.Outcomes.{IsPatientEvent, IsProbeKept, IsWhole, Output, halted_outcome, outcome_of}
 use Rattle.run_states.specs.StateLaws.{FuturesAreSame, HaltsDecideOutcomes, HasLike}
-use Rattle.quiet_calls.specs.Quiet.{GoesOnBehind, IsMadeFree, QuietCallsGoFirst}
-use Rattle.quiet_calls.proofs.Room.{HasRoom, not_full, room_front, room_in, room_put}
-use Rattle.quiet_calls.proofs.Staying.{free_parts, one_event, reply_free}
-use Rattle.quiet_calls.proofs.Runs.{IsGood, quiet_goes}
+use Rattle.quiet_calls.specs.Quiet.{GoesOnBehind, IsMadeFree, IsQuiet, QuietCallsGoAhead, QuietCallsGoFirst, is_calm}
+use Rattle.quiet_calls.proofs.Room.{HasRoom, not_full, room_front, room_in, room_put, room_like}
+use Rattle.quiet_calls.proofs.Staying.{free_parts}
+use Rattle.quiet_calls.proofs.Runs.{IsGood}
 use Rattle.quiet_calls.proofs.Swapping.{other_way, views_swapped}
-use Rattle.quiet_calls.proofs.Commuting.{IsAsked, behind_run, halted_append, halted_more, own_event, quiet_halts}
-use Rattle.quiet_calls.proofs.Fronting.{GoesBehind, IsMoved, IsPutIn, as_long, goes_behind, good_front, has_event}
+use Rattle.quiet_calls.proofs.Commuting.{halted_append, halted_more}
+use Rattle.quiet_calls.proofs.Diamond.{IsFirst, first_halts, first_unstuck, halting_behind, nothing_due, one_quiet, own_first}
+use Rattle.quiet_calls.proofs.Fronting.{later_size, GoesBehind, IsMoved, IsPutIn, as_long, goes_behind, good_front, has_event}
 use Rattle.quiet_calls.proofs.Patience.{IsPatientView, patient_views, views_patient}
 use Rattle.quiet_calls.proofs.Stopping.{Finishes, finishes}
 use Rattle.quiet_calls.proofs.Telling.{halt_told, outcomes_told}
@@ -185,34 +186,48 @@ stop_probe before x halt stopped earlier comm source tag wait room sender start 
     (let no : Stopped halt ≡ Done = sym stopped ∙ done in absurd (cc))
 
 -- the rank's own event is no halt, so the halt is another rank's
-halt_apart : (next : Next) (n : ℕ) → Lawful next → (base : List Event) (me : ℕ) (call : Call) (x : Event) (halt : Halt) → IsGood next n base → IsAsked next n base me call
-    → IsEvent next n base x → IsNumberedInOrder n base x → x.reply ≡ Stopped halt → (x.rank == me) ≡ false
-halt_apart next n lawful base me call x halt good asked step ordered stopped =
+halt_apart : (next : Next) (n : ℕ) → Lawful next → (racy : ℕ → Bool) (base : List Event) (me : ℕ) (call : Call) (q x : Event) (halt : Halt) → IsGood next n base
+    → IsFirst next n racy base me call q → IsEvent next n base x → IsNumberedInOrder n base x → x.reply ≡ Stopped halt → (x.rank == me) ≡ false
+halt_apart next n lawful racy base me call q x halt good first step ordered stopped =
     false_from_ne_true (x.rank == me) (λ t.
-    let same : x ≡ picked_event n base me call First = own_event next n lawful base me call x good asked step ordered (eqb-true x.rank me t) in
-    let free : halt_in x.reply ≡ None = ap (λ (e : Event). halt_in e.reply) same ∙ asked.answered.free in
+    let same : x ≡ q = own_first next n lawful racy base me call q x good first step ordered (eqb-true x.rank me t) in
+    let free : halt_in x.reply ≡ None = ap (λ (e : Event). halt_in e.reply) same ∙ first.free in
     let no : None ≡ Some halt = sym free ∙ ap halt_in stopped in
     cc)
 
-halted_behind : (next : Next) (output : Output) (n : ℕ) → Lawful next → HaltsDecideOutcomes next output n → (base : List Event) (x : Event) (after : List Event) (me : ℕ) (call : Call)
-    (halt : Halt) → IsGood next n (base ++ x ∷ after) → ((rank : ℕ) → rank < n → call_after next n (base ++ x ∷ after) rank ≡ None) → IsAsked next n base me call
-    → x.reply ≡ Stopped halt → is_full (base ++ picked_event n base me call First ∷ []) ≡ false → IsHalted next output n base x after me (picked_event n base me call First)
-halted_behind next output n lawful decide base x after me call halt all ended asked stopped full =
-    let q : Event = picked_event n base me call First in
+-- a quiet call before a halt of another rank
+record IsBeforeHalt (next : Next) (n : ℕ) (racy : ℕ → Bool) (base : List Event) (x : Event) (after : List Event) (me : ℕ) (call : Call) (q : Event) (halt : Halt) : Type 0 where
+  all : IsGood next n (base ++ x ∷ after)
+  ended : (rank : ℕ) → rank < n → call_after next n (base ++ x ∷ after) rank ≡ None
+  first : IsFirst next n racy base me call q
+  calm : is_calm racy (base ++ x ∷ after) ≡ true
+  none : halted base ≡ None
+  stopped : x.reply ≡ Stopped halt
+  full : is_full (base ++ q ∷ []) ≡ false
+
+halted_behind : (next : Next) (output : Output) (n : ℕ) → Lawful next → HaltsDecideOutcomes next output n → (racy : ℕ → Bool) (base : List Event) (x : Event) (after : List Event)
+    (me : ℕ) (call : Call) (q : Event) (halt : Halt) → IsBeforeHalt next n racy base x after me call q halt → IsHalted next output n base x after me q
+halted_behind next output n lawful decide racy base x after me call q halt b =
     let behind : List Event = base ++ q ∷ [] in
-    let good : IsGood next n base = good_front next n base (x ∷ after) all in
-    let steps = Along-back (IsEvent next n) [] base (x ∷ after) all.run.along in
-    let ordered = Along-back (IsNumberedInOrder n) [] base (x ∷ after) all.numbered in
-    let apart : (x.rank == me) ≡ false = halt_apart next n lawful base me call x halt good asked steps.0 ordered.0 stopped in
-    let parts = free_parts n base me call (reply_free n base me call First asked.answered.free) in
-    let now : IsGood next n (behind ++ x ∷ []) = behind_run next n lawful base me call x good asked steps.0 ordered.0 apart full in
-    let free : halted behind ≡ None = quiet_halts n base me call asked.answered ∙ parts.halts in
+    let good : IsGood next n base = good_front next n base (x ∷ after) b.all in
+    let steps = Along-back (IsEvent next n) [] base (x ∷ after) b.all.run.along in
+    let ordered = Along-back (IsNumberedInOrder n) [] base (x ∷ after) b.all.numbered in
+    let apart : (x.rank == me) ≡ false = halt_apart next n lawful racy base me call q x halt good b.first steps.0 ordered.0 b.stopped in
+    let own : q.rank ≡ me = ap (λ (e : Event). e.rank) (sym b.first.event) in
+    let R : ℕ → Type 0 = λ r. (x.rank == r) ≡ false in
+    let apart_q : (x.rank == q.rank) ≡ false = subst R (sym own) apart in
+    let parts = free_parts n base me call (nothing_due next n racy base me call q b.first) in
+    let now : IsGood next n (behind ++ x ∷ []) = halting_behind next n lawful racy base me call q x after halt
+    (record { good = good; first = b.first; step = steps.0; ordered = ordered.0; apart = apart; calm = b.calm; halts = b.none; full = b.full }) b.stopped in
+    let free : halted behind ≡ None = first_halts next n racy base me call q b.first ∙ b.none in
     let halts : (l : List Event) → halted l ≡ None → halted (l ++ x ∷ []) ≡ Some halt =
-    λ l none. halted_more l x ∙ (ap (λ o. or_else o (halt_in x.reply)) none ∙ ap halt_in stopped) in
+    λ l none. halted_more l x ∙ (ap (λ o. or_else o (halt_in x.reply)) none ∙ ap halt_in b.stopped) in
+    let beside_q : (rank : ℕ) → (rank == me) ≡ false → (q.rank == rank) ≡ false =
+    λ rank other. (let Q : ℕ → Type 0 = λ r. (r == rank) ≡ false in subst Q (sym own) (other_way rank me other)) in
     let beside : (rank : ℕ) → (rank == me) ≡ false → view_of (behind ++ x ∷ []) rank ≡ view_of (base ++ x ∷ []) rank =
-    λ rank other. sym (views_swapped base x q apart rank) ∙ view_of-other (base ++ x ∷ []) q rank (other_way rank me other) in
+    λ rank other. sym (views_swapped base x q apart_q rank) ∙ view_of-other (base ++ x ∷ []) q rank (beside_q rank other) in
     let f : Finishes next n me (call_after next n (behind ++ x ∷ []) me) (base ++ x ∷ []) (behind ++ x ∷ []) after =
-    finishes next n lawful me halt (call_after next n (behind ++ x ∷ []) me) (base ++ x ∷ []) (behind ++ x ∷ []) after steps.1 (halts base parts.halts) now (halts behind free) beside refl in
+    finishes next n lawful me halt (call_after next n (behind ++ x ∷ []) me) (base ++ x ∷ []) (behind ++ x ∷ []) after steps.1 (halts base b.none) now (halts behind free) beside refl in
     let whole : (behind ++ x ∷ []) ++ f.fin ≡ behind ++ x ∷ f.fin = append_assoc behind (x ∷ []) f.fin in
     let was : (base ++ x ∷ []) ++ after ≡ base ++ x ∷ after = append_assoc base (x ∷ []) after in
     let G : List Event → Type 0 = λ l. IsGood next n l in
@@ -225,7 +240,7 @@ halted_behind next output n lawful decide base x after me call halt all ended as
           let seen : view_of (base ++ x ∷ after) me ≡ view_of base me =
           view_of-append base (x ∷ after) me
           ∙ (ap (λ v. view_of base me ++ v) (unseen_view me (x ∷ after) (ap (λ (b : Bool). b || has_event me after) apart ∙ none)) ∙ append-nil (view_of base me)) in
-          let no : None ≡ Some call = sym (ended me asked.below) ∙ (ap (λ (v : View). next n me (replies_in v)) seen ∙ asked.asked) in
+          let no : None ≡ Some call = sym (b.ended me b.first.below) ∙ (ap (λ (v : View). next n me (replies_in v)) seen ∙ b.first.asked) in
           absurd (cc)
     ] in
     let ends : (rank : ℕ) → rank < n → call_after next n (behind ++ x ∷ f.fin) rank ≡ None =
@@ -233,63 +248,72 @@ halted_behind next output n lawful decide base x after me call halt all ended as
       | inl t ↦
           let F : ℕ → Type 0 = λ r. call_after next n (behind ++ x ∷ f.fin) r ≡ None in
           subst F (sym (eqb-true rank me t)) (ap (λ l. call_after next n l me) (sym whole) ∙ f.own there)
-      | inr other ↦ ap (λ (v : View). next n rank (replies_in v)) (others rank other) ∙ ended rank below
+      | inr other ↦ ap (λ (v : View). next n rank (replies_in v)) (others rank other) ∙ b.ended rank below
     ] in
     let told : halted_outcome next output n base halt ≡ halted_outcome next output n behind halt =
-    elim (halt_told next n base x halt steps.0 stopped parts.halts parts.full) [
-      | inl only ↦ outcomes_told next output n base behind x.rank halt only (sym (view_of-other base q x.rank (other_way x.rank me apart)))
-      | inr stuck ↦
-          let no : true ≡ false = sym (quiet_goes n base me call asked.answered) ∙ stuck me call asked.below asked.asked in
-          absurd (cc)
+    elim (halt_told next n base x halt steps.0 b.stopped b.none parts.full) [
+      | inl only ↦ outcomes_told next output n base behind x.rank halt only (sym (view_of-other base q x.rank (other_way x.rank q.rank apart_q)))
+      | inr stuck ↦ absurd (first_unstuck next n racy base (x ∷ after) me call q b.first b.calm b.none stuck)
     ] in
     record {
       fin = f.fin;
       good = run;
       ended = ends;
-      outcome = decide base after x halt all.run ended parts.halts stopped ∙ (told ∙ sym (decide behind f.fin x halt run.run ends free stopped));
+      outcome = decide base after x halt b.all.run b.ended b.none b.stopped ∙ (told ∙ sym (decide behind f.fin x halt run.run ends free b.stopped));
       others = others;
       count = f.count;
-      probes = (stop_probe behind x halt stopped, f.probes);
+      probes = (stop_probe behind x halt b.stopped, f.probes);
       patient = λ most own. f.patient most me own;
     }
 
-own_view : (root front rest fin : List Event) (x q : Event) (me : ℕ) → has_event me front ≡ false → (x.rank == me) ≡ false → q.rank ≡ me
-    → view_of (((root ++ front) ++ q ∷ []) ++ x ∷ fin) me ≡ view_of (root ++ q ∷ rest) me → view_of (q ∷ rest) me ≡ (q.call, q.reply) ∷ view_of fin me
-own_view root front rest fin x q me none apart own same =
+own_view : (root front rest fin : List Event) (x q last : Event) (me : ℕ) → has_event me front ≡ false → (x.rank == me) ≡ false → last.rank ≡ me
+    → view_of (((root ++ front) ++ last ∷ []) ++ x ∷ fin) me ≡ view_of (root ++ q ∷ rest) me → view_of (q ∷ rest) me ≡ (last.call, last.reply) ∷ view_of fin me
+own_view root front rest fin x q last me none apart own same =
     let base : List Event = root ++ front in
-    let seen : Call × Reply = (q.call, q.reply) in
+    let seen : Call × Reply = (last.call, last.reply) in
     let front_is : view_of base me ≡ view_of root me =
     view_of-append root front me ∙ (ap (λ v. view_of root me ++ v) (unseen_view me front none) ∙ append-nil (view_of root me)) in
-    let mine : view_of (base ++ q ∷ []) me ≡ view_of root me ++ seen ∷ [] = view_of-mine base q me own ∙ ap (λ v. v ++ seen ∷ []) front_is in
+    let mine : view_of (base ++ last ∷ []) me ≡ view_of root me ++ seen ∷ [] = view_of-mine base last me own ∙ ap (λ v. v ++ seen ∷ []) front_is in
     let tail : view_of (x ∷ fin) me ≡ view_of fin me = rw apart refl in
-    let whole : view_of ((base ++ q ∷ []) ++ x ∷ fin) me ≡ view_of root me ++ (seen ∷ view_of fin me) =
-    view_of-append (base ++ q ∷ []) (x ∷ fin) me
+    let whole : view_of ((base ++ last ∷ []) ++ x ∷ fin) me ≡ view_of root me ++ (seen ∷ view_of fin me) =
+    view_of-append (base ++ last ∷ []) (x ∷ fin) me
     ∙ (ap (λ v. v ++ view_of (x ∷ fin) me) mine ∙ (ap (λ v. (view_of root me ++ seen ∷ []) ++ v) tail ∙ append_assoc (view_of root me) (seen ∷ []) (view_of fin me))) in
     append-cancel (view_of root me) (view_of (q ∷ rest) me) (seen ∷ view_of fin me) (sym (view_of-append root (q ∷ rest) me) ∙ (sym same ∙ whole))
 
 put_first : (next : Next) (output : Output) (n : ℕ) → Lawful next → FuturesAreSame next output n → HaltsDecideOutcomes next output n
-    → (root front : List Event) (x : Event) (after rest : List Event) (me : ℕ) (call : Call) (q : Event) (halt : Halt) → IsWhole next n (root ++ (front ++ x ∷ after))
-    → x.reply ≡ Stopped halt → HasRoom (root ++ q ∷ (front ++ x ∷ after)) → q.reply ≢ NotYet → IsGood next n (root ++ q ∷ rest)
-    → (Along IsProbeKept root front → Along IsProbeKept root (q ∷ rest)) → IsPutIn next n root front rest me call q
+    → (racy : ℕ → Bool) (root front : List Event) (x : Event) (after rest : List Event) (me : ℕ) (call : Call) (q : Event) (halt : Halt)
+    → IsWhole next n (root ++ (front ++ x ∷ after)) → is_calm racy (root ++ (front ++ x ∷ after)) ≡ true → halted (root ++ front) ≡ None
+    → x.reply ≡ Stopped halt → HasRoom (root ++ q ∷ (front ++ x ∷ after)) → IsFirst next n racy root me call q → IsGood next n (root ++ q ∷ rest)
+    → (Along IsProbeKept root front → Along IsProbeKept root (q ∷ rest)) → IsPutIn next n racy root front rest me call q
     → GoesOnBehind next output n root (front ++ x ∷ after) q
-put_first next output n lawful futures decide root front x after rest me call q halt whole stopped room ready first probes put =
+put_first next output n lawful futures decide racy root front x after rest me call q halt whole calm none stopped room start first probes put =
     let base : List Event = root ++ front in
+    let last : Event = put.last in
     let here : root ++ (front ++ x ∷ after) ≡ base ++ x ∷ after = sym (append_assoc root front (x ∷ after)) in
     let W : List Event → Type 0 = λ l. IsWhole next n l in
+    let C : List Event → Type 0 = λ l. is_calm racy l ≡ true in
     let is : IsWhole next n (base ++ x ∷ after) = subst W here whole in
     let kept : Along IsProbeKept [] base = Along-front IsProbeKept [] base (x ∷ after) is.probes in
-    let N : Event → Type 0 = λ e. is_full (base ++ e ∷ []) ≡ false in
-    let T : Event → Type 0 = λ e. IsHalted next output n base x after me e in
-    let h : IsHalted next output n base x after me q =
-    subst T put.event (halted_behind next output n lawful decide base x after me call halt (record { run = is.run; numbered = is.numbered }) is.ended put.asked stopped
-    (subst N (sym put.event) (not_full (base ++ q ∷ []) (room_put root front (x ∷ after) q room)))) in
-    let c = carried next output n futures root q rest (base ++ q ∷ []) (x ∷ h.fin) h.good h.ended first put.future
+    let size : size_of q ≡ size_of last = sym (later_size next n racy root base me call q last start put.there put.reply) in
+    let room' : HasRoom (root ++ last ∷ (front ++ x ∷ after)) = room_like root (front ++ x ∷ after) q last size room in
+    let good : IsGood next n (base ++ x ∷ after) = record { run = is.run; numbered = is.numbered } in
+    let h : IsHalted next output n base x after me last = halted_behind next output n lawful decide racy base x after me call last halt
+    (record {
+      all = good;
+      ended = is.ended;
+      first = put.there;
+      calm = subst C here calm;
+      none = none;
+      stopped = stopped;
+      full = not_full (base ++ last ∷ []) (room_put root front (x ∷ after) last room');
+    }) in
+    let c = carried next output n futures root q rest (base ++ last ∷ []) (x ∷ h.fin) h.good h.ended first put.future
     (Along-front IsProbeKept [] root front kept) (probes (Along-back IsProbeKept [] root front kept)) h.probes in
-    let own : q.rank ≡ me = ap (λ (e : Event). e.rank) (sym put.event) in
+    let own : last.rank ≡ me = ap (λ (e : Event). e.rank) (sym put.there.event) in
+    let own_q : q.rank ≡ me = ap (λ (e : Event). e.rank) (sym start.event) in
     let halted_here : halt_in x.reply ≡ Some halt = ap halt_in stopped in
-    let good : IsGood next n base = good_front next n base (x ∷ after) (record { run = is.run; numbered = is.numbered }) in
     let apart : (x.rank == me) ≡ false =
-    halt_apart next n lawful base me call x halt good put.asked (Along-back (IsEvent next n) [] base (x ∷ after) is.run.along).0
+    halt_apart next n lawful racy base me call last x halt (good_front next n base (x ∷ after) good) put.there (Along-back (IsEvent next n) [] base (x ∷ after) is.run.along).0
     (Along-back (IsNumberedInOrder n) [] base (x ∷ after) is.numbered).0 stopped in
     let count : length c.last ≡ length rest + suc (length h.fin) = c.count in
     let less : length rest ≡ length front = put.count in
@@ -303,8 +327,9 @@ put_first next output n lawful futures decide root front x after rest me call q 
         | inl t ↦
             let F : ℕ → Type 0 = λ r. IsPatientView most (view_of root r) (view_of (q ∷ c.last) r) in
             let G : View → Type 0 = λ v. IsPatientView most (view_of root me) v in
-            let seen : view_of (q ∷ c.last) me ≡ (q.call, q.reply) ∷ view_of h.fin me = own_view root front c.last h.fin x q me put.none apart own (c.views me) in
-            subst F (sym (eqb-true rank me t)) (subst G (sym seen) ((λ vain. absurd (ready vain)), h.patient most (view_of root me ++ (q.call, q.reply) ∷ [])))
+            let seen : view_of (q ∷ c.last) me ≡ (last.call, last.reply) ∷ view_of h.fin me = own_view root front c.last h.fin x q last me put.none apart own (c.views me) in
+            subst F (sym (eqb-true rank me t))
+            (subst G (sym seen) ((λ vain. absurd (put.there.ready vain)), h.patient most (view_of root me ++ (last.call, last.reply) ∷ [])))
         | inr other ↦
             let G : View → Type 0 = λ v. IsPatientView most (view_of root rank) v in
             let same : view_of (root ++ (front ++ x ∷ after)) rank ≡ view_of (root ++ q ∷ c.last) rank =
@@ -317,52 +342,53 @@ put_first next output n lawful futures decide root front x after rest me call q 
       longer = omega (arith, count, less, few, all);
       shorter = λ made.
           let there : has_event q.rank front ≡ true = made_before root front x after halt q.rank halted_here made in
-          let no : true ≡ false = sym there ∙ (ap (λ r. has_event r front) own ∙ put.none) in
+          let no : true ≡ false = sym there ∙ (ap (λ r. has_event r front) own_q ∙ put.none) in
           absurd (cc);
     }
 
 -- 6. of each whole run
 
 first_with : (next : Next) (output : Output) (n : ℕ) → Lawful next → FuturesAreSame next output n → HaltsDecideOutcomes next output n
-    → (root more : List Event) (me : ℕ) (call : Call) (q : Event) → IsAsked next n root me call → picked_event n root me call First ≡ q → IsProbeKept root q
-    → IsWhole next n (root ++ more) → is_full (root ++ q ∷ more) ≡ false → GoesOnBehind next output n root more q
-first_with next output n lawful futures decide root more me call q asked event probe whole full =
-    let none : halted root ≡ None = (free_parts n root me call (reply_free n root me call First asked.answered.free)).halts in
-    let R : Reply → Type 0 = λ r. r ≢ NotYet in
-    let ready : q.reply ≢ NotYet = subst R (ap (λ (e : Event). e.reply) event) asked.answered.ready in
+    → (racy : ℕ → Bool) (root more : List Event) (me : ℕ) (call : Call) (q : Event) → IsFirst next n racy root me call q
+    → IsWhole next n (root ++ more) → is_calm racy (root ++ more) ≡ true → is_full (root ++ q ∷ more) ≡ false → GoesOnBehind next output n root more q
+first_with next output n lawful futures decide racy root more me call q first whole calm full =
+    let none : halted root ≡ None = (free_parts n root me call (nothing_due next n racy root me call q first)).halts in
     elim (option_cases (halted more)) [
       | inl some ↦
           let halt : Halt = some.0 in
           let f = first_halt more halt some.1 in
           let W : List Event → Type 0 = λ l. IsWhole next n (root ++ l) in
           let M : List Event → Type 0 = λ l. is_full (root ++ q ∷ l) ≡ false in
+          let C : List Event → Type 0 = λ l. is_calm racy (root ++ l) ≡ true in
           let G : List Event → Type 0 = λ l. GoesOnBehind next output n root l q in
           let is : IsWhole next n (root ++ (f.before ++ f.event ∷ f.after)) = subst W f.whole whole in
+          let calmly : is_calm racy (root ++ (f.before ++ f.event ∷ f.after)) ≡ true = subst C f.whole calm in
           let room : HasRoom (root ++ q ∷ (f.before ++ f.event ∷ f.after)) = room_in (root ++ q ∷ (f.before ++ f.event ∷ f.after)) (subst M f.whole full) in
           let good : IsGood next n (root ++ (f.before ++ f.event ∷ f.after)) = record { run = is.run; numbered = is.numbered } in
           let I : List Event → Type 0 = λ l. IsGood next n l in
           let H : List Event → Type 0 = λ l. HasRoom l in
-          let g : GoesBehind next n root f.before me call q = goes_behind next output n lawful futures root f.before me call q
+          let free : halted (root ++ f.before) ≡ None = halted_append root f.before ∙ (ap (λ o. or_else o (halted f.before)) none ∙ f.none) in
+          let g : GoesBehind next n racy root f.before me call q = goes_behind next output n lawful futures racy root f.before (f.event ∷ f.after) me call q
           (record {
             good = good_front next n (root ++ f.before) (f.event ∷ f.after) (subst I (sym (append_assoc root f.before (f.event ∷ f.after))) good);
-            asked = asked;
-            event = event;
-            probe = probe;
-            free = halted_append root f.before ∙ (ap (λ o. or_else o (halted f.before)) none ∙ f.none);
+            first = first;
+            calm = calmly;
+            free = free;
             room = room_front (root ++ q ∷ f.before) (f.event ∷ f.after) (subst H (sym (append_assoc root (q ∷ f.before) (f.event ∷ f.after))) room);
           }) in
           subst G (sym f.whole) (elim g.left [
             | inl moved ↦ moved_first next output n futures root f.before (f.event ∷ f.after) g.rest q is g.good g.probes moved
             | inr put ↦
-                put_first next output n lawful futures decide root f.before f.event f.after g.rest me call q halt is (stopped_by f.event.reply halt f.here) room ready g.good g.probes put
+                put_first next output n lawful futures decide racy root f.before f.event f.after g.rest me call q halt is calmly free (stopped_by f.event.reply halt f.here) room first
+                g.good g.probes put
           ])
       | inr free ↦
-          let g : GoesBehind next n root more me call q = goes_behind next output n lawful futures root more me call q
+          let C : List Event → Type 0 = λ l. is_calm racy (root ++ l) ≡ true in
+          let g : GoesBehind next n racy root more me call q = goes_behind next output n lawful futures racy root more [] me call q
           (record {
             good = record { run = whole.run; numbered = whole.numbered };
-            asked = asked;
-            event = event;
-            probe = probe;
+            first = first;
+            calm = subst C (sym (append-nil more)) calm;
             free = halted_append root more ∙ (ap (λ o. or_else o (halted more)) none ∙ free);
             room = room_in (root ++ q ∷ more) full;
           }) in
@@ -371,18 +397,46 @@ first_with next output n lawful futures decide root more me call q asked event p
           elim g.left [
             | inl moved ↦
                 subst G (append-nil more) (moved_first next output n futures root more [] g.rest q (subst W (sym (append-nil more)) whole) g.good g.probes moved)
-            | inr put ↦ (let no : None ≡ Some call = sym (whole.ended me asked.below) ∙ put.asked.asked in absurd (cc))
+            | inr put ↦ (let no : None ≡ Some call = sym (whole.ended me first.below) ∙ put.there.asked in absurd (cc))
           ]
     ]
 
-pub goes_first : (next : Next) (output : Output) (n : ℕ) → Lawful next → FuturesAreSame next output n → HaltsDecideOutcomes next output n → QuietCallsGoFirst next output n
-goes_first next output n lawful futures decide root more rank call pick is whole full =
-    let same : picked_event n root rank call First ≡ picked_event n root rank call pick = sym (one_event n root rank call pick is.kind is.move.offered) in
-    let reply : picked_reply n root rank call pick ≡ picked_reply n root rank call First = ap (λ (e : Event). e.reply) (sym same) in
-    let R : Reply → Type 0 = λ r. r ≢ NotYet in
-    first_with next output n lawful futures decide root more rank call (picked_event n root rank call pick)
-    (record {
+quiet_first : (next : Next) (n : ℕ) (racy : ℕ → Bool) (root : List Event) (rank : ℕ) (call : Call) (pick : Pick) → IsQuiet next n racy root rank call pick
+    → IsFirst next n racy root rank call (picked_event n root rank call pick)
+quiet_first next n racy root rank call pick is =
+    record {
+      kind = is.kind;
       below = is.move.below;
       asked = is.move.asked;
-      answered = record { kind = is.kind; free = ap halt_in (sym reply) ∙ is.move.free; ready = subst R reply is.ready };
-    }) same is.probe whole full
+      event = sym (one_quiet n racy root rank call pick is.kind is.move.offered);
+      free = is.move.free;
+      ready = is.ready;
+      probe = is.probe;
+    }
+
+pub goes_first : (next : Next) (output : Output) (n : ℕ) → Lawful next → FuturesAreSame next output n → HaltsDecideOutcomes next output n → QuietCallsGoFirst next output n
+goes_first next output n lawful futures decide racy root more rank call pick is whole calm full =
+    first_with next output n lawful futures decide racy root more rank call (picked_event n root rank call pick) (quiet_first next n racy root rank call pick is) whole calm full
+
+pub goes_ahead : (next : Next) (output : Output) (n : ℕ) → Lawful next → FuturesAreSame next output n → QuietCallsGoAhead next n
+goes_ahead next output n lawful futures racy root front rank call pick is run numbered free calm full =
+    let q : Event = picked_event n root rank call pick in
+    let C : List Event → Type 0 = λ l. is_calm racy (root ++ l) ≡ true in
+    let g : GoesBehind next n racy root front rank call q = goes_behind next output n lawful futures racy root front [] rank call q
+    (record {
+      good = record { run = run; numbered = numbered };
+      first = quiet_first next n racy root rank call pick is;
+      calm = subst C (sym (append-nil front)) calm;
+      free = free;
+      room = room_in (root ++ q ∷ front) full;
+    }) in
+    record {
+      rest = g.rest;
+      run = g.good.run;
+      numbered = g.good.numbered;
+      probes = g.probes;
+      left = elim g.left [
+        | inl moved ↦ inl moved.future
+        | inr put ↦ inr (record { last = put.last; asked = put.there.asked; made = sym put.there.event; reply = put.reply; future = put.future })
+      ];
+    }

@@ -73,3 +73,10 @@ room_put root front tail q room =
       count = subst F (sym count') (less_put (length root) (length front) (length tail) MOST_EVENTS (subst F count room.count));
       size = subst G (sym size') (less_size (total_size root) (total_size front) (total_size tail) (size_of q) MOST_SIZE (subst G size room.size));
     }
+
+-- with another event of its size
+pub room_like : (root front : List Event) (q other : Event) → size_of q ≡ size_of other → HasRoom (root ++ q ∷ front) → HasRoom (root ++ other ∷ front)
+room_like root front q other same room =
+    let size : total_size (root ++ q ∷ front) ≡ total_size (root ++ other ∷ front) =
+    size_append root (q ∷ front) ∙ (ap (λ s. total_size root + (s + total_size front)) same ∙ sym (size_append root (other ∷ front))) in
+    room_as (root ++ q ∷ front) (root ++ other ∷ front) (length-append root (q ∷ front) ∙ sym (length-append root (other ∷ front))) size room

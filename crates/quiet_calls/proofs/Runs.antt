@@ -32,7 +32,7 @@ use Rattle.picked_runs.proofs.Making.{every_run_is_picked}
 use Rattle.picked_runs.proofs.Numbering.{picks_number_in_order}
 use Rattle.picked_runs.proofs.Pairing.{AreMatched-alone}
 use Rattle.run_states.specs.Futures.{SameFuture}
-use Rattle.quiet_calls.specs.Quiet.{is_quiet}
+use Rattle.quiet_calls.specs.Quiet.{is_steady}
 use Rattle.quiet_calls.proofs.Still.{IsStill, accepted_never, still_accepts}
 use Rattle.quiet_calls.proofs.Beside.{pairs_stay}
 use Rattle.quiet_calls.proofs.Staying.{IsAnswered, all_ready, reply_answer, reply_free}
@@ -155,7 +155,7 @@ step_on next n lawful before rank call pick good below asked offered goes matche
     (picks_go_on next n lawful picks before rank call pick (every_run_is_picked next n before good.run good.numbered) below asked offered goes matched).more in
     record { run = more.run; numbered = picks_number_in_order next n (picks_and picks (length before) pick) after more }
 
-take_prompt : (n : ℕ) (before : List Event) (me : ℕ) (call : Call) → is_quiet call ≡ true → halt_in (picked_answer n before me (view_of before me) call First) ≡ None
+take_prompt : (n : ℕ) (before : List Event) (me : ℕ) (call : Call) → is_steady call ≡ true → halt_in (picked_answer n before me (view_of before me) call First) ≡ None
     → picked_answer n before me (view_of before me) call First ≢ NotYet → is_prompt n before me (view_of before me) call ≡ true
 take_prompt n before me (Post comm source tag room) h free ready = refl
 take_prompt n before me End h free ready = refl

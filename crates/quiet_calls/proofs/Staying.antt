@@ -40,7 +40,7 @@ use Rattle.picked_runs.specs.declared.turn.Pick.{Pick}
 use Rattle.picked_runs.specs.declared.turn.Pick.TheVariants.{First, Sender, Index}
 use Rattle.picked_runs.specs.Picks.{has_pick, is_offered, picked_answer, picked_event, picked_mate, picked_reply}
 use Rattle.picked_runs.proofs.Grown.{pairs_of-push}
-use Rattle.quiet_calls.specs.Quiet.{is_quiet}
+use Rattle.quiet_calls.specs.Quiet.{is_steady}
 use Rattle.picked_runs.proofs.Places.{flag_there}
 use Rattle.quiet_calls.proofs.Still.{IsStill, is_still, no_third}
 use Rattle.quiet_calls.proofs.Beside.{named_on}
@@ -51,7 +51,7 @@ held_no : (test : Bool) → halt_in (held_reply test) ≡ None → held_reply te
 held_no true free ready = ready refl
 held_no false free ready = cc
 
-pub quiet_still : (call : Call) → is_quiet call ≡ true → is_still call ≡ true
+pub quiet_still : (call : Call) → is_steady call ≡ true → is_still call ≡ true
 quiet_still (Post comm Null tag room) h = refl
 quiet_still (Post comm Any tag room) h = absurd (cc)
 quiet_still (Post comm (From source) tag room) h = absurd (cc)
@@ -64,7 +64,7 @@ null_never : (me comm : ℕ) (tag : Tag) (owner : ℕ) (start : Call) → accept
 null_never me comm tag owner (Send c dest t ints sync) = no_third (c == comm) (dest == me) (tag_agrees tag t)
 null_never me comm tag owner start = refl
 
-null_choice : (before : List Event) (me comm : ℕ) (tag : Tag) (room : ℕ) → choice before me (Post comm Null tag room) ≡ None
+pub null_choice : (before : List Event) (me comm : ℕ) (tag : Tag) (room : ℕ) → choice before me (Post comm Null tag room) ≡ None
 null_choice before me comm tag room =
     choice_is_none before me (Post comm Null tag room)
     (λ at o. (let no : true ≡ false = sym o.suited ∙ null_never me comm tag o.name.0 o.start in absurd (cc)))
@@ -73,7 +73,7 @@ if_none : (b : Bool) (found : Option ℕ) → found ≡ None → (if b then foun
 if_none true found none = none
 if_none false found none = refl
 
-still_mate : (before : List Event) (me : ℕ) (call : Call) (reply : Reply) → is_quiet call ≡ true → picked_mate before me call reply First ≡ None
+still_mate : (before : List Event) (me : ℕ) (call : Call) (reply : Reply) → is_steady call ≡ true → picked_mate before me call reply First ≡ None
 still_mate before me (Post comm Null tag room) reply h = if_none (is_start (Post comm Null tag room, reply)) _ (null_choice before me comm tag room)
 still_mate before me (Post comm Any tag room) reply h = absurd (cc)
 still_mate before me (Post comm (From source) tag room) reply h = absurd (cc)
@@ -81,11 +81,11 @@ still_mate before me (Take starts mode) reply h = refl
 still_mate before me End reply h = refl
 still_mate before me call reply h = absurd (cc)
 
-pub quiet_event : (n : ℕ) (before : List Event) (me : ℕ) (call : Call) → is_quiet call ≡ true → IsStill (picked_event n before me call First)
+pub quiet_event : (n : ℕ) (before : List Event) (me : ℕ) (call : Call) → is_steady call ≡ true → IsStill (picked_event n before me call First)
 quiet_event n before me call h =
     record { call = quiet_still call h; mate = still_mate before me call (picked_reply n before me call First) h }
 
-offers : (n : ℕ) (before : List Event) (me : ℕ) (call : Call) (sender : ℕ) → has_pick n before me call (Sender sender) ≡ true
+pub offers : (n : ℕ) (before : List Event) (me : ℕ) (call : Call) (sender : ℕ) → has_pick n before me call (Sender sender) ≡ true
     → is_offered n before me (view_of before me) call (Sender sender) ≡ true
 offers n before me call sender h =
     (and_parts (not (is_some (due n before me (view_of before me) call))) (is_offered n before me (view_of before me) call (Sender sender)) h).1
@@ -96,7 +96,7 @@ index_offers n before me call index h =
     (and_parts (not (is_some (due n before me (view_of before me) call))) (is_offered n before me (view_of before me) call (Index index)) h).1
 
 -- whatever can be picked for it, the event is the same
-pub one_event : (n : ℕ) (before : List Event) (me : ℕ) (call : Call) (pick : Pick) → is_quiet call ≡ true → has_pick n before me call pick ≡ true
+pub one_event : (n : ℕ) (before : List Event) (me : ℕ) (call : Call) (pick : Pick) → is_steady call ≡ true → has_pick n before me call pick ≡ true
     → picked_event n before me call pick ≡ picked_event n before me call First
 one_event n before me (Post comm Null tag room) First h offered = refl
 one_event n before me (Post comm Null tag room) (Sender sender) h offered =
@@ -117,7 +117,7 @@ one_event n before me call pick h offered = absurd (cc)
 
 -- 2. what is ready stays ready, and gives the same
 
-partner_stays : (P Q : List (Name × Name)) (name other : Name) → partner_of P name ≡ Some other → partner_of (P ++ Q) name ≡ Some other
+pub partner_stays : (P Q : List (Name × Name)) (name other : Name) → partner_of P name ≡ Some other → partner_of (P ++ Q) name ≡ Some other
 partner_stays [] Q name other h = absurd (cc)
 partner_stays (pair ∷ P) Q name other h =
     elim (test_cases (same_name pair.0 name)) [
@@ -174,7 +174,7 @@ ready_on n before event me own k (Some (Trap fault)) h = absurd (cc)
 ready_on n before event me own k (Some End) h = absurd (cc)
 
 -- a paired start is there
-there_of : (before : List Event) (name other : Name) → IsMatched before → partner_of (pairs_of before) name ≡ Some other → (call : Call) × (named before other ≡ Some call)
+pub there_of : (before : List Event) (name other : Name) → IsMatched before → partner_of (pairs_of before) name ≡ Some other → (call : Call) × (named before other ≡ Some call)
 there_of before name other matched h =
     elim (matched.pair name other h) [
       | inl takes ↦ (takes.send_call, takes.send_is)
@@ -225,7 +225,7 @@ got_on n before event me k (Some End) matched made at h = absurd (cc)
 
 -- 3. completions of all that they list
 
-all_same : (first second : ℕ → Bool) (starts : List ℕ) → ((k : ℕ) → first k ≡ true → second k ≡ true) → list_all (λ x. x) (map first starts) ≡ true
+pub all_same : (first second : ℕ → Bool) (starts : List ℕ) → ((k : ℕ) → first k ≡ true → second k ≡ true) → list_all (λ x. x) (map first starts) ≡ true
     → map second starts ≡ map first starts
 all_same first second [] grows h = refl
 all_same first second (k ∷ starts) grows h =
@@ -258,7 +258,7 @@ abbrev all_reply : ℕ → View → List ℕ → Bool → List Bool → List Ite
 all_reply me own starts test flags items =
     if list_all (λ x. x) flags then taken_reply me (first_long own starts items) items else held_reply test
 
-all_on : (n : ℕ) (before : List Event) (event : Event) (me : ℕ) (starts : List ℕ) (test : Bool) → IsMatched before → AllMade n before
+pub all_on : (n : ℕ) (before : List Event) (event : Event) (me : ℕ) (starts : List ℕ) (test : Bool) → IsMatched before → AllMade n before
     → list_all (λ x. x) (flags_of n before me (view_of before me) starts) ≡ true
     → all_reply me (view_of before me) starts test (flags_of n (before ++ event ∷ []) me (view_of before me) starts)
     (items_at n (before ++ event ∷ []) me (view_of before me) starts (true_places 0 (flags_of n (before ++ event ∷ []) me (view_of before me) starts)))
@@ -323,14 +323,14 @@ pub reply_answer : (n : ℕ) (before : List Event) (me : ℕ) (call : Call) (pic
     → picked_reply n before me call pick ≡ picked_answer n before me (view_of before me) call pick
 reply_answer n before me call pick none = ap (λ o. halt_or o (picked_answer n before me (view_of before me) call pick)) none
 
-halt_on : (n : ℕ) (before after : List Event) (me : ℕ) (own : View) (call : Call) → is_quiet call ≡ true → halt_at n before me own call ≡ None
+halt_on : (n : ℕ) (before after : List Event) (me : ℕ) (own : View) (call : Call) → is_steady call ≡ true → halt_at n before me own call ≡ None
     → halt_at n after me own call ≡ None
 halt_on n before after me own (Post comm source tag room) h none = refl
 halt_on n before after me own (Take starts mode) h none = none
 halt_on n before after me own End h none = refl
 halt_on n before after me own call h none = absurd (cc)
 
-answer_on : (n : ℕ) (before : List Event) (event : Event) (me : ℕ) (call : Call) → is_quiet call ≡ true → IsMatched before → AllMade n before
+answer_on : (n : ℕ) (before : List Event) (event : Event) (me : ℕ) (call : Call) → is_steady call ≡ true → IsMatched before → AllMade n before
     → halt_in (picked_answer n before me (view_of before me) call First) ≡ None → picked_answer n before me (view_of before me) call First ≢ NotYet
     → picked_answer n (before ++ event ∷ []) me (view_of before me) call First ≡ picked_answer n before me (view_of before me) call First
 answer_on n before event me (Post comm source tag room) h matched made free ready = refl
@@ -348,7 +348,7 @@ answer_on n before event me call h matched made free ready = absurd (cc)
 
 -- a quiet call that is answered, other than by a halt or NotYet
 pub record IsAnswered (n : ℕ) (before : List Event) (me : ℕ) (call : Call) : Type 0 where
-  pub kind : is_quiet call ≡ true
+  pub kind : is_steady call ≡ true
   pub free : halt_in (picked_reply n before me call First) ≡ None
   pub ready : picked_reply n before me call First ≢ NotYet
 

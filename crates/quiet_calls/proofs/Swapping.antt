@@ -91,7 +91,7 @@ pairs_swapped before x q still has apart =
 
 -- 3. communicators
 
-abbrev made_with : ℕ → (ℕ → ℕ → ℕ → Option Entered) → View → Event → List Origin
+abbrev pub made_with : ℕ → (ℕ → ℕ → ℕ → Option Entered) → View → Event → List Origin
 made_with n find own event =
     if is_start (event.call, event.reply)
     then origins_from

@@ -1,30 +1,55 @@
 -- Calls that can go first: others can neither change how they are answered nor see that they were.
-use Rattle.std.specs.Prelude.{◌≡◌, ◌≢◌, ◌≤◌, ◌+◌, ℕ, List, [], ◌∷◌, ◌++◌, None, Bool, true, false, length}
+use Rattle.std.specs.Prelude.{◌≡◌, ◌≢◌, ◌≤◌, ◌⊎◌, ◌+◌, ℕ, List, [], ◌∷◌, ◌++◌, ◌&&◌, ◌||◌, Some, None, Bool, true, false, is_some, length, not}
 use Rattle.mpi_call.specs.declared.call.Call.{Call}
-use Rattle.mpi_call.specs.declared.call.Call.TheVariants.{Post, Take, End}
-use Rattle.mpi_call.specs.declared.call.Source.TheVariants.{Null}
+use Rattle.mpi_call.specs.declared.call.Call.TheVariants.{Send, Post, Take, Peek, End}
+use Rattle.mpi_call.specs.declared.call.Source.TheVariants.{Any, From, Null}
+use Rattle.mpi_call.specs.declared.call.TakeMode.TheVariants.{All}
 use Rattle.mpi_call.specs.declared.reply.Reply.TheVariants.{NotYet}
 use Rattle.run_model.specs.declared.event.Event.{Event}
 use Rattle.run_model.specs.Allowed.{takes_all}
-use Rattle.run_model.specs.Due.{halted, is_full}
+use Rattle.run_model.specs.Due.{halt_in, halted, is_full}
 use Rattle.run_model.specs.Lists.{Along}
+use Rattle.run_model.specs.Run.{IsRun}
+use Rattle.run_model.specs.Serial.{call_after}
 use Rattle.run_model.specs.Views.{Next}
 use Rattle.picked_runs.specs.declared.turn.Pick.{Pick}
+use Rattle.picked_runs.specs.declared.turn.Pick.TheVariants.{First}
+use Rattle.picked_runs.specs.Numbering.{AreNumberedInOrder}
 use Rattle.picked_runs.specs.Picks.{picked_event, picked_reply}
+use Rattle.run_states.specs.Futures.{SameFuture}
 use Rattle.run_states.specs.Moves.{IsMove}
 use Rattle.run_states.specs.Outcomes.{IsPatientEvent, IsProbeKept, IsWhole, Output, outcome_of}
 
 -- the end of a rank, a receive from the null process, a completion of all that it lists: they pair nothing and enter nothing, and once they
 -- can be answered the answer stays
-abbrev pub is_quiet : Call → Bool
-is_quiet (Post comm Null tag room) = true
-is_quiet (Take starts mode) = takes_all mode
-is_quiet End = true
-is_quiet call = false
+abbrev pub is_steady : Call → Bool
+is_steady (Post comm Null tag room) = true
+is_steady (Take starts mode) = takes_all mode
+is_steady End = true
+is_steady call = false
+
+-- calls whose answer can tell when another rank's call came: a receive from any source, a probe, a test, a completion of not all that it lists
+abbrev pub is_racy : Call → Bool
+is_racy (Post comm Any tag room) = true
+is_racy (Peek comm source tag wait) = true
+is_racy (Take starts All) = false
+is_racy (Take starts mode) = true
+is_racy call = false
+
+-- no rank makes a racy call, but for some ranks: each event is of such a rank or is no racy call, as far as the first halt
+abbrev pub is_calm : (ℕ → Bool) → List Event → Bool
+is_calm racy [] = true
+is_calm racy (event ∷ events) = (racy event.rank || not (is_racy event.call)) && (is_some (halt_in event.reply) || is_calm racy events)
+
+-- the steady calls, and receives from, and sends to, a rank that is not among the racy ones
+abbrev pub is_quiet : (ℕ → Bool) → Call → Bool
+is_quiet racy (Post comm (From source) tag room) = not (racy source)
+is_quiet racy (Send comm dest tag ints sync) = not (racy dest)
+is_quiet racy call = is_steady call
 
 -- a rank's next call is such a one, and is answered now, other than by a halt or by NotYet
-pub record IsQuiet (next : Next) (n : ℕ) (before : List Event) (rank : ℕ) (call : Call) (pick : Pick) : Type 0 where
-  pub kind : is_quiet call ≡ true
+pub record IsQuiet (next : Next) (n : ℕ) (racy : ℕ → Bool) (before : List Event) (rank : ℕ) (call : Call) (pick : Pick) : Type 0 where
+  pub kind : is_quiet racy call ≡ true
   pub move : IsMove next n before rank call pick
   pub ready : picked_reply n before rank call pick ≢ NotYet
   pub probe : IsProbeKept before (picked_event n before rank call pick)
@@ -48,10 +73,35 @@ pub record GoesOnBehind (next : Next) (output : Output) (n : ℕ) (root more : L
   pub longer : length rest ≤ length more
   pub shorter : IsMadeFree root more first.rank → length rest + 1 ≡ length more
 
--- after a history with a quiet call each whole run from there on comes to what one comes to that makes this call first, if with one call more the
--- run is below its bound
+-- after a history with a quiet call each whole run from there on, in which no other than the racy ranks makes a racy call, comes to what one comes
+-- to that makes this call first, if with one call more the run is below its bound
 abbrev pub QuietCallsGoFirst : Next → Output → ℕ → Type 0
 QuietCallsGoFirst next output n =
-    (root more : List Event) (rank : ℕ) (call : Call) (pick : Pick) → IsQuiet next n root rank call pick → IsWhole next n (root ++ more)
-    → is_full (root ++ picked_event n root rank call pick ∷ more) ≡ false
+    (racy : ℕ → Bool) (root more : List Event) (rank : ℕ) (call : Call) (pick : Pick) → IsQuiet next n racy root rank call pick
+    → IsWhole next n (root ++ more) → is_calm racy (root ++ more) ≡ true → is_full (root ++ picked_event n root rank call pick ∷ more) ≡ false
     → GoesOnBehind next output n root more (picked_event n root rank call pick)
+
+-- the call was not made there, and can be made behind: it is as if it had been made first, and what goes on behind it
+pub record IsLeftOver (next : Next) (n : ℕ) (root front rest : List Event) (rank : ℕ) (call : Call) (first : Event) : Type 0 where
+  pub last : Event
+  pub asked : call_after next n (root ++ front) rank ≡ Some call
+  pub made : last ≡ picked_event n (root ++ front) rank call First
+  pub reply : last.reply ≡ first.reply
+  pub future : SameFuture n ((root ++ front) ++ last ∷ []) (root ++ first ∷ rest)
+
+-- what goes on from a history without a halt goes on so behind one event more: it keeps its probes if the first does, and leaves the same, but for the
+-- event itself where it was not made
+pub record GoesAhead (next : Next) (n : ℕ) (root front : List Event) (rank : ℕ) (call : Call) (first : Event) : Type 0 where
+  pub rest : List Event
+  pub run : IsRun next n (root ++ first ∷ rest)
+  pub numbered : AreNumberedInOrder n (root ++ first ∷ rest)
+  pub probes : Along IsProbeKept root front → Along IsProbeKept root (first ∷ rest)
+  pub left : SameFuture n (root ++ front) (root ++ first ∷ rest) ⊎ IsLeftOver next n root front rest rank call first
+
+-- the same of runs that have not ended, as far as they go without a halt
+abbrev pub QuietCallsGoAhead : Next → ℕ → Type 0
+QuietCallsGoAhead next n =
+    (racy : ℕ → Bool) (root front : List Event) (rank : ℕ) (call : Call) (pick : Pick) → IsQuiet next n racy root rank call pick
+    → IsRun next n (root ++ front) → AreNumberedInOrder n (root ++ front) → halted (root ++ front) ≡ None → is_calm racy (root ++ front) ≡ true
+    → is_full (root ++ picked_event n root rank call pick ∷ front) ≡ false
+    → GoesAhead next n root front rank call (picked_event n root rank call pick)
