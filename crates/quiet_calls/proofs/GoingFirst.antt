@@ -436,7 +436,17 @@ goes_ahead next output n lawful futures racy root front rank call pick is run nu
       numbered = g.good.numbered;
       probes = g.probes;
       left = elim g.left [
-        | inl moved ↦ inl moved.future
-        | inr put ↦ inr (record { last = put.last; asked = put.there.asked; made = sym put.there.event; reply = put.reply; future = put.future })
+        | inl moved ↦
+            let count : suc (length g.rest) ≡ length front = moved.count in
+            inl (record { future = moved.future; count = omega (arith, count) })
+        | inr put ↦
+            inr (record {
+              last = put.last;
+              asked = put.there.asked;
+              made = sym put.there.event;
+              reply = put.reply;
+              future = put.future;
+              count = put.count;
+            })
       ];
     }

@@ -81,13 +81,19 @@ QuietCallsGoFirst next output n =
     → IsWhole next n (root ++ more) → is_calm racy (root ++ more) ≡ true → is_full (root ++ picked_event n root rank call pick ∷ more) ≡ false
     → GoesOnBehind next output n root more (picked_event n root rank call pick)
 
--- the call was not made there, and can be made behind: it is as if it had been made first, and what goes on behind it
+-- the call was made in what goes on: it is as if it had been made first
+pub record IsMadeThere (n : ℕ) (root front rest : List Event) (first : Event) : Type 0 where
+  pub future : SameFuture n (root ++ front) (root ++ first ∷ rest)
+  pub count : length rest + 1 ≡ length front
+
+-- it was not, and can be made behind: it is as if it had been made first, and what goes on behind it
 pub record IsLeftOver (next : Next) (n : ℕ) (root front rest : List Event) (rank : ℕ) (call : Call) (first : Event) : Type 0 where
   pub last : Event
   pub asked : call_after next n (root ++ front) rank ≡ Some call
   pub made : last ≡ picked_event n (root ++ front) rank call First
   pub reply : last.reply ≡ first.reply
   pub future : SameFuture n ((root ++ front) ++ last ∷ []) (root ++ first ∷ rest)
+  pub count : length rest ≡ length front
 
 -- what goes on from a history without a halt goes on so behind one event more: it keeps its probes if the first does, and leaves the same, but for the
 -- event itself where it was not made
@@ -96,7 +102,7 @@ pub record GoesAhead (next : Next) (n : ℕ) (root front : List Event) (rank : �
   pub run : IsRun next n (root ++ first ∷ rest)
   pub numbered : AreNumberedInOrder n (root ++ first ∷ rest)
   pub probes : Along IsProbeKept root front → Along IsProbeKept root (first ∷ rest)
-  pub left : SameFuture n (root ++ front) (root ++ first ∷ rest) ⊎ IsLeftOver next n root front rest rank call first
+  pub left : IsMadeThere n root front rest first ⊎ IsLeftOver next n root front rest rank call first
 
 -- the same of runs that have not ended, as far as they go without a halt
 abbrev pub QuietCallsGoAhead : Next → ℕ → Type 0
