@@ -98,7 +98,7 @@ due_off n before event off halts full me seen call =
 
 -- 3. the reply
 
-all_true : (n : ℕ) (before : List Event) (event : Event) (me : ℕ) (own : View) (starts : List ℕ) → list_all (λ x. x) (flags_of n before me own starts) ≡ true
+pub all_true : (n : ℕ) (before : List Event) (event : Event) (me : ℕ) (own : View) (starts : List ℕ) → list_all (λ x. x) (flags_of n before me own starts) ≡ true
     → list_all (λ x. x) (flags_of n (before ++ event ∷ []) me own starts) ≡ true
 all_true n before event me own starts h =
     let first : ℕ → Bool = λ k. is_ready n before me own k (start_at own k) in

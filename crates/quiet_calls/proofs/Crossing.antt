@@ -135,7 +135,7 @@ pairs_apart before x q apart xs qs none name =
       ]
     ]
 
-pair_beside : (before : List Event) (other event : Event) → mate_in (before ++ other ∷ []) event.mate ≡ mate_in before event.mate → (other.rank == event.rank) ≡ false
+pub pair_beside : (before : List Event) (other event : Event) → mate_in (before ++ other ∷ []) event.mate ≡ mate_in before event.mate → (other.rank == event.rank) ≡ false
     → pair_of (before ++ other ∷ []) event ≡ pair_of before event
 pair_beside before other event mate apart =
     let count : View → Name = λ v. (event.rank, length (starts_of v)) in

@@ -6,7 +6,7 @@ use Rattle.mpi_call.specs.declared.call.Halt.{Halt}
 use Rattle.mpi_call.specs.declared.reply.Reply.{Reply}
 use Rattle.mpi_call.specs.declared.reply.Reply.TheVariants.{Done, Stopped}
 use Rattle.run_model.specs.declared.event.Event.{Event}
-use Rattle.run_model.specs.Due.{halt_in, halted, is_full, or_else, size_of}
+use Rattle.run_model.specs.Due.{halt_in, halted, is_full, or_else, size_of, is_mismatched}
 use Rattle.run_model.specs.Lists.{Along}
 use Rattle.run_model.specs.Run.{IsEvent, IsRun}
 use Rattle.run_model.specs.Serial.{call_after}
@@ -22,7 +22,7 @@ use Rattle.picked_runs.specs.Picks.{picked_event}
 use Rattle.run_states.specs.Futures.{SameFuture}
 use Rattle.run_states.specs.Outcomes.{IsPatientEvent, IsProbeKept, IsWhole, Output, halted_outcome, outcome_of}
 use Rattle.run_states.specs.StateLaws.{FuturesAreSame, HaltsDecideOutcomes, HasLike}
-use Rattle.quiet_calls.specs.Quiet.{GoesOnBehind, IsMadeFree, IsQuiet, QuietCallsGoAhead, QuietCallsGoFirst, is_calm}
+use Rattle.quiet_calls.specs.Quiet.{GoesOnBehind, IsMadeFree, IsQuiet, QuietCallsGoAhead, QuietCallsGoFirst, IsAgreed, Races, is_calm}
 use Rattle.quiet_calls.proofs.Room.{HasRoom, not_full, room_front, room_in, room_put, room_like}
 use Rattle.quiet_calls.proofs.Staying.{free_parts}
 use Rattle.quiet_calls.proofs.Runs.{IsGood}
@@ -186,40 +186,41 @@ stop_probe before x halt stopped earlier comm source tag wait room sender start 
     (let no : Stopped halt ≡ Done = sym stopped ∙ done in absurd (cc))
 
 -- the rank's own event is no halt, so the halt is another rank's
-halt_apart : (next : Next) (n : ℕ) → Lawful next → (racy : ℕ → Bool) (base : List Event) (me : ℕ) (call : Call) (q x : Event) (halt : Halt) → IsGood next n base
-    → IsFirst next n racy base me call q → IsEvent next n base x → IsNumberedInOrder n base x → x.reply ≡ Stopped halt → (x.rank == me) ≡ false
-halt_apart next n lawful racy base me call q x halt good first step ordered stopped =
+halt_apart : (next : Next) (n : ℕ) → Lawful next → (races : Races) (base : List Event) (me : ℕ) (call : Call) (q x : Event) (halt : Halt) → IsGood next n base
+    → IsFirst next n races base me call q → IsEvent next n base x → IsNumberedInOrder n base x → x.reply ≡ Stopped halt → (x.rank == me) ≡ false
+halt_apart next n lawful races base me call q x halt good first step ordered stopped =
     false_from_ne_true (x.rank == me) (λ t.
-    let same : x ≡ q = own_first next n lawful racy base me call q x good first step ordered (eqb-true x.rank me t) in
+    let same : x ≡ q = own_first next n lawful races base me call q x good first step ordered (eqb-true x.rank me t) in
     let free : halt_in x.reply ≡ None = ap (λ (e : Event). halt_in e.reply) same ∙ first.free in
     let no : None ≡ Some halt = sym free ∙ ap halt_in stopped in
     cc)
 
 -- a quiet call before a halt of another rank
-record IsBeforeHalt (next : Next) (n : ℕ) (racy : ℕ → Bool) (base : List Event) (x : Event) (after : List Event) (me : ℕ) (call : Call) (q : Event) (halt : Halt) : Type 0 where
+record IsBeforeHalt (next : Next) (n : ℕ) (races : Races) (base : List Event) (x : Event) (after : List Event) (me : ℕ) (call : Call) (q : Event) (halt : Halt) : Type 0 where
   all : IsGood next n (base ++ x ∷ after)
   ended : (rank : ℕ) → rank < n → call_after next n (base ++ x ∷ after) rank ≡ None
-  first : IsFirst next n racy base me call q
-  calm : is_calm racy (base ++ x ∷ after) ≡ true
+  first : IsFirst next n races base me call q
+  calm : is_calm races (base ++ x ∷ after) ≡ true
   none : halted base ≡ None
   stopped : x.reply ≡ Stopped halt
   full : is_full (base ++ q ∷ []) ≡ false
+  agreed : IsAgreed n (base ++ x ∷ after) (view_of base me) call
 
-halted_behind : (next : Next) (output : Output) (n : ℕ) → Lawful next → HaltsDecideOutcomes next output n → (racy : ℕ → Bool) (base : List Event) (x : Event) (after : List Event)
-    (me : ℕ) (call : Call) (q : Event) (halt : Halt) → IsBeforeHalt next n racy base x after me call q halt → IsHalted next output n base x after me q
-halted_behind next output n lawful decide racy base x after me call q halt b =
+halted_behind : (next : Next) (output : Output) (n : ℕ) → Lawful next → HaltsDecideOutcomes next output n → (races : Races) (base : List Event) (x : Event) (after : List Event)
+    (me : ℕ) (call : Call) (q : Event) (halt : Halt) → IsBeforeHalt next n races base x after me call q halt → IsHalted next output n base x after me q
+halted_behind next output n lawful decide races base x after me call q halt b =
     let behind : List Event = base ++ q ∷ [] in
     let good : IsGood next n base = good_front next n base (x ∷ after) b.all in
     let steps = Along-back (IsEvent next n) [] base (x ∷ after) b.all.run.along in
     let ordered = Along-back (IsNumberedInOrder n) [] base (x ∷ after) b.all.numbered in
-    let apart : (x.rank == me) ≡ false = halt_apart next n lawful racy base me call q x halt good b.first steps.0 ordered.0 b.stopped in
+    let apart : (x.rank == me) ≡ false = halt_apart next n lawful races base me call q x halt good b.first steps.0 ordered.0 b.stopped in
     let own : q.rank ≡ me = ap (λ (e : Event). e.rank) (sym b.first.event) in
     let R : ℕ → Type 0 = λ r. (x.rank == r) ≡ false in
     let apart_q : (x.rank == q.rank) ≡ false = subst R (sym own) apart in
-    let parts = free_parts n base me call (nothing_due next n racy base me call q b.first) in
-    let now : IsGood next n (behind ++ x ∷ []) = halting_behind next n lawful racy base me call q x after halt
-    (record { good = good; first = b.first; step = steps.0; ordered = ordered.0; apart = apart; calm = b.calm; halts = b.none; full = b.full }) b.stopped in
-    let free : halted behind ≡ None = first_halts next n racy base me call q b.first ∙ b.none in
+    let parts = free_parts n base me call (nothing_due next n races base me call q b.first) in
+    let now : IsGood next n (behind ++ x ∷ []) = halting_behind next n lawful races base me call q x after halt
+    (record { good = good; first = b.first; step = steps.0; ordered = ordered.0; apart = apart; calm = b.calm; halts = b.none; full = b.full; agreed = b.agreed }) b.stopped in
+    let free : halted behind ≡ None = first_halts next n races base me call q b.first ∙ b.none in
     let halts : (l : List Event) → halted l ≡ None → halted (l ++ x ∷ []) ≡ Some halt =
     λ l none. halted_more l x ∙ (ap (λ o. or_else o (halt_in x.reply)) none ∙ ap halt_in b.stopped) in
     let beside_q : (rank : ℕ) → (rank == me) ≡ false → (q.rank == rank) ≡ false =
@@ -253,7 +254,7 @@ halted_behind next output n lawful decide racy base x after me call q halt b =
     let told : halted_outcome next output n base halt ≡ halted_outcome next output n behind halt =
     elim (halt_told next n base x halt steps.0 b.stopped b.none parts.full) [
       | inl only ↦ outcomes_told next output n base behind x.rank halt only (sym (view_of-other base q x.rank (other_way x.rank q.rank apart_q)))
-      | inr stuck ↦ absurd (first_unstuck next n racy base (x ∷ after) me call q b.first b.calm b.none stuck)
+      | inr stuck ↦ absurd (first_unstuck next n races base (x ∷ after) me call q b.first b.calm b.none stuck)
     ] in
     record {
       fin = f.fin;
@@ -281,23 +282,24 @@ own_view root front rest fin x q last me none apart own same =
     append-cancel (view_of root me) (view_of (q ∷ rest) me) (seen ∷ view_of fin me) (sym (view_of-append root (q ∷ rest) me) ∙ (sym same ∙ whole))
 
 put_first : (next : Next) (output : Output) (n : ℕ) → Lawful next → FuturesAreSame next output n → HaltsDecideOutcomes next output n
-    → (racy : ℕ → Bool) (root front : List Event) (x : Event) (after rest : List Event) (me : ℕ) (call : Call) (q : Event) (halt : Halt)
-    → IsWhole next n (root ++ (front ++ x ∷ after)) → is_calm racy (root ++ (front ++ x ∷ after)) ≡ true → halted (root ++ front) ≡ None
-    → x.reply ≡ Stopped halt → HasRoom (root ++ q ∷ (front ++ x ∷ after)) → IsFirst next n racy root me call q → IsGood next n (root ++ q ∷ rest)
-    → (Along IsProbeKept root front → Along IsProbeKept root (q ∷ rest)) → IsPutIn next n racy root front rest me call q
+    → (races : Races) (root front : List Event) (x : Event) (after rest : List Event) (me : ℕ) (call : Call) (q : Event) (halt : Halt)
+    → IsWhole next n (root ++ (front ++ x ∷ after)) → is_calm races (root ++ (front ++ x ∷ after)) ≡ true
+    → IsAgreed n (root ++ (front ++ x ∷ after)) (view_of root me) call → halted (root ++ front) ≡ None
+    → x.reply ≡ Stopped halt → HasRoom (root ++ q ∷ (front ++ x ∷ after)) → IsFirst next n races root me call q → IsGood next n (root ++ q ∷ rest)
+    → (Along IsProbeKept root front → Along IsProbeKept root (q ∷ rest)) → IsPutIn next n races root front rest me call q
     → GoesOnBehind next output n root (front ++ x ∷ after) q
-put_first next output n lawful futures decide racy root front x after rest me call q halt whole calm none stopped room start first probes put =
+put_first next output n lawful futures decide races root front x after rest me call q halt whole calm agreed none stopped room start first probes put =
     let base : List Event = root ++ front in
     let last : Event = put.last in
     let here : root ++ (front ++ x ∷ after) ≡ base ++ x ∷ after = sym (append_assoc root front (x ∷ after)) in
     let W : List Event → Type 0 = λ l. IsWhole next n l in
-    let C : List Event → Type 0 = λ l. is_calm racy l ≡ true in
+    let C : List Event → Type 0 = λ l. is_calm races l ≡ true in
     let is : IsWhole next n (base ++ x ∷ after) = subst W here whole in
     let kept : Along IsProbeKept [] base = Along-front IsProbeKept [] base (x ∷ after) is.probes in
-    let size : size_of q ≡ size_of last = sym (later_size next n racy root base me call q last start put.there put.reply) in
+    let size : size_of q ≡ size_of last = sym (later_size next n races root base me call q last start put.there put.reply) in
     let room' : HasRoom (root ++ last ∷ (front ++ x ∷ after)) = room_like root (front ++ x ∷ after) q last size room in
     let good : IsGood next n (base ++ x ∷ after) = record { run = is.run; numbered = is.numbered } in
-    let h : IsHalted next output n base x after me last = halted_behind next output n lawful decide racy base x after me call last halt
+    let h : IsHalted next output n base x after me last = halted_behind next output n lawful decide races base x after me call last halt
     (record {
       all = good;
       ended = is.ended;
@@ -306,6 +308,12 @@ put_first next output n lawful futures decide racy root front x after rest me ca
       none = none;
       stopped = stopped;
       full = not_full (base ++ last ∷ []) (room_put root front (x ∷ after) last room');
+      agreed = λ enters.
+          let A : List Event → Type 0 = λ l. is_mismatched n l (view_of root me) call ≡ false in
+          let V : View → Type 0 = λ v. is_mismatched n (base ++ x ∷ after) v call ≡ false in
+          let seen : view_of base me ≡ view_of root me =
+          view_of-append root front me ∙ (ap (λ v. view_of root me ++ v) (unseen_view me front put.none) ∙ append-nil (view_of root me)) in
+          subst V (sym seen) (subst A here (agreed enters));
     }) in
     let c = carried next output n futures root q rest (base ++ last ∷ []) (x ∷ h.fin) h.good h.ended first put.future
     (Along-front IsProbeKept [] root front kept) (probes (Along-back IsProbeKept [] root front kept)) h.probes in
@@ -313,7 +321,7 @@ put_first next output n lawful futures decide racy root front x after rest me ca
     let own_q : q.rank ≡ me = ap (λ (e : Event). e.rank) (sym start.event) in
     let halted_here : halt_in x.reply ≡ Some halt = ap halt_in stopped in
     let apart : (x.rank == me) ≡ false =
-    halt_apart next n lawful racy base me call last x halt (good_front next n base (x ∷ after) good) put.there (Along-back (IsEvent next n) [] base (x ∷ after) is.run.along).0
+    halt_apart next n lawful races base me call last x halt (good_front next n base (x ∷ after) good) put.there (Along-back (IsEvent next n) [] base (x ∷ after) is.run.along).0
     (Along-back (IsNumberedInOrder n) [] base (x ∷ after) is.numbered).0 stopped in
     let count : length c.last ≡ length rest + suc (length h.fin) = c.count in
     let less : length rest ≡ length front = put.count in
@@ -349,46 +357,50 @@ put_first next output n lawful futures decide racy root front x after rest me ca
 -- 6. of each whole run
 
 first_with : (next : Next) (output : Output) (n : ℕ) → Lawful next → FuturesAreSame next output n → HaltsDecideOutcomes next output n
-    → (racy : ℕ → Bool) (root more : List Event) (me : ℕ) (call : Call) (q : Event) → IsFirst next n racy root me call q
-    → IsWhole next n (root ++ more) → is_calm racy (root ++ more) ≡ true → is_full (root ++ q ∷ more) ≡ false → GoesOnBehind next output n root more q
-first_with next output n lawful futures decide racy root more me call q first whole calm full =
-    let none : halted root ≡ None = (free_parts n root me call (nothing_due next n racy root me call q first)).halts in
+    → (races : Races) (root more : List Event) (me : ℕ) (call : Call) (q : Event) → IsFirst next n races root me call q
+    → IsWhole next n (root ++ more) → is_calm races (root ++ more) ≡ true → IsAgreed n (root ++ more) (view_of root me) call → is_full (root ++ q ∷ more) ≡ false → GoesOnBehind next output n root more q
+first_with next output n lawful futures decide races root more me call q first whole calm agreed full =
+    let none : halted root ≡ None = (free_parts n root me call (nothing_due next n races root me call q first)).halts in
     elim (option_cases (halted more)) [
       | inl some ↦
           let halt : Halt = some.0 in
           let f = first_halt more halt some.1 in
           let W : List Event → Type 0 = λ l. IsWhole next n (root ++ l) in
           let M : List Event → Type 0 = λ l. is_full (root ++ q ∷ l) ≡ false in
-          let C : List Event → Type 0 = λ l. is_calm racy (root ++ l) ≡ true in
+          let C : List Event → Type 0 = λ l. is_calm races (root ++ l) ≡ true in
           let G : List Event → Type 0 = λ l. GoesOnBehind next output n root l q in
           let is : IsWhole next n (root ++ (f.before ++ f.event ∷ f.after)) = subst W f.whole whole in
-          let calmly : is_calm racy (root ++ (f.before ++ f.event ∷ f.after)) ≡ true = subst C f.whole calm in
+          let A : List Event → Type 0 = λ l. IsAgreed n (root ++ l) (view_of root me) call in
+          let agrees : IsAgreed n (root ++ (f.before ++ f.event ∷ f.after)) (view_of root me) call = subst A f.whole agreed in
+          let calmly : is_calm races (root ++ (f.before ++ f.event ∷ f.after)) ≡ true = subst C f.whole calm in
           let room : HasRoom (root ++ q ∷ (f.before ++ f.event ∷ f.after)) = room_in (root ++ q ∷ (f.before ++ f.event ∷ f.after)) (subst M f.whole full) in
           let good : IsGood next n (root ++ (f.before ++ f.event ∷ f.after)) = record { run = is.run; numbered = is.numbered } in
           let I : List Event → Type 0 = λ l. IsGood next n l in
           let H : List Event → Type 0 = λ l. HasRoom l in
           let free : halted (root ++ f.before) ≡ None = halted_append root f.before ∙ (ap (λ o. or_else o (halted f.before)) none ∙ f.none) in
-          let g : GoesBehind next n racy root f.before me call q = goes_behind next output n lawful futures racy root f.before (f.event ∷ f.after) me call q
+          let g : GoesBehind next n races root f.before me call q = goes_behind next output n lawful futures races root f.before (f.event ∷ f.after) me call q
           (record {
             good = good_front next n (root ++ f.before) (f.event ∷ f.after) (subst I (sym (append_assoc root f.before (f.event ∷ f.after))) good);
             first = first;
             calm = calmly;
+            agreed = agrees;
             free = free;
             room = room_front (root ++ q ∷ f.before) (f.event ∷ f.after) (subst H (sym (append_assoc root (q ∷ f.before) (f.event ∷ f.after))) room);
           }) in
           subst G (sym f.whole) (elim g.left [
             | inl moved ↦ moved_first next output n futures root f.before (f.event ∷ f.after) g.rest q is g.good g.probes moved
             | inr put ↦
-                put_first next output n lawful futures decide racy root f.before f.event f.after g.rest me call q halt is calmly free (stopped_by f.event.reply halt f.here) room first
+                put_first next output n lawful futures decide races root f.before f.event f.after g.rest me call q halt is calmly agrees free (stopped_by f.event.reply halt f.here) room first
                 g.good g.probes put
           ])
       | inr free ↦
-          let C : List Event → Type 0 = λ l. is_calm racy (root ++ l) ≡ true in
-          let g : GoesBehind next n racy root more me call q = goes_behind next output n lawful futures racy root more [] me call q
+          let C : List Event → Type 0 = λ l. is_calm races (root ++ l) ≡ true in
+          let g : GoesBehind next n races root more me call q = goes_behind next output n lawful futures races root more [] me call q
           (record {
             good = record { run = whole.run; numbered = whole.numbered };
             first = first;
             calm = subst C (sym (append-nil more)) calm;
+            agreed = λ enters. (let A : List Event → Type 0 = λ l. is_mismatched n (root ++ l) (view_of root me) call ≡ false in subst A (sym (append-nil more)) (agreed enters));
             free = halted_append root more ∙ (ap (λ o. or_else o (halted more)) none ∙ free);
             room = room_in (root ++ q ∷ more) full;
           }) in
@@ -401,32 +413,33 @@ first_with next output n lawful futures decide racy root more me call q first wh
           ]
     ]
 
-quiet_first : (next : Next) (n : ℕ) (racy : ℕ → Bool) (root : List Event) (rank : ℕ) (call : Call) (pick : Pick) → IsQuiet next n racy root rank call pick
-    → IsFirst next n racy root rank call (picked_event n root rank call pick)
-quiet_first next n racy root rank call pick is =
+quiet_first : (next : Next) (n : ℕ) (races : Races) (root : List Event) (rank : ℕ) (call : Call) (pick : Pick) → IsQuiet next n races root rank call pick
+    → IsFirst next n races root rank call (picked_event n root rank call pick)
+quiet_first next n races root rank call pick is =
     record {
       kind = is.kind;
       below = is.move.below;
       asked = is.move.asked;
-      event = sym (one_quiet n racy root rank call pick is.kind is.move.offered);
+      event = sym (one_quiet n races root rank call pick is.kind is.move.offered);
       free = is.move.free;
       ready = is.ready;
       probe = is.probe;
     }
 
 pub goes_first : (next : Next) (output : Output) (n : ℕ) → Lawful next → FuturesAreSame next output n → HaltsDecideOutcomes next output n → QuietCallsGoFirst next output n
-goes_first next output n lawful futures decide racy root more rank call pick is whole calm full =
-    first_with next output n lawful futures decide racy root more rank call (picked_event n root rank call pick) (quiet_first next n racy root rank call pick is) whole calm full
+goes_first next output n lawful futures decide races root more rank call pick is whole calm agreed full =
+    first_with next output n lawful futures decide races root more rank call (picked_event n root rank call pick) (quiet_first next n races root rank call pick is) whole calm agreed full
 
 pub goes_ahead : (next : Next) (output : Output) (n : ℕ) → Lawful next → FuturesAreSame next output n → QuietCallsGoAhead next n
-goes_ahead next output n lawful futures racy root front rank call pick is run numbered free calm full =
+goes_ahead next output n lawful futures races root front rank call pick is run numbered free calm agreed full =
     let q : Event = picked_event n root rank call pick in
-    let C : List Event → Type 0 = λ l. is_calm racy (root ++ l) ≡ true in
-    let g : GoesBehind next n racy root front rank call q = goes_behind next output n lawful futures racy root front [] rank call q
+    let C : List Event → Type 0 = λ l. is_calm races (root ++ l) ≡ true in
+    let g : GoesBehind next n races root front rank call q = goes_behind next output n lawful futures races root front [] rank call q
     (record {
       good = record { run = run; numbered = numbered };
-      first = quiet_first next n racy root rank call pick is;
+      first = quiet_first next n races root rank call pick is;
       calm = subst C (sym (append-nil front)) calm;
+      agreed = λ enters. (let A : List Event → Type 0 = λ l. is_mismatched n (root ++ l) (view_of root rank) call ≡ false in subst A (sym (append-nil front)) (agreed enters));
       free = free;
       room = room_in (root ++ q ∷ front) full;
     }) in

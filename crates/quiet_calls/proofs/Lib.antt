@@ -15,6 +15,8 @@ mod Crossing
 mod NamedFirst
 mod Calm
 mod NamedSwap
+mod Entering
+mod EnterSwap
 mod Diamond
 mod Fronting
 mod Patience

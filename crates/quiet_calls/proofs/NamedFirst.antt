@@ -154,7 +154,7 @@ named_halts n before me call w names none =
 
 -- 4. ranks that it leaves alone
 
-open_by : (n : ℕ) (one other : List Event) → AllBelow n one → AllBelow n other → (me comm : ℕ) (source : Source) (tag : Tag)
+pub open_by : (n : ℕ) (one other : List Event) → AllBelow n one → AllBelow n other → (me comm : ℕ) (source : Source) (tag : Tag)
     → choice one me (Peek comm source tag true) ≡ choice other me (Peek comm source tag true) → has_open n one me comm source tag ≡ has_open n other me comm source tag
 open_by n one other all all' me comm source tag same =
     elim (option_cases (choice other me (Peek comm source tag true))) [

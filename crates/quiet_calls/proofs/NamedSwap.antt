@@ -151,7 +151,7 @@ own_mate : (n : ℕ) (before : List Event) (x : Event) (pick : Pick) → IsPicke
 own_mate n before x pick picked =
     ap (λ (e : Event). e.mate) picked.event_is ∙ ap (λ r. picked_mate before x.rank x.call r pick) (sym (ap (λ (e : Event). e.reply) picked.event_is))
 
-idle_mate : (n : ℕ) (before : List Event) (x : Event) (pick : Pick) → IsPickedEvent n before x pick → is_start (x.call, x.reply) ≡ false → x.mate ≡ None
+pub idle_mate : (n : ℕ) (before : List Event) (x : Event) (pick : Pick) → IsPickedEvent n before x pick → is_start (x.call, x.reply) ≡ false → x.mate ≡ None
 idle_mate n before x pick picked idle = (let none : picked_mate before x.rank x.call x.reply pick ≡ None = rw idle refl in own_mate n before x pick picked ∙ none)
 
 suits_forth : (me : ℕ) (call : Call) (w : ℕ) (p : ℕ) (d : Call) → other_of call ≡ Some w → suits p d me call ≡ true → is_starting d ≡ true → suits me call p d ≡ true

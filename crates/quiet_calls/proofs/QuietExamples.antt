@@ -13,6 +13,7 @@ use Rattle.mpi_call.specs.declared.reply.Reply.{Reply}
 use Rattle.mpi_call.specs.declared.reply.Reply.TheVariants.{Done, NotYet, Stopped, Took}
 use Rattle.run_model.specs.declared.ending.Ending.TheVariants.{Halted}
 use Rattle.run_model.specs.declared.event.Event.{Event}
+use Rattle.run_model.specs.Due.{is_mismatched}
 use Rattle.run_model.specs.Pairs.{pairs_of, partner_of}
 use Rattle.run_model.specs.Serial.{at_first, rounds}
 use Rattle.run_model.specs.Views.{Next}
@@ -21,7 +22,7 @@ use Rattle.picked_runs.specs.declared.turn.Turn.{Turn}
 use Rattle.picked_runs.specs.Picks.{picked_reply}
 use Rattle.picked_runs.specs.Turns.{take_turns}
 use Rattle.run_states.specs.Outcomes.{outcome_of}
-use Rattle.quiet_calls.specs.Quiet.{is_calm, is_quiet}
+use Rattle.quiet_calls.specs.Quiet.{Races, is_calm, is_quiet}
 
 -- programs whose ranks make these calls whatever the replies
 abbrev Script : Type 0
@@ -39,6 +40,13 @@ plain rank = record { rank = rank; pick = First }
 abbrev silent : ℕ → ℕ → List Reply → List ℕ
 silent n rank replies = []
 
+-- what is reckoned with: any race, or none
+abbrev everyone : Races
+everyone = record { ranks = λ rank. true; partial = true }
+
+abbrev no_one : Races
+no_one = record { ranks = λ rank. false; partial = false }
+
 -- 1. rank 1 tests its synchronous send to rank 0: it sees whether rank 0 has posted its receive
 abbrev watched : Script
 watched zero = Post 0 (From 1) AnyTag 1 ∷ Take (0 ∷ []) All ∷ End ∷ []
@@ -51,13 +59,13 @@ in_time : picked_reply 2 (recorded watched 2 (plain 1 ∷ plain 0 ∷ []) 0) 1 (
 in_time = refl
 
 -- so the receive is quiet only if rank 1 is not among those that make no racy call, and then the run is not calm
-receive_waits : is_quiet (λ rank. true) (Post 0 (From 1) AnyTag 1) ≡ false
+receive_waits : is_quiet everyone (Post 0 (From 1) AnyTag 1) ≡ false
 receive_waits = refl
 
-not_calm : is_calm (λ rank. false) (recorded watched 2 (plain 1 ∷ plain 1 ∷ []) 0) ≡ false
+not_calm : is_calm no_one (recorded watched 2 (plain 1 ∷ plain 1 ∷ []) 0) ≡ false
 not_calm = refl
 
-calm_but_for_it : is_calm (λ rank. true) (recorded watched 2 (plain 1 ∷ plain 1 ∷ []) 0) ≡ true
+calm_but_for_it : is_calm everyone (recorded watched 2 (plain 1 ∷ plain 1 ∷ []) 0) ≡ true
 calm_but_for_it = refl
 
 -- 2. two receives of rank 0 from rank 1, and two sends: whoever comes first, the first meets the first
@@ -107,10 +115,14 @@ never_again = refl
 nor_by_another : picked_reply 3 (recorded crooked 3 (plain 2 ∷ []) 0) 1 broadcasts First ≡ Stopped (Mismatched 1)
 nor_by_another = refl
 
-not_quiet : is_quiet (λ rank. false) waits ≡ false
-not_quiet = refl
+-- the run does not agree with the barrier
+disagreed : is_mismatched 3 (recorded crooked 3 (plain 0 ∷ []) 0) [] waits ≡ true
+disagreed = refl
 
--- 5. and a test sees whether a rank has entered
+agreed : is_mismatched 3 (recorded crooked 3 (plain 0 ∷ []) 0) [] broadcasts ≡ false
+agreed = refl
+
+-- 5. a test sees whether a rank has entered
 abbrev tested : Script
 tested zero = waits ∷ Take (0 ∷ []) TestAll ∷ End ∷ []
 tested rank = waits ∷ Take (0 ∷ []) All ∷ End ∷ []
@@ -120,6 +132,12 @@ not_yet = refl
 
 entered : picked_reply 2 (recorded tested 2 (plain 0 ∷ plain 1 ∷ []) 0) 0 (Take (0 ∷ []) TestAll) First ≡ Took (record { index = 0; got = Joined [] } ∷ [])
 entered = refl
+
+enter_waits : is_quiet everyone waits ≡ false
+enter_waits = refl
+
+enter_goes : is_quiet no_one waits ≡ true
+enter_goes = refl
 
 -- 6. two sends to one receive from any: the one that goes first takes it, so a send to a rank that posts such a receive is not quiet
 abbrev wild : Script
@@ -132,5 +150,5 @@ one_meets = refl
 other_meets : partner_of (pairs_of (recorded wild 3 (plain 0 ∷ plain 2 ∷ plain 1 ∷ []) 0)) (0, 0) ≡ Some (2, 0)
 other_meets = refl
 
-racy_receiver : is_quiet (λ rank. true) (Send 0 0 1 [] false) ≡ false
+racy_receiver : is_quiet everyone (Send 0 0 1 [] false) ≡ false
 racy_receiver = refl

@@ -175,7 +175,7 @@ goes_stays n before event me b own call =
 
 -- 4. the answer
 
-peeked_stays : (before : List Event) (event : Event) (me : ℕ) (call : Call) (wait : Bool)
+pub peeked_stays : (before : List Event) (event : Event) (me : ℕ) (call : Call) (wait : Bool)
     → peek_reply (before ++ event ∷ []) wait (choice before me call) ≡ peek_reply before wait (choice before me call)
 peeked_stays before event me call wait =
     elim (option_cases (choice before me call)) [

@@ -1,17 +1,18 @@
 -- Calls that can go first: others can neither change how they are answered nor see that they were.
 use Rattle.std.specs.Prelude.{◌≡◌, ◌≢◌, ◌≤◌, ◌⊎◌, ◌+◌, ℕ, List, [], ◌∷◌, ◌++◌, ◌&&◌, ◌||◌, Some, None, Bool, true, false, is_some, length, not}
 use Rattle.mpi_call.specs.declared.call.Call.{Call}
-use Rattle.mpi_call.specs.declared.call.Call.TheVariants.{Send, Post, Take, Peek, End}
+use Rattle.mpi_call.specs.declared.call.Call.TheVariants.{Send, Post, Enter, Take, Peek, End}
 use Rattle.mpi_call.specs.declared.call.Source.TheVariants.{Any, From, Null}
 use Rattle.mpi_call.specs.declared.call.TakeMode.TheVariants.{All}
 use Rattle.mpi_call.specs.declared.reply.Reply.TheVariants.{NotYet}
+use Rattle.mpi_call.specs.Calls.{is_enter, makes}
 use Rattle.run_model.specs.declared.event.Event.{Event}
 use Rattle.run_model.specs.Allowed.{takes_all}
-use Rattle.run_model.specs.Due.{halt_in, halted, is_full}
+use Rattle.run_model.specs.Due.{halt_in, halted, is_full, is_mismatched}
 use Rattle.run_model.specs.Lists.{Along}
 use Rattle.run_model.specs.Run.{IsRun}
 use Rattle.run_model.specs.Serial.{call_after}
-use Rattle.run_model.specs.Views.{Next}
+use Rattle.run_model.specs.Views.{Next, View, view_of}
 use Rattle.picked_runs.specs.declared.turn.Pick.{Pick}
 use Rattle.picked_runs.specs.declared.turn.Pick.TheVariants.{First}
 use Rattle.picked_runs.specs.Numbering.{AreNumberedInOrder}
@@ -36,20 +37,39 @@ is_racy (Take starts All) = false
 is_racy (Take starts mode) = true
 is_racy call = false
 
--- no rank makes a racy call, but for some ranks: each event is of such a rank or is no racy call, as far as the first halt
-abbrev pub is_calm : (ℕ → Bool) → List Event → Bool
-is_calm racy [] = true
-is_calm racy (event ∷ events) = (racy event.rank || not (is_racy event.call)) && (is_some (halt_in event.reply) || is_calm racy events)
+-- completions of not all that they list, and tests
+abbrev pub is_partial : Call → Bool
+is_partial (Take starts All) = false
+is_partial (Take starts mode) = true
+is_partial call = false
 
--- the steady calls, and receives from, and sends to, a rank that is not among the racy ones
-abbrev pub is_quiet : (ℕ → Bool) → Call → Bool
-is_quiet racy (Post comm (From source) tag room) = not (racy source)
-is_quiet racy (Send comm dest tag ints sync) = not (racy dest)
-is_quiet racy call = is_steady call
+-- what a search reckons with: which ranks may make racy calls, and whether any rank may complete in part
+pub record Races : Type 0 where
+  pub ranks : ℕ → Bool
+  pub partial : Bool
+
+-- no other racy calls, and no partial ones where none is reckoned with, are made, as far as the first halt
+abbrev pub is_calm : Races → List Event → Bool
+is_calm races [] = true
+is_calm races (event ∷ events) =
+    (races.ranks event.rank || not (is_racy event.call))
+    && ((races.partial || not (is_partial event.call)) && (is_some (halt_in event.reply) || is_calm races events))
+
+-- the steady calls; receives from, and sends to, a rank that is not among the racy ones; where no rank completes in part, the Enters that make
+-- no communicator
+abbrev pub is_quiet : Races → Call → Bool
+is_quiet races (Post comm (From source) tag room) = not (races.ranks source)
+is_quiet races (Send comm dest tag ints sync) = not (races.ranks dest)
+is_quiet races (Enter comm kind root op count ints) = not races.partial && not (makes (Enter comm kind root op count ints))
+is_quiet races call = is_steady call
+
+-- if it is an Enter, no Enter of its instance that these events make disagrees with it
+abbrev pub IsAgreed : ℕ → List Event → View → Call → Type 0
+IsAgreed n events own call = is_enter call ≡ true → is_mismatched n events own call ≡ false
 
 -- a rank's next call is such a one, and is answered now, other than by a halt or by NotYet
-pub record IsQuiet (next : Next) (n : ℕ) (racy : ℕ → Bool) (before : List Event) (rank : ℕ) (call : Call) (pick : Pick) : Type 0 where
-  pub kind : is_quiet racy call ≡ true
+pub record IsQuiet (next : Next) (n : ℕ) (races : Races) (before : List Event) (rank : ℕ) (call : Call) (pick : Pick) : Type 0 where
+  pub kind : is_quiet races call ≡ true
   pub move : IsMove next n before rank call pick
   pub ready : picked_reply n before rank call pick ≢ NotYet
   pub probe : IsProbeKept before (picked_event n before rank call pick)
@@ -73,12 +93,13 @@ pub record GoesOnBehind (next : Next) (output : Output) (n : ℕ) (root more : L
   pub longer : length rest ≤ length more
   pub shorter : IsMadeFree root more first.rank → length rest + 1 ≡ length more
 
--- after a history with a quiet call each whole run from there on, in which no other than the racy ranks makes a racy call, comes to what one comes
--- to that makes this call first, if with one call more the run is below its bound
+-- after a history with a quiet call each whole run from there on that is calm, and agrees with the call, comes to what one comes to that makes this
+-- call first, if with one call more the run is below its bound
 abbrev pub QuietCallsGoFirst : Next → Output → ℕ → Type 0
 QuietCallsGoFirst next output n =
-    (racy : ℕ → Bool) (root more : List Event) (rank : ℕ) (call : Call) (pick : Pick) → IsQuiet next n racy root rank call pick
-    → IsWhole next n (root ++ more) → is_calm racy (root ++ more) ≡ true → is_full (root ++ picked_event n root rank call pick ∷ more) ≡ false
+    (races : Races) (root more : List Event) (rank : ℕ) (call : Call) (pick : Pick) → IsQuiet next n races root rank call pick
+    → IsWhole next n (root ++ more) → is_calm races (root ++ more) ≡ true → IsAgreed n (root ++ more) (view_of root rank) call
+    → is_full (root ++ picked_event n root rank call pick ∷ more) ≡ false
     → GoesOnBehind next output n root more (picked_event n root rank call pick)
 
 -- the call was made in what goes on: it is as if it had been made first
@@ -107,7 +128,7 @@ pub record GoesAhead (next : Next) (n : ℕ) (root front : List Event) (rank : �
 -- the same of runs that have not ended, as far as they go without a halt
 abbrev pub QuietCallsGoAhead : Next → ℕ → Type 0
 QuietCallsGoAhead next n =
-    (racy : ℕ → Bool) (root front : List Event) (rank : ℕ) (call : Call) (pick : Pick) → IsQuiet next n racy root rank call pick
-    → IsRun next n (root ++ front) → AreNumberedInOrder n (root ++ front) → halted (root ++ front) ≡ None → is_calm racy (root ++ front) ≡ true
-    → is_full (root ++ picked_event n root rank call pick ∷ front) ≡ false
+    (races : Races) (root front : List Event) (rank : ℕ) (call : Call) (pick : Pick) → IsQuiet next n races root rank call pick
+    → IsRun next n (root ++ front) → AreNumberedInOrder n (root ++ front) → halted (root ++ front) ≡ None → is_calm races (root ++ front) ≡ true
+    → IsAgreed n (root ++ front) (view_of root rank) call → is_full (root ++ picked_event n root rank call pick ∷ front) ≡ false
     → GoesAhead next n root front rank call (picked_event n root rank call pick)
