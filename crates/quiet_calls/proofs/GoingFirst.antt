@@ -22,8 +22,8 @@ use Rattle.picked_runs.specs.Picks.{picked_event}
 use Rattle.run_states.specs.Futures.{SameFuture}
 use Rattle.run_states.specs.Outcomes.{IsPatientEvent, IsProbeKept, IsWhole, Output, halted_outcome, outcome_of}
 use Rattle.run_states.specs.StateLaws.{FuturesAreSame, HaltsDecideOutcomes, HasLike}
-use Rattle.quiet_calls.specs.Quiet.{GoesOnBehind, IsMadeFree, IsQuiet, QuietCallsGoAhead, QuietCallsGoFirst, IsAgreed, Races, is_calm}
-use Rattle.quiet_calls.proofs.Room.{HasRoom, not_full, room_front, room_in, room_put, room_like}
+use Rattle.quiet_calls.specs.Quiet.{GoesOnBehind, IsAgreed, IsMadeFree, IsQuiet, QuietCallsGoAhead, QuietCallsGoFirst, Races, before_halt, is_calm}
+use Rattle.quiet_calls.proofs.Room.{HasRoom, not_full, room_in, room_put, room_like}
 use Rattle.quiet_calls.proofs.Staying.{free_parts}
 use Rattle.quiet_calls.proofs.Runs.{IsGood}
 use Rattle.quiet_calls.proofs.Swapping.{other_way, views_swapped}
@@ -43,6 +43,13 @@ record HasFirstHalt (events : List Event) (halt : Halt) : Type 0 where
   whole : events ≡ before ++ event ∷ after
   none : halted before ≡ None
   here : halt_in event.reply ≡ Some halt
+  part : before_halt events ≡ before
+
+all_free : (events : List Event) → halted events ≡ None → before_halt events ≡ events
+all_free [] h = refl
+all_free (event ∷ events) h =
+    let parts = none_parts (halt_in event.reply) (halted events) h in
+    rw parts.0 (ap (λ l. event ∷ l) (all_free events parts.1))
 
 first_halt : (events : List Event) (halt : Halt) → halted events ≡ Some halt → HasFirstHalt events halt
 first_halt [] halt h = absurd (cc)
@@ -50,10 +57,10 @@ first_halt (event ∷ events) halt h =
     elim (option_cases (halt_in event.reply)) [
       | inl some ↦
           let same : Some some.0 ≡ Some halt = rw some.1 at h in
-          record { before = []; event = event; after = events; whole = refl; none = refl; here = some.1 ∙ same }
+          record { before = []; event = event; after = events; whole = refl; none = refl; here = some.1 ∙ same; part = rw some.1 refl }
       | inr none ↦
           let f = first_halt events halt (rw none at h) in
-          record { before = event ∷ f.before; event = f.event; after = f.after; whole = ap (λ l. event ∷ l) f.whole; none = rw none f.none; here = f.here }
+          record { before = event ∷ f.before; event = f.event; after = f.after; whole = ap (λ l. event ∷ l) f.whole; none = rw none f.none; here = f.here; part = rw none (ap (λ l. event ∷ l) f.part) }
     ]
 
 stopped_by : (reply : Reply) (halt : Halt) → halt_in reply ≡ Some halt → reply ≡ Stopped halt
@@ -67,25 +74,25 @@ no_halt event other halt more same here none =
     cc
 
 -- an event before the first halt is among those before it
-before_halt : (front : List Event) (x : Event) (after : List Event) (halt : Halt) (rank : ℕ) (before : List Event) (event : Event) (rest : List Event)
+among_front : (front : List Event) (x : Event) (after : List Event) (halt : Halt) (rank : ℕ) (before : List Event) (event : Event) (rest : List Event)
     → halt_in x.reply ≡ Some halt → front ++ x ∷ after ≡ before ++ event ∷ rest → event.rank ≡ rank → halted (before ++ event ∷ []) ≡ None → has_event rank front ≡ true
-before_halt [] x after halt rank [] event rest here whole own none = (let same : x ≡ event = cc in absurd (no_halt x event halt [] same here none))
-before_halt [] x after halt rank (y ∷ before) event rest here whole own none =
+among_front [] x after halt rank [] event rest here whole own none = (let same : x ≡ event = cc in absurd (no_halt x event halt [] same here none))
+among_front [] x after halt rank (y ∷ before) event rest here whole own none =
     (let same : x ≡ y = cc in absurd (no_halt x y halt (before ++ event ∷ []) same here none))
-before_halt (y ∷ front) x after halt rank [] event rest here whole own none =
+among_front (y ∷ front) x after halt rank [] event rest here whole own none =
     let same : y ≡ event = cc in
     or_left (y.rank == rank) (has_event rank front) (eq-eqb y.rank rank (ap (λ (e : Event). e.rank) same ∙ own))
-before_halt (y ∷ front) x after halt rank (z ∷ before) event rest here whole own none =
+among_front (y ∷ front) x after halt rank (z ∷ before) event rest here whole own none =
     let tails : front ++ x ∷ after ≡ before ++ event ∷ rest = cc in
     or_right (y.rank == rank) (has_event rank front)
-    (before_halt front x after halt rank before event rest here tails own (none_parts (halt_in z.reply) (halted (before ++ event ∷ [])) none).1)
+    (among_front front x after halt rank before event rest here tails own (none_parts (halt_in z.reply) (halted (before ++ event ∷ [])) none).1)
 
 made_before : (root front : List Event) (x : Event) (after : List Event) (halt : Halt) (rank : ℕ) → halt_in x.reply ≡ Some halt → IsMadeFree root (front ++ x ∷ after) rank
     → has_event rank front ≡ true
 made_before root front x after halt rank here made =
     let whole : or_else (halted root) (halted (made.front ++ made.event ∷ [])) ≡ None = sym (halted_append root (made.front ++ made.event ∷ []))
     ∙ (ap halted (sym (append_assoc root made.front (made.event ∷ []))) ∙ made.free) in
-    before_halt front x after halt rank made.front made.event made.after here made.whole made.own (none_parts (halted root) (halted (made.front ++ made.event ∷ [])) whole).1
+    among_front front x after halt rank made.front made.event made.after here made.whole made.own (none_parts (halted root) (halted (made.front ++ made.event ∷ [])) whole).1
 
 -- 2. views
 
@@ -285,7 +292,7 @@ put_first : (next : Next) (output : Output) (n : ℕ) → Lawful next → Future
     → (races : Races) (root front : List Event) (x : Event) (after rest : List Event) (me : ℕ) (call : Call) (q : Event) (halt : Halt)
     → IsWhole next n (root ++ (front ++ x ∷ after)) → is_calm races (root ++ (front ++ x ∷ after)) ≡ true
     → IsAgreed n (root ++ (front ++ x ∷ after)) (view_of root me) call → halted (root ++ front) ≡ None
-    → x.reply ≡ Stopped halt → HasRoom (root ++ q ∷ (front ++ x ∷ after)) → IsFirst next n races root me call q → IsGood next n (root ++ q ∷ rest)
+    → x.reply ≡ Stopped halt → HasRoom (root ++ q ∷ front) → IsFirst next n races root me call q → IsGood next n (root ++ q ∷ rest)
     → (Along IsProbeKept root front → Along IsProbeKept root (q ∷ rest)) → IsPutIn next n races root front rest me call q
     → GoesOnBehind next output n root (front ++ x ∷ after) q
 put_first next output n lawful futures decide races root front x after rest me call q halt whole calm agreed none stopped room start first probes put =
@@ -297,7 +304,8 @@ put_first next output n lawful futures decide races root front x after rest me c
     let is : IsWhole next n (base ++ x ∷ after) = subst W here whole in
     let kept : Along IsProbeKept [] base = Along-front IsProbeKept [] base (x ∷ after) is.probes in
     let size : size_of q ≡ size_of last = sym (later_size next n races root base me call q last start put.there put.reply) in
-    let room' : HasRoom (root ++ last ∷ (front ++ x ∷ after)) = room_like root (front ++ x ∷ after) q last size room in
+    let R : List Event → Type 0 = λ l. HasRoom (root ++ last ∷ l) in
+    let room' : HasRoom (root ++ last ∷ (front ++ [])) = subst R (sym (append-nil front)) (room_like root front q last size room) in
     let good : IsGood next n (base ++ x ∷ after) = record { run = is.run; numbered = is.numbered } in
     let h : IsHalted next output n base x after me last = halted_behind next output n lawful decide races base x after me call last halt
     (record {
@@ -307,7 +315,7 @@ put_first next output n lawful futures decide races root front x after rest me c
       calm = subst C here calm;
       none = none;
       stopped = stopped;
-      full = not_full (base ++ last ∷ []) (room_put root front (x ∷ after) last room');
+      full = not_full (base ++ last ∷ []) (room_put root front [] last room');
       agreed = λ enters.
           let A : List Event → Type 0 = λ l. is_mismatched n l (view_of root me) call ≡ false in
           let V : View → Type 0 = λ v. is_mismatched n (base ++ x ∷ after) v call ≡ false in
@@ -358,7 +366,7 @@ put_first next output n lawful futures decide races root front x after rest me c
 
 first_with : (next : Next) (output : Output) (n : ℕ) → Lawful next → FuturesAreSame next output n → HaltsDecideOutcomes next output n
     → (races : Races) (root more : List Event) (me : ℕ) (call : Call) (q : Event) → IsFirst next n races root me call q
-    → IsWhole next n (root ++ more) → is_calm races (root ++ more) ≡ true → IsAgreed n (root ++ more) (view_of root me) call → is_full (root ++ q ∷ more) ≡ false → GoesOnBehind next output n root more q
+    → IsWhole next n (root ++ more) → is_calm races (root ++ more) ≡ true → IsAgreed n (root ++ more) (view_of root me) call → is_full (root ++ q ∷ before_halt more) ≡ false → GoesOnBehind next output n root more q
 first_with next output n lawful futures decide races root more me call q first whole calm agreed full =
     let none : halted root ≡ None = (free_parts n root me call (nothing_due next n races root me call q first)).halts in
     elim (option_cases (halted more)) [
@@ -373,7 +381,7 @@ first_with next output n lawful futures decide races root more me call q first w
           let A : List Event → Type 0 = λ l. IsAgreed n (root ++ l) (view_of root me) call in
           let agrees : IsAgreed n (root ++ (f.before ++ f.event ∷ f.after)) (view_of root me) call = subst A f.whole agreed in
           let calmly : is_calm races (root ++ (f.before ++ f.event ∷ f.after)) ≡ true = subst C f.whole calm in
-          let room : HasRoom (root ++ q ∷ (f.before ++ f.event ∷ f.after)) = room_in (root ++ q ∷ (f.before ++ f.event ∷ f.after)) (subst M f.whole full) in
+          let room : HasRoom (root ++ q ∷ f.before) = room_in (root ++ q ∷ f.before) (subst M f.part full) in
           let good : IsGood next n (root ++ (f.before ++ f.event ∷ f.after)) = record { run = is.run; numbered = is.numbered } in
           let I : List Event → Type 0 = λ l. IsGood next n l in
           let H : List Event → Type 0 = λ l. HasRoom l in
@@ -385,7 +393,7 @@ first_with next output n lawful futures decide races root more me call q first w
             calm = calmly;
             agreed = agrees;
             free = free;
-            room = room_front (root ++ q ∷ f.before) (f.event ∷ f.after) (subst H (sym (append_assoc root (q ∷ f.before) (f.event ∷ f.after))) room);
+            room = room;
           }) in
           subst G (sym f.whole) (elim g.left [
             | inl moved ↦ moved_first next output n futures root f.before (f.event ∷ f.after) g.rest q is g.good g.probes moved
@@ -402,7 +410,7 @@ first_with next output n lawful futures decide races root more me call q first w
             calm = subst C (sym (append-nil more)) calm;
             agreed = λ enters. (let A : List Event → Type 0 = λ l. is_mismatched n (root ++ l) (view_of root me) call ≡ false in subst A (sym (append-nil more)) (agreed enters));
             free = halted_append root more ∙ (ap (λ o. or_else o (halted more)) none ∙ free);
-            room = room_in (root ++ q ∷ more) full;
+            room = room_in (root ++ q ∷ more) (let M : List Event → Type 0 = λ l. is_full (root ++ q ∷ l) ≡ false in subst M (all_free more free) full);
           }) in
           let W : List Event → Type 0 = λ l. IsWhole next n (root ++ l) in
           let G : List Event → Type 0 = λ l. GoesOnBehind next output n root l q in

@@ -277,8 +277,9 @@ beside_case next n lawful before me call w x i halts room same =
 no_probe : (before after : List Event) (event other : Event) → view_of after other.rank ≡ view_of before event.rank → other.call ≡ event.call → other.reply ≡ event.reply
     → mate_in before event.mate ≡ None → IsProbeKept before event → IsProbeKept after other
 no_probe before after event other view called replied none kept earlier comm source tag wait room sender start sent count seen posted done =
-    let found : mate_in before event.mate ≡ Some (sender, start) = kept earlier comm source tag wait room sender start sent count (sym view ∙ seen) (sym called ∙ posted) (sym replied ∙ done) in
-    let no : None ≡ Some (sender, start) = sym none ∙ found in
+    let pair : Name = (sender, start) in
+    let found : mate_in before event.mate ≡ Some pair = kept earlier comm source tag wait room sender start sent count (sym view ∙ seen) (sym called ∙ posted) (sym replied ∙ done) in
+    let no : None ≡ Some pair = sym none ∙ found in
     absurd (cc)
 
 crossed_case : (next : Next) (n : ℕ) → Lawful next → (before : List Event) (me : ℕ) (call : Call) (w : ℕ) (x : Event) → IsNamedWith next n before me call w x

@@ -1,5 +1,5 @@
 -- Calls that can go first: others can neither change how they are answered nor see that they were.
-use Rattle.std.specs.Prelude.{◌≡◌, ◌≢◌, ◌≤◌, ◌⊎◌, ◌+◌, ℕ, List, [], ◌∷◌, ◌++◌, ◌&&◌, ◌||◌, Some, None, Bool, true, false, is_some, length, not}
+use Rattle.std.specs.Prelude.{◌≡◌, ◌≢◌, ◌≤◌, ◌⊎◌, ◌+◌, ℕ, List, [], ◌∷◌, ◌++◌, ◌&&◌, ◌||◌, if◌then◌else◌, Some, None, Bool, true, false, is_some, length, not}
 use Rattle.mpi_call.specs.declared.call.Call.{Call}
 use Rattle.mpi_call.specs.declared.call.Call.TheVariants.{Send, Post, Enter, Take, Peek, End}
 use Rattle.mpi_call.specs.declared.call.Source.TheVariants.{Any, From, Null}
@@ -83,6 +83,11 @@ pub record IsMadeFree (before more : List Event) (rank : ℕ) : Type 0 where
   pub own : event.rank ≡ rank
   pub free : halted (before ++ front ++ event ∷ []) ≡ None
 
+-- what comes before the first halt
+abbrev pub before_halt : List Event → List Event
+before_halt [] = []
+before_halt (event ∷ events) = if is_some (halt_in event.reply) then [] else event ∷ before_halt events
+
 -- what goes on from a history goes on so behind one event more, and comes to the same: it is whole, as patient as it was, and no longer; where
 -- the event's rank made its next call in it without a halt, it is that event shorter
 pub record GoesOnBehind (next : Next) (output : Output) (n : ℕ) (root more : List Event) (first : Event) : Type 0 where
@@ -94,12 +99,12 @@ pub record GoesOnBehind (next : Next) (output : Output) (n : ℕ) (root more : L
   pub shorter : IsMadeFree root more first.rank → length rest + 1 ≡ length more
 
 -- after a history with a quiet call each whole run from there on that is calm, and agrees with the call, comes to what one comes to that makes this
--- call first, if with one call more the run is below its bound
+-- call first, if the run is below its bound with one call more, as far as its first halt
 abbrev pub QuietCallsGoFirst : Next → Output → ℕ → Type 0
 QuietCallsGoFirst next output n =
     (races : Races) (root more : List Event) (rank : ℕ) (call : Call) (pick : Pick) → IsQuiet next n races root rank call pick
     → IsWhole next n (root ++ more) → is_calm races (root ++ more) ≡ true → IsAgreed n (root ++ more) (view_of root rank) call
-    → is_full (root ++ picked_event n root rank call pick ∷ more) ≡ false
+    → is_full (root ++ picked_event n root rank call pick ∷ before_halt more) ≡ false
     → GoesOnBehind next output n root more (picked_event n root rank call pick)
 
 -- the call was made in what goes on: it is as if it had been made first
