@@ -1,0 +1,116 @@
+#!/usr/bin/env python3
+"""One name for one thing: the names that stand in two crates or more, and the definitions that take seven arguments or more.
+
+    .ci/names.py             prints them
+    .ci/names.py --check     compares them with the list .ci/names.txt; status 1 where one is new, or one that is listed is gone
+    .ci/names.py --write     writes the list; it is to grow shorter
+
+A definition is one of `specs/`, whether private or not; a type is a struct, enum or trait of `src/`. Crates of tests and benchmarks
+do not count: nobody reads them to learn a word.
+"""
+import importlib.util
+import re
+import sys
+from collections import defaultdict
+from pathlib import Path
+
+TOP = Path(__file__).resolve().parent.parent
+LIST = TOP / ".ci" / "names.txt"
+MOST_ARGUMENTS = 6
+
+TYPE = re.compile(r"^\s*(?:pub(?:\([a-z]+\))? )?(?:struct|enum|trait|type) (\w+)", re.M)
+PARAMETERS = re.compile(r"\(([^():]+):")
+
+
+def statement():
+    """The reader of definitions, which is the script beside this one."""
+    spec = importlib.util.spec_from_file_location("statement", TOP / ".ci" / "statement.py")
+    made = importlib.util.module_from_spec(spec)
+    spec.loader.exec_module(made)
+    return made
+
+
+def is_read(crate):
+    return not crate.endswith(("_tests", "_bench"))
+
+
+def in_two_crates(found):
+    """Of pairs of a name and a crate: the names that stand in two crates or more, with these."""
+    crates = defaultdict(set)
+    for name, crate in found:
+        if is_read(crate):
+            crates[name].add(crate)
+    return [f"{name}: {' '.join(sorted(stand))}" for name, stand in sorted(crates.items()) if len(stand) > 1]
+
+
+def types():
+    for path in (TOP / "crates").glob("*/src/**/*.rt"):
+        crate = path.relative_to(TOP / "crates").parts[0]
+        for name in TYPE.findall(path.read_text()):
+            yield name, crate
+
+
+def arguments_of(lines):
+    """How many arguments a definition takes: those of its head, and the arrows of its type outside brackets."""
+    head = []
+    for line in lines:
+        head.append(line.strip())
+        if re.match(r"^\s+(?:pub )?\S+ :", line) and len(head) > 1:
+            head.pop()
+            break
+    text = " ".join(head[:1]) if " where" in head[0] else " ".join(head)
+    colon, depth, named, arrows = None, 0, 0, 0
+    for at, sign in enumerate(text):
+        if sign in "({[":
+            depth += 1
+            if depth == 1 and sign == "(" and (colon is None or text[at:].find(" : ") != -1):
+                names = PARAMETERS.match(text[at:])
+                named += len(names.group(1).split()) if names else 0
+        elif sign in ")}]":
+            depth -= 1
+        elif depth == 0 and text[at : at + 3] == " : " and colon is None:
+            colon = at
+        elif depth == 0 and colon is not None and sign == "→":
+            arrows += 1
+        if depth == 0 and text[at : at + 7] == " where ":
+            break
+    return max(named, arrows)
+
+
+def sections():
+    sources = statement().read_sources()
+    twins = in_two_crates((name, crate) for (crate, _), source in sources.items() for name in source.definitions)
+    long = [
+        f"{crate}.{file}.{name}"
+        for (crate, file), source in sorted(sources.items())
+        for name, lines in sorted(source.definitions.items())
+        if is_read(crate) and name not in source.lemmas and arguments_of(lines[:1]) > MOST_ARGUMENTS
+    ]
+    return {
+        "definitions that stand in two crates or more": twins,
+        "types that stand in two crates or more": in_two_crates(types()),
+        f"definitions of more than {MOST_ARGUMENTS} arguments": long,
+    }
+
+
+def written(found):
+    return "".join(f"# {title}\n" + "".join(f"{line}\n" for line in lines) + "\n" for title, lines in found.items())
+
+
+def main():
+    found = written(sections())
+    if sys.argv[1:] == ["--write"]:
+        LIST.write_text(found)
+        return 0
+    if sys.argv[1:] == ["--check"]:
+        now, listed = set(found.splitlines()), set(LIST.read_text().splitlines())
+        for line in sorted(now - listed):
+            print(f"names: new: {line}")
+        for line in sorted(listed - now):
+            print(f"names: gone, so strike it from .ci/names.txt: {line}")
+        return 1 if now != listed else 0
+    print(found, end="")
+    return 0
+
+
+sys.exit(main())
