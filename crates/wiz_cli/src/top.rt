@@ -260,7 +260,7 @@ fn answer<'a, S: Store, K: Sink, R: Runner, W: Watcher>(
 
 /// What is asked about a variable of a rank.
 fn changes(rank: u8, name: &str) -> View<&str>
-    ensures { result ≡ Changes rank name }
+    ensures { result ≡ Changes rank name.entry }
 {
     View::Changes { rank, name }
 }
