@@ -23,4 +23,9 @@ mod Patience
 mod Stopping
 mod Telling
 mod GoingFirst
+mod Sizes
+mod FarBelow
+mod Onwards
+mod StayingBelow
+mod MissingNothing
 mod QuietExamples

@@ -1,0 +1,246 @@
+-- What each whole run comes to is met, where a search follows one quiet call alone.
+use Rattle.std.proofs.Common.{◌≡◌, ◌<◌, ◌≤◌, ◌∙◌, ◌++◌, ◌+◌, ◌∷◌, ℕ, zero, suc, List, [], None, true, false, append-nil, append_assoc, inl, inr, is_some, length, length-append, refl, ap, sym, subst, arith}
+use Rattle.std.proofs.lemmas.Bool.{or_right}
+use Rattle.mpi_call.specs.declared.call.Call.{Call}
+use Rattle.mpi_call.specs.declared.call.Call.TheVariants.{Enter}
+use Rattle.mpi_call.specs.declared.limits.TheConstants.{MOST_EVENTS}
+use Rattle.mpi_call.specs.declared.reply.Reply.TheVariants.{NotYet}
+use Rattle.mpi_call.specs.Calls.{is_enter}
+use Rattle.mpi_call.specs.Lists.{IsIn}
+use Rattle.run_model.specs.declared.event.Event.{Event}
+use Rattle.run_model.specs.Due.{halt_in, halted, is_full, or_else}
+use Rattle.run_model.specs.Lists.{Along}
+use Rattle.run_model.specs.Views.{Next, View, replies_in, view_of}
+use Rattle.run_model.proofs.Along.{Along-back, Along-front}
+use Rattle.run_model.proofs.RunLaws.{Lawful}
+use Rattle.run_model.proofs.Views.{length-view_of, option_cases}
+use Rattle.picked_runs.specs.Picks.{picked_event}
+use Rattle.run_states.specs.Moves.{IsMet}
+use Rattle.run_states.specs.Outcomes.{IsPatientEvent, IsProbeKept, IsWhole, Outcome, Output, outcome_of, vain_after, vain_in}
+use Rattle.run_states.specs.StateLaws.{EveryStepIsMade, FuturesAreSame, HaltsDecideOutcomes, HasLike, IsMade, IsOutcomeMet, IsPatientStep}
+use Rattle.quiet_calls.specs.Quiet.{GoesOnBehind, Races, before_halt, is_calm, is_quiet}
+use Rattle.quiet_calls.specs.Closure.{AreMovesMet, AreReckonedWith, GoesOnFrom, IsFarBelow, IsOnItsWay, IsQuietCallMet, QuietCallsMissNothing, QuietCallsMissNothingPatient, SteadyCallsMissNothing, SteadyCallsMissNothingPatient, any_race}
+use Rattle.quiet_calls.proofs.Room.{not_full}
+use Rattle.quiet_calls.proofs.Runs.{IsGood}
+use Rattle.quiet_calls.proofs.Commuting.{halted_append}
+use Rattle.quiet_calls.proofs.Fronting.{good_front}
+use Rattle.quiet_calls.proofs.GoingFirst.{HasFirstHalt, all_free, along_join, first_halt, goes_first, stopped_by}
+use Rattle.quiet_calls.proofs.FarBelow.{below_same, room_far}
+use Rattle.quiet_calls.proofs.Onwards.{GoesOn, both_along, patience_across}
+use Rattle.quiet_calls.proofs.StayingBelow.{IsSearchedQuietly, at_most, back, is_longer, none_left, one_less, stays_below}
+
+-- what whole runs that go on from a history come to is met
+abbrev IsAnswered : Next → Output → ℕ → ℕ → List (List Event) → List Event → Type 0
+IsAnswered next output n most visited one =
+    (more : List Event) → IsWhole next n (one ++ more) → Along (IsPatientEvent most) one more → IsOutcomeMet next output n visited (outcome_of output n (one ++ more))
+
+abbrev LongerAreAnswered : Next → Output → ℕ → ℕ → List (List Event) → List Event → Type 0
+LongerAreAnswered next output n most visited one = (two : List Event) → IsIn two visited → length one < length two → IsAnswered next output n most visited two
+
+-- 1. where what is made of a history is met
+
+-- a whole run has its like, which goes on from the history that is met
+met_answered : (next : Next) (output : Output) (n : ℕ) (races : Races) (most : ℕ) (visited : List (List Event)) → FuturesAreSame next output n
+    → IsSearchedQuietly next n races most visited → (mid : List Event) (met : IsMet n visited mid) → IsAnswered next output n most visited met.0
+    → IsAnswered next output n most visited mid
+met_answered next output n races most visited futures c mid met answered after whole patient =
+    let two : List Event = met.0 in
+    let way : IsOnItsWay next n two = c.runs two met.1 in
+    let like : HasLike next output n mid two after = futures mid two after whole.run whole.numbered way.run way.numbered (back n two mid met.2) in
+    let there : IsWhole next n (two ++ like.rest) = record {
+      run = like.run;
+      ended = λ rank below. ap (λ (v : View). next n rank (replies_in v)) (sym (like.future.views rank)) ∙ whole.ended rank below;
+      numbered = like.numbered;
+      probes = along_join IsProbeKept [] two like.rest way.probes (like.probes (Along-back IsProbeKept [] mid after whole.probes));
+    } in
+    let O : Outcome → Type 0 = λ o. IsOutcomeMet next output n visited o in
+    subst O (sym like.outcome)
+    (answered like.rest there (patience_across most mid two after like.rest (λ rank. sym (met.2.views rank)) like.future.views patient))
+
+step_answered : (next : Next) (output : Output) (n : ℕ) (races : Races) (most : ℕ) (visited : List (List Event)) → FuturesAreSame next output n
+    → IsSearchedQuietly next n races most visited → (one : List Event) (event : Event) → LongerAreAnswered next output n most visited one
+    → IsMet n visited (one ++ event ∷ []) → (after : List Event) → IsWhole next n (one ++ event ∷ after) → Along (IsPatientEvent most) one (event ∷ after)
+    → IsOutcomeMet next output n visited (outcome_of output n (one ++ event ∷ after))
+step_answered next output n races most visited futures c one event longer met after whole patient =
+    let same : (one ++ event ∷ []) ++ after ≡ one ++ event ∷ after = append_assoc one (event ∷ []) after in
+    let W : List Event → Type 0 = λ l. IsWhole next n l in
+    let O : List Event → Type 0 = λ l. IsOutcomeMet next output n visited (outcome_of output n l) in
+    subst O same
+    (met_answered next output n races most visited futures c (one ++ event ∷ []) met (longer met.0 met.1 (is_longer n one met.0 event met.2)) after (subst W (sym same) whole) patient.1)
+
+moves_answered : (next : Next) (output : Output) (n : ℕ) (races : Races) (most : ℕ) (visited : List (List Event)) → FuturesAreSame next output n → EveryStepIsMade next n
+    → HaltsDecideOutcomes next output n → IsSearchedQuietly next n races most visited → (one : List Event) → IsIn one visited
+    → AreMovesMet next n (IsPatientStep most) visited one → LongerAreAnswered next output n most visited one → IsAnswered next output n most visited one
+moves_answered next output n races most visited futures steps decide c one there moves longer [] whole patient =
+    let W : List Event → Type 0 = λ l. IsWhole next n l in
+    let here : IsWhole next n one = subst W (append-nil one) whole in
+    (one, there, inl (record { ended = here.ended; outcome_is = ap (outcome_of output n) (append-nil one) }))
+moves_answered next output n races most visited futures steps decide c one there moves longer (x ∷ after) whole patient =
+    let made : IsMade next n one x = steps one after x whole.run whole.numbered in
+    elim (option_cases (halt_in x.reply)) [
+      | inl some ↦
+          let stopped = stopped_by x.reply some.0 some.1 in (
+            one,
+            there,
+            inr (record {
+              rank = x.rank;
+              call = x.call;
+              pick = made.pick;
+              halt = some.0;
+              halting = made.halts some.0 stopped;
+              outcome_is = decide one after x some.0 whole.run whole.ended (c.runs one there).free stopped;
+            }),
+          )
+      | inr free ↦
+          let kept : Along IsProbeKept one (x ∷ after) = Along-back IsProbeKept [] one (x ∷ after) whole.probes in
+          let W : Event → Type 0 = λ e. IsPatientStep most one e in
+          let M : Event → Type 0 = λ e. IsMet n visited (one ++ e ∷ []) in
+          let met : IsMet n visited (one ++ x ∷ []) =
+          subst M (sym made.made) (moves x.rank x.call made.pick (made.moves free) (subst W made.made (kept.0, patient.0))) in
+          step_answered next output n races most visited futures c one x longer met after whole patient
+    ]
+
+-- 2. where what a quiet call makes is
+
+-- up to its first halt a whole run goes on without one
+goes_to_halt : (next : Next) (n most : ℕ) (one more : List Event) → halted one ≡ None → IsWhole next n (one ++ more) → Along (IsPatientEvent most) one more
+    → GoesOn next n most one (before_halt more)
+goes_to_halt next n most one more none whole patient =
+    let kept : Along IsProbeKept one more = Along-back IsProbeKept [] one more whole.probes in
+    let I : List Event → Type 0 = λ l. IsGood next n (one ++ l) in
+    let good : IsGood next n (one ++ more) = record { run = whole.run; numbered = whole.numbered } in
+    let H : List Event → Type 0 = λ l. GoesOn next n most one l in
+    elim (option_cases (halted more)) [
+      | inl some ↦
+          let f : HasFirstHalt more some.0 = first_halt more some.0 some.1 in
+          let G : List Event → Type 0 = λ l. IsGood next n l in
+          let K : List Event → Type 0 = λ l. Along IsProbeKept one l in
+          let P : List Event → Type 0 = λ l. Along (IsPatientEvent most) one l in
+          subst H (sym f.part)
+          (record {
+            good = good_front next n (one ++ f.before) (f.event ∷ f.after) (subst G (sym (append_assoc one f.before (f.event ∷ f.after))) (subst I f.whole good));
+            free = halted_append one f.before ∙ (ap (λ o. or_else o (halted f.before)) none ∙ f.none);
+            probes = Along-front IsProbeKept one f.before (f.event ∷ f.after) (subst K f.whole kept);
+            patient = Along-front (IsPatientEvent most) one f.before (f.event ∷ f.after) (subst P f.whole patient);
+          })
+      | inr free ↦
+          subst H (sym (all_free more free))
+          (record { good = good; free = halted_append one more ∙ (ap (λ o. or_else o (halted more)) none ∙ free); probes = kept; patient = patient })
+    ]
+
+quiet_answered : (next : Next) (output : Output) (n : ℕ) → Lawful next → (races : Races) (most : ℕ) (visited : List (List Event)) → FuturesAreSame next output n → EveryStepIsMade next n
+    → HaltsDecideOutcomes next output n → IsSearchedQuietly next n races most visited → (one : List Event) → IsIn one visited → IsQuietCallMet next n races visited one
+    → LongerAreAnswered next output n most visited one → IsAnswered next output n most visited one
+quiet_answered next output n lawful races most visited futures steps decide c one there quiet longer more whole patient =
+    let q : Event = picked_event n one quiet.rank quiet.call quiet.pick in
+    let way : IsOnItsWay next n one = c.runs one there in
+    let kept : Along IsProbeKept one more = Along-back IsProbeKept [] one more whole.probes in
+    let from : GoesOnFrom next n (IsPatientStep most) visited one more = record { begins = there; run = whole.run; numbered = whole.numbered; wanted = both_along most one more kept patient } in
+    let far : IsFarBelow (one ++ q ∷ []) = below_same quiet.met.0 (one ++ q ∷ []) quiet.met.2.views (c.runs quiet.met.0 quiet.met.1).below in
+    let below : IsFarBelow (one ++ before_halt more) = stays_below next output n lawful races most visited futures steps c one there (before_halt more)
+    (goes_to_halt next n most one more way.free whole patient) in
+    let full : is_full (one ++ q ∷ before_halt more) ≡ false = not_full (one ++ q ∷ before_halt more) (room_far one (before_halt more) q far below) in
+    let b : GoesOnBehind next output n one more q = goes_first next output n lawful futures decide races one more quiet.rank quiet.call quiet.pick quiet.quiet whole
+    (c.reckoned.calm one more from) (c.reckoned.agreed one more quiet.rank quiet.call quiet.pick from quiet.quiet) full in
+    let O : Outcome → Type 0 = λ o. IsOutcomeMet next output n visited o in
+    subst O (sym b.outcome) (step_answered next output n races most visited futures c one q longer quiet.met b.rest b.whole (b.patient most patient))
+
+-- 3. of all of them
+
+by_length : (next : Next) (output : Output) (n : ℕ) → Lawful next → (races : Races) (most : ℕ) (visited : List (List Event)) → FuturesAreSame next output n → EveryStepIsMade next n
+    → HaltsDecideOutcomes next output n → IsSearchedQuietly next n races most visited → (k : ℕ) (one : List Event) → IsIn one visited → MOST_EVENTS ≤ length one + k
+    → IsAnswered next output n most visited one
+by_length next output n lawful races most visited futures steps decide c zero one there enough more whole patient =
+    absurd (none_left (length one) MOST_EVENTS (c.runs one there).below.count enough)
+by_length next output n lawful races most visited futures steps decide c (suc k) one there enough more whole patient =
+    let longer : LongerAreAnswered next output n most visited one =
+    λ two in_two less. by_length next output n lawful races most visited futures steps decide c k two in_two (one_less (length one) (length two) MOST_EVENTS k enough less) in
+    elim (c.more one there) [
+      | inl moves ↦ moves_answered next output n races most visited futures steps decide c one there moves longer more whole patient
+      | inr quiet ↦ quiet_answered next output n lawful races most visited futures steps decide c one there quiet longer more whole patient
+    ]
+
+all_answered : (next : Next) (output : Output) (n : ℕ) → Lawful next → (races : Races) (most : ℕ) (visited : List (List Event)) → FuturesAreSame next output n → EveryStepIsMade next n
+    → HaltsDecideOutcomes next output n → IsSearchedQuietly next n races most visited → (root : List Event) → IsMet n visited root → IsAnswered next output n most visited root
+all_answered next output n lawful races most visited futures steps decide c root met =
+    met_answered next output n races most visited futures c root met
+    (by_length next output n lawful races most visited futures steps decide c MOST_EVENTS met.0 met.1 (at_most MOST_EVENTS (length met.0)))
+
+pub patient_missed : (next : Next) (output : Output) (n : ℕ) → Lawful next → FuturesAreSame next output n → EveryStepIsMade next n → HaltsDecideOutcomes next output n
+    → QuietCallsMissNothingPatient next output n
+patient_missed next output n lawful futures steps decide most races root more visited closed reckoned whole patient =
+    all_answered next output n lawful races most visited futures steps decide (record { runs = closed.runs; more = closed.more; reckoned = reckoned }) root closed.first more whole patient
+
+-- 4. every run is patient enough
+
+vain_few : (count : ℕ) (view : View) → vain_after count view ≤ count + length view
+vain_few count [] = omega arith
+vain_few count ((call, NotYet) ∷ view) = (let rest : vain_after (suc count) view ≤ suc count + length view = vain_few (suc count) view in omega (arith, rest))
+vain_few count ((call, reply) ∷ view) = (let rest : vain_after 0 view ≤ 0 + length view = vain_few 0 view in omega (arith, rest))
+
+one_more : (count : ℕ) → count < suc count
+one_more count = omega arith
+
+patient_enough : (most : ℕ) (before events : List Event) → length (before ++ events) < most → Along (IsPatientEvent most) before events
+patient_enough most before [] less = tt
+patient_enough most before (event ∷ events) less =
+    let F : List Event → Type 0 = λ l. length l < most in
+    let all : length (before ++ event ∷ events) ≡ length before + suc (length events) = length-append before (event ∷ events) in
+    let vain : vain_in (view_of before event.rank) ≤ 0 + length (view_of before event.rank) = vain_few 0 (view_of before event.rank) in
+    let few : length (view_of before event.rank) ≤ length before = length-view_of before event.rank in (
+      λ held. omega (arith, less, all, vain, few),
+      patient_enough most (before ++ event ∷ []) events (subst F (sym (append_assoc before (event ∷ []) events)) less),
+    )
+
+kept_along : (most : ℕ) (before events : List Event) → Along (IsPatientStep most) before events → Along IsProbeKept before events
+kept_along most before [] wanted = tt
+kept_along most before (event ∷ events) wanted = (wanted.0.0, kept_along most (before ++ event ∷ []) events wanted.1)
+
+kept_from : (next : Next) (n most : ℕ) (visited : List (List Event)) (before more : List Event) → GoesOnFrom next n (IsPatientStep most) visited before more
+    → GoesOnFrom next n IsProbeKept visited before more
+kept_from next n most visited before more from =
+    record { begins = from.begins; run = from.run; numbered = from.numbered; wanted = kept_along most before more from.wanted }
+
+pub nothing_missed : (next : Next) (output : Output) (n : ℕ) → Lawful next → FuturesAreSame next output n → EveryStepIsMade next n → HaltsDecideOutcomes next output n
+    → QuietCallsMissNothing next output n
+nothing_missed next output n lawful futures steps decide races root more visited closed reckoned whole =
+    let most : ℕ = suc (length (root ++ more)) in
+    all_answered next output n lawful races most visited futures steps decide
+    (record {
+      runs = closed.runs;
+      more = λ before there. elim (closed.more before there) [
+        | inl moves ↦ inl (λ rank call pick move wanted. moves rank call pick move wanted.0)
+        | inr quiet ↦ inr quiet
+      ];
+      reckoned = record {
+        calm = λ before after from. reckoned.calm before after (kept_from next n most visited before after from);
+        agreed = λ before after rank call pick from quiet. reckoned.agreed before after rank call pick (kept_from next n most visited before after from) quiet;
+      };
+    }) root closed.first more whole (patient_enough most root more (one_more (length (root ++ more))))
+
+-- 5. the steady calls alone
+
+any_calm : (events : List Event) → is_calm any_race events ≡ true
+any_calm [] = refl
+any_calm (event ∷ events) = or_right (is_some (halt_in event.reply)) (is_calm any_race events) (any_calm events)
+
+no_enter : (call : Call) → is_quiet any_race call ≡ true → is_enter call ≡ true → ⊥
+no_enter (Enter comm kind root op count ints) quiet enters = cc
+no_enter call quiet enters = absurd (cc)
+
+any_reckoned : (next : Next) (n : ℕ) (IsWanted : List Event → Event → Type 0) (visited : List (List Event)) → AreReckonedWith next n any_race IsWanted visited
+any_reckoned next n IsWanted visited =
+    record {
+      calm = λ before more from. any_calm (before ++ more);
+      agreed = λ before more rank call pick from quiet enters. absurd (no_enter call quiet.kind enters);
+    }
+
+pub steady_missed : (next : Next) (output : Output) (n : ℕ) → Lawful next → FuturesAreSame next output n → EveryStepIsMade next n → HaltsDecideOutcomes next output n
+    → SteadyCallsMissNothing next output n
+steady_missed next output n lawful futures steps decide root more visited closed whole =
+    nothing_missed next output n lawful futures steps decide any_race root more visited closed (any_reckoned next n IsProbeKept visited) whole
+
+pub patient_steady_missed : (next : Next) (output : Output) (n : ℕ) → Lawful next → FuturesAreSame next output n → EveryStepIsMade next n → HaltsDecideOutcomes next output n
+    → SteadyCallsMissNothingPatient next output n
+patient_steady_missed next output n lawful futures steps decide most root more visited closed whole patient =
+    patient_missed next output n lawful futures steps decide most any_race root more visited closed (any_reckoned next n (IsPatientStep most) visited) whole patient
