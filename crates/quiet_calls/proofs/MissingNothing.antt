@@ -1,6 +1,6 @@
 -- What each whole run comes to is met, where a search follows one quiet call alone.
 use Rattle.std.proofs.Common.{◌≡◌, ◌<◌, ◌≤◌, ◌∙◌, ◌++◌, ◌+◌, ◌∷◌, ℕ, zero, suc, List, [], None, true, false, append-nil, append_assoc, inl, inr, is_some, length, length-append, refl, ap, sym, subst, arith}
-use Rattle.std.proofs.lemmas.Bool.{or_right}
+use Rattle.std.proofs.lemmas.Bool.{or_left, or_right}
 use Rattle.mpi_call.specs.declared.call.Call.{Call}
 use Rattle.mpi_call.specs.declared.call.Call.TheVariants.{Enter}
 use Rattle.mpi_call.specs.declared.limits.TheConstants.{MOST_EVENTS}
@@ -10,6 +10,7 @@ use Rattle.mpi_call.specs.Lists.{IsIn}
 use Rattle.run_model.specs.declared.event.Event.{Event}
 use Rattle.run_model.specs.Due.{halt_in, halted, is_full, or_else}
 use Rattle.run_model.specs.Lists.{Along}
+use Rattle.run_model.specs.Run.{IsEvent, IsRun}
 use Rattle.run_model.specs.Views.{Next, View, replies_in, view_of}
 use Rattle.run_model.proofs.Along.{Along-back, Along-front}
 use Rattle.run_model.proofs.RunLaws.{Lawful}
@@ -27,7 +28,7 @@ use Rattle.quiet_calls.proofs.Fronting.{good_front}
 use Rattle.quiet_calls.proofs.GoingFirst.{HasFirstHalt, all_free, along_join, first_halt, goes_first, stopped_by}
 use Rattle.quiet_calls.proofs.FarBelow.{below_same, room_far}
 use Rattle.quiet_calls.proofs.Onwards.{GoesOn, both_along, patience_across}
-use Rattle.quiet_calls.proofs.StayingBelow.{IsSearchedQuietly, at_most, back, is_longer, none_left, one_less, stays_below}
+use Rattle.quiet_calls.proofs.StayingBelow.{IsForeseenFrom, IsSearchedQuietly, all_calm, all_foreseen, at_most, back, calm_put, is_longer, none_left, one_less}
 
 -- what whole runs that go on from a history come to is met
 abbrev IsAnswered : Next → Output → ℕ → ℕ → List (List Event) → List Event → Type 0
@@ -128,6 +129,26 @@ goes_to_halt next n most one more none whole patient =
           (record { good = good; free = halted_append one more ∙ (ap (λ o. or_else o (halted more)) none ∙ free); probes = kept; patient = patient })
     ]
 
+-- so it is calm, with the call that is answered by the halt
+whole_calm : (next : Next) (n : ℕ) (races : Races) (most : ℕ) (one more : List Event) → IsForeseenFrom next n races most one → is_calm races one ≡ true → IsWhole next n (one ++ more)
+    → GoesOn next n most one (before_halt more) → is_calm races (one ++ more) ≡ true
+whole_calm next n races most one more foreseen past whole goes =
+    let calm : is_calm races (one ++ before_halt more) ≡ true = all_calm next n races most one foreseen past (before_halt more) goes in
+    elim (option_cases (halted more)) [
+      | inl some ↦
+          let f : HasFirstHalt more some.0 = first_halt more some.0 some.1 in
+          let front : List Event = one ++ before_halt more in
+          let same : one ++ more ≡ front ++ f.event ∷ f.after =
+          ap (λ l. one ++ l) f.whole ∙ (ap (λ l. one ++ (l ++ f.event ∷ f.after)) (sym f.part) ∙ sym (append_assoc one (before_halt more) (f.event ∷ f.after))) in
+          let R : List Event → Type 0 = λ l. IsRun next n l in
+          let run : IsRun next n (front ++ f.event ∷ f.after) = subst R same whole.run in
+          let step : IsEvent next n front f.event = (Along-back (IsEvent next n) [] front (f.event ∷ f.after) run.along).0 in
+          ap (is_calm races) same
+          ∙ calm_put races front f.event f.after calm ((foreseen (before_halt more) goes).calls f.event.rank f.event.call step.rank step.call)
+          (or_left (is_some (halt_in f.event.reply)) (is_calm races f.after) (ap is_some f.here))
+      | inr free ↦ ap (λ l. is_calm races (one ++ l)) (sym (all_free more free)) ∙ calm
+    ]
+
 quiet_answered : (next : Next) (output : Output) (n : ℕ) → Lawful next → (races : Races) (most : ℕ) (visited : List (List Event)) → FuturesAreSame next output n → EveryStepIsMade next n
     → HaltsDecideOutcomes next output n → IsSearchedQuietly next n races most visited → (one : List Event) → IsIn one visited → IsQuietCallMet next n races visited one
     → LongerAreAnswered next output n most visited one → IsAnswered next output n most visited one
@@ -137,11 +158,13 @@ quiet_answered next output n lawful races most visited futures steps decide c on
     let kept : Along IsProbeKept one more = Along-back IsProbeKept [] one more whole.probes in
     let from : GoesOnFrom next n (IsPatientStep most) visited one more = record { begins = there; run = whole.run; numbered = whole.numbered; wanted = both_along most one more kept patient } in
     let far : IsFarBelow (one ++ q ∷ []) = below_same quiet.met.0 (one ++ q ∷ []) quiet.met.2.views (c.runs quiet.met.0 quiet.met.1).below in
-    let below : IsFarBelow (one ++ before_halt more) = stays_below next output n lawful races most visited futures steps c one there (before_halt more)
-    (goes_to_halt next n most one more way.free whole patient) in
+    let foreseen : IsForeseenFrom next n races most one = all_foreseen next output n lawful races most visited futures steps c one there in
+    let goes : GoesOn next n most one (before_halt more) = goes_to_halt next n most one more way.free whole patient in
+    let below : IsFarBelow (one ++ before_halt more) = (foreseen (before_halt more) goes).below in
+    let calm : is_calm races (one ++ more) ≡ true = whole_calm next n races most one more foreseen (c.reckoned.past one there) whole goes in
     let full : is_full (one ++ q ∷ before_halt more) ≡ false = not_full (one ++ q ∷ before_halt more) (room_far one (before_halt more) q far below) in
     let b : GoesOnBehind next output n one more q = goes_first next output n lawful futures decide races one more quiet.rank quiet.call quiet.pick quiet.quiet whole
-    (c.reckoned.calm one more from) (c.reckoned.agreed one more quiet.rank quiet.call quiet.pick from quiet.quiet) full in
+    calm (c.reckoned.agreed one more quiet.rank quiet.call quiet.pick from quiet.quiet) full in
     let O : Outcome → Type 0 = λ o. IsOutcomeMet next output n visited o in
     subst O (sym b.outcome) (step_answered next output n races most visited futures c one q longer quiet.met b.rest b.whole (b.patient most patient))
 
@@ -213,7 +236,8 @@ nothing_missed next output n lawful futures steps decide races root more visited
         | inr quiet ↦ inr quiet
       ];
       reckoned = record {
-        calm = λ before after from. reckoned.calm before after (kept_from next n most visited before after from);
+        past = reckoned.past;
+        calls = reckoned.calls;
         agreed = λ before after rank call pick from quiet. reckoned.agreed before after rank call pick (kept_from next n most visited before after from) quiet;
       };
     }) root closed.first more whole (patient_enough most root more (one_more (length (root ++ more))))
@@ -231,7 +255,8 @@ no_enter call quiet enters = absurd (cc)
 any_reckoned : (next : Next) (n : ℕ) (IsWanted : List Event → Event → Type 0) (visited : List (List Event)) → AreReckonedWith next n any_race IsWanted visited
 any_reckoned next n IsWanted visited =
     record {
-      calm = λ before more from. any_calm (before ++ more);
+      past = λ before there. any_calm before;
+      calls = λ before rank call there below asked. refl;
       agreed = λ before more rank call pick from quiet enters. absurd (no_enter call quiet.kind enters);
     }
 

@@ -1,6 +1,7 @@
--- Where a search follows one quiet call alone, and all that it has met is far below the bound, so is all that goes on from there without a halt.
-use Rattle.std.proofs.Common.{◌≡◌, ◌<◌, ◌≤◌, ◌⊎◌, ◌∙◌, ◌++◌, ◌==◌, ◌+◌, ◌∷◌, ℕ, zero, suc, List, [], None, true, false, append-nil, append_assoc, inl, inr, length, length-append, refl, ap, sym, subst, arith}
-use Rattle.std.proofs.lemmas.Bool.{eqb-true}
+-- Where a search follows one quiet call alone, what holds of all that it has met holds of all that goes on from there without a halt: it is far below
+-- the bound, and its calls are reckoned with.
+use Rattle.std.proofs.Common.{◌≡◌, ◌<◌, ◌≤◌, ◌⊎◌, ◌∙◌, ◌++◌, ◌==◌, ◌+◌, ◌&&◌, ◌||◌, ◌∷◌, ℕ, zero, suc, List, [], Option, Some, None, Bool, true, false, append-nil, append_assoc, inl, inr, is_some, length, length-append, not, refl, ap, sym, subst, arith}
+use Rattle.std.proofs.lemmas.Bool.{eqb-true, or_right}
 use Rattle.mpi_call.specs.declared.call.Call.{Call}
 use Rattle.mpi_call.specs.declared.limits.TheConstants.{MOST_EVENTS}
 use Rattle.mpi_call.specs.Lists.{IsIn}
@@ -8,7 +9,8 @@ use Rattle.run_model.specs.declared.event.Event.{Event}
 use Rattle.run_model.specs.Due.{halt_in, halted, is_mismatched, or_else}
 use Rattle.run_model.specs.Lists.{Along}
 use Rattle.run_model.specs.Run.{IsEvent}
-use Rattle.run_model.specs.Views.{Next, View, view_of}
+use Rattle.run_model.specs.Serial.{call_after}
+use Rattle.run_model.specs.Views.{Next, View, replies_in, view_of}
 use Rattle.run_model.proofs.Along.{Along-back, Along-snoc}
 use Rattle.run_model.proofs.RunLaws.{Lawful}
 use Rattle.run_model.proofs.Taken.{none_parts}
@@ -19,11 +21,11 @@ use Rattle.run_states.specs.Futures.{SameFuture}
 use Rattle.run_states.specs.Moves.{IsMet}
 use Rattle.run_states.specs.Outcomes.{IsPatientEvent, IsProbeKept, Output, vain_in}
 use Rattle.run_states.specs.StateLaws.{EveryStepIsMade, FuturesAreSame, IsMade, IsPatientStep}
-use Rattle.quiet_calls.specs.Quiet.{IsAgreed, Races, is_calm}
-use Rattle.quiet_calls.specs.Closure.{AreMovesMet, AreReckonedWith, GoesOnFrom, IsFarBelow, IsOnItsWay, IsQuietCallMet}
+use Rattle.quiet_calls.specs.Quiet.{IsAgreed, Races, is_calm, is_partial, is_racy}
+use Rattle.quiet_calls.specs.Closure.{AreMovesMet, AreReckonedWith, GoesOnFrom, IsFarBelow, IsOnItsWay, IsQuietCallMet, is_reckoned}
 use Rattle.quiet_calls.proofs.Room.{HasRoom, not_full, room_like, room_put}
 use Rattle.quiet_calls.proofs.Runs.{IsGood}
-use Rattle.quiet_calls.proofs.Swapping.{other_way}
+use Rattle.quiet_calls.proofs.Swapping.{other_way, views_swapped}
 use Rattle.quiet_calls.proofs.Commuting.{halted_append, halted_more}
 use Rattle.quiet_calls.proofs.Crossing.{with_mate}
 use Rattle.quiet_calls.proofs.NamedSwap.{IsMadeBehind}
@@ -40,13 +42,31 @@ pub record IsSearchedQuietly (next : Next) (n : ℕ) (races : Races) (most : ℕ
   pub more : (before : List Event) → IsIn before visited → AreMovesMet next n (IsPatientStep most) visited before ⊎ IsQuietCallMet next n races visited before
   pub reckoned : AreReckonedWith next n races (IsPatientStep most) visited
 
--- what goes on from one stays below
-abbrev pub StaysBelow : Next → ℕ → ℕ → List Event → Type 0
-StaysBelow next n most one = (front : List Event) → GoesOn next n most one front → IsFarBelow (one ++ front)
+-- a history is far below the bound, and each rank's next call is reckoned with
+pub record IsForeseen (next : Next) (n : ℕ) (races : Races) (events : List Event) : Type 0 where
+  pub below : IsFarBelow events
+  pub calls : (rank : ℕ) (call : Call) → rank < n → call_after next n events rank ≡ Some call → is_reckoned races rank call ≡ true
+
+foreseen_same : (next : Next) (n : ℕ) (races : Races) (one other : List Event) → ((rank : ℕ) → view_of one rank ≡ view_of other rank) → IsForeseen next n races one
+    → IsForeseen next n races other
+foreseen_same next n races one other same f =
+    record {
+      below = below_same one other same f.below;
+      calls = λ rank call below asked. f.calls rank call below (ap (λ (v : View). next n rank (replies_in v)) (same rank) ∙ asked);
+    }
+
+-- what goes on from one is so
+abbrev pub IsForeseenFrom : Next → ℕ → Races → ℕ → List Event → Type 0
+IsForeseenFrom next n races most one = (front : List Event) → GoesOn next n most one front → IsForeseen next n races (one ++ front)
 
 -- so it is with the longer ones
-abbrev LongerStayBelow : Next → ℕ → ℕ → List (List Event) → List Event → Type 0
-LongerStayBelow next n most visited one = (two : List Event) → IsIn two visited → length one < length two → StaysBelow next n most two
+abbrev AreLongerForeseen : Next → ℕ → Races → ℕ → List (List Event) → List Event → Type 0
+AreLongerForeseen next n races most visited one = (two : List Event) → IsIn two visited → length one < length two → IsForeseenFrom next n races most two
+
+foreseen_here : (next : Next) (n : ℕ) (races : Races) (most : ℕ) (visited : List (List Event)) → IsSearchedQuietly next n races most visited → (one : List Event) → IsIn one visited
+    → IsForeseen next n races one
+foreseen_here next n races most visited c one there =
+    record { below = (c.runs one there).below; calls = λ rank call below asked. c.reckoned.calls one rank call there below asked }
 
 -- 1. where a move is met
 
@@ -58,25 +78,25 @@ is_longer n one two event same =
     let count : length two ≡ length one + 1 = same_length two (one ++ event ∷ []) same.views ∙ length-append one (event ∷ []) in
     omega (arith, count)
 
-met_below : (next : Next) (output : Output) (n : ℕ) (races : Races) (most : ℕ) (visited : List (List Event)) → FuturesAreSame next output n → IsSearchedQuietly next n races most visited
-    → (one : List Event) (event : Event) → LongerStayBelow next n most visited one → IsMet n visited (one ++ event ∷ [])
-    → (after : List Event) → GoesOn next n most one (event ∷ after) → IsFarBelow (one ++ event ∷ after)
-met_below next output n races most visited futures c one event longer met after g =
+met_foreseen : (next : Next) (output : Output) (n : ℕ) (races : Races) (most : ℕ) (visited : List (List Event)) → FuturesAreSame next output n → IsSearchedQuietly next n races most visited
+    → (one : List Event) (event : Event) → AreLongerForeseen next n races most visited one → IsMet n visited (one ++ event ∷ [])
+    → (after : List Event) → GoesOn next n most one (event ∷ after) → IsForeseen next n races (one ++ event ∷ after)
+met_foreseen next output n races most visited futures c one event longer met after g =
     let mid : List Event = one ++ event ∷ [] in
     let two : List Event = met.0 in
     let way : IsOnItsWay next n two = c.runs two met.1 in
     let over : IsCarriedOver next n most mid two after =
     carried_over next output n most futures mid two after (back n two mid met.2) (record { run = way.run; numbered = way.numbered }) (goes_back next n most one (event ∷ []) after g) in
-    let there : IsFarBelow (two ++ over.rest) = longer two met.1 (is_longer n one two event met.2) over.rest over.goes in
-    let F : List Event → Type 0 = λ l. IsFarBelow l in
-    subst F (append_assoc one (event ∷ []) after) (below_same (two ++ over.rest) (mid ++ after) (λ rank. sym (over.views rank)) there)
+    let there : IsForeseen next n races (two ++ over.rest) = longer two met.1 (is_longer n one two event met.2) over.rest over.goes in
+    let F : List Event → Type 0 = λ l. IsForeseen next n races l in
+    subst F (append_assoc one (event ∷ []) after) (foreseen_same next n races (two ++ over.rest) (mid ++ after) (λ rank. sym (over.views rank)) there)
 
-moves_below : (next : Next) (output : Output) (n : ℕ) (races : Races) (most : ℕ) (visited : List (List Event)) → FuturesAreSame next output n → EveryStepIsMade next n
+moves_foreseen : (next : Next) (output : Output) (n : ℕ) (races : Races) (most : ℕ) (visited : List (List Event)) → FuturesAreSame next output n → EveryStepIsMade next n
     → IsSearchedQuietly next n races most visited → (one : List Event) → IsIn one visited → AreMovesMet next n (IsPatientStep most) visited one
-    → LongerStayBelow next n most visited one → StaysBelow next n most one
-moves_below next output n races most visited futures steps c one there moves longer [] g =
-    (let F : List Event → Type 0 = λ l. IsFarBelow l in subst F (sym (append-nil one)) (c.runs one there).below)
-moves_below next output n races most visited futures steps c one there moves longer (x ∷ front) g =
+    → AreLongerForeseen next n races most visited one → IsForeseenFrom next n races most one
+moves_foreseen next output n races most visited futures steps c one there moves longer [] g =
+    (let F : List Event → Type 0 = λ l. IsForeseen next n races l in subst F (sym (append-nil one)) (foreseen_here next n races most visited c one there))
+moves_foreseen next output n races most visited futures steps c one there moves longer (x ∷ front) g =
     let made : IsMade next n one x = steps one front x g.good.run g.good.numbered in
     let whole : or_else (halted one) (halted (x ∷ front)) ≡ None = sym (halted_append one (x ∷ front)) ∙ g.free in
     let later : halted (x ∷ front) ≡ None = (none_parts (halted one) (halted (x ∷ front)) whole).1 in
@@ -85,7 +105,7 @@ moves_below next output n races most visited futures steps c one there moves lon
     let M : Event → Type 0 = λ e. IsMet n visited (one ++ e ∷ []) in
     let met : IsMet n visited (one ++ x ∷ []) =
     subst M (sym made.made) (moves x.rank x.call made.pick (made.moves free) (subst W made.made (g.probes.0, g.patient.0))) in
-    met_below next output n races most visited futures c one x longer met front g
+    met_foreseen next output n races most visited futures c one x longer met front g
 
 -- 2. where a quiet call is
 
@@ -93,14 +113,14 @@ moves_below next output n races most visited futures steps c one there moves lon
 record IsQuietHere (next : Next) (n : ℕ) (races : Races) (most : ℕ) (one : List Event) (me : ℕ) (call : Call) (q : Event) : Type 0 where
   first : IsFirst next n races one me call q
   far : IsFarBelow (one ++ q ∷ [])
-  behind : (rest : List Event) → GoesOn next n most one (q ∷ rest) → IsFarBelow (one ++ q ∷ rest)
-  calm : (front : List Event) → GoesOn next n most one front → is_calm races (one ++ front) ≡ true
+  behind : (rest : List Event) → GoesOn next n most one (q ∷ rest) → IsForeseen next n races (one ++ q ∷ rest)
+  calls : (c : Call) → call_after next n one me ≡ Some c → is_reckoned races me c ≡ true
   agreed : (front : List Event) → GoesOn next n most one front → IsAgreed n (one ++ front) (view_of one me) call
 
 -- events that leave what the call and others behind it leave, and what goes on from there
 carry : (next : Next) (output : Output) (n : ℕ) (races : Races) (most : ℕ) → FuturesAreSame next output n → (one : List Event) (me : ℕ) (call : Call) (q : Event)
     → IsQuietHere next n races most one me call q → (a rest y : List Event) → SameFuture n (one ++ a) (one ++ q ∷ rest) → IsGood next n (one ++ q ∷ rest)
-    → Along IsProbeKept one (q ∷ rest) → GoesOn next n most one (a ++ y) → IsFarBelow (one ++ (a ++ y))
+    → Along IsProbeKept one (q ∷ rest) → GoesOn next n most one (a ++ y) → IsForeseen next n races (one ++ (a ++ y))
 carry next output n races most futures one me call q h a rest y same good kept g =
     let over : IsCarriedOver next n most (one ++ a) (one ++ q ∷ rest) y =
     carried_over next output n most futures (one ++ a) (one ++ q ∷ rest) y same good (goes_back next n most one a y g) in
@@ -108,40 +128,43 @@ carry next output n races most futures one me call q h a rest y same good kept g
     let views : (rank : ℕ) → view_of (one ++ (a ++ y)) rank ≡ view_of (one ++ q ∷ (rest ++ over.rest)) rank =
     λ rank. ap (λ l. view_of l rank) (sym (append_assoc one a y)) ∙ (over.views rank ∙ ap (λ l. view_of l rank) whole) in
     let G : List Event → Type 0 = λ l. IsGood next n l in
-    let there : IsFarBelow (one ++ q ∷ (rest ++ over.rest)) = h.behind (rest ++ over.rest)
+    let there : IsForeseen next n races (one ++ q ∷ (rest ++ over.rest)) = h.behind (rest ++ over.rest)
     (record {
       good = subst G whole over.goes.good;
       free = ap halted (sym whole) ∙ over.goes.free;
       probes = along_join IsProbeKept one (q ∷ rest) over.rest kept over.goes.probes;
       patient = patience_across most one one (a ++ y) (q ∷ (rest ++ over.rest)) (λ rank. refl) views g.patient;
     }) in
-    below_same (one ++ q ∷ (rest ++ over.rest)) (one ++ (a ++ y)) (λ rank. sym (views rank)) there
+    foreseen_same next n races (one ++ q ∷ (rest ++ over.rest)) (one ++ (a ++ y)) (λ rank. sym (views rank)) there
 
 -- an event behind some that stay below, where the call was made among these
 step_moved : (next : Next) (output : Output) (n : ℕ) (races : Races) (most : ℕ) → FuturesAreSame next output n → (one : List Event) (me : ℕ) (call : Call) (q : Event)
     → IsQuietHere next n races most one me call q → (p : List Event) (x : Event) → GoesOn next n most one (p ++ x ∷ []) → (b : GoesBehind next n races one p me call q)
-    → IsMoved n one p b.rest q → IsFarBelow (one ++ (p ++ x ∷ []))
+    → IsMoved n one p b.rest q → IsForeseen next n races (one ++ (p ++ x ∷ []))
 step_moved next output n races most futures one me call q h p x g b moved =
     carry next output n races most futures one me call q h p b.rest (x ∷ []) moved.future b.good (b.probes (goes_front next n most one p (x ∷ []) g).probes) g
 
 -- where it is the call itself
 step_own : (next : Next) (output : Output) (n : ℕ) (races : Races) (most : ℕ) → FuturesAreSame next output n → (one : List Event) (me : ℕ) (call : Call) (q : Event)
     → IsQuietHere next n races most one me call q → (p : List Event) (x : Event) → GoesOn next n most one (p ++ x ∷ []) → (b : GoesBehind next n races one p me call q)
-    → (put : IsPutIn next n races one p b.rest me call q) → put.last ≡ x → IsFarBelow (one ++ (p ++ x ∷ []))
+    → (put : IsPutIn next n races one p b.rest me call q) → put.last ≡ x → IsForeseen next n races (one ++ (p ++ x ∷ []))
 step_own next output n races most futures one me call q h p x g b put same =
     let here : (one ++ p) ++ put.last ∷ [] ≡ one ++ (p ++ x ∷ []) = append_assoc one p (put.last ∷ []) ∙ ap (λ e. one ++ (p ++ e ∷ [])) same in
-    let F : List Event → Type 0 = λ l. IsFarBelow (one ++ l) in
+    let F : List Event → Type 0 = λ l. IsForeseen next n races (one ++ l) in
     let H : List Event → Type 0 = λ l. GoesOn next n most one l in
     let none : (p ++ x ∷ []) ++ [] ≡ p ++ x ∷ [] = append-nil (p ++ x ∷ []) in
     subst F none
     (carry next output n races most futures one me call q h (p ++ x ∷ []) b.rest [] (same_as n ((one ++ p) ++ put.last ∷ []) (one ++ q ∷ b.rest) (one ++ (p ++ x ∷ [])) (one ++ q ∷ b.rest) here refl put.future)
     b.good (b.probes (goes_front next n most one p (x ∷ []) g).probes) (subst H (sym none) g))
 
+with_mate_view : (base : List Event) (x : Event) (mate : Option ℕ) (rank : ℕ) → view_of (base ++ with_mate x mate ∷ []) rank ≡ view_of (base ++ x ∷ []) rank
+with_mate_view base x mate rank = view_of-append base (with_mate x mate ∷ []) rank ∙ sym (view_of-append base (x ∷ []) rank)
+
 -- where it is another rank's, and the call was left over
 step_other : (next : Next) (output : Output) (n : ℕ) → Lawful next → (races : Races) (most : ℕ) → FuturesAreSame next output n → (one : List Event) (me : ℕ) (call : Call) (q : Event)
-    → IsQuietHere next n races most one me call q → (p : List Event) (x : Event) → GoesOn next n most one (p ++ x ∷ []) → HasRoom (one ++ q ∷ p)
-    → (b : GoesBehind next n races one p me call q) → IsPutIn next n races one p b.rest me call q → (x.rank == me) ≡ false → IsFarBelow (one ++ (p ++ x ∷ []))
-step_other next output n lawful races most futures one me call q h p x g room b put apart =
+    → IsQuietHere next n races most one me call q → (p : List Event) (x : Event) → GoesOn next n most one (p ++ x ∷ []) → is_calm races (one ++ (p ++ x ∷ [])) ≡ true
+    → HasRoom (one ++ q ∷ p) → (b : GoesBehind next n races one p me call q) → IsPutIn next n races one p b.rest me call q → (x.rank == me) ≡ false → IsForeseen next n races (one ++ (p ++ x ∷ []))
+step_other next output n lawful races most futures one me call q h p x g calm room b put apart =
     let base : List Event = one ++ p in
     let last : Event = put.last in
     let front : GoesOn next n most one p = goes_front next n most one p (x ∷ []) g in
@@ -152,6 +175,8 @@ step_other next output n lawful races most futures one me call q h p x g room b 
     let size = later_size next n races one base me call q last h.first put.there put.reply in
     let room' : HasRoom (one ++ last ∷ (p ++ [])) =
     (let L : List Event → Type 0 = λ l. HasRoom (one ++ last ∷ l) in subst L (sym (append-nil p)) (room_like one p q last (sym size) room)) in
+    let seen : view_of base me ≡ view_of one me =
+    view_of-append one p me ∙ (ap (λ v. view_of one me ++ v) (unseen_view me p put.none) ∙ append-nil (view_of one me)) in
     let m : IsMadeBehind next n base x last = event_behind next n lawful races base me call last x []
     (record {
       good = front.good;
@@ -159,14 +184,12 @@ step_other next output n lawful races most futures one me call q h p x g room b 
       step = (Along-back (IsEvent next n) [] base (x ∷ []) after.good.run.along).0;
       ordered = (Along-back (IsNumberedInOrder n) [] base (x ∷ []) after.good.numbered).0;
       apart = apart;
-      calm = subst C all (h.calm (p ++ x ∷ []) g);
+      calm = subst C all calm;
       halts = front.free;
       full = not_full (base ++ last ∷ []) (room_put one p [] last room');
       agreed = λ enters. (
           let A : List Event → Type 0 = λ l. is_mismatched n l (view_of one me) call ≡ false in
           let V : View → Type 0 = λ v. is_mismatched n (base ++ x ∷ []) v call ≡ false in
-          let seen : view_of base me ≡ view_of one me =
-          view_of-append one p me ∙ (ap (λ v. view_of one me ++ v) (unseen_view me p put.none) ∙ append-nil (view_of one me)) in
           subst V (sym seen) (subst A all (h.agreed (p ++ x ∷ []) g enters)));
     }) in
     let other : Event = with_mate x m.mate in
@@ -190,21 +213,68 @@ step_other next output n lawful races most futures one me call q h p x g room b 
       patient = Along-snoc (IsPatientEvent most) one (p ++ last ∷ []) other
           (Along-snoc (IsPatientEvent most) one p last front.patient (λ held. absurd (put.there.ready held))) (subst P here patient);
     } in
-    let there : IsFarBelow (one ++ ((p ++ last ∷ []) ++ other ∷ [])) =
+    let there : IsForeseen next n races (one ++ ((p ++ last ∷ []) ++ other ∷ [])) =
     carry next output n races most futures one me call q h (p ++ last ∷ []) b.rest (other ∷ [])
     (same_as n (base ++ last ∷ []) (one ++ q ∷ b.rest) (one ++ (p ++ last ∷ [])) (one ++ q ∷ b.rest) here refl put.future) b.good (b.probes front.probes) goes in
-    let F : List Event → Type 0 = λ l. IsFarBelow l in
-    subst F (sym all) (below_but base last x other refl (subst F (sym whole) there))
+    let F : List Event → Type 0 = λ l. IsForeseen next n races l in
+    let behind : IsForeseen next n races ((base ++ last ∷ []) ++ other ∷ []) = subst F (sym whole) there in
+    let apart_last : (x.rank == last.rank) ≡ false = (let Q : ℕ → Type 0 = λ r. (x.rank == r) ≡ false in subst Q (sym own) apart) in
+    subst F (sym all)
+    (record {
+      below = below_but base last x other refl behind.below;
+      calls = λ rank c below asked. elim (test_cases (rank == me)) [
+        | inl t ↦
+            let same : rank ≡ me = eqb-true rank me t in
+            let K : ℕ → Type 0 = λ r. is_reckoned races r c ≡ true in
+            let A : ℕ → Type 0 = λ r. call_after next n (base ++ x ∷ []) r ≡ Some c in
+            let view : view_of (base ++ x ∷ []) me ≡ view_of one me = view_of-other base x me apart ∙ seen in
+            subst K (sym same) (h.calls c (ap (λ (v : View). next n me (replies_in v)) (sym view) ∙ subst A same asked))
+        | inr f ↦
+            let no : (last.rank == rank) ≡ false = (let Q : ℕ → Type 0 = λ r. (r == rank) ≡ false in subst Q (sym own) (other_way rank me f)) in
+            let view : view_of ((base ++ last ∷ []) ++ other ∷ []) rank ≡ view_of (base ++ x ∷ []) rank =
+            sym (views_swapped base other last apart_last rank) ∙ (view_of-other (base ++ other ∷ []) last rank no ∙ with_mate_view base x m.mate rank) in
+            behind.calls rank c below (ap (λ (v : View). next n rank (replies_in v)) view ∙ asked)
+      ];
+    })
 
-step_below : (next : Next) (output : Output) (n : ℕ) → Lawful next → (races : Races) (most : ℕ) → FuturesAreSame next output n → (one : List Event) (me : ℕ) (call : Call) (q : Event)
-    → IsQuietHere next n races most one me call q → (p : List Event) (x : Event) → GoesOn next n most one (p ++ x ∷ []) → IsFarBelow (one ++ p)
-    → IsFarBelow (one ++ (p ++ x ∷ []))
-step_below next output n lawful races most futures one me call q h p x g below =
+-- calm histories, and an event behind
+stays_calm : (a b s c d : Bool) → (a && (b && (s || c))) ≡ true → (c ≡ true → d ≡ true) → (a && (b && (s || d))) ≡ true
+stays_calm true true true c d h f = refl
+stays_calm true true false c d h f = f h
+stays_calm true false s c d h f = absurd (cc)
+stays_calm false b s c d h f = absurd (cc)
+
+last_calm : (a b s : Bool) → (a && b) ≡ true → s ≡ true → (a && (b && s)) ≡ true
+last_calm true true s h f = f
+last_calm true false s h f = absurd (cc)
+last_calm false b s h f = absurd (cc)
+
+pub calm_put : (races : Races) (before : List Event) (x : Event) (after : List Event) → is_calm races before ≡ true → is_reckoned races x.rank x.call ≡ true
+    → (is_some (halt_in x.reply) || is_calm races after) ≡ true → is_calm races (before ++ x ∷ after) ≡ true
+calm_put races [] x after h r f =
+    last_calm (races.ranks x.rank || not (is_racy x.call)) (races.partial || not (is_partial x.call)) (is_some (halt_in x.reply) || is_calm races after) r f
+calm_put races (event ∷ before) x after h r f =
+    stays_calm (races.ranks event.rank || not (is_racy event.call)) (races.partial || not (is_partial event.call)) (is_some (halt_in event.reply)) (is_calm races before)
+    (is_calm races (before ++ x ∷ after)) h (λ c. calm_put races before x after c r f)
+
+-- the next event of what is foreseen is calm
+calm_on : (next : Next) (n most : ℕ) (races : Races) (one p : List Event) (x : Event) → GoesOn next n most one (p ++ x ∷ []) → IsForeseen next n races (one ++ p)
+    → is_calm races (one ++ p) ≡ true → is_calm races (one ++ (p ++ x ∷ [])) ≡ true
+calm_on next n most races one p x g foreseen calm =
+    let after : GoesOn next n most (one ++ p) (x ∷ []) = goes_back next n most one p (x ∷ []) g in
+    let step : IsEvent next n (one ++ p) x = (Along-back (IsEvent next n) [] (one ++ p) (x ∷ []) after.good.run.along).0 in
+    ap (is_calm races) (sym (append_assoc one p (x ∷ [])))
+    ∙ calm_put races (one ++ p) x [] calm (foreseen.calls x.rank x.call step.rank step.call) (or_right (is_some (halt_in x.reply)) true refl)
+
+step_foreseen : (next : Next) (output : Output) (n : ℕ) → Lawful next → (races : Races) (most : ℕ) → FuturesAreSame next output n → (one : List Event) (me : ℕ) (call : Call) (q : Event)
+    → IsQuietHere next n races most one me call q → (p : List Event) (x : Event) → GoesOn next n most one (p ++ x ∷ []) → IsForeseen next n races (one ++ p)
+    → is_calm races (one ++ (p ++ x ∷ [])) ≡ true → IsForeseen next n races (one ++ (p ++ x ∷ []))
+step_foreseen next output n lawful races most futures one me call q h p x g foreseen calm =
     let front : GoesOn next n most one p = goes_front next n most one p (x ∷ []) g in
     let after : GoesOn next n most (one ++ p) (x ∷ []) = goes_back next n most one p (x ∷ []) g in
-    let room : HasRoom (one ++ q ∷ p) = room_far one p q h.far below in
+    let room : HasRoom (one ++ q ∷ p) = room_far one p q h.far foreseen.below in
     let b : GoesBehind next n races one p me call q = goes_behind next output n lawful futures races one p (x ∷ []) me call q
-    (record { good = front.good; first = h.first; calm = h.calm (p ++ x ∷ []) g; free = front.free; room = room; agreed = h.agreed (p ++ x ∷ []) g }) in
+    (record { good = front.good; first = h.first; calm = calm; free = front.free; room = room; agreed = h.agreed (p ++ x ∷ []) g }) in
     elim b.left [
       | inl moved ↦ step_moved next output n races most futures one me call q h p x g b moved
       | inr put ↦ elim (test_cases (x.rank == me)) [
@@ -213,42 +283,46 @@ step_below next output n lawful races most futures one me call q h p x g below =
             own_first next n lawful races (one ++ p) me call put.last x front.good put.there (Along-back (IsEvent next n) [] (one ++ p) (x ∷ []) after.good.run.along).0
             (Along-back (IsNumberedInOrder n) [] (one ++ p) (x ∷ []) after.good.numbered).0 (eqb-true x.rank me t) in
             step_own next output n races most futures one me call q h p x g b put (sym same)
-        | inr f ↦ step_other next output n lawful races most futures one me call q h p x g room b put f
+        | inr f ↦ step_other next output n lawful races most futures one me call q h p x g calm room b put f
       ]
     ]
 
-along_below : (next : Next) (output : Output) (n : ℕ) → Lawful next → (races : Races) (most : ℕ) → FuturesAreSame next output n → (one : List Event) (me : ℕ) (call : Call) (q : Event)
-    → IsQuietHere next n races most one me call q → (p xs : List Event) → GoesOn next n most one (p ++ xs) → IsFarBelow (one ++ p) → IsFarBelow (one ++ (p ++ xs))
-along_below next output n lawful races most futures one me call q h p [] g below =
-    (let F : List Event → Type 0 = λ l. IsFarBelow (one ++ l) in subst F (sym (append-nil p)) below)
-along_below next output n lawful races most futures one me call q h p (x ∷ xs) g below =
+along_foreseen : (next : Next) (output : Output) (n : ℕ) → Lawful next → (races : Races) (most : ℕ) → FuturesAreSame next output n → (one : List Event) (me : ℕ) (call : Call) (q : Event)
+    → IsQuietHere next n races most one me call q → (p xs : List Event) → GoesOn next n most one (p ++ xs) → IsForeseen next n races (one ++ p) → is_calm races (one ++ p) ≡ true
+    → IsForeseen next n races (one ++ (p ++ xs))
+along_foreseen next output n lawful races most futures one me call q h p [] g foreseen calm =
+    (let F : List Event → Type 0 = λ l. IsForeseen next n races (one ++ l) in subst F (sym (append-nil p)) foreseen)
+along_foreseen next output n lawful races most futures one me call q h p (x ∷ xs) g foreseen calm =
     let here : (p ++ x ∷ []) ++ xs ≡ p ++ x ∷ xs = append_assoc p (x ∷ []) xs in
     let H : List Event → Type 0 = λ l. GoesOn next n most one l in
-    let F : List Event → Type 0 = λ l. IsFarBelow (one ++ l) in
+    let F : List Event → Type 0 = λ l. IsForeseen next n races (one ++ l) in
     let goes : GoesOn next n most one ((p ++ x ∷ []) ++ xs) = subst H (sym here) g in
     let front : GoesOn next n most one (p ++ x ∷ []) = goes_front next n most one (p ++ x ∷ []) xs goes in
-    subst F here (along_below next output n lawful races most futures one me call q h (p ++ x ∷ []) xs goes (step_below next output n lawful races most futures one me call q h p x front below))
+    let calm' : is_calm races (one ++ (p ++ x ∷ [])) ≡ true = calm_on next n most races one p x front foreseen calm in
+    subst F here
+    (along_foreseen next output n lawful races most futures one me call q h (p ++ x ∷ []) xs goes
+    (step_foreseen next output n lawful races most futures one me call q h p x front foreseen calm') calm')
 
 goes_from : (next : Next) (n most : ℕ) (visited : List (List Event)) (one front : List Event) → IsIn one visited → GoesOn next n most one front
     → GoesOnFrom next n (IsPatientStep most) visited one front
 goes_from next n most visited one front there g =
     record { begins = there; run = g.good.run; numbered = g.good.numbered; wanted = both_along most one front g.probes g.patient }
 
-quiet_below : (next : Next) (output : Output) (n : ℕ) → Lawful next → (races : Races) (most : ℕ) (visited : List (List Event)) → FuturesAreSame next output n
+quiet_foreseen : (next : Next) (output : Output) (n : ℕ) → Lawful next → (races : Races) (most : ℕ) (visited : List (List Event)) → FuturesAreSame next output n
     → IsSearchedQuietly next n races most visited → (one : List Event) → IsIn one visited → IsQuietCallMet next n races visited one
-    → LongerStayBelow next n most visited one → StaysBelow next n most one
-quiet_below next output n lawful races most visited futures c one there quiet longer front g =
+    → AreLongerForeseen next n races most visited one → IsForeseenFrom next n races most one
+quiet_foreseen next output n lawful races most visited futures c one there quiet longer front g =
     let q : Event = picked_event n one quiet.rank quiet.call quiet.pick in
     let way : IsOnItsWay next n quiet.met.0 = c.runs quiet.met.0 quiet.met.1 in
-    let F : List Event → Type 0 = λ l. IsFarBelow l in
-    along_below next output n lawful races most futures one quiet.rank quiet.call q
+    let F : List Event → Type 0 = λ l. IsForeseen next n races l in
+    along_foreseen next output n lawful races most futures one quiet.rank quiet.call q
     (record {
       first = quiet_first next n races one quiet.rank quiet.call quiet.pick quiet.quiet;
       far = below_same quiet.met.0 (one ++ q ∷ []) quiet.met.2.views way.below;
-      behind = λ rest goes. met_below next output n races most visited futures c one q longer quiet.met rest goes;
-      calm = λ more goes. c.reckoned.calm one more (goes_from next n most visited one more there goes);
+      behind = λ rest goes. met_foreseen next output n races most visited futures c one q longer quiet.met rest goes;
+      calls = λ call' asked. c.reckoned.calls one quiet.rank call' there quiet.quiet.move.below asked;
       agreed = λ more goes. c.reckoned.agreed one more quiet.rank quiet.call quiet.pick (goes_from next n most visited one more there goes) quiet.quiet;
-    }) [] front g (subst F (sym (append-nil one)) (c.runs one there).below)
+    }) [] front g (subst F (sym (append-nil one)) (foreseen_here next n races most visited c one there)) (ap (is_calm races) (append-nil one) ∙ c.reckoned.past one there)
 
 -- 3. of all of them
 
@@ -259,21 +333,37 @@ pub one_less : (count other bound k : ℕ) → bound ≤ count + suc k → count
 one_less count other bound k enough less = omega (arith, enough, less)
 
 by_room : (next : Next) (output : Output) (n : ℕ) → Lawful next → (races : Races) (most : ℕ) (visited : List (List Event)) → FuturesAreSame next output n → EveryStepIsMade next n
-    → IsSearchedQuietly next n races most visited → (k : ℕ) (one : List Event) → IsIn one visited → MOST_EVENTS ≤ length one + k → StaysBelow next n most one
+    → IsSearchedQuietly next n races most visited → (k : ℕ) (one : List Event) → IsIn one visited → MOST_EVENTS ≤ length one + k → IsForeseenFrom next n races most one
 by_room next output n lawful races most visited futures steps c zero one there enough front g =
     absurd (none_left (length one) MOST_EVENTS (c.runs one there).below.count enough)
 by_room next output n lawful races most visited futures steps c (suc k) one there enough front g =
-    let longer : LongerStayBelow next n most visited one =
+    let longer : AreLongerForeseen next n races most visited one =
     λ two in_two more. by_room next output n lawful races most visited futures steps c k two in_two (one_less (length one) (length two) MOST_EVENTS k enough more) in
     elim (c.more one there) [
-      | inl moves ↦ moves_below next output n races most visited futures steps c one there moves longer front g
-      | inr quiet ↦ quiet_below next output n lawful races most visited futures c one there quiet longer front g
+      | inl moves ↦ moves_foreseen next output n races most visited futures steps c one there moves longer front g
+      | inr quiet ↦ quiet_foreseen next output n lawful races most visited futures c one there quiet longer front g
     ]
 
 pub at_most : (bound count : ℕ) → bound ≤ count + bound
 at_most bound count = omega arith
 
-pub stays_below : (next : Next) (output : Output) (n : ℕ) → Lawful next → (races : Races) (most : ℕ) (visited : List (List Event)) → FuturesAreSame next output n → EveryStepIsMade next n
-    → IsSearchedQuietly next n races most visited → (one : List Event) → IsIn one visited → StaysBelow next n most one
-stays_below next output n lawful races most visited futures steps c one there =
+pub all_foreseen : (next : Next) (output : Output) (n : ℕ) → Lawful next → (races : Races) (most : ℕ) (visited : List (List Event)) → FuturesAreSame next output n → EveryStepIsMade next n
+    → IsSearchedQuietly next n races most visited → (one : List Event) → IsIn one visited → IsForeseenFrom next n races most one
+all_foreseen next output n lawful races most visited futures steps c one there =
     by_room next output n lawful races most visited futures steps c MOST_EVENTS one there (at_most MOST_EVENTS (length one))
+
+-- so what goes on is calm
+calm_from : (next : Next) (n : ℕ) (races : Races) (most : ℕ) (one : List Event) → IsForeseenFrom next n races most one → (p xs : List Event) → GoesOn next n most one (p ++ xs)
+    → is_calm races (one ++ p) ≡ true → is_calm races (one ++ (p ++ xs)) ≡ true
+calm_from next n races most one foreseen p [] g calm = ap (λ l. is_calm races (one ++ l)) (append-nil p) ∙ calm
+calm_from next n races most one foreseen p (x ∷ xs) g calm =
+    let here : (p ++ x ∷ []) ++ xs ≡ p ++ x ∷ xs = append_assoc p (x ∷ []) xs in
+    let H : List Event → Type 0 = λ l. GoesOn next n most one l in
+    let goes : GoesOn next n most one ((p ++ x ∷ []) ++ xs) = subst H (sym here) g in
+    let front : GoesOn next n most one (p ++ x ∷ []) = goes_front next n most one (p ++ x ∷ []) xs goes in
+    ap (λ l. is_calm races (one ++ l)) (sym here)
+    ∙ calm_from next n races most one foreseen (p ++ x ∷ []) xs goes (calm_on next n most races one p x front (foreseen p (goes_front next n most one p (x ∷ xs) g)) calm)
+
+pub all_calm : (next : Next) (n : ℕ) (races : Races) (most : ℕ) (one : List Event) → IsForeseenFrom next n races most one → is_calm races one ≡ true
+    → (front : List Event) → GoesOn next n most one front → is_calm races (one ++ front) ≡ true
+all_calm next n races most one foreseen calm front g = calm_from next n races most one foreseen [] front g (ap (is_calm races) (append-nil one) ∙ calm)

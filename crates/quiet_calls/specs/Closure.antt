@@ -1,5 +1,5 @@
 -- Histories that a search has met which follows one quiet call alone where there is one.
-use Rattle.std.specs.Prelude.{◌≡◌, ◌<◌, ◌⊎◌, ◌+◌, ℕ, List, [], ◌∷◌, ◌++◌, None, true, length}
+use Rattle.std.specs.Prelude.{◌≡◌, ◌<◌, ◌⊎◌, ◌+◌, ◌&&◌, ◌||◌, ℕ, List, [], ◌∷◌, ◌++◌, Some, None, Bool, true, length, not}
 use Rattle.mpi_call.specs.declared.call.Call.{Call}
 use Rattle.mpi_call.specs.declared.limits.TheConstants.{MOST_EVENTS, MOST_SIZE}
 use Rattle.mpi_call.specs.Lists.{IsIn}
@@ -7,6 +7,7 @@ use Rattle.run_model.specs.declared.event.Event.{Event}
 use Rattle.run_model.specs.Due.{halted, total_size}
 use Rattle.run_model.specs.Lists.{Along}
 use Rattle.run_model.specs.Run.{IsRun}
+use Rattle.run_model.specs.Serial.{call_after}
 use Rattle.run_model.specs.Views.{Next, view_of}
 use Rattle.picked_runs.specs.declared.turn.Pick.{Pick}
 use Rattle.picked_runs.specs.Numbering.{AreNumberedInOrder}
@@ -14,7 +15,7 @@ use Rattle.picked_runs.specs.Picks.{picked_event}
 use Rattle.run_states.specs.Moves.{IsMet, IsMove}
 use Rattle.run_states.specs.Outcomes.{IsPatientEvent, IsProbeKept, IsWhole, KeepsProbes, Output, outcome_of}
 use Rattle.run_states.specs.StateLaws.{IsOutcomeMet, IsPatientStep}
-use Rattle.quiet_calls.specs.Quiet.{IsAgreed, IsQuiet, Races, is_calm}
+use Rattle.quiet_calls.specs.Quiet.{IsAgreed, IsQuiet, Races, is_calm, is_partial, is_racy}
 
 -- less than half of the bound, in events and in size
 pub record IsFarBelow (events : List Event) : Type 0 where
@@ -57,9 +58,15 @@ pub record GoesOnFrom (next : Next) (n : ℕ) (IsWanted : List Event → Event �
   pub numbered : AreNumberedInOrder n (before ++ more)
   pub wanted : Along IsWanted before more
 
--- all such runs are calm, and agree with the quiet calls of the history that they go on from
+-- a rank's call is no racy one, or it is reckoned with
+abbrev pub is_reckoned : Races → ℕ → Call → Bool
+is_reckoned races rank call = (races.ranks rank || not (is_racy call)) && (races.partial || not (is_partial call))
+
+-- the calls of these histories, and each rank's next call, are reckoned with; and the runs that go on from one agree with its quiet calls
 pub record AreReckonedWith (next : Next) (n : ℕ) (races : Races) (IsWanted : List Event → Event → Type 0) (visited : List (List Event)) : Type 0 where
-  pub calm : (before more : List Event) → GoesOnFrom next n IsWanted visited before more → is_calm races (before ++ more) ≡ true
+  pub past : (before : List Event) → IsIn before visited → is_calm races before ≡ true
+  pub calls : (before : List Event) (rank : ℕ) (call : Call) → IsIn before visited → rank < n → call_after next n before rank ≡ Some call
+      → is_reckoned races rank call ≡ true
   pub agreed : (before more : List Event) (rank : ℕ) (call : Call) (pick : Pick) → GoesOnFrom next n IsWanted visited before more
       → IsQuiet next n races before rank call pick → IsAgreed n (before ++ more) (view_of before rank) call
 
