@@ -25,6 +25,7 @@ mod Telling
 mod GoingFirst
 mod Sizes
 mod FarBelow
+mod Agreeing
 mod Onwards
 mod StayingBelow
 mod MissingNothing
