@@ -141,7 +141,7 @@ pub record IsEnterCall (races : Races) (call : Call) : Type 0 where
   pub plain : makes call ≡ false
   pub whole : races.partial ≡ false
 
-enter_kind : (races : Races) (call : Call) → is_enter call ≡ true → (not races.partial && not (makes call)) ≡ true → IsEnterCall races call
+pub enter_kind : (races : Races) (call : Call) → is_enter call ≡ true → (not races.partial && not (makes call)) ≡ true → IsEnterCall races call
 enter_kind races call enters h =
     let parts = and_parts (not races.partial) (not (makes call)) h in
     record { enters = enters; plain = not_true (makes call) parts.1; whole = not_true races.partial parts.0 }

@@ -1,5 +1,5 @@
 -- Histories far below the bound: those of the same views are too, and there is room for one more event of another.
-use Rattle.std.proofs.Common.{◌≡◌, ◌∙◌, ◌++◌, ◌+◌, ◌<◌, ◌∷◌, ℕ, suc, List, [], length, length-append, ap, sym, subst, arith}
+use Rattle.std.proofs.Common.{◌≡◌, ◌∙◌, ◌++◌, ◌+◌, ◌<◌, ◌∷◌, ℕ, suc, List, [], length, length-append, sym, subst, arith}
 use Rattle.mpi_call.specs.declared.limits.TheConstants.{MOST_EVENTS, MOST_SIZE}
 use Rattle.run_model.specs.declared.event.Event.{Event}
 use Rattle.run_model.specs.Due.{size_of, total_size}
@@ -19,10 +19,6 @@ below_same one other same below = below_by one other (same_length one other same
 
 half_front : (a b most : ℕ) → (a + b) + (a + b) < most → a + a < most
 half_front a b most h = omega (arith, h)
-
--- without an event that stands before the last
-half_but : (a b c most : ℕ) → (a + (b + c)) + (a + (b + c)) < most → (a + c) + (a + c) < most
-half_but a b c most h = omega (arith, h)
 
 -- two that begin alike, one after the other
 half_both : (a b c most : ℕ) → (a + b) + (a + b) < most → (a + c) + (a + c) < most → a + (b + c) < most
@@ -46,19 +42,12 @@ room_far one front q first below =
       size = subst G (sym size) (half_both (total_size one) (size_of q) (total_size front) MOST_SIZE (subst S last first.size) (subst S (size_append one front) below.size));
     }
 
--- without one event, and with another of the size of the last
-pub below_but : (base : List Event) (q x other : Event) → size_of other ≡ size_of x → IsFarBelow ((base ++ q ∷ []) ++ other ∷ []) → IsFarBelow (base ++ x ∷ [])
-below_but base q x other same below =
+-- without the last
+pub below_put : (base : List Event) (q x : Event) → IsFarBelow ((base ++ x ∷ []) ++ q ∷ []) → IsFarBelow (base ++ x ∷ [])
+below_put base q x below =
     let N : ℕ → Type 0 = λ c. c + c < MOST_EVENTS in
     let S : ℕ → Type 0 = λ c. c + c < MOST_SIZE in
-    let count : length ((base ++ q ∷ []) ++ other ∷ []) ≡ length base + (1 + 1) =
-    length-append (base ++ q ∷ []) (other ∷ [])
-    ∙ (ap (λ c. c + 1) (length-append base (q ∷ [])) ∙ (let e : (length base + 1) + 1 ≡ length base + (1 + 1) = omega arith in e)) in
-    let size : total_size ((base ++ q ∷ []) ++ other ∷ []) ≡ total_size base + (size_of q + (size_of x + 0)) =
-    size_append (base ++ q ∷ []) (other ∷ [])
-    ∙ (ap (λ c. c + (size_of other + 0)) (size_append base (q ∷ []))
-    ∙ (let e : (total_size base + (size_of q + 0)) + (size_of other + 0) ≡ total_size base + (size_of q + (size_of x + 0)) = omega (arith, same) in e)) in
     record {
-      count = subst N (sym (length-append base (x ∷ []))) (half_but (length base) 1 1 MOST_EVENTS (subst N count below.count));
-      size = subst S (sym (size_append base (x ∷ []))) (half_but (total_size base) (size_of q) (size_of x + 0) MOST_SIZE (subst S size below.size));
+      count = half_front (length (base ++ x ∷ [])) 1 MOST_EVENTS (subst N (length-append (base ++ x ∷ []) (q ∷ [])) below.count);
+      size = half_front (total_size (base ++ x ∷ [])) (size_of q + 0) MOST_SIZE (subst S (size_append (base ++ x ∷ []) (q ∷ [])) below.size);
     }

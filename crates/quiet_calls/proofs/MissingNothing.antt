@@ -1,14 +1,13 @@
 -- What each whole run comes to is met, where a search follows one quiet call alone.
-use Rattle.std.proofs.Common.{◌≡◌, ◌<◌, ◌≤◌, ◌∙◌, ◌++◌, ◌+◌, ◌∷◌, ℕ, zero, suc, List, [], None, true, false, append-nil, append_assoc, inl, inr, is_some, length, length-append, refl, ap, sym, subst, arith}
+use Rattle.std.proofs.Common.{◌≡◌, ◌<◌, ◌≤◌, ◌∙◌, ◌++◌, ◌+◌, ◌∷◌, ℕ, zero, suc, List, [], Some, None, true, false, append-nil, append_assoc, inl, inr, is_some, length, length-append, refl, ap, sym, subst, arith}
 use Rattle.std.proofs.lemmas.Bool.{or_left, or_right}
 use Rattle.mpi_call.specs.declared.call.Call.{Call}
-use Rattle.mpi_call.specs.declared.call.Call.TheVariants.{Enter}
+use Rattle.mpi_call.specs.declared.call.Halt.{Halt}
 use Rattle.mpi_call.specs.declared.limits.TheConstants.{MOST_EVENTS}
 use Rattle.mpi_call.specs.declared.reply.Reply.TheVariants.{NotYet}
-use Rattle.mpi_call.specs.Calls.{is_enter}
 use Rattle.mpi_call.specs.Lists.{IsIn}
 use Rattle.run_model.specs.declared.event.Event.{Event}
-use Rattle.run_model.specs.Due.{halt_in, halted, is_full, or_else}
+use Rattle.run_model.specs.Due.{halt_in, halted, is_full, is_mismatched, or_else}
 use Rattle.run_model.specs.Lists.{Along}
 use Rattle.run_model.specs.Run.{IsEvent, IsRun}
 use Rattle.run_model.specs.Views.{Next, View, replies_in, view_of}
@@ -19,16 +18,17 @@ use Rattle.picked_runs.specs.Picks.{picked_event}
 use Rattle.run_states.specs.Moves.{IsMet}
 use Rattle.run_states.specs.Outcomes.{IsPatientEvent, IsProbeKept, IsWhole, Outcome, Output, outcome_of, vain_after, vain_in}
 use Rattle.run_states.specs.StateLaws.{EveryStepIsMade, FuturesAreSame, HaltsDecideOutcomes, HasLike, IsMade, IsOutcomeMet, IsPatientStep}
-use Rattle.quiet_calls.specs.Quiet.{GoesOnBehind, Races, before_halt, is_calm, is_quiet}
-use Rattle.quiet_calls.specs.Closure.{AreMovesMet, AreReckonedWith, GoesOnFrom, IsFarBelow, IsOnItsWay, IsQuietCallMet, QuietCallsMissNothing, QuietCallsMissNothingPatient, SteadyCallsMissNothing, SteadyCallsMissNothingPatient, any_race}
+use Rattle.quiet_calls.specs.Quiet.{GoesOnBehind, IsAgreed, Races, before_halt, is_calm}
+use Rattle.quiet_calls.specs.Closure.{AreMovesMet, AreReckonedWith, IsFarBelow, IsOnItsWay, IsQuietCallMet, QuietCallsMissNothing, QuietCallsMissNothingPatient, SteadyCallsMissNothing, SteadyCallsMissNothingPatient, any_race}
 use Rattle.quiet_calls.proofs.Room.{not_full}
 use Rattle.quiet_calls.proofs.Runs.{IsGood}
-use Rattle.quiet_calls.proofs.Commuting.{halted_append}
+use Rattle.quiet_calls.proofs.Commuting.{halted_append, halted_more}
 use Rattle.quiet_calls.proofs.Fronting.{good_front}
 use Rattle.quiet_calls.proofs.GoingFirst.{HasFirstHalt, all_free, along_join, first_halt, goes_first, stopped_by}
+use Rattle.quiet_calls.proofs.Agreeing.{agreed_stopped, agreed_tail}
 use Rattle.quiet_calls.proofs.FarBelow.{below_same, room_far}
-use Rattle.quiet_calls.proofs.Onwards.{GoesOn, both_along, patience_across}
-use Rattle.quiet_calls.proofs.StayingBelow.{IsForeseenFrom, IsSearchedQuietly, all_calm, all_foreseen, at_most, back, calm_put, is_longer, none_left, one_less}
+use Rattle.quiet_calls.proofs.Onwards.{GoesOn, patience_across}
+use Rattle.quiet_calls.proofs.StayingBelow.{IsForeseenFrom, IsSearchedQuietly, all_agreed, all_calm, all_foreseen, at_most, back, calm_put, is_longer, none_left, one_less}
 
 -- what whole runs that go on from a history come to is met
 abbrev IsAnswered : Next → Output → ℕ → ℕ → List (List Event) → List Event → Type 0
@@ -129,6 +129,10 @@ goes_to_halt next n most one more none whole patient =
           (record { good = good; free = halted_append one more ∙ (ap (λ o. or_else o (halted more)) none ∙ free); probes = kept; patient = patient })
     ]
 
+up_to_halt : (one more : List Event) (halt : Halt) (f : HasFirstHalt more halt) → one ++ more ≡ (one ++ before_halt more) ++ f.event ∷ f.after
+up_to_halt one more halt f =
+    ap (λ l. one ++ l) f.whole ∙ (ap (λ l. one ++ (l ++ f.event ∷ f.after)) (sym f.part) ∙ sym (append_assoc one (before_halt more) (f.event ∷ f.after)))
+
 -- so it is calm, with the call that is answered by the halt
 whole_calm : (next : Next) (n : ℕ) (races : Races) (most : ℕ) (one more : List Event) → IsForeseenFrom next n races most one → is_calm races one ≡ true → IsWhole next n (one ++ more)
     → GoesOn next n most one (before_halt more) → is_calm races (one ++ more) ≡ true
@@ -138,8 +142,7 @@ whole_calm next n races most one more foreseen past whole goes =
       | inl some ↦
           let f : HasFirstHalt more some.0 = first_halt more some.0 some.1 in
           let front : List Event = one ++ before_halt more in
-          let same : one ++ more ≡ front ++ f.event ∷ f.after =
-          ap (λ l. one ++ l) f.whole ∙ (ap (λ l. one ++ (l ++ f.event ∷ f.after)) (sym f.part) ∙ sym (append_assoc one (before_halt more) (f.event ∷ f.after))) in
+          let same : one ++ more ≡ front ++ f.event ∷ f.after = up_to_halt one more some.0 f in
           let R : List Event → Type 0 = λ l. IsRun next n l in
           let run : IsRun next n (front ++ f.event ∷ f.after) = subst R same whole.run in
           let step : IsEvent next n front f.event = (Along-back (IsEvent next n) [] front (f.event ∷ f.after) run.along).0 in
@@ -149,6 +152,25 @@ whole_calm next n races most one more foreseen past whole goes =
       | inr free ↦ ap (λ l. is_calm races (one ++ l)) (sym (all_free more free)) ∙ calm
     ]
 
+-- nor does what comes behind the halt disagree
+whole_agreed : (next : Next) (n : ℕ) (one more : List Event) (own : View) (call : Call) → IsWhole next n (one ++ more) → IsAgreed n (one ++ before_halt more) own call
+    → halted (one ++ before_halt more) ≡ None → IsAgreed n (one ++ more) own call
+whole_agreed next n one more own call whole agreed free enters =
+    elim (option_cases (halted more)) [
+      | inl some ↦
+          let f : HasFirstHalt more some.0 = first_halt more some.0 some.1 in
+          let front : List Event = one ++ before_halt more in
+          let same : one ++ more ≡ front ++ f.event ∷ f.after = up_to_halt one more some.0 f in
+          let R : List Event → Type 0 = λ l. IsRun next n l in
+          let run : IsRun next n (front ++ f.event ∷ f.after) = subst R same whole.run in
+          let steps = Along-back (IsEvent next n) [] front (f.event ∷ f.after) run.along in
+          let halts : halted (front ++ f.event ∷ []) ≡ Some some.0 = halted_more front f.event ∙ (ap (λ o. or_else o (halt_in f.event.reply)) free ∙ f.here) in
+          ap (λ l. is_mismatched n l own call) (same ∙ sym (append_assoc front (f.event ∷ []) f.after))
+          ∙ agreed_tail next n some.0 own call (front ++ f.event ∷ []) f.after steps.1 halts
+          (agreed_stopped n front f.event some.0 own call (stopped_by f.event.reply some.0 f.here) (agreed enters))
+      | inr none ↦ ap (λ l. is_mismatched n (one ++ l) own call) (sym (all_free more none)) ∙ agreed enters
+    ]
+
 quiet_answered : (next : Next) (output : Output) (n : ℕ) → Lawful next → (races : Races) (most : ℕ) (visited : List (List Event)) → FuturesAreSame next output n → EveryStepIsMade next n
     → HaltsDecideOutcomes next output n → IsSearchedQuietly next n races most visited → (one : List Event) → IsIn one visited → IsQuietCallMet next n races visited one
     → LongerAreAnswered next output n most visited one → IsAnswered next output n most visited one
@@ -156,7 +178,6 @@ quiet_answered next output n lawful races most visited futures steps decide c on
     let q : Event = picked_event n one quiet.rank quiet.call quiet.pick in
     let way : IsOnItsWay next n one = c.runs one there in
     let kept : Along IsProbeKept one more = Along-back IsProbeKept [] one more whole.probes in
-    let from : GoesOnFrom next n (IsPatientStep most) visited one more = record { begins = there; run = whole.run; numbered = whole.numbered; wanted = both_along most one more kept patient } in
     let far : IsFarBelow (one ++ q ∷ []) = below_same quiet.met.0 (one ++ q ∷ []) quiet.met.2.views (c.runs quiet.met.0 quiet.met.1).below in
     let foreseen : IsForeseenFrom next n races most one = all_foreseen next output n lawful races most visited futures steps c one there in
     let goes : GoesOn next n most one (before_halt more) = goes_to_halt next n most one more way.free whole patient in
@@ -164,7 +185,8 @@ quiet_answered next output n lawful races most visited futures steps decide c on
     let calm : is_calm races (one ++ more) ≡ true = whole_calm next n races most one more foreseen (c.reckoned.past one there) whole goes in
     let full : is_full (one ++ q ∷ before_halt more) ≡ false = not_full (one ++ q ∷ before_halt more) (room_far one (before_halt more) q far below) in
     let b : GoesOnBehind next output n one more q = goes_first next output n lawful futures decide races one more quiet.rank quiet.call quiet.pick quiet.quiet whole
-    calm (c.reckoned.agreed one more quiet.rank quiet.call quiet.pick from quiet.quiet) full in
+    calm (whole_agreed next n one more (view_of one quiet.rank) quiet.call whole
+    (all_agreed next output n lawful races most visited futures steps c one there quiet (before_halt more) goes) goes.free) full in
     let O : Outcome → Type 0 = λ o. IsOutcomeMet next output n visited o in
     subst O (sym b.outcome) (step_answered next output n races most visited futures c one q longer quiet.met b.rest b.whole (b.patient most patient))
 
@@ -215,15 +237,6 @@ patient_enough most before (event ∷ events) less =
       patient_enough most (before ++ event ∷ []) events (subst F (sym (append_assoc before (event ∷ []) events)) less),
     )
 
-kept_along : (most : ℕ) (before events : List Event) → Along (IsPatientStep most) before events → Along IsProbeKept before events
-kept_along most before [] wanted = tt
-kept_along most before (event ∷ events) wanted = (wanted.0.0, kept_along most (before ++ event ∷ []) events wanted.1)
-
-kept_from : (next : Next) (n most : ℕ) (visited : List (List Event)) (before more : List Event) → GoesOnFrom next n (IsPatientStep most) visited before more
-    → GoesOnFrom next n IsProbeKept visited before more
-kept_from next n most visited before more from =
-    record { begins = from.begins; run = from.run; numbered = from.numbered; wanted = kept_along most before more from.wanted }
-
 pub nothing_missed : (next : Next) (output : Output) (n : ℕ) → Lawful next → FuturesAreSame next output n → EveryStepIsMade next n → HaltsDecideOutcomes next output n
     → QuietCallsMissNothing next output n
 nothing_missed next output n lawful futures steps decide races root more visited closed reckoned whole =
@@ -235,11 +248,7 @@ nothing_missed next output n lawful futures steps decide races root more visited
         | inl moves ↦ inl (λ rank call pick move wanted. moves rank call pick move wanted.0)
         | inr quiet ↦ inr quiet
       ];
-      reckoned = record {
-        past = reckoned.past;
-        calls = reckoned.calls;
-        agreed = λ before after rank call pick from quiet. reckoned.agreed before after rank call pick (kept_from next n most visited before after from) quiet;
-      };
+      reckoned = reckoned;
     }) root closed.first more whole (patient_enough most root more (one_more (length (root ++ more))))
 
 -- 5. the steady calls alone
@@ -248,24 +257,20 @@ any_calm : (events : List Event) → is_calm any_race events ≡ true
 any_calm [] = refl
 any_calm (event ∷ events) = or_right (is_some (halt_in event.reply)) (is_calm any_race events) (any_calm events)
 
-no_enter : (call : Call) → is_quiet any_race call ≡ true → is_enter call ≡ true → ⊥
-no_enter (Enter comm kind root op count ints) quiet enters = cc
-no_enter call quiet enters = absurd (cc)
-
-any_reckoned : (next : Next) (n : ℕ) (IsWanted : List Event → Event → Type 0) (visited : List (List Event)) → AreReckonedWith next n any_race IsWanted visited
-any_reckoned next n IsWanted visited =
+any_reckoned : (next : Next) (n : ℕ) (visited : List (List Event)) → AreReckonedWith next n any_race visited
+any_reckoned next n visited =
     record {
       past = λ before there. any_calm before;
       calls = λ before rank call there below asked. refl;
-      agreed = λ before more rank call pick from quiet enters. absurd (no_enter call quiet.kind enters);
+      agreed = λ partial before rank call there below asked enters. absurd (cc);
     }
 
 pub steady_missed : (next : Next) (output : Output) (n : ℕ) → Lawful next → FuturesAreSame next output n → EveryStepIsMade next n → HaltsDecideOutcomes next output n
     → SteadyCallsMissNothing next output n
 steady_missed next output n lawful futures steps decide root more visited closed whole =
-    nothing_missed next output n lawful futures steps decide any_race root more visited closed (any_reckoned next n IsProbeKept visited) whole
+    nothing_missed next output n lawful futures steps decide any_race root more visited closed (any_reckoned next n visited) whole
 
 pub patient_steady_missed : (next : Next) (output : Output) (n : ℕ) → Lawful next → FuturesAreSame next output n → EveryStepIsMade next n → HaltsDecideOutcomes next output n
     → SteadyCallsMissNothingPatient next output n
 patient_steady_missed next output n lawful futures steps decide most root more visited closed whole patient =
-    patient_missed next output n lawful futures steps decide most any_race root more visited closed (any_reckoned next n (IsPatientStep most) visited) whole patient
+    patient_missed next output n lawful futures steps decide most any_race root more visited closed (any_reckoned next n visited) whole patient

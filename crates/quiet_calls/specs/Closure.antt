@@ -1,5 +1,5 @@
 -- Histories that a search has met which follows one quiet call alone where there is one.
-use Rattle.std.specs.Prelude.{◌≡◌, ◌<◌, ◌⊎◌, ◌+◌, ◌&&◌, ◌||◌, ℕ, List, [], ◌∷◌, ◌++◌, Some, None, Bool, true, length, not}
+use Rattle.std.specs.Prelude.{◌≡◌, ◌<◌, ◌⊎◌, ◌+◌, ◌&&◌, ◌||◌, ℕ, List, [], ◌∷◌, ◌++◌, Some, None, Bool, true, false, length, not}
 use Rattle.mpi_call.specs.declared.call.Call.{Call}
 use Rattle.mpi_call.specs.declared.limits.TheConstants.{MOST_EVENTS, MOST_SIZE}
 use Rattle.mpi_call.specs.Lists.{IsIn}
@@ -51,36 +51,29 @@ pub record AreClosedQuietly (next : Next) (n : ℕ) (races : Races) (root : List
   pub runs : (before : List Event) → IsIn before visited → IsOnItsWay next n before
   pub more : (before : List Event) → IsIn before visited → AreMovesMet next n IsWanted visited before ⊎ IsQuietCallMet next n races visited before
 
--- a run that goes on from one of these histories, by wanted steps
-pub record GoesOnFrom (next : Next) (n : ℕ) (IsWanted : List Event → Event → Type 0) (visited : List (List Event)) (before more : List Event) : Type 0 where
-  pub begins : IsIn before visited
-  pub run : IsRun next n (before ++ more)
-  pub numbered : AreNumberedInOrder n (before ++ more)
-  pub wanted : Along IsWanted before more
-
 -- a rank's call is no racy one, or it is reckoned with
 abbrev pub is_reckoned : Races → ℕ → Call → Bool
 is_reckoned races rank call = (races.ranks rank || not (is_racy call)) && (races.partial || not (is_partial call))
 
--- the calls of these histories, and each rank's next call, are reckoned with; and the runs that go on from one agree with its quiet calls
-pub record AreReckonedWith (next : Next) (n : ℕ) (races : Races) (IsWanted : List Event → Event → Type 0) (visited : List (List Event)) : Type 0 where
+-- the calls of these histories, and each rank's next call, are reckoned with; where no rank completes in part, no next call is mismatched
+pub record AreReckonedWith (next : Next) (n : ℕ) (races : Races) (visited : List (List Event)) : Type 0 where
   pub past : (before : List Event) → IsIn before visited → is_calm races before ≡ true
   pub calls : (before : List Event) (rank : ℕ) (call : Call) → IsIn before visited → rank < n → call_after next n before rank ≡ Some call
       → is_reckoned races rank call ≡ true
-  pub agreed : (before more : List Event) (rank : ℕ) (call : Call) (pick : Pick) → GoesOnFrom next n IsWanted visited before more
-      → IsQuiet next n races before rank call pick → IsAgreed n (before ++ more) (view_of before rank) call
+  pub agreed : races.partial ≡ false → (before : List Event) (rank : ℕ) (call : Call) → IsIn before visited → rank < n
+      → call_after next n before rank ≡ Some call → IsAgreed n before (view_of before rank) call
 
 -- what each whole run from the first of such histories on comes to is met
 abbrev pub QuietCallsMissNothing : Next → Output → ℕ → Type 0
 QuietCallsMissNothing next output n =
     (races : Races) (root more : List Event) (visited : List (List Event)) → AreClosedQuietly next n races root IsProbeKept visited
-    → AreReckonedWith next n races IsProbeKept visited → IsWhole next n (root ++ more) → IsOutcomeMet next output n visited (outcome_of output n (root ++ more))
+    → AreReckonedWith next n races visited → IsWhole next n (root ++ more) → IsOutcomeMet next output n visited (outcome_of output n (root ++ more))
 
 -- where patient steps alone are wanted, what each does that is patient from there on
 abbrev pub QuietCallsMissNothingPatient : Next → Output → ℕ → Type 0
 QuietCallsMissNothingPatient next output n =
     (most : ℕ) (races : Races) (root more : List Event) (visited : List (List Event)) → AreClosedQuietly next n races root (IsPatientStep most) visited
-    → AreReckonedWith next n races (IsPatientStep most) visited → IsWhole next n (root ++ more) → Along (IsPatientEvent most) root more
+    → AreReckonedWith next n races visited → IsWhole next n (root ++ more) → Along (IsPatientEvent most) root more
     → IsOutcomeMet next output n visited (outcome_of output n (root ++ more))
 
 -- any race is reckoned with, so that the steady calls alone are quiet
