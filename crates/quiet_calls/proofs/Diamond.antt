@@ -27,7 +27,7 @@ use Rattle.picked_runs.specs.Picks.{has_pick, picked_event, picked_reply}
 use Rattle.picked_runs.proofs.Making.{event_picked}
 use Rattle.run_states.specs.Futures.{SameFuture}
 use Rattle.run_states.specs.Outcomes.{IsProbeKept}
-use Rattle.quiet_calls.specs.Quiet.{IsAgreed, Races, is_calm, is_partial, is_quiet, is_racy, is_steady}
+use Rattle.quiet_calls.specs.Quiet.{IsAgreed, Races, is_calm, is_partial, is_quiet, is_racy, is_reckoned, is_steady}
 use Rattle.quiet_calls.proofs.Named.{other_of, takes_any}
 use Rattle.quiet_calls.proofs.Still.{IsStill}
 use Rattle.quiet_calls.proofs.Staying.{one_event, quiet_event, reply_free}
@@ -52,9 +52,9 @@ record CalmHead (races : Races) (event : Event) (events : List Event) : Type 0 w
 calm_head : (races : Races) (event : Event) (events : List Event) → is_calm races (event ∷ events) ≡ true → CalmHead races event events
 calm_head races event events h =
     let later : Bool = is_some (halt_in event.reply) || is_calm races events in
-    let one = and_parts (races.ranks event.rank || not (is_racy event.call)) ((races.partial || not (is_partial event.call)) && later) h in
-    let two = and_parts (races.partial || not (is_partial event.call)) later one.1 in
-    record { ranks = one.0; whole = two.0; rest = two.1 }
+    let parts = and_parts (is_reckoned races event.rank event.call) later h in
+    let reckoned = and_parts (races.ranks event.rank || not (is_racy event.call)) (races.partial || not (is_partial event.call)) parts.0 in
+    record { ranks = reckoned.0; whole = reckoned.1; rest = parts.1 }
 
 calm_on : (a b : Bool) → (a || b) ≡ true → a ≡ false → b ≡ true
 calm_on true b h f = absurd (cc)

@@ -27,6 +27,7 @@ mod Sizes
 mod FarBelow
 mod Agreeing
 mod Onwards
-mod StayingBelow
+mod Foreseen
 mod MissingNothing
+mod ClosedExample
 mod QuietExamples

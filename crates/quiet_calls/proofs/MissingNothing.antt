@@ -28,7 +28,7 @@ use Rattle.quiet_calls.proofs.GoingFirst.{HasFirstHalt, all_free, along_join, fi
 use Rattle.quiet_calls.proofs.Agreeing.{agreed_stopped, agreed_tail}
 use Rattle.quiet_calls.proofs.FarBelow.{below_same, room_far}
 use Rattle.quiet_calls.proofs.Onwards.{GoesOn, patience_across}
-use Rattle.quiet_calls.proofs.StayingBelow.{IsForeseenFrom, IsSearchedQuietly, all_agreed, all_calm, all_foreseen, at_most, back, calm_put, is_longer, none_left, one_less}
+use Rattle.quiet_calls.proofs.Foreseen.{IsForeseenFrom, IsSearchedQuietly, all_agreed, all_calm, all_foreseen, at_most, back, calm_put, is_longer, none_left, one_less}
 
 -- what whole runs that go on from a history come to is met
 abbrev IsAnswered : Next → Output → ℕ → ℕ → List (List Event) → List Event → Type 0

@@ -1,5 +1,5 @@
 -- Histories that a search has met which follows one quiet call alone where there is one.
-use Rattle.std.specs.Prelude.{◌≡◌, ◌<◌, ◌⊎◌, ◌+◌, ◌&&◌, ◌||◌, ℕ, List, [], ◌∷◌, ◌++◌, Some, None, Bool, true, false, length, not}
+use Rattle.std.specs.Prelude.{◌≡◌, ◌<◌, ◌⊎◌, ◌+◌, ℕ, List, [], ◌∷◌, ◌++◌, Some, None, true, false, length}
 use Rattle.mpi_call.specs.declared.call.Call.{Call}
 use Rattle.mpi_call.specs.declared.limits.TheConstants.{MOST_EVENTS, MOST_SIZE}
 use Rattle.mpi_call.specs.Lists.{IsIn}
@@ -15,7 +15,7 @@ use Rattle.picked_runs.specs.Picks.{picked_event}
 use Rattle.run_states.specs.Moves.{IsMet, IsMove}
 use Rattle.run_states.specs.Outcomes.{IsPatientEvent, IsProbeKept, IsWhole, KeepsProbes, Output, outcome_of}
 use Rattle.run_states.specs.StateLaws.{IsOutcomeMet, IsPatientStep}
-use Rattle.quiet_calls.specs.Quiet.{IsAgreed, IsQuiet, Races, is_calm, is_partial, is_racy}
+use Rattle.quiet_calls.specs.Quiet.{IsAgreed, IsQuiet, Races, is_calm, is_reckoned}
 
 -- less than half of the bound, in events and in size
 pub record IsFarBelow (events : List Event) : Type 0 where
@@ -50,10 +50,6 @@ pub record AreClosedQuietly (next : Next) (n : ℕ) (races : Races) (root : List
   pub first : IsMet n visited root
   pub runs : (before : List Event) → IsIn before visited → IsOnItsWay next n before
   pub more : (before : List Event) → IsIn before visited → AreMovesMet next n IsWanted visited before ⊎ IsQuietCallMet next n races visited before
-
--- a rank's call is no racy one, or it is reckoned with
-abbrev pub is_reckoned : Races → ℕ → Call → Bool
-is_reckoned races rank call = (races.ranks rank || not (is_racy call)) && (races.partial || not (is_partial call))
 
 -- the calls of these histories, and each rank's next call, are reckoned with; where no rank completes in part, no next call is mismatched
 pub record AreReckonedWith (next : Next) (n : ℕ) (races : Races) (visited : List (List Event)) : Type 0 where

@@ -1,7 +1,7 @@
 -- Where a search follows one quiet call alone, what holds of all that it has met holds of all that goes on from there without a halt: it is far below
 -- the bound, its calls are reckoned with, and its Enters agree.
-use Rattle.std.proofs.Common.{◌≡◌, ◌<◌, ◌≤◌, ◌⊎◌, ◌∙◌, ◌++◌, ◌==◌, ◌+◌, ◌&&◌, ◌||◌, ◌∷◌, ℕ, zero, suc, List, [], Option, Some, None, Bool, true, false, append-nil, append_assoc, inl, inr, is_some, length, length-append, not, refl, ap, sym, subst, arith}
-use Rattle.std.proofs.lemmas.Bool.{eqb-true, or_right}
+use Rattle.std.proofs.Common.{◌≡◌, ◌<◌, ◌≤◌, ◌⊎◌, ◌∙◌, ◌++◌, ◌==◌, ◌+◌, ◌&&◌, ◌||◌, ◌∷◌, ℕ, zero, suc, List, [], Option, Some, None, Bool, true, false, append-nil, append_assoc, inl, inr, is_some, length, length-append, refl, ap, sym, subst, arith}
+use Rattle.std.proofs.lemmas.Bool.{and_from, eqb-true, or_right}
 use Rattle.mpi_call.specs.declared.call.Call.{Call}
 use Rattle.mpi_call.specs.declared.limits.TheConstants.{MOST_EVENTS}
 use Rattle.mpi_call.specs.declared.call.Call.TheVariants.{Enter}
@@ -25,8 +25,8 @@ use Rattle.run_states.specs.Futures.{SameFuture}
 use Rattle.run_states.specs.Moves.{IsMet}
 use Rattle.run_states.specs.Outcomes.{IsPatientEvent, IsProbeKept, Output, vain_in}
 use Rattle.run_states.specs.StateLaws.{EveryStepIsMade, FuturesAreSame, IsMade, IsPatientStep}
-use Rattle.quiet_calls.specs.Quiet.{IsAgreed, Races, is_calm, is_partial, is_quiet, is_racy}
-use Rattle.quiet_calls.specs.Closure.{AreMovesMet, AreReckonedWith, IsFarBelow, IsOnItsWay, IsQuietCallMet, is_reckoned}
+use Rattle.quiet_calls.specs.Quiet.{IsAgreed, Races, is_calm, is_quiet, is_reckoned}
+use Rattle.quiet_calls.specs.Closure.{AreMovesMet, AreReckonedWith, IsFarBelow, IsOnItsWay, IsQuietCallMet}
 use Rattle.quiet_calls.proofs.Room.{HasRoom, not_full, room_like, room_put}
 use Rattle.quiet_calls.proofs.Runs.{IsGood}
 use Rattle.quiet_calls.proofs.Swapping.{other_way, views_swapped}
@@ -296,24 +296,17 @@ step_other next output n lawful races most futures one me call q h p x i room b 
     })
 
 -- calm histories, and an event behind
-stays_calm : (a b s c d : Bool) → (a && (b && (s || c))) ≡ true → (c ≡ true → d ≡ true) → (a && (b && (s || d))) ≡ true
-stays_calm true true true c d h f = refl
-stays_calm true true false c d h f = f h
-stays_calm true false s c d h f = absurd (cc)
-stays_calm false b s c d h f = absurd (cc)
-
-last_calm : (a b s : Bool) → (a && b) ≡ true → s ≡ true → (a && (b && s)) ≡ true
-last_calm true true s h f = f
-last_calm true false s h f = absurd (cc)
-last_calm false b s h f = absurd (cc)
+stays_calm : (a s c d : Bool) → (a && (s || c)) ≡ true → (c ≡ true → d ≡ true) → (a && (s || d)) ≡ true
+stays_calm true true c d h f = refl
+stays_calm true false c d h f = f h
+stays_calm false s c d h f = absurd (cc)
 
 pub calm_put : (races : Races) (before : List Event) (x : Event) (after : List Event) → is_calm races before ≡ true → is_reckoned races x.rank x.call ≡ true
     → (is_some (halt_in x.reply) || is_calm races after) ≡ true → is_calm races (before ++ x ∷ after) ≡ true
-calm_put races [] x after h r f =
-    last_calm (races.ranks x.rank || not (is_racy x.call)) (races.partial || not (is_partial x.call)) (is_some (halt_in x.reply) || is_calm races after) r f
+calm_put races [] x after h r f = and_from (is_reckoned races x.rank x.call) (is_some (halt_in x.reply) || is_calm races after) r f
 calm_put races (event ∷ before) x after h r f =
-    stays_calm (races.ranks event.rank || not (is_racy event.call)) (races.partial || not (is_partial event.call)) (is_some (halt_in event.reply)) (is_calm races before)
-    (is_calm races (before ++ x ∷ after)) h (λ c. calm_put races before x after c r f)
+    stays_calm (is_reckoned races event.rank event.call) (is_some (halt_in event.reply)) (is_calm races before) (is_calm races (before ++ x ∷ after)) h
+    (λ c. calm_put races before x after c r f)
 
 -- the next event of what is foreseen is calm
 calm_on : (next : Next) (n most : ℕ) (races : Races) (one p : List Event) (x : Event) → GoesOn next n most one (p ++ x ∷ []) → IsForeseen next n races (one ++ p)
