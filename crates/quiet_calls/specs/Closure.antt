@@ -76,7 +76,7 @@ QuietCallsMissNothingPatient next output n =
 abbrev pub any_race : Races
 any_race = record { ranks = λ rank. true; partial = true }
 
--- then nothing is asked of the runs
+-- then nothing is asked of the calls that ranks make
 abbrev pub SteadyCallsMissNothing : Next → Output → ℕ → Type 0
 SteadyCallsMissNothing next output n =
     (root more : List Event) (visited : List (List Event)) → AreClosedQuietly next n any_race root IsProbeKept visited

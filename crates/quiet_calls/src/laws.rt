@@ -30,7 +30,7 @@ pub fn quiet_calls_miss_nothing<P: Program>(program: &P, n: u8)
     halts_decide_outcomes(program, n);
 }
 
-/// With the steady calls this asks nothing of the runs.
+/// If the steady calls alone are quiet, it asks nothing of the calls that ranks make.
 pub fn steady_calls_miss_nothing<P: Program>(program: &P, n: u8)
     ensures all { SteadyCallsMissNothing (P.next program.now) (P.output program.now) n }
     ensures patient { SteadyCallsMissNothingPatient (P.next program.now) (P.output program.now) n }
