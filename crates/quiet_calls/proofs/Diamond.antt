@@ -27,7 +27,7 @@ use Rattle.picked_runs.specs.Picks.{has_pick, picked_event, picked_reply}
 use Rattle.picked_runs.proofs.Making.{event_picked}
 use Rattle.run_states.specs.Futures.{SameFuture}
 use Rattle.run_states.specs.Outcomes.{IsProbeKept}
-use Rattle.quiet_calls.specs.Quiet.{IsAgreed, Races, is_calm, is_partial, is_quiet, is_racy, is_steady}
+use Rattle.quiet_calls.specs.Quiet.{IsAgreed, Races, is_calm, is_partial, is_quiet, is_racy, is_reckoned, is_steady}
 use Rattle.quiet_calls.proofs.Named.{other_of, takes_any}
 use Rattle.quiet_calls.proofs.Still.{IsStill}
 use Rattle.quiet_calls.proofs.Staying.{one_event, quiet_event, reply_free}
@@ -38,7 +38,7 @@ use Rattle.quiet_calls.proofs.Matching.{matched_chosen}
 use Rattle.quiet_calls.proofs.Crossing.{with_mate}
 use Rattle.quiet_calls.proofs.Calm.{calm_event}
 use Rattle.quiet_calls.proofs.NamedFirst.{IsNamedAsked, named_first_run, named_unstuck}
-use Rattle.quiet_calls.proofs.NamedSwap.{IsNamedWith, IsSwapped, idle_mate, named_halting, named_swapped}
+use Rattle.quiet_calls.proofs.NamedSwap.{IsMadeBehind, IsNamedWith, IsSwapped, idle_mate, named_behind, named_halting, named_swapped}
 use Rattle.quiet_calls.proofs.Entering.{enter_choice}
 use Rattle.quiet_calls.proofs.EnterSwap.{IsEnterAsked, IsEnterWith, enter_behind, enter_event, enter_first_run, enter_future, enter_later, enter_unstuck}
 
@@ -52,9 +52,9 @@ record CalmHead (races : Races) (event : Event) (events : List Event) : Type 0 w
 calm_head : (races : Races) (event : Event) (events : List Event) → is_calm races (event ∷ events) ≡ true → CalmHead races event events
 calm_head races event events h =
     let later : Bool = is_some (halt_in event.reply) || is_calm races events in
-    let one = and_parts (races.ranks event.rank || not (is_racy event.call)) ((races.partial || not (is_partial event.call)) && later) h in
-    let two = and_parts (races.partial || not (is_partial event.call)) later one.1 in
-    record { ranks = one.0; whole = two.0; rest = two.1 }
+    let parts = and_parts (is_reckoned races event.rank event.call) later h in
+    let reckoned = and_parts (races.ranks event.rank || not (is_racy event.call)) (races.partial || not (is_partial event.call)) parts.0 in
+    record { ranks = reckoned.0; whole = reckoned.1; rest = parts.1 }
 
 calm_on : (a b : Bool) → (a || b) ≡ true → a ≡ false → b ≡ true
 calm_on true b h f = absurd (cc)
@@ -141,7 +141,7 @@ pub record IsEnterCall (races : Races) (call : Call) : Type 0 where
   pub plain : makes call ≡ false
   pub whole : races.partial ≡ false
 
-enter_kind : (races : Races) (call : Call) → is_enter call ≡ true → (not races.partial && not (makes call)) ≡ true → IsEnterCall races call
+pub enter_kind : (races : Races) (call : Call) → is_enter call ≡ true → (not races.partial && not (makes call)) ≡ true → IsEnterCall races call
 enter_kind races call enters h =
     let parts = and_parts (not races.partial) (not (makes call)) h in
     record { enters = enters; plain = not_true (makes call) parts.1; whole = not_true races.partial parts.0 }
@@ -372,6 +372,18 @@ enter_probe : (before : List Event) (event : Event) → is_enter event.call ≡ 
 enter_probe before event enters earlier comm source tag wait room sender start sent count seen posted done =
     (let no : false ≡ true = sym (ap is_enter posted) ∙ enters in absurd (cc))
 
+enter_made_behind : (next : Next) (n : ℕ) → Lawful next → (races : Races) (before : List Event) (me : ℕ) (call : Call) (x : Event) (after : List Event)
+    → IsBesideFirst next n races before me call (picked_event n before me call First) x after → IsEnterCall races call
+    → IsGood next n ((before ++ picked_event n before me call First ∷ []) ++ x ∷ [])
+enter_made_behind next n lawful races before me call x after b k =
+    let q : Event = picked_event n before me call First in
+    let front : List Event = before ++ x ∷ [] in
+    let i = enter_with next n races before me call x after b k in
+    let e = enter_event n before me call k.enters i.is.none in
+    let behind : IsMatched (front ++ q ∷ []) = matched_chosen front q b.step.matched e.starts (e.mate ∙ sym (enter_choice front me call k.enters)) in
+    enter_behind next n lawful before me call x after i
+    (matched_same n (front ++ q ∷ []) ((before ++ q ∷ []) ++ x ∷ []) (enter_future next n before me call x after i) behind)
+
 enter_diamond : (next : Next) (n : ℕ) → Lawful next → (races : Races) (before : List Event) (me : ℕ) (call : Call) (x : Event) (after : List Event)
     → IsBesideFirst next n races before me call (picked_event n before me call First) x after → IsEnterCall races call → halted (before ++ x ∷ []) ≡ None
     → is_full (before ++ x ∷ []) ≡ false → IsDiamond next n races before me call (picked_event n before me call First) x
@@ -379,11 +391,8 @@ enter_diamond next n lawful races before me call x after b k halts room =
     let q : Event = picked_event n before me call First in
     let front : List Event = before ++ x ∷ [] in
     let i = enter_with next n races before me call x after b k in
-    let e = enter_event n before me call k.enters i.is.none in
     let later : picked_event n front me call First ≡ q = enter_later next n before me call x after i halts room in
     let future = enter_future next n before me call x after i in
-    let behind : IsMatched (front ++ q ∷ []) = matched_chosen front q b.step.matched e.starts (e.mate ∙ sym (enter_choice front me call k.enters)) in
-    let matched : IsMatched ((before ++ q ∷ []) ++ x ∷ []) = matched_same n (front ++ q ∷ []) ((before ++ q ∷ []) ++ x ∷ []) future behind in
     record {
       later = q;
       mate = x.mate;
@@ -397,7 +406,7 @@ enter_diamond next n lawful races before me call x after b k halts room =
         probe = enter_probe front q k.enters;
       };
       reply = refl;
-      good = enter_behind next n lawful before me call x after i matched;
+      good = enter_made_behind next n lawful races before me call x after b k;
       future = future;
       probe = λ kept. other_probe next n before q x b.step (other_way x.rank me b.apart) kept;
     }
@@ -426,6 +435,31 @@ diamond next n lawful races before me call q x after b halts room =
             named_diamond next n races before me call x c.first c.apart
             (named_swapped next n lawful before me call k.other x (named_with next n races before me call x after c k) halts room)
         | inr k ↦ enter_diamond next n lawful races before me call x after c k halts room
+      ]
+    ] in
+    subst D b.first.event made b
+
+-- behind it, whatever the size of the other event
+
+pub event_behind : (next : Next) (n : ℕ) → Lawful next → (races : Races) (before : List Event) (me : ℕ) (call : Call) (q x : Event) (after : List Event)
+    → IsBesideFirst next n races before me call q x after → IsMadeBehind next n before x q
+event_behind next n lawful races before me call q x after b =
+    let D : Event → Type 0 = λ e. IsBesideFirst next n races before me call e x after → IsMadeBehind next n before x e in
+    let made : D (picked_event n before me call First) = λ c. elim (quiet_kind races call c.first.kind) [
+      | inl kind ↦
+          record {
+            mate = x.mate;
+            good = behind_run next n lawful before me call x c.good (steady next n races before me call (picked_event n before me call First) c.first kind) c.step c.ordered c.apart c.full;
+            probe = λ kept. other_probe next n before (picked_event n before me call First) x c.step (other_way x.rank me c.apart) kept;
+          }
+      | inr others ↦ elim others [
+        | inl k ↦ named_behind next n lawful before me call k.other x (named_with next n races before me call x after c k)
+        | inr k ↦
+            record {
+              mate = x.mate;
+              good = enter_made_behind next n lawful races before me call x after c k;
+              probe = λ kept. other_probe next n before (picked_event n before me call First) x c.step (other_way x.rank me c.apart) kept;
+            }
       ]
     ] in
     subst D b.first.event made b

@@ -137,7 +137,7 @@ on_comm comm (Enter c kind root op count ints) h = eqb-true c comm h
 on_comm comm call h = absurd (cc)
 
 -- an Enter of another rank that was answered is none that the call would disagree with
-agree_next : (n : ℕ) (before after : List Event) (x : Event) (own : View) (call : Call) → is_mismatched n (before ++ x ∷ after) own call ≡ false → x.rank < n → is_start (x.call, x.reply) ≡ true
+pub agree_next : (n : ℕ) (before after : List Event) (x : Event) (own : View) (call : Call) → is_mismatched n (before ++ x ∷ after) own call ≡ false → x.rank < n → is_start (x.call, x.reply) ≡ true
     → is_enter x.call ≡ true → is_on (comm_of x.call) call ≡ true → count_on (comm_of x.call) (starts_of (view_of before x.rank)) ≡ count_on (comm_of x.call) (starts_of own)
     → agree x.call call ≡ true
 agree_next n before after x own call calm below starts enters on same =

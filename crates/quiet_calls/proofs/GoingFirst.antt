@@ -36,22 +36,22 @@ use Rattle.quiet_calls.proofs.Telling.{halt_told, outcomes_told}
 
 -- 1. the first halt of what goes on
 
-record HasFirstHalt (events : List Event) (halt : Halt) : Type 0 where
-  before : List Event
-  event : Event
-  after : List Event
-  whole : events ≡ before ++ event ∷ after
-  none : halted before ≡ None
-  here : halt_in event.reply ≡ Some halt
-  part : before_halt events ≡ before
+pub record HasFirstHalt (events : List Event) (halt : Halt) : Type 0 where
+  pub before : List Event
+  pub event : Event
+  pub after : List Event
+  pub whole : events ≡ before ++ event ∷ after
+  pub none : halted before ≡ None
+  pub here : halt_in event.reply ≡ Some halt
+  pub part : before_halt events ≡ before
 
-all_free : (events : List Event) → halted events ≡ None → before_halt events ≡ events
+pub all_free : (events : List Event) → halted events ≡ None → before_halt events ≡ events
 all_free [] h = refl
 all_free (event ∷ events) h =
     let parts = none_parts (halt_in event.reply) (halted events) h in
     rw parts.0 (ap (λ l. event ∷ l) (all_free events parts.1))
 
-first_halt : (events : List Event) (halt : Halt) → halted events ≡ Some halt → HasFirstHalt events halt
+pub first_halt : (events : List Event) (halt : Halt) → halted events ≡ Some halt → HasFirstHalt events halt
 first_halt [] halt h = absurd (cc)
 first_halt (event ∷ events) halt h =
     elim (option_cases (halt_in event.reply)) [
@@ -63,7 +63,7 @@ first_halt (event ∷ events) halt h =
           record { before = event ∷ f.before; event = f.event; after = f.after; whole = ap (λ l. event ∷ l) f.whole; none = rw none f.none; here = f.here; part = rw none (ap (λ l. event ∷ l) f.part) }
     ]
 
-stopped_by : (reply : Reply) (halt : Halt) → halt_in reply ≡ Some halt → reply ≡ Stopped halt
+pub stopped_by : (reply : Reply) (halt : Halt) → halt_in reply ≡ Some halt → reply ≡ Stopped halt
 stopped_by (Stopped other) halt h = (let same : other ≡ halt = cc in ap (λ x. Stopped x) same)
 stopped_by reply halt h = absurd (cc)
 
@@ -96,13 +96,13 @@ made_before root front x after halt rank here made =
 
 -- 2. views
 
-unseen_view : (rank : ℕ) (events : List Event) → has_event rank events ≡ false → view_of events rank ≡ []
+pub unseen_view : (rank : ℕ) (events : List Event) → has_event rank events ≡ false → view_of events rank ≡ []
 unseen_view rank [] h = refl
 unseen_view rank (event ∷ events) h =
     let parts = or_parts (event.rank == rank) (has_event rank events) h in
     rw parts.0 (unseen_view rank events parts.1)
 
-along_join : {E : Type 0} (S : List E → E → Type 0) (before xs ys : List E) → Along S before xs → Along S (before ++ xs) ys → Along S before (xs ++ ys)
+pub along_join : {E : Type 0} (S : List E → E → Type 0) (before xs ys : List E) → Along S before xs → Along S (before ++ xs) ys → Along S before (xs ++ ys)
 along_join S before [] ys first second = (let F : List _ → Type 0 = λ l. Along S l ys in subst F (append-nil before) second)
 along_join S before (x ∷ xs) ys first second =
     let F : List _ → Type 0 = λ l. Along S l ys in
@@ -421,7 +421,7 @@ first_with next output n lawful futures decide races root more me call q first w
           ]
     ]
 
-quiet_first : (next : Next) (n : ℕ) (races : Races) (root : List Event) (rank : ℕ) (call : Call) (pick : Pick) → IsQuiet next n races root rank call pick
+pub quiet_first : (next : Next) (n : ℕ) (races : Races) (root : List Event) (rank : ℕ) (call : Call) (pick : Pick) → IsQuiet next n races root rank call pick
     → IsFirst next n races root rank call (picked_event n root rank call pick)
 quiet_first next n races root rank call pick is =
     record {

@@ -23,4 +23,11 @@ mod Patience
 mod Stopping
 mod Telling
 mod GoingFirst
+mod Sizes
+mod FarBelow
+mod Agreeing
+mod Onwards
+mod Foreseen
+mod MissingNothing
+mod ClosedExample
 mod QuietExamples

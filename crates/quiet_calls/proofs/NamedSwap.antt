@@ -186,6 +186,12 @@ pub record IsSwapped (next : Next) (n : ℕ) (before : List Event) (me : ℕ) (c
   pub probe : IsProbeKept before x → IsProbeKept (before ++ q ∷ []) (with_mate x mate)
   pub own : IsProbeKept before q → IsProbeKept (before ++ x ∷ []) later
 
+-- the same, but for the call's own event behind the other one
+pub record IsMadeBehind (next : Next) (n : ℕ) (before : List Event) (x q : Event) : Type 0 where
+  pub mate : Option ℕ
+  pub good : IsGood next n ((before ++ q ∷ []) ++ with_mate x mate ∷ [])
+  pub probe : IsProbeKept before x → IsProbeKept (before ++ q ∷ []) (with_mate x mate)
+
 not_equal : (a b : ℕ) → (a == b) ≡ false → a ≡ b → ⊥
 not_equal a b apart e = (let no : true ≡ false = sym (eq-eqb a b e) ∙ apart in cc)
 
@@ -222,10 +228,15 @@ same_run next n lawful before me call w x i matched same =
           (leaves_others next n lawful before me call w i.good i.is full x.rank apart (not_equal x.rank w other)) (named_unstuck next n before me call w i.is) matched
     ]
 
-beside_case : (next : Next) (n : ℕ) → Lawful next → (before : List Event) (me : ℕ) (call : Call) (w : ℕ) (x : Event) → IsNamedWith next n before me call w x
-    → halted (before ++ x ∷ []) ≡ None → is_full (before ++ x ∷ []) ≡ false → choice (before ++ x ∷ []) me call ≡ choice before me call
-    → IsSwapped next n before me call x (picked_event n before me call First)
-beside_case next n lawful before me call w x i halts room same =
+record IsBeside (next : Next) (n : ℕ) (before : List Event) (me : ℕ) (x q : Event) : Type 0 where
+  good : IsGood next n ((before ++ q ∷ []) ++ x ∷ [])
+  future : SameFuture n ((before ++ x ∷ []) ++ q ∷ []) ((before ++ q ∷ []) ++ x ∷ [])
+  probe : IsProbeKept before x → IsProbeKept (before ++ q ∷ []) x
+  own : IsProbeKept before q → IsProbeKept (before ++ x ∷ []) q
+
+beside_behind : (next : Next) (n : ℕ) → Lawful next → (before : List Event) (me : ℕ) (call : Call) (w : ℕ) (x : Event) → IsNamedWith next n before me call w x
+    → choice (before ++ x ∷ []) me call ≡ choice before me call → IsBeside next n before me x (picked_event n before me call First)
+beside_behind next n lawful before me call w x i same =
     let q : Event = picked_event n before me call First in
     let kept = kept_run next n before lawful i.good.run in
     let e = named_event n before me call w i.is.names i.is.none in
@@ -240,12 +251,7 @@ beside_case next n lawful before me call w x i halts room same =
     let xm : mate_in (before ++ q ∷ []) x.mate ≡ mate_in before x.mate = mate_stays before (q ∷ []) x i.step.mate in
     let future : SameFuture n ((before ++ x ∷ []) ++ q ∷ []) ((before ++ q ∷ []) ++ x ∷ []) =
     future_beside n before x q w i.is.names i.apart apart xs qs none qm xm in
-    let due' = named_due n (before ++ x ∷ []) me call w i.is.names halts room in
-    let later : picked_event n (before ++ x ∷ []) me call First ≡ q =
-    named_again n before (before ++ x ∷ []) me call w i.is.names i.is.none due' (choice before me call) same ∙ ap (with_mate q) (sym e.mate) in
-    let Q : Event → Type 0 = λ l. IsMatched ((before ++ x ∷ []) ++ l ∷ []) in
-    let now = named_event n (before ++ x ∷ []) me call w i.is.names due' in
-    let behind : IsMatched ((before ++ x ∷ []) ++ q ∷ []) = subst Q later (matched_chosen (before ++ x ∷ []) (picked_event n (before ++ x ∷ []) me call First) i.step.matched now.starts now.mate) in
+    let behind : IsMatched ((before ++ x ∷ []) ++ q ∷ []) = matched_chosen (before ++ x ∷ []) q i.step.matched e.starts (e.mate ∙ sym same) in
     let matched : IsMatched ((before ++ q ∷ []) ++ x ∷ []) = matched_same n ((before ++ x ∷ []) ++ q ∷ []) ((before ++ q ∷ []) ++ x ∷ []) future behind in
     let stays : is_start (x.call, x.reply) ≡ true → choice (before ++ q ∷ []) x.rank x.call ≡ choice before x.rank x.call =
     λ s. elim (choice_behind before q x.rank x.call kept.matched (takes_apart n before me call w i.is.names i.is.none i.is.plain x.rank x.call (not_equal me x.rank apart))) [
@@ -263,14 +269,29 @@ beside_case next n lawful before me call w x i halts room same =
           absurd (cc)
     ] in
     record {
-      later = q;
-      mate = x.mate;
-      later_is = later;
-      reply = refl;
       good = same_run next n lawful before me call w x i matched stays;
       future = future;
       probe = λ probe. probe_on before (before ++ q ∷ []) x (view_of-other before q x.rank apart) xm probe;
       own = λ probe. probe_on before (before ++ x ∷ []) q (view_of-other before x me i.apart) qm probe;
+    }
+
+beside_case : (next : Next) (n : ℕ) → Lawful next → (before : List Event) (me : ℕ) (call : Call) (w : ℕ) (x : Event) → IsNamedWith next n before me call w x
+    → halted (before ++ x ∷ []) ≡ None → is_full (before ++ x ∷ []) ≡ false → choice (before ++ x ∷ []) me call ≡ choice before me call
+    → IsSwapped next n before me call x (picked_event n before me call First)
+beside_case next n lawful before me call w x i halts room same =
+    let q : Event = picked_event n before me call First in
+    let e = named_event n before me call w i.is.names i.is.none in
+    let b = beside_behind next n lawful before me call w x i same in
+    let due' = named_due n (before ++ x ∷ []) me call w i.is.names halts room in
+    record {
+      later = q;
+      mate = x.mate;
+      later_is = named_again n before (before ++ x ∷ []) me call w i.is.names i.is.none due' (choice before me call) same ∙ ap (with_mate q) (sym e.mate);
+      reply = refl;
+      good = b.good;
+      future = b.future;
+      probe = b.probe;
+      own = b.own;
     }
 
 -- where an event took nothing, no probe before it found anything
@@ -282,10 +303,15 @@ no_probe before after event other view called replied none kept earlier comm sou
     let no : None ≡ Some pair = sym none ∙ found in
     absurd (cc)
 
-crossed_case : (next : Next) (n : ℕ) → Lawful next → (before : List Event) (me : ℕ) (call : Call) (w : ℕ) (x : Event) → IsNamedWith next n before me call w x
-    → halted (before ++ x ∷ []) ≡ None → is_full (before ++ x ∷ []) ≡ false → IsNewChoice before x me call
-    → IsSwapped next n before me call x (picked_event n before me call First)
-crossed_case next n lawful before me call w x i halts room new =
+record IsCrossed (next : Next) (n : ℕ) (before : List Event) (x q : Event) (at : Option ℕ) : Type 0 where
+  good : IsGood next n ((before ++ q ∷ []) ++ with_mate x at ∷ [])
+  future : SameFuture n ((before ++ x ∷ []) ++ with_mate q at ∷ []) ((before ++ q ∷ []) ++ with_mate x at ∷ [])
+  probe : IsProbeKept before x → IsProbeKept (before ++ q ∷ []) (with_mate x at)
+  own : IsProbeKept before q → IsProbeKept (before ++ x ∷ []) (with_mate q at)
+
+crossed_behind : (next : Next) (n : ℕ) → Lawful next → (before : List Event) (me : ℕ) (call : Call) (w : ℕ) (x : Event) → IsNamedWith next n before me call w x
+    → IsNewChoice before x me call → IsCrossed next n before x (picked_event n before me call First) (Some (length before))
+crossed_behind next n lawful before me call w x i new =
     let q : Event = picked_event n before me call First in
     let at : Option ℕ = Some (length before) in
     let kept = kept_run next n before lawful i.good.run in
@@ -298,12 +324,7 @@ crossed_case next n lawful before me call w x i halts room new =
     let q_none : mate_in before q.mate ≡ None = ap (mate_in before) (e.mate ∙ new.was) in
     let future : SameFuture n ((before ++ x ∷ []) ++ with_mate q at ∷ []) ((before ++ q ∷ []) ++ with_mate x at ∷ []) =
     future_crossed n before x q w i.is.names i.apart apart new.starts e.starts new.alone q_none in
-    let due' = named_due n (before ++ x ∷ []) me call w i.is.names halts room in
-    let later : picked_event n (before ++ x ∷ []) me call First ≡ with_mate q at = named_again n before (before ++ x ∷ []) me call w i.is.names i.is.none due' at new.now in
-    let Q : Event → Type 0 = λ l. IsMatched ((before ++ x ∷ []) ++ l ∷ []) in
-    let now = named_event n (before ++ x ∷ []) me call w i.is.names due' in
-    let behind : IsMatched ((before ++ x ∷ []) ++ with_mate q at ∷ []) =
-    subst Q later (matched_chosen (before ++ x ∷ []) (picked_event n (before ++ x ∷ []) me call First) i.step.matched now.starts now.mate) in
+    let behind : IsMatched ((before ++ x ∷ []) ++ with_mate q at ∷ []) = matched_chosen (before ++ x ∷ []) (with_mate q at) i.step.matched e.starts (sym new.now) in
     let matched : IsMatched ((before ++ q ∷ []) ++ with_mate x at ∷ []) =
     matched_same n ((before ++ x ∷ []) ++ with_mate q at ∷ []) ((before ++ q ∷ []) ++ with_mate x at ∷ []) future behind in
     let was : picked_mate before x.rank x.call x.reply First ≡ choice before x.rank x.call = rw new.starts refl in
@@ -313,15 +334,30 @@ crossed_case next n lawful before me call w x i halts room new =
     (takes_apart n before me call w i.is.names i.is.none i.is.plain x.rank x.call (not_equal me x.rank apart)) free in
     let opened : picked_mate (before ++ q ∷ []) x.rank x.call x.reply First ≡ choice (before ++ q ∷ []) x.rank x.call = rw new.starts refl in
     record {
-      later = with_mate q at;
-      mate = at;
-      later_is = later;
-      reply = refl;
       good = calm_run next n lawful before q x i.good first i.step i.ordered calm apart (λ comm. named_off comm call w i.is.names)
           (named_halts n before me call w i.is.names i.is.none) (i.full ∙ sym parts.full) (named_unstuck next n before me call w i.is) at (opened ∙ seen) matched;
       future = future;
       probe = no_probe before (before ++ q ∷ []) x (with_mate x at) (view_of-other before q x.rank apart) refl refl new.alone;
       own = no_probe before (before ++ x ∷ []) q (with_mate q at) (view_of-other before x me i.apart) refl refl q_none;
+    }
+
+crossed_case : (next : Next) (n : ℕ) → Lawful next → (before : List Event) (me : ℕ) (call : Call) (w : ℕ) (x : Event) → IsNamedWith next n before me call w x
+    → halted (before ++ x ∷ []) ≡ None → is_full (before ++ x ∷ []) ≡ false → IsNewChoice before x me call
+    → IsSwapped next n before me call x (picked_event n before me call First)
+crossed_case next n lawful before me call w x i halts room new =
+    let q : Event = picked_event n before me call First in
+    let at : Option ℕ = Some (length before) in
+    let c = crossed_behind next n lawful before me call w x i new in
+    let due' = named_due n (before ++ x ∷ []) me call w i.is.names halts room in
+    record {
+      later = with_mate q at;
+      mate = at;
+      later_is = named_again n before (before ++ x ∷ []) me call w i.is.names i.is.none due' at new.now;
+      reply = refl;
+      good = c.good;
+      future = c.future;
+      probe = c.probe;
+      own = c.own;
     }
 
 pub named_swapped : (next : Next) (n : ℕ) → Lawful next → (before : List Event) (me : ℕ) (call : Call) (w : ℕ) (x : Event) → IsNamedWith next n before me call w x
@@ -333,6 +369,18 @@ named_swapped next n lawful before me call w x i halts room =
     elim (choice_behind before x me call kept.matched (takes_beside before me call w x i.is.names i.is.plain xs (not_equal x.rank me i.apart))) [
       | inl same ↦ beside_case next n lawful before me call w x i halts room same
       | inr new ↦ crossed_case next n lawful before me call w x i halts room new
+    ]
+
+-- the other event behind the call, whatever the size of it
+pub named_behind : (next : Next) (n : ℕ) → Lawful next → (before : List Event) (me : ℕ) (call : Call) (w : ℕ) (x : Event) → IsNamedWith next n before me call w x
+    → IsMadeBehind next n before x (picked_event n before me call First)
+named_behind next n lawful before me call w x i =
+    let kept = kept_run next n before lawful i.good.run in
+    let picked = event_picked next n before x kept.matched kept.below i.step i.ordered in
+    let xs : HasStart before x = picked_start n before x (pick_of n before x) picked in
+    elim (choice_behind before x me call kept.matched (takes_beside before me call w x i.is.names i.is.plain xs (not_equal x.rank me i.apart))) [
+      | inl same ↦ (let b = beside_behind next n lawful before me call w x i same in record { mate = x.mate; good = b.good; probe = b.probe })
+      | inr new ↦ (let c = crossed_behind next n lawful before me call w x i new in record { mate = Some (length before); good = c.good; probe = c.probe })
     ]
 
 -- 6. a halt behind the call

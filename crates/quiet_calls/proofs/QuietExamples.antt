@@ -22,6 +22,7 @@ use Rattle.picked_runs.specs.declared.turn.Turn.{Turn}
 use Rattle.picked_runs.specs.Picks.{picked_reply}
 use Rattle.picked_runs.specs.Turns.{take_turns}
 use Rattle.run_states.specs.Outcomes.{outcome_of}
+use Rattle.quiet_calls.specs.Closure.{any_race}
 use Rattle.quiet_calls.specs.Quiet.{Races, is_calm, is_quiet}
 
 -- programs whose ranks make these calls whatever the replies
@@ -40,10 +41,7 @@ plain rank = record { rank = rank; pick = First }
 abbrev silent : ℕ → ℕ → List Reply → List ℕ
 silent n rank replies = []
 
--- what is reckoned with: any race, or none
-abbrev everyone : Races
-everyone = record { ranks = λ rank. true; partial = true }
-
+-- no race is reckoned with
 abbrev no_one : Races
 no_one = record { ranks = λ rank. false; partial = false }
 
@@ -59,13 +57,13 @@ in_time : picked_reply 2 (recorded watched 2 (plain 1 ∷ plain 0 ∷ []) 0) 1 (
 in_time = refl
 
 -- so the receive is quiet only if rank 1 is not among those that make no racy call, and then the run is not calm
-receive_waits : is_quiet everyone (Post 0 (From 1) AnyTag 1) ≡ false
+receive_waits : is_quiet any_race (Post 0 (From 1) AnyTag 1) ≡ false
 receive_waits = refl
 
 not_calm : is_calm no_one (recorded watched 2 (plain 1 ∷ plain 1 ∷ []) 0) ≡ false
 not_calm = refl
 
-calm_but_for_it : is_calm everyone (recorded watched 2 (plain 1 ∷ plain 1 ∷ []) 0) ≡ true
+calm_but_for_it : is_calm any_race (recorded watched 2 (plain 1 ∷ plain 1 ∷ []) 0) ≡ true
 calm_but_for_it = refl
 
 -- 2. two receives of rank 0 from rank 1, and two sends: whoever comes first, the first meets the first
@@ -133,7 +131,7 @@ not_yet = refl
 entered : picked_reply 2 (recorded tested 2 (plain 0 ∷ plain 1 ∷ []) 0) 0 (Take (0 ∷ []) TestAll) First ≡ Took (record { index = 0; got = Joined [] } ∷ [])
 entered = refl
 
-enter_waits : is_quiet everyone waits ≡ false
+enter_waits : is_quiet any_race waits ≡ false
 enter_waits = refl
 
 enter_goes : is_quiet no_one waits ≡ true
@@ -150,5 +148,5 @@ one_meets = refl
 other_meets : partner_of (pairs_of (recorded wild 3 (plain 0 ∷ plain 2 ∷ plain 1 ∷ []) 0)) (0, 0) ≡ Some (2, 0)
 other_meets = refl
 
-racy_receiver : is_quiet everyone (Send 0 0 1 [] false) ≡ false
+racy_receiver : is_quiet any_race (Send 0 0 1 [] false) ≡ false
 racy_receiver = refl

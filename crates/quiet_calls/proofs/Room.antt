@@ -17,7 +17,7 @@ room_in events h =
 pub not_full : (events : List Event) → HasRoom events → is_full events ≡ false
 not_full events room = rw (lt-leb MOST_EVENTS (length events) room.count, lt-leb MOST_SIZE (total_size events) room.size) refl
 
-size_append : (xs ys : List Event) → total_size (xs ++ ys) ≡ total_size xs + total_size ys
+pub size_append : (xs ys : List Event) → total_size (xs ++ ys) ≡ total_size xs + total_size ys
 size_append [] ys = (let e : total_size ys ≡ 0 + total_size ys = omega arith in e)
 size_append (x ∷ xs) ys = (let rest : total_size (xs ++ ys) ≡ total_size xs + total_size ys = size_append xs ys in omega (arith, rest))
 

@@ -48,12 +48,14 @@ pub record Races : Type 0 where
   pub ranks : ℕ → Bool
   pub partial : Bool
 
--- no other racy calls, and no partial ones where none is reckoned with, are made, as far as the first halt
+-- a rank's call is reckoned with: no racy one, or one of these ranks', and no partial one where none is
+abbrev pub is_reckoned : Races → ℕ → Call → Bool
+is_reckoned races rank call = (races.ranks rank || not (is_racy call)) && (races.partial || not (is_partial call))
+
+-- all calls are, as far as the first halt
 abbrev pub is_calm : Races → List Event → Bool
 is_calm races [] = true
-is_calm races (event ∷ events) =
-    (races.ranks event.rank || not (is_racy event.call))
-    && ((races.partial || not (is_partial event.call)) && (is_some (halt_in event.reply) || is_calm races events))
+is_calm races (event ∷ events) = is_reckoned races event.rank event.call && (is_some (halt_in event.reply) || is_calm races events)
 
 -- the steady calls; receives from, and sends to, a rank that is not among the racy ones; where no rank completes in part, the Enters that make
 -- no communicator

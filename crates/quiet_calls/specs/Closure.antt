@@ -1,0 +1,89 @@
+-- Histories that a search has met which follows one quiet call alone where there is one.
+use Rattle.std.specs.Prelude.{◌≡◌, ◌<◌, ◌⊎◌, ◌+◌, ℕ, List, [], ◌∷◌, ◌++◌, Some, None, true, false, length}
+use Rattle.mpi_call.specs.declared.call.Call.{Call}
+use Rattle.mpi_call.specs.declared.limits.TheConstants.{MOST_EVENTS, MOST_SIZE}
+use Rattle.mpi_call.specs.Lists.{IsIn}
+use Rattle.run_model.specs.declared.event.Event.{Event}
+use Rattle.run_model.specs.Due.{halted, total_size}
+use Rattle.run_model.specs.Lists.{Along}
+use Rattle.run_model.specs.Run.{IsRun}
+use Rattle.run_model.specs.Serial.{call_after}
+use Rattle.run_model.specs.Views.{Next, view_of}
+use Rattle.picked_runs.specs.declared.turn.Pick.{Pick}
+use Rattle.picked_runs.specs.Numbering.{AreNumberedInOrder}
+use Rattle.picked_runs.specs.Picks.{picked_event}
+use Rattle.run_states.specs.Moves.{IsMet, IsMove}
+use Rattle.run_states.specs.Outcomes.{IsPatientEvent, IsProbeKept, IsWhole, KeepsProbes, Output, outcome_of}
+use Rattle.run_states.specs.StateLaws.{IsOutcomeMet, IsPatientStep}
+use Rattle.quiet_calls.specs.Quiet.{IsAgreed, IsQuiet, Races, is_calm, is_reckoned}
+
+-- less than half of the bound, in events and in size
+pub record IsFarBelow (events : List Event) : Type 0 where
+  pub count : length events + length events < MOST_EVENTS
+  pub size : total_size events + total_size events < MOST_SIZE
+
+-- a run with a recording machine's numbers that keeps its probes, has no halt, and is far below its bound
+pub record IsOnItsWay (next : Next) (n : ℕ) (events : List Event) : Type 0 where
+  pub run : IsRun next n events
+  pub numbered : AreNumberedInOrder n events
+  pub probes : KeepsProbes events
+  pub free : halted events ≡ None
+  pub below : IsFarBelow events
+
+-- what the wanted moves of a history make is met
+abbrev pub AreMovesMet : Next → ℕ → (List Event → Event → Type 0) → List (List Event) → List Event → Type 0
+AreMovesMet next n IsWanted visited before =
+    (rank : ℕ) (call : Call) (pick : Pick) → IsMove next n before rank call pick → IsWanted before (picked_event n before rank call pick)
+    → IsMet n visited (before ++ picked_event n before rank call pick ∷ [])
+
+-- what one quiet call makes of a history is
+pub record IsQuietCallMet (next : Next) (n : ℕ) (races : Races) (visited : List (List Event)) (before : List Event) : Type 0 where
+  pub rank : ℕ
+  pub call : Call
+  pub pick : Pick
+  pub quiet : IsQuiet next n races before rank call pick
+  pub met : IsMet n visited (before ++ picked_event n before rank call pick ∷ [])
+
+-- these histories, each of them a run on its way, have met a first one, and of each of them what its moves make, as far as the steps are wanted,
+-- or else what one quiet call makes
+pub record AreClosedQuietly (next : Next) (n : ℕ) (races : Races) (root : List Event) (IsWanted : List Event → Event → Type 0) (visited : List (List Event)) : Type 0 where
+  pub first : IsMet n visited root
+  pub runs : (before : List Event) → IsIn before visited → IsOnItsWay next n before
+  pub more : (before : List Event) → IsIn before visited → AreMovesMet next n IsWanted visited before ⊎ IsQuietCallMet next n races visited before
+
+-- the calls of these histories, and each rank's next call, are reckoned with; where no rank completes in part, no next call is mismatched
+pub record AreReckonedWith (next : Next) (n : ℕ) (races : Races) (visited : List (List Event)) : Type 0 where
+  pub past : (before : List Event) → IsIn before visited → is_calm races before ≡ true
+  pub calls : (before : List Event) (rank : ℕ) (call : Call) → IsIn before visited → rank < n → call_after next n before rank ≡ Some call
+      → is_reckoned races rank call ≡ true
+  pub agreed : races.partial ≡ false → (before : List Event) (rank : ℕ) (call : Call) → IsIn before visited → rank < n
+      → call_after next n before rank ≡ Some call → IsAgreed n before (view_of before rank) call
+
+-- what each whole run from the first of such histories on comes to is met
+abbrev pub QuietCallsMissNothing : Next → Output → ℕ → Type 0
+QuietCallsMissNothing next output n =
+    (races : Races) (root more : List Event) (visited : List (List Event)) → AreClosedQuietly next n races root IsProbeKept visited
+    → AreReckonedWith next n races visited → IsWhole next n (root ++ more) → IsOutcomeMet next output n visited (outcome_of output n (root ++ more))
+
+-- where patient steps alone are wanted, what each does that is patient from there on
+abbrev pub QuietCallsMissNothingPatient : Next → Output → ℕ → Type 0
+QuietCallsMissNothingPatient next output n =
+    (most : ℕ) (races : Races) (root more : List Event) (visited : List (List Event)) → AreClosedQuietly next n races root (IsPatientStep most) visited
+    → AreReckonedWith next n races visited → IsWhole next n (root ++ more) → Along (IsPatientEvent most) root more
+    → IsOutcomeMet next output n visited (outcome_of output n (root ++ more))
+
+-- any race is reckoned with, so that the steady calls alone are quiet
+abbrev pub any_race : Races
+any_race = record { ranks = λ rank. true; partial = true }
+
+-- then nothing is asked of the calls that ranks make
+abbrev pub SteadyCallsMissNothing : Next → Output → ℕ → Type 0
+SteadyCallsMissNothing next output n =
+    (root more : List Event) (visited : List (List Event)) → AreClosedQuietly next n any_race root IsProbeKept visited
+    → IsWhole next n (root ++ more) → IsOutcomeMet next output n visited (outcome_of output n (root ++ more))
+
+-- nor of those that are patient
+abbrev pub SteadyCallsMissNothingPatient : Next → Output → ℕ → Type 0
+SteadyCallsMissNothingPatient next output n =
+    (most : ℕ) (root more : List Event) (visited : List (List Event)) → AreClosedQuietly next n any_race root (IsPatientStep most) visited
+    → IsWhole next n (root ++ more) → Along (IsPatientEvent most) root more → IsOutcomeMet next output n visited (outcome_of output n (root ++ more))
