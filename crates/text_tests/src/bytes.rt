@@ -1,5 +1,4 @@
 //! Each public call once, with values worked out by hand.
-use crate::memory::pushed;
 use bstr::BStr;
 use std::alloc::Global;
 use std::process::Abort;
@@ -70,7 +69,7 @@ fn grown(alloc: Global) -> Result<Bytes, Fail> {
     push_number(&mut out, -7)?;
     push_text(&mut out, b"ab")?;
     push_decimal(&mut out, 20)?;
-    pushed(out.push(b'.'))?;
+    out.push(b'.')?;
     out.extend(b"c")?;
     Ok(out)
 }
