@@ -1,2 +1,1 @@
 mod Positions
-mod ScriptLemmas

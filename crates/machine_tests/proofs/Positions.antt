@@ -1,30 +1,25 @@
 -- What holds of the starts at a position holds at the next one.
-use Rattle.std.proofs.Common.{◌≡◌, ◌<◌, ◌+◌, ℕ, zero, suc, Bool, List, [], ◌∷◌, ◌++◌, true, false, length, refl, ap, sym, ◌∙◌, subst, arith}
+use Rattle.std.proofs.Common.{◌≡◌, ◌+◌, ℕ, Bool, List, [], ◌∷◌, ◌++◌, true, false, length, refl, ap, sym, ◌∙◌, subst, arith}
 use Rattle.std.specs.List.{range_with_len}
 use Rattle.mpi_call.specs.declared.call.Call.{Call}
-use Rattle.mpi_call.specs.declared.call.Call.TheVariants.{Send, Post, Enter}
+use Rattle.mpi_call.specs.declared.call.Call.TheVariants.{Send, Post}
 use Rattle.mpi_call.specs.Calls.{comm_of, is_enter, is_starting}
-use Rattle.mpi_call.specs.Members.{is_member}
-use Rattle.mpi_call.specs.Needs.{IsEnterOf}
 use Rattle.run_model.specs.Pairs.{Name}
 use Rattle.run_model.specs.Views.{items_taken}
 use Rattle.match_core.specs.declared.start.Start.{Start as Unpaired}
-use Rattle.run_model.proofs.StartLemmas.{slice_get-below}
 use Rattle.match_core.specs.Starts.{AreBelow, is_message}
 use Rattle.match_core.proofs.StartLists.{below_left, below_more}
 use Rattle.collectives.specs.Boards.{enters_of, enters_on}
-use Rattle.comms.specs.Communicators.{Communicators, old_members}
 use Rattle.requests.specs.declared.requests.Started.{Started}
 use Rattle.requests.specs.declared.requests.Started.TheVariants.{Made, Disagrees}
 use Rattle.requests.specs.declared.requests.TakeAnswer.{TakeAnswer}
 use Rattle.requests.specs.declared.requests.TakeAnswer.TheVariants.{Took, NotReady, TooLong, BadStart}
-use Rattle.requests.specs.Starts.{Names, Rows, all_marked, fresh, mate_named, row_of, with_name, with_row, with_start}
-use Rattle.requests.specs.States.{IsEntered, IsPaired, IsStarted, IsStartedAs, MayEnter, MayStart, State, at_first, next_name, with_rows}
+use Rattle.requests.specs.Starts.{Names, Rows, all_marked, fresh, mate_named, row_of, with_name, with_start}
+use Rattle.requests.specs.States.{IsEntered, IsPaired, IsStarted, IsStartedAs, MayStart, State, at_first, next_name, with_rows}
 use Rattle.requests.specs.Taking.{rows_after}
 use Rattle.requests.proofs.Found.{length-row}
 use Rattle.requests.proofs.Pairing.{length-names}
 use Rattle.requests.proofs.Starting.{length-pair}
-use Rattle.requests.proofs.Steps.{some_members}
 use Rattle.requests.proofs.Growing.{grows_after, made_stays}
 
 next_paired : (ranks at rank : ℕ) (call : Call) (old new : State) (started : Started) → MayStart ranks at old → IsPaired old new at rank call started → MayStart ranks (at + 1) new
@@ -84,28 +79,6 @@ message_starting (Send comm dest tag ints sync) h = refl
 message_starting (Post comm source tag room) h = refl
 message_starting call h = absurd (cc)
 
-pub enter_starting : (call : Call) → is_enter call ≡ true → is_starting call ≡ true
-enter_starting (Enter comm kind root op count ints) h = refl
-enter_starting call h = absurd (cc)
-
--- an Enter on the world
-in_two : (rank : ℕ) → rank < 2 → is_member (range_with_len 0 2) rank ≡ true
-in_two zero h = refl
-in_two (suc zero) h = refl
-in_two (suc (suc rank)) h = absurd (omega arith)
-
-pub world_enter : (at rank : ℕ) (call : Call) (state : State) → MayStart 2 at state → rank < 2 → comm_of call ≡ 0 → IsEnterOf call (range_with_len 0 2) rank → MayEnter state.table.comms rank call
-world_enter at rank call state may less world form =
-    let comms : Communicators = state.table.comms in
-    let members : old_members comms (comm_of call) ≡ range_with_len 0 2 = ap (old_members comms) world ∙ some_members comms.members 0 (range_with_len 0 2) may.world in
-    let F : List ℕ → Type 0 = λ m. IsEnterOf call m rank in
-    let below = slice_get-below comms.members 0 (range_with_len 0 2) may.world in
-    record {
-      made = omega (arith, below, world);
-      member = ap (λ (m : List ℕ). is_member m rank) members ∙ in_two rank less;
-      form = subst F (sym members) form;
-    }
-
 pub next_rows : (ranks at : ℕ) (rows : Rows) (old new : State) → MayStart ranks at old → length rows ≡ length old.table.rows → new ≡ with_rows rows old → MayStart ranks at new
 next_rows ranks at rows old new may long is =
     let F : State → Type 0 = λ s. MayStart ranks at s in
@@ -119,10 +92,6 @@ length-after rows me starts (BadStart start) = refl
 
 pub next_taken : (ranks at me : ℕ) (starts : List ℕ) (answer : TakeAnswer) (old new : State) → MayStart ranks at old → new ≡ with_rows (rows_after old.table.rows me starts answer) old → MayStart ranks at new
 next_taken ranks at me starts answer old new may is = next_rows ranks at (rows_after old.table.rows me starts answer) old new may (length-after old.table.rows me starts answer) is
-
-pub next_untaken : (ranks at me : ℕ) (numbers : List ℕ) (old new : State) → MayStart ranks at old → new ≡ with_rows (with_row me (all_marked false numbers (row_of old.table.rows me)) old.table.rows) old → MayStart ranks at new
-next_untaken ranks at me numbers old new may is =
-    next_rows ranks at (with_row me (all_marked false numbers (row_of old.table.rows me)) old.table.rows) old new may (length-row me (all_marked false numbers (row_of old.table.rows me)) old.table.rows) is
 
 pub may_first : MayStart 2 0 (at_first 2)
 may_first = record {
