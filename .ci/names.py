@@ -20,6 +20,7 @@ MOST_ARGUMENTS = 6
 
 TYPE = re.compile(r"^\s*(?:pub(?:\([a-z]+\))? )?(?:struct|enum|trait|type) (\w+)", re.M)
 PARAMETERS = re.compile(r"\(([^():]+):")
+BRACKETS = re.compile(r"[({\[][^(){}\[\]]*[)}\]]")
 
 
 def statement():
@@ -50,31 +51,12 @@ def types():
             yield name, crate
 
 
-def arguments_of(lines):
-    """How many arguments a definition takes: those of its head, and the arrows of its type outside brackets."""
-    head = []
-    for line in lines:
-        head.append(line.strip())
-        if re.match(r"^\s+(?:pub )?\S+ :", line) and len(head) > 1:
-            head.pop()
-            break
-    text = " ".join(head[:1]) if " where" in head[0] else " ".join(head)
-    colon, depth, named, arrows = None, 0, 0, 0
-    for at, sign in enumerate(text):
-        if sign in "({[":
-            depth += 1
-            if depth == 1 and sign == "(" and (colon is None or text[at:].find(" : ") != -1):
-                names = PARAMETERS.match(text[at:])
-                named += len(names.group(1).split()) if names else 0
-        elif sign in ")}]":
-            depth -= 1
-        elif depth == 0 and text[at : at + 3] == " : " and colon is None:
-            colon = at
-        elif depth == 0 and colon is not None and sign == "→":
-            arrows += 1
-        if depth == 0 and text[at : at + 7] == " where ":
-            break
-    return max(named, arrows)
+def arguments_of(head):
+    """How many arguments a definition takes, by its first line: the names in its brackets, or the arrows of its type outside them."""
+    named = sum(len(names.split()) for names in PARAMETERS.findall(head))
+    while BRACKETS.search(head):
+        head = BRACKETS.sub("", head)
+    return max(named, head.count("→"))
 
 
 def sections():
@@ -84,7 +66,7 @@ def sections():
         f"{crate}.{file}.{name}"
         for (crate, file), source in sorted(sources.items())
         for name, lines in sorted(source.definitions.items())
-        if is_read(crate) and name not in source.lemmas and arguments_of(lines[:1]) > MOST_ARGUMENTS
+        if is_read(crate) and name not in source.lemmas and arguments_of(lines[0]) > MOST_ARGUMENTS
     ]
     return {
         "definitions that stand in two crates or more": twins,
