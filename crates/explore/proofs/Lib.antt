@@ -1,4 +1,7 @@
 mod NothingMissed
+mod QuietMissed
+mod QuietSearched
+mod QuietLooked
 mod Recorded
 mod Trying
 mod Begun

@@ -92,7 +92,7 @@ looked_idle next output n polls met met' root turns law state grows tried noted 
 
 -- 2. all states
 
-all_taken : {A : Type 0} (k : ℕ) (xs : List A) → drop k xs ≡ [] → take k xs ≡ xs
+pub all_taken : {A : Type 0} (k : ℕ) (xs : List A) → drop k xs ≡ [] → take k xs ≡ xs
 all_taken zero [] h = refl
 all_taken zero (x ∷ xs) h = absurd (cc)
 all_taken (suc k) [] h = refl
@@ -134,20 +134,29 @@ got_below (suc k) (y ∷ xs) x h = (let below = got_below k xs x h in omega (ari
 pub below_longer : {A : Type 0} (k : ℕ) (xs ys : List A) → IsPrefixOf xs ys → k < length xs → k + 1 ≤ length ys
 below_longer k xs ys longer below = (let many = length-append xs longer.0 in let same = ap length longer.1 in omega (arith, many, same, below))
 
+-- what holds of those that were taken and of one more
+pub taken_more : {A : Type 0} (P : A → Type 0) (at : ℕ) (x : A) (xs ys : List A) → IsPrefixOf xs ys → slice_get xs at ≡ Some x
+    → ((one : A) → IsIn one (take at xs) → P one) → P x → (one : A) → IsIn one (take (at + 1) ys) → P one
+taken_more {A} P at x xs ys longer got all here one there =
+    let F : List A → Type 0 = λ l. IsIn one l in
+    let e : at + 1 ≡ suc at = omega arith in
+    let G : ℕ → Type 0 = λ k. IsIn one (take k ys) in
+    let few : at < length xs = got_below at xs x got in
+    let within : suc at ≤ length xs = omega (arith, few) in
+    elim (in_taken at xs one x got (subst F (taken_longer (suc at) xs ys longer within) (subst G e there))) [
+      | inl front ↦ all one front
+      | inr last ↦ subst P last here
+    ]
+
 -- one more state was looked at
 pub looked_more : (next : Next) (output : Output) (n polls : ℕ) (met met' : Met) (at : ℕ) (turns : List Turn) → Grows met.states met'.states met.found met'.found met.polled met'.polled
-    → at < length met.states → slice_get met.states at ≡ Some turns
+    → slice_get met.states at ≡ Some turns
     → ((one : List Turn) → IsIn one (take at met.states) → HasLookedAt next output n polls met one) → HasLookedAt next output n polls met' turns
     → (one : List Turn) → IsIn one (take (at + 1) met'.states) → HasLookedAt next output n polls met' one
-looked_more next output n polls met met' at turns grows few got all here one there =
-    let F : List (List Turn) → Type 0 = λ l. IsIn one l in
-    let e : at + 1 ≡ suc at = omega arith in
-    let G : ℕ → Type 0 = λ k. IsIn one (take k met'.states) in
-    let within : suc at ≤ length met.states = omega (arith, few) in
-    elim (in_taken at met.states one turns got (subst F (taken_longer (suc at) met.states met'.states grows.states_stay within) (subst G e there))) [
-      | inl front ↦ looked_longer next output n polls met.states met'.states met.found met'.found met.polled met'.polled (made_by next n one) grows (all one front)
-      | inr last ↦ (let L : List Turn → Type 0 = λ l. HasLookedAt next output n polls met' l in subst L last here)
-    ]
+looked_more next output n polls met met' at turns grows got all here =
+    let L : List Turn → Type 0 = λ l. HasLookedAt next output n polls met' l in
+    taken_more L at turns met.states met'.states grows.states_stay got
+    (λ one front. looked_longer next output n polls met.states met'.states met.found met'.found met.polled met'.polled (made_by next n one) grows (all one front)) here
 
 searched : (next : Next) (output : Output) (n polls : ℕ) (under : List Turn) (first met : Met) (looked : ℕ) → HasBegun next output n under first
     → Grows first.states met.states first.found met.found first.polled met.polled → halted (made_by next n under) ≡ None
@@ -198,7 +207,7 @@ halted_runs next output n root one other halt law there run ended run' ended' =
     λ more r e. ap (outcome_of output n) (whole more) ∙ law f.before (f.after ++ more) f.event halt (subst R (whole more) r) (subst E (whole more) e) f.none stopped in
     decided one run ended ∙ sym (decided other run' ended')
 
-root_listed : (next : Next) (output : Output) (n : ℕ) (under : List Turn) (first met : Met) (halt : Halt) (more : List Event) → HaltsDecideOutcomes next output n
+pub root_listed : (next : Next) (output : Output) (n : ℕ) (under : List Turn) (first met : Met) (halt : Halt) (more : List Event) → HaltsDecideOutcomes next output n
     → HasBegun next output n under first → Grows first.states met.states first.found met.found first.polled met.polled
     → halted (made_by next n under) ≡ Some halt → IsWhole next n (made_by next n under ++ more)
     → IsListed met.found (outcome_of output n (made_by next n under ++ more))

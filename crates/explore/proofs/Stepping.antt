@@ -14,11 +14,11 @@ use Rattle.run_states.specs.Outcomes.{IsPatientEvent, IsProbeKept, Output}
 use Rattle.explore.specs.declared.met.Met.{Met}
 use Rattle.explore.specs.Searching.{IsState, IsStep, IsStepFollowed, IsUnderWay, WentOn, histories}
 
-record AreSame {E : Type 0} (xs ys : List E) (x y : E) : Type 0 where
-  fronts : xs ≡ ys
-  lasts : x ≡ y
+pub record AreSame {E : Type 0} (xs ys : List E) (x y : E) : Type 0 where
+  pub fronts : xs ≡ ys
+  pub lasts : x ≡ y
 
-snoc_same : {E : Type 0} (xs ys : List E) (x y : E) → xs ++ x ∷ [] ≡ ys ++ y ∷ [] → AreSame xs ys x y
+pub snoc_same : {E : Type 0} (xs ys : List E) (x y : E) → xs ++ x ∷ [] ≡ ys ++ y ∷ [] → AreSame xs ys x y
 snoc_same [] [] x y h = (let same : x ≡ y = cc in record { fronts = refl; lasts = same })
 snoc_same [] (b ∷ []) x y h = absurd (cc)
 snoc_same [] (b ∷ c ∷ ys) x y h = absurd (cc)

@@ -3,4 +3,5 @@ pub mod Probes
 pub mod Courses
 pub mod Searching
 pub mod SearchLaws
+pub mod QuietFirst
 pub mod Meeting

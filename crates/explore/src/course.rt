@@ -34,6 +34,15 @@ pub struct Setting<'a, P: Program, S> {
     pub under: &'a [Turn],
 }
 
+/// The limits of a search.
+#[derive(Clone, Copy)]
+pub struct Bounds {
+    /// How many states are looked at.
+    pub most: u32,
+    /// How many times in a row a rank may look in vain.
+    pub polls: u32,
+}
+
 /// A machine and the ranks beside it.
 #[derive(Drop)]
 pub struct Course<'a, P: Program, R: Drop> {

@@ -1,351 +1,31 @@
 //! The search.
-ghost use Rattle.std.specs.Prelude.{◌≡◌, ◌<◌, ◌++◌, ◌∷◌, [], List, All, IfOk, MatchBool, None, OnOk, Some, drop, false, if◌then◌else◌, length, take, true};
-ghost use Rattle.mpi_call.specs.Calls.{listed_by};
+ghost use Rattle.std.specs.Prelude.{◌≡◌, ◌<◌, [], List, All, IfOk, None, OnOk, drop, false, take};
 ghost use Rattle.mpi_call.specs.Lists.{IsIn};
 ghost use Rattle.group_plan.specs.Plans.{number_of_ranks};
-ghost use Rattle.run_model.specs.declared.event.Event.{Event};
 ghost use Rattle.picked_runs.specs.declared.turn.Turn.{Turn};
-ghost use Rattle.picked_runs.specs.Picks.{looks};
 ghost use Rattle.picked_runs.specs.Turns.{IsPickOf};
-ghost use Rattle.explore.specs.Courses.{IsCourse, IsSetting};
+ghost use Rattle.explore.specs.Courses.{IsSetting};
 ghost use Rattle.explore.specs.Explored.{IsExplored, made_by};
-ghost use Rattle.explore.specs.Searching.{HasBegun, HasLookedAt, HasTried, HasTriedPicks, HasTriedRanks, IsAnyPick, IsAtEnd, IsIndexBelow, IsNoted, IsSenderBelow, IsState, IsStep, IsStepFollowed, IsTurnMade, IsUnanswered, IsUnder, IsUnderWay, WentOn};
+ghost use Rattle.explore.specs.QuietFirst.{HasLookedAtQuietly};
+ghost use Rattle.explore.specs.declared.found.Explored.{Explored};
+ghost use Rattle.explore.specs.declared.search.Attempt.TheVariants.{Whole};
+ghost use Rattle.explore.specs.Searching.{HasBegun, HasLookedAt, IsUnderWay, WentOn};
 
-use crate::course::{Course, Setting, after_turns, answer, outcome_by};
+use crate::course::{Bounds, Course, Setting, after_turns};
 use crate::found::{Explored, States};
-use crate::laws::nothing_is_missed;
+use crate::laws::{nothing_is_missed, nothing_is_missed_quietly};
 use crate::met::Met;
-use crate::probes::{is_patient, keeps_probe};
+use crate::quiet::{Hindrance, has_mismatch, look_quietly};
+use crate::races::Races;
 use crate::ranks::StartRanks;
+use crate::tries::{copy_of, look_at, note_end};
 use crate::watch::{Progress, WATCHED_STATES, Watcher};
-use mpi_call::call::{Call, Halt};
 use picked_runs::laws::picks_go_on;
-use picked_runs::turn::{Pick, Turn, Turns};
-use run_model::history::History;
-use run_model::program::{Program, RankRun, Want};
+use picked_runs::turn::Turns;
+use run_model::program::{Program, RankRun};
 use run_states::key::code_of_run;
-use run_states::laws::{
-    codes_fix_keys, every_step_is_made, futures_are_same, halts_decide_outcomes, keys_fix_futures,
-};
+use run_states::laws::{every_step_is_made, futures_are_same, halts_decide_outcomes};
 use std::alloc::{AllocError, Global};
-
-/// A copy of turns.
-fn copy_of(alloc: Global, turns: &[Turn]) -> Result<Turns, AllocError>
-    ensures { IfOk result (λ copy. copy ≡ turns.now) }
-{
-    let mut copy = Turns::new(alloc);
-    let mut rest = turns;
-    while let [turn, after @ ..] = rest {
-        copy.push(*turn)?;
-        rest = after;
-    }
-    Ok(copy)
-}
-
-/// These turns and one more.
-fn and_turn(alloc: Global, turns: &[Turn], turn: Turn) -> Result<Turns, AllocError>
-    ensures { IfOk result (λ more. more ≡ turns.now ++ turn ∷ []) }
-{
-    let mut more = copy_of(alloc, turns)?;
-    more.push(turn)?;
-    Ok(more)
-}
-
-/// The limits of a search.
-#[derive(Clone, Copy)]
-pub struct Bounds {
-    /// How many states are looked at.
-    pub most: u32,
-    /// How many times in a row a rank may look in vain.
-    pub polls: u32,
-}
-
-/// Notes what a run without a halt left by its last event: a state, where the event keeps its probe and its rank is patient.
-fn note_state<P: Program, S>(
-    setting: &Setting<'_, P, S>,
-    bounds: Bounds,
-    met: &mut Met,
-    history: &History,
-    turns: Turns,
-) -> Result<(), AllocError>
-    requires met { IsUnderWay (P.next setting.now.program.now) (P.output setting.now.program.now) setting.now.ranks (made_by (P.next setting.now.program.now) setting.now.ranks setting.now.under.now) met.old }
-    requires step { (before : List Event) × (event : Event) × IsStep (P.next setting.now.program.now) setting.now.ranks (made_by (P.next setting.now.program.now) setting.now.ranks setting.now.under.now) turns before event history.now.events }
-    ensures went { OnOk result (WentOn (P.next setting.now.program.now) (P.output setting.now.program.now) setting.now.ranks (made_by (P.next setting.now.program.now) setting.now.ranks setting.now.under.now) met.old met.new) }
-    ensures followed { OnOk result (IsStepFollowed (P.next setting.now.program.now) setting.now.ranks bounds.polls met.new history.now.events) }
-{
-    let [before @ .., event] = history.as_slice() else {
-        return Ok(());
-    };
-    if !keeps_probe(before, event) {
-        return Ok(());
-    }
-    if !is_patient(before, event, bounds.polls) {
-        met.polled = true;
-        return Ok(());
-    }
-    // Laws: a code stands for one key, and runs of one key leave the same.
-    codes_fix_keys();
-    keys_fix_futures(setting.program, setting.ranks);
-    let code = code_of_run(setting.alloc, setting.program, setting.ranks, history)?;
-    met.add_state(code, turns)
-}
-
-/// Notes what the recording by these turns comes to, after which nothing but halts follows.
-fn note_end<P: Program, R: RankRun<Of = P>, S: StartRanks<P, R>>(
-    setting: &Setting<'_, P, S>,
-    met: &mut Met,
-    turns: Turns,
-) -> Result<(), AllocError>
-    requires setting { IsSetting (S.program setting.now.starter.now) setting.now.program.now (number_of_ranks setting.now.plan.now) setting.now.ranks }
-    requires met { IsUnderWay (P.next setting.now.program.now) (P.output setting.now.program.now) setting.now.ranks (made_by (P.next setting.now.program.now) setting.now.ranks setting.now.under.now) met.old }
-    requires turns { IsUnder (P.next setting.now.program.now) setting.now.ranks (made_by (P.next setting.now.program.now) setting.now.ranks setting.now.under.now) turns }
-    requires end { IsAtEnd (P.next setting.now.program.now) setting.now.ranks (made_by (P.next setting.now.program.now) setting.now.ranks turns) }
-    ensures went { OnOk result (WentOn (P.next setting.now.program.now) (P.output setting.now.program.now) setting.now.ranks (made_by (P.next setting.now.program.now) setting.now.ranks setting.now.under.now) met.old met.new) }
-    ensures noted { OnOk result (IsNoted (P.next setting.now.program.now) (P.output setting.now.program.now) setting.now.ranks turns met.new.found) }
-{
-    // A law: a run that picks make has a recording machine's numbers.
-    picks_go_on(setting.program, setting.ranks);
-    let found = outcome_by(setting, turns)?;
-    met.add_found(found)
-}
-
-/// Notes what one more turn of a state came to.
-fn note<P: Program, R: RankRun<Of = P>, S: StartRanks<P, R>>(
-    setting: &Setting<'_, P, S>,
-    bounds: Bounds,
-    met: &mut Met,
-    course: &Course<'_, P, R>,
-    turns: &[Turn],
-    turn: Turn,
-) -> Result<(), AllocError>
-    requires setting { IsSetting (S.program setting.now.starter.now) setting.now.program.now (number_of_ranks setting.now.plan.now) setting.now.ranks }
-    requires state { IsState (P.next setting.now.program.now) setting.now.ranks (made_by (P.next setting.now.program.now) setting.now.ranks setting.now.under.now) turns.now }
-    requires met { IsUnderWay (P.next setting.now.program.now) (P.output setting.now.program.now) setting.now.ranks (made_by (P.next setting.now.program.now) setting.now.ranks setting.now.under.now) met.old }
-    requires rank { turn.rank < setting.now.ranks }
-    requires program { course.now.machine.program ≡ setting.now.program.now }
-    requires ranks { course.now.machine.ranks ≡ setting.now.ranks }
-    requires made { IsTurnMade (P.next setting.now.program.now) setting.now.ranks (made_by (P.next setting.now.program.now) setting.now.ranks turns.now) course.now.machine.events turn }
-    ensures went { OnOk result (WentOn (P.next setting.now.program.now) (P.output setting.now.program.now) setting.now.ranks (made_by (P.next setting.now.program.now) setting.now.ranks setting.now.under.now) met.old met.new) }
-    ensures tried { OnOk result (HasTried (P.next setting.now.program.now) (P.output setting.now.program.now) setting.now.ranks bounds.polls met.new (made_by (P.next setting.now.program.now) setting.now.ranks turns.now) turn) }
-{
-    // A law: what a run comes to that is halted is decided by what was before, and by the halt.
-    halts_decide_outcomes(setting.program, setting.ranks);
-    let history = course.machine.history();
-    match course.machine.halt() {
-        None => {
-            let more = and_turn(setting.alloc, turns, turn)?;
-            note_state(setting, bounds, met, history, more)
-        }
-        Some(halt) => match halt {
-            Halt::Stuck => {
-                let same = copy_of(setting.alloc, turns)?;
-                note_end(setting, met, same)
-            }
-            _ => {
-                let more = and_turn(setting.alloc, turns, turn)?;
-                note_end(setting, met, more)
-            }
-        },
-    }
-}
-
-/// The next call of a rank, if it makes one.
-fn call_of<R: RankRun>(run: &mut R) -> Result<Option<Call>, AllocError>
-    ensures call { IfOk result (λ call. R.Of.next (R.standing run.old).program (R.standing run.old).ranks (R.standing run.old).rank (R.standing run.old).replies ≡ call) }
-    ensures run { OnOk result (R.standing run.new ≡ record (R.standing run.old) { asked = true }) }
-{
-    match run.want()? {
-        Want::Ended => Ok(None),
-        Want::Ask(call) => Ok(Some(call)),
-    }
-}
-
-/// Tries one more turn of a state, and notes what it came to: whether it was answered.
-fn try_turn<'a, P: Program, R: RankRun<Of = P>, S: StartRanks<P, R>>(
-    setting: &Setting<'a, P, S>,
-    bounds: Bounds,
-    met: &mut Met,
-    course: &mut Course<'a, P, R>,
-    turns: &[Turn],
-    turn: Turn,
-) -> Result<bool, AllocError>
-    requires setting { IsSetting (S.program setting.now.starter.now) setting.now.program.now (number_of_ranks setting.now.plan.now) setting.now.ranks }
-    requires state { IsState (P.next setting.now.program.now) setting.now.ranks (made_by (P.next setting.now.program.now) setting.now.ranks setting.now.under.now) turns.now }
-    requires met { IsUnderWay (P.next setting.now.program.now) (P.output setting.now.program.now) setting.now.ranks (made_by (P.next setting.now.program.now) setting.now.ranks setting.now.under.now) met.old }
-    requires course { IsCourse R.standing setting.now.program.now setting.now.ranks (made_by (P.next setting.now.program.now) setting.now.ranks turns.now) course.old.machine course.old.runs.items }
-    requires rank { turn.rank < setting.now.ranks }
-    ensures course { OnOk result (IsCourse R.standing setting.now.program.now setting.now.ranks (made_by (P.next setting.now.program.now) setting.now.ranks turns.now) course.new.machine course.new.runs.items) }
-    ensures went { OnOk result (WentOn (P.next setting.now.program.now) (P.output setting.now.program.now) setting.now.ranks (made_by (P.next setting.now.program.now) setting.now.ranks setting.now.under.now) met.old met.new) }
-    ensures tried { IfOk result (λ answered. MatchBool answered (HasTried (P.next setting.now.program.now) (P.output setting.now.program.now) setting.now.ranks bounds.polls met.new (made_by (P.next setting.now.program.now) setting.now.ranks turns.now) turn) (IsUnanswered (P.next setting.now.program.now) setting.now.ranks (made_by (P.next setting.now.program.now) setting.now.ranks turns.now) turn)) }
-{
-    let Some(call) = call_of(&mut course.runs[turn.rank as usize])? else {
-        return Ok(false);
-    };
-    if !answer(&mut course.machine, turn.rank, call, turn.pick)? {
-        return Ok(false);
-    }
-    note(setting, bounds, met, course, turns, turn)?;
-    *course = after_turns(setting, turns)?;
-    Ok(true)
-}
-
-/// How many senders can be picked for a call, of so many ranks.
-fn senders_for(call: &Call, ranks: u8) -> u8
-    ensures { result ≡ (if looks call.now then ranks else 0) }
-{
-    match call {
-        Call::Post { .. } | Call::Peek { .. } => ranks,
-        _ => 0,
-    }
-}
-
-/// How many starts a call lists.
-fn starts_for(call: &Call) -> usize
-    ensures { result ≡ length (listed_by call.now) }
-{
-    match call {
-        Call::Take { starts, .. } => starts.as_slice().len(),
-        _ => 0,
-    }
-}
-
-/// Tries all senders for a rank's call: whether one was there.
-fn try_senders<'a, P: Program, R: RankRun<Of = P>, S: StartRanks<P, R>>(
-    setting: &Setting<'a, P, S>,
-    bounds: Bounds,
-    met: &mut Met,
-    course: &mut Course<'a, P, R>,
-    turns: &[Turn],
-    rank: u8,
-    count: u8,
-) -> Result<bool, AllocError>
-    requires setting { IsSetting (S.program setting.now.starter.now) setting.now.program.now (number_of_ranks setting.now.plan.now) setting.now.ranks }
-    requires state { IsState (P.next setting.now.program.now) setting.now.ranks (made_by (P.next setting.now.program.now) setting.now.ranks setting.now.under.now) turns.now }
-    requires met { IsUnderWay (P.next setting.now.program.now) (P.output setting.now.program.now) setting.now.ranks (made_by (P.next setting.now.program.now) setting.now.ranks setting.now.under.now) met.old }
-    requires course { IsCourse R.standing setting.now.program.now setting.now.ranks (made_by (P.next setting.now.program.now) setting.now.ranks turns.now) course.old.machine course.old.runs.items }
-    requires rank { rank < setting.now.ranks }
-    ensures course { OnOk result (IsCourse R.standing setting.now.program.now setting.now.ranks (made_by (P.next setting.now.program.now) setting.now.ranks turns.now) course.new.machine course.new.runs.items) }
-    ensures went { OnOk result (WentOn (P.next setting.now.program.now) (P.output setting.now.program.now) setting.now.ranks (made_by (P.next setting.now.program.now) setting.now.ranks setting.now.under.now) met.old met.new) }
-    ensures tried { IfOk result (λ made. HasTriedPicks (P.next setting.now.program.now) (P.output setting.now.program.now) setting.now.ranks bounds.polls met.new (made_by (P.next setting.now.program.now) setting.now.ranks turns.now) rank (IsSenderBelow count) made) }
-{
-    let mut made = false;
-    for sender in 0..count {
-        let pick = Pick::Sender(sender);
-        if try_turn(setting, bounds, met, course, turns, Turn { rank, pick })? {
-            made = true;
-        }
-    }
-    Ok(made)
-}
-
-/// Tries all indices for a rank's call: whether one was there.
-fn try_indices<'a, P: Program, R: RankRun<Of = P>, S: StartRanks<P, R>>(
-    setting: &Setting<'a, P, S>,
-    bounds: Bounds,
-    met: &mut Met,
-    course: &mut Course<'a, P, R>,
-    turns: &[Turn],
-    rank: u8,
-    count: usize,
-) -> Result<bool, AllocError>
-    requires setting { IsSetting (S.program setting.now.starter.now) setting.now.program.now (number_of_ranks setting.now.plan.now) setting.now.ranks }
-    requires state { IsState (P.next setting.now.program.now) setting.now.ranks (made_by (P.next setting.now.program.now) setting.now.ranks setting.now.under.now) turns.now }
-    requires met { IsUnderWay (P.next setting.now.program.now) (P.output setting.now.program.now) setting.now.ranks (made_by (P.next setting.now.program.now) setting.now.ranks setting.now.under.now) met.old }
-    requires course { IsCourse R.standing setting.now.program.now setting.now.ranks (made_by (P.next setting.now.program.now) setting.now.ranks turns.now) course.old.machine course.old.runs.items }
-    requires rank { rank < setting.now.ranks }
-    ensures course { OnOk result (IsCourse R.standing setting.now.program.now setting.now.ranks (made_by (P.next setting.now.program.now) setting.now.ranks turns.now) course.new.machine course.new.runs.items) }
-    ensures went { OnOk result (WentOn (P.next setting.now.program.now) (P.output setting.now.program.now) setting.now.ranks (made_by (P.next setting.now.program.now) setting.now.ranks setting.now.under.now) met.old met.new) }
-    ensures tried { IfOk result (λ made. HasTriedPicks (P.next setting.now.program.now) (P.output setting.now.program.now) setting.now.ranks bounds.polls met.new (made_by (P.next setting.now.program.now) setting.now.ranks turns.now) rank (IsIndexBelow count) made) }
-{
-    let mut made = false;
-    for index in 0..count {
-        let Ok(index) = u32::try_from(index) else {
-            return Err(AllocError);
-        };
-        let pick = Pick::Index(index);
-        if try_turn(setting, bounds, met, course, turns, Turn { rank, pick })? {
-            made = true;
-        }
-    }
-    Ok(made)
-}
-
-/// Tries all turns of a rank after a state: whether one was answered. Nothing is picked only where nothing can be.
-fn try_rank<'a, P: Program, R: RankRun<Of = P>, S: StartRanks<P, R>>(
-    setting: &Setting<'a, P, S>,
-    bounds: Bounds,
-    met: &mut Met,
-    course: &mut Course<'a, P, R>,
-    turns: &[Turn],
-    rank: u8,
-) -> Result<bool, AllocError>
-    requires setting { IsSetting (S.program setting.now.starter.now) setting.now.program.now (number_of_ranks setting.now.plan.now) setting.now.ranks }
-    requires state { IsState (P.next setting.now.program.now) setting.now.ranks (made_by (P.next setting.now.program.now) setting.now.ranks setting.now.under.now) turns.now }
-    requires met { IsUnderWay (P.next setting.now.program.now) (P.output setting.now.program.now) setting.now.ranks (made_by (P.next setting.now.program.now) setting.now.ranks setting.now.under.now) met.old }
-    requires course { IsCourse R.standing setting.now.program.now setting.now.ranks (made_by (P.next setting.now.program.now) setting.now.ranks turns.now) course.old.machine course.old.runs.items }
-    requires rank { rank < setting.now.ranks }
-    ensures course { OnOk result (IsCourse R.standing setting.now.program.now setting.now.ranks (made_by (P.next setting.now.program.now) setting.now.ranks turns.now) course.new.machine course.new.runs.items) }
-    ensures went { OnOk result (WentOn (P.next setting.now.program.now) (P.output setting.now.program.now) setting.now.ranks (made_by (P.next setting.now.program.now) setting.now.ranks setting.now.under.now) met.old met.new) }
-    ensures tried { IfOk result (λ made. HasTriedPicks (P.next setting.now.program.now) (P.output setting.now.program.now) setting.now.ranks bounds.polls met.new (made_by (P.next setting.now.program.now) setting.now.ranks turns.now) rank IsAnyPick made) }
-{
-    let Some(call) = call_of(&mut course.runs[rank as usize])? else {
-        return Ok(false);
-    };
-    let senders = senders_for(&call, setting.ranks);
-    let starts = starts_for(&call);
-    if try_senders(setting, bounds, met, course, turns, rank, senders)? {
-        return Ok(true);
-    }
-    if try_indices(setting, bounds, met, course, turns, rank, starts)? {
-        return Ok(true);
-    }
-    let pick = Pick::First;
-    try_turn(setting, bounds, met, course, turns, Turn { rank, pick })
-}
-
-/// Tries all turns of each rank after a state: whether one was answered.
-fn try_ranks<'a, P: Program, R: RankRun<Of = P>, S: StartRanks<P, R>>(
-    setting: &Setting<'a, P, S>,
-    bounds: Bounds,
-    met: &mut Met,
-    turns: &[Turn],
-) -> Result<bool, AllocError>
-    requires setting { IsSetting (S.program setting.now.starter.now) setting.now.program.now (number_of_ranks setting.now.plan.now) setting.now.ranks }
-    requires state { IsState (P.next setting.now.program.now) setting.now.ranks (made_by (P.next setting.now.program.now) setting.now.ranks setting.now.under.now) turns.now }
-    requires met { IsUnderWay (P.next setting.now.program.now) (P.output setting.now.program.now) setting.now.ranks (made_by (P.next setting.now.program.now) setting.now.ranks setting.now.under.now) met.old }
-    ensures went { OnOk result (WentOn (P.next setting.now.program.now) (P.output setting.now.program.now) setting.now.ranks (made_by (P.next setting.now.program.now) setting.now.ranks setting.now.under.now) met.old met.new) }
-    ensures tried { IfOk result (λ made. HasTriedRanks (P.next setting.now.program.now) (P.output setting.now.program.now) setting.now.ranks bounds.polls met.new (made_by (P.next setting.now.program.now) setting.now.ranks turns.now) setting.now.ranks made) }
-{
-    let mut course: Course<'a, P, R> = after_turns(setting, turns)?;
-    let mut made = false;
-    for rank in 0..setting.ranks {
-        if try_rank(setting, bounds, met, &mut course, turns, rank)? {
-            made = true;
-        }
-    }
-    Ok(made)
-}
-
-/// Looks at a state: tries all turns of each rank after it, and, where none is answered, notes what it comes to.
-fn look_at<P: Program, R: RankRun<Of = P>, S: StartRanks<P, R>>(
-    setting: &Setting<'_, P, S>,
-    bounds: Bounds,
-    met: &mut Met,
-    turns: Turns,
-) -> Result<(), AllocError>
-    requires setting { IsSetting (S.program setting.now.starter.now) setting.now.program.now (number_of_ranks setting.now.plan.now) setting.now.ranks }
-    requires state { IsState (P.next setting.now.program.now) setting.now.ranks (made_by (P.next setting.now.program.now) setting.now.ranks setting.now.under.now) turns }
-    requires met { IsUnderWay (P.next setting.now.program.now) (P.output setting.now.program.now) setting.now.ranks (made_by (P.next setting.now.program.now) setting.now.ranks setting.now.under.now) met.old }
-    ensures went { OnOk result (WentOn (P.next setting.now.program.now) (P.output setting.now.program.now) setting.now.ranks (made_by (P.next setting.now.program.now) setting.now.ranks setting.now.under.now) met.old met.new) }
-    ensures looked { OnOk result (HasLookedAt (P.next setting.now.program.now) (P.output setting.now.program.now) setting.now.ranks bounds.polls met.new turns) }
-{
-    // A law: what a run comes to that is halted is decided by what was before, and by the halt.
-    halts_decide_outcomes(setting.program, setting.ranks);
-    if try_ranks(setting, bounds, met, turns.as_slice())? {
-        return Ok(());
-    }
-    note_end(setting, met, turns)
-}
 
 /// Notes the state that a search begins with, or, where it is halted, what it comes to.
 fn begin<'a, P: Program, R: RankRun<Of = P>, S: StartRanks<P, R>>(
@@ -407,6 +87,33 @@ fn look_at_all<P: Program, R: RankRun<Of = P>, S: StartRanks<P, R>, W: Watcher>(
     Ok(bounds.most)
 }
 
+/// Looks at states in the order in which they were met, where quiet calls go first, until all are looked at; or why that cannot be done.
+fn look_at_all_quietly<P: Program, R: RankRun<Of = P>, S: StartRanks<P, R>, W: Watcher>(
+    setting: &Setting<'_, P, S>,
+    bounds: Bounds,
+    races: &Races,
+    met: &mut Met,
+    watcher: &mut W,
+) -> Result<Option<Hindrance>, AllocError>
+    requires setting { IsSetting (S.program setting.now.starter.now) setting.now.program.now (number_of_ranks setting.now.plan.now) setting.now.ranks }
+    requires met { IsUnderWay (P.next setting.now.program.now) (P.output setting.now.program.now) setting.now.ranks (made_by (P.next setting.now.program.now) setting.now.ranks setting.now.under.now) met.old }
+    ensures went { OnOk result (WentOn (P.next setting.now.program.now) (P.output setting.now.program.now) setting.now.ranks (made_by (P.next setting.now.program.now) setting.now.ranks setting.now.under.now) met.old met.new) }
+    ensures looked { IfOk result (λ hindrance. hindrance ≡ None → (turns : List Turn) → IsIn turns met.new.states → HasLookedAtQuietly (P.next setting.now.program.now) (P.output setting.now.program.now) setting.now.ranks bounds.polls races.now met.new turns) }
+{
+    for at in 0..bounds.most {
+        let Some(turns) = met.states.as_slice().get(at as usize) else {
+            return Ok(None);
+        };
+        let turns = copy_of(setting.alloc, turns.as_slice())?;
+        let hindrance = look_quietly(setting, bounds, races, met, turns)?;
+        if hindrance.is_some() {
+            return Ok(hindrance);
+        }
+        tell(met, at + 1, watcher);
+    }
+    Ok(Some(Hindrance::Large))
+}
+
 /// The states from a place on.
 fn from_place(alloc: Global, states: &[Turns], place: u32) -> Result<States, AllocError>
     ensures { IfOk result (λ left. left ≡ drop place states.now) }
@@ -423,9 +130,46 @@ fn from_place(alloc: Global, states: &[Turns], place: u32) -> Result<States, All
     Ok(left)
 }
 
-/// Every outcome of the runs that begin with what the setting's turns make; without turns, of all runs. `watcher` is told on the way how far
-/// the search is.
-pub fn explore<P: Program, R: RankRun<Of = P>, S: StartRanks<P, R>, W: Watcher>(
+/// What a search came to in which quiet calls go first.
+enum Attempt {
+    Whole(Explored),
+    Hindered(Hindrance),
+}
+
+/// A search in which quiet calls go first, where it can be ended so.
+fn search_quietly<P: Program, R: RankRun<Of = P>, S: StartRanks<P, R>, W: Watcher>(
+    setting: &Setting<'_, P, S>,
+    bounds: Bounds,
+    races: &Races,
+    watcher: &mut W,
+) -> Result<Attempt, AllocError>
+    requires setting { IsSetting (S.program setting.now.starter.now) setting.now.program.now (number_of_ranks setting.now.plan.now) setting.now.ranks }
+    requires turns { All (λ turn. turn.rank < setting.now.ranks) setting.now.under.now }
+    requires picks { All (λ turn. IsPickOf setting.now.ranks turn.pick) setting.now.under.now }
+    ensures { IfOk result (λ attempt. (explored : Explored) → attempt ≡ Whole explored → IsExplored (P.next setting.now.program.now) (P.output setting.now.program.now) setting.now.ranks bounds.polls setting.now.under.now explored) }
+{
+    // Laws: where every state was looked at, nothing is missed; what a halted run comes to is decided by what was before.
+    nothing_is_missed_quietly(setting.program, setting.ranks);
+    halts_decide_outcomes(setting.program, setting.ranks);
+    let mut met = Met::new(setting.alloc);
+    begin(setting, &mut met)?;
+    if let Some(hindrance) = look_at_all_quietly(setting, bounds, races, &mut met, watcher)? {
+        return Ok(Attempt::Hindered(hindrance));
+    }
+    if !races.has_partial() && has_mismatch(met.found.as_slice()) {
+        return Ok(Attempt::Hindered(Hindrance::Mismatched));
+    }
+    let states = met.states.as_slice().len();
+    Ok(Attempt::Whole(Explored {
+        found: met.found,
+        states,
+        left: States::new(setting.alloc),
+        polled: met.polled,
+    }))
+}
+
+/// A search in which all moves of each state are followed.
+fn search_all<P: Program, R: RankRun<Of = P>, S: StartRanks<P, R>, W: Watcher>(
     setting: &Setting<'_, P, S>,
     bounds: Bounds,
     watcher: &mut W,
@@ -452,4 +196,29 @@ pub fn explore<P: Program, R: RankRun<Of = P>, S: StartRanks<P, R>, W: Watcher>(
         left,
         polled: met.polled,
     })
+}
+
+/// Every outcome of the runs that begin with what the setting's turns make; without turns, of all runs. Quiet calls go first, if each state is met
+/// so; `watcher` is told on the way how far the search is, and a search that begins again counts anew.
+pub fn explore<P: Program, R: RankRun<Of = P>, S: StartRanks<P, R>, W: Watcher>(
+    setting: &Setting<'_, P, S>,
+    bounds: Bounds,
+    watcher: &mut W,
+) -> Result<Explored, AllocError>
+    requires setting { IsSetting (S.program setting.now.starter.now) setting.now.program.now (number_of_ranks setting.now.plan.now) setting.now.ranks }
+    requires turns { All (λ turn. turn.rank < setting.now.ranks) setting.now.under.now }
+    requires picks { All (λ turn. IsPickOf setting.now.ranks turn.pick) setting.now.under.now }
+    ensures { IfOk result (λ explored. IsExplored (P.next setting.now.program.now) (P.output setting.now.program.now) setting.now.ranks bounds.polls setting.now.under.now explored) }
+{
+    let mut races = Races::none(setting.alloc, setting.ranks)?;
+    // Each attempt but the last finds another rank that makes racy calls, or that some call completes in part.
+    for _ in 0..u32::from(setting.ranks) + 2 {
+        match search_quietly(setting, bounds, &races, watcher)? {
+            Attempt::Whole(explored) => return Ok(explored),
+            Attempt::Hindered(Hindrance::Racy(race)) => races.admit(race),
+            Attempt::Hindered(Hindrance::Mismatched) => races.admit_partial(),
+            Attempt::Hindered(Hindrance::Large) => break,
+        }
+    }
+    search_all(setting, bounds, watcher)
 }

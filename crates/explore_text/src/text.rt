@@ -3,8 +3,8 @@ ghost use Rattle.std.specs.Prelude.{◌≡◌, ◌++◌, IfOk, OnOk, codes, flat
 ghost use Rattle.wiz_base.specs.Decimals.{decimal_text};
 ghost use Rattle.explore_text.specs.ExploreTexts.{counts_text, explore_text, found_text, all_found_text, looked_text, outcome_text, printed_text, progress_text, told_ending_text, verdict_text};
 
+use explore::course::Bounds;
 use explore::found::{Explored, Found, Outcome};
-use explore::search::Bounds;
 use explore::watch::Progress;
 use mpi_call::call::Halt;
 use run_model::ending::Ending;

@@ -107,10 +107,11 @@ lower_first =
     record {
       rank = 0;
       call = End;
-      pick = First;
       quiet = record {
         kind = refl;
-        move = record { below = omega arith; asked = refl; offered = refl; settled = record { senders = λ sender. refl; indices = λ index. refl }; free = refl };
+        below = omega arith;
+        asked = refl;
+        free = refl;
         ready = λ vain. absurd (cc);
         probe = end_probe [] 0;
       };
@@ -122,10 +123,11 @@ other_next =
     record {
       rank = 1;
       call = End;
-      pick = First;
       quiet = record {
         kind = refl;
-        move = record { below = omega arith; asked = refl; offered = refl; settled = record { senders = λ sender. refl; indices = λ index. refl }; free = refl };
+        below = omega arith;
+        asked = refl;
+        free = refl;
         ready = λ vain. absurd (cc);
         probe = end_probe one_ended 1;
       };
@@ -137,7 +139,7 @@ none_left zero call pick move kept = (let no : None ≡ Some call = move.asked i
 none_left (suc zero) call pick move kept = (let no : None ≡ Some call = move.asked in absurd (cc))
 none_left (suc (suc rank)) call pick move kept = (let below : suc (suc rank) < 2 = move.below in absurd (omega (arith, below)))
 
-closed : AreClosedQuietly ends_at_once 2 any_race [] IsProbeKept three
+closed : AreClosedQuietly ends_at_once 2 any_race [] IsProbeKept (both_ended ∷ []) three
 closed =
     record {
       first = ([], inl refl, itself []);
@@ -159,7 +161,7 @@ closed =
             | inr later ↦ elim later [
               | inl same ↦ inr (subst Q same other_next)
               | inr last ↦ elim last [
-                | inl same ↦ inl (subst M same none_left)
+                | inl same ↦ inl (inl same, subst M same none_left)
                 | inr none ↦ absurd none
               ]
             ]

@@ -1,6 +1,6 @@
 -- Where a search follows one quiet call alone, what holds of all that it has met holds of all that goes on from there without a halt: it is far below
 -- the bound, its calls are reckoned with, and its Enters agree.
-use Rattle.std.proofs.Common.{◌≡◌, ◌<◌, ◌≤◌, ◌⊎◌, ◌∙◌, ◌++◌, ◌==◌, ◌+◌, ◌&&◌, ◌||◌, ◌∷◌, ℕ, zero, suc, List, [], Option, Some, None, Bool, true, false, append-nil, append_assoc, inl, inr, is_some, length, length-append, refl, ap, sym, subst, arith}
+use Rattle.std.proofs.Common.{◌≡◌, ◌<◌, ◌≤◌, ◌⊎◌, ◌∙◌, ◌++◌, ◌==◌, ◌+◌, ◌&&◌, ◌||◌, ◌∷◌, ℕ, zero, suc, List, [], Option, Some, None, Bool, true, false, append-nil, append_assoc, inl, inr, is_some, length, refl, ap, sym, subst}
 use Rattle.std.proofs.lemmas.Bool.{and_from, eqb-true, or_right}
 use Rattle.mpi_call.specs.declared.call.Call.{Call}
 use Rattle.mpi_call.specs.declared.limits.TheConstants.{MOST_EVENTS}
@@ -20,13 +20,15 @@ use Rattle.run_model.proofs.RunLaws.{Lawful}
 use Rattle.run_model.proofs.Taken.{none_parts}
 use Rattle.run_model.proofs.Views.{test_cases, view_of-append, view_of-other}
 use Rattle.picked_runs.specs.Numbering.{IsNumberedInOrder}
+use Rattle.picked_runs.specs.declared.turn.Pick.TheVariants.{First}
 use Rattle.picked_runs.specs.Picks.{picked_event}
 use Rattle.run_states.specs.Futures.{SameFuture}
 use Rattle.run_states.specs.Moves.{IsMet}
 use Rattle.run_states.specs.Outcomes.{IsPatientEvent, IsProbeKept, Output, vain_in}
 use Rattle.run_states.specs.StateLaws.{EveryStepIsMade, FuturesAreSame, IsMade, IsPatientStep}
 use Rattle.quiet_calls.specs.Quiet.{IsAgreed, Races, is_calm, is_quiet, is_reckoned}
-use Rattle.quiet_calls.specs.Closure.{AreMovesMet, AreReckonedWith, IsFarBelow, IsOnItsWay, IsQuietCallMet}
+use Rattle.quiet_calls.specs.Closure.{AreMovesMet, IsFarBelow, IsOnItsWay, IsQuietCallMet}
+use Rattle.quiet_calls.proofs.Agreed.{AreAllReckonedWith, at_most, is_longer, none_left, one_less}
 use Rattle.quiet_calls.proofs.Room.{HasRoom, not_full, room_like, room_put}
 use Rattle.quiet_calls.proofs.Runs.{IsGood}
 use Rattle.quiet_calls.proofs.Swapping.{other_way, views_swapped}
@@ -36,7 +38,6 @@ use Rattle.quiet_calls.proofs.NamedSwap.{IsMadeBehind}
 use Rattle.quiet_calls.proofs.Diamond.{IsFirst, enter_kind, event_behind, first_good, first_halts, own_first}
 use Rattle.quiet_calls.proofs.Fronting.{GoesBehind, IsMoved, IsPutIn, goes_behind, has_event, later_size, same_as}
 use Rattle.quiet_calls.proofs.GoingFirst.{along_join, quiet_first, unseen_view}
-use Rattle.quiet_calls.proofs.Sizes.{same_length}
 use Rattle.quiet_calls.proofs.FarBelow.{below_put, below_same, room_far}
 use Rattle.quiet_calls.proofs.Agreeing.{agreed_more, agreed_next, mismatched_alike}
 use Rattle.quiet_calls.proofs.Entering.{mismatched_front}
@@ -44,9 +45,11 @@ use Rattle.quiet_calls.proofs.Onwards.{GoesOn, IsCarriedOver, carried_over, goes
 
 -- what is known of the histories
 pub record IsSearchedQuietly (next : Next) (n : ℕ) (races : Races) (most : ℕ) (visited : List (List Event)) : Type 0 where
+  pub opened : List (List Event)
   pub runs : (before : List Event) → IsIn before visited → IsOnItsWay next n before
-  pub more : (before : List Event) → IsIn before visited → AreMovesMet next n (IsPatientStep most) visited before ⊎ IsQuietCallMet next n races visited before
-  pub reckoned : AreReckonedWith next n races visited
+  pub more : (before : List Event) → IsIn before visited
+      → (IsIn before opened × AreMovesMet next n (IsPatientStep most) visited before) ⊎ IsQuietCallMet next n races visited before
+  pub reckoned : AreAllReckonedWith next n races visited
 
 -- a history is far below the bound, and each rank's next call is reckoned with, and not mismatched
 pub record IsForeseen (next : Next) (n : ℕ) (races : Races) (events : List Event) : Type 0 where
@@ -87,11 +90,6 @@ foreseen_here next n races most visited c one there =
 
 pub back : (n : ℕ) (one other : List Event) → SameFuture n one other → SameFuture n other one
 back n one other same = record { views = λ rank. sym (same.views rank); pairs = λ name. sym (same.pairs name); made = sym same.made }
-
-pub is_longer : (n : ℕ) (one two : List Event) (event : Event) → SameFuture n two (one ++ event ∷ []) → length one < length two
-is_longer n one two event same =
-    let count : length two ≡ length one + 1 = same_length two (one ++ event ∷ []) same.views ∙ length-append one (event ∷ []) in
-    omega (arith, count)
 
 met_foreseen : (next : Next) (output : Output) (n : ℕ) (races : Races) (most : ℕ) (visited : List (List Event)) → FuturesAreSame next output n → IsSearchedQuietly next n races most visited
     → (one : List Event) (event : Event) → AreLongerForeseen next n races most visited one → IsMet n visited (one ++ event ∷ [])
@@ -422,10 +420,10 @@ quiet_seen : (next : Next) (output : Output) (n : ℕ) → Lawful next → (race
     → IsSearchedQuietly next n races most visited → (one : List Event) → IsIn one visited → (quiet : IsQuietCallMet next n races visited one)
     → AreLongerForeseen next n races most visited one → (front : List Event) → GoesOn next n most one front → IsSeen next n races one quiet.rank quiet.call front
 quiet_seen next output n lawful races most visited futures c one there quiet longer front g =
-    let q : Event = picked_event n one quiet.rank quiet.call quiet.pick in
+    let q : Event = picked_event n one quiet.rank quiet.call First in
     let way : IsOnItsWay next n quiet.met.0 = c.runs quiet.met.0 quiet.met.1 in
     let here : IsForeseen next n races one = foreseen_here next n races most visited c one there in
-    let first : IsFirst next n races one quiet.rank quiet.call q = quiet_first next n races one quiet.rank quiet.call quiet.pick quiet.quiet in
+    let first : IsFirst next n races one quiet.rank quiet.call q = quiet_first next n races one quiet.rank quiet.call quiet.quiet in
     let F : List Event → Type 0 = λ l. IsForeseen next n races l in
     along_seen next output n lawful races most futures one quiet.rank quiet.call q
     (record {
@@ -443,12 +441,6 @@ quiet_seen next output n lawful races most visited futures c one there quiet lon
 
 -- 3. of all of them
 
-pub none_left : (count bound : ℕ) → count + count < bound → bound ≤ count + 0 → ⊥
-none_left count bound less enough = omega (arith, less, enough)
-
-pub one_less : (count other bound k : ℕ) → bound ≤ count + suc k → count < other → bound ≤ other + k
-one_less count other bound k enough less = omega (arith, enough, less)
-
 by_room : (next : Next) (output : Output) (n : ℕ) → Lawful next → (races : Races) (most : ℕ) (visited : List (List Event)) → FuturesAreSame next output n → EveryStepIsMade next n
     → IsSearchedQuietly next n races most visited → (k : ℕ) (one : List Event) → IsIn one visited → MOST_EVENTS ≤ length one + k → IsForeseenFrom next n races most one
 by_room next output n lawful races most visited futures steps c zero one there enough front g =
@@ -457,12 +449,9 @@ by_room next output n lawful races most visited futures steps c (suc k) one ther
     let longer : AreLongerForeseen next n races most visited one =
     λ two in_two more. by_room next output n lawful races most visited futures steps c k two in_two (one_less (length one) (length two) MOST_EVENTS k enough more) in
     elim (c.more one there) [
-      | inl moves ↦ moves_foreseen next output n races most visited futures steps c one there moves longer front g
+      | inl moves ↦ moves_foreseen next output n races most visited futures steps c one there moves.1 longer front g
       | inr quiet ↦ (quiet_seen next output n lawful races most visited futures c one there quiet longer front g).foreseen
     ]
-
-pub at_most : (bound count : ℕ) → bound ≤ count + bound
-at_most bound count = omega arith
 
 pub all_foreseen : (next : Next) (output : Output) (n : ℕ) → Lawful next → (races : Races) (most : ℕ) (visited : List (List Event)) → FuturesAreSame next output n → EveryStepIsMade next n
     → IsSearchedQuietly next n races most visited → (one : List Event) → IsIn one visited → IsForeseenFrom next n races most one

@@ -16,7 +16,7 @@ use Rattle.run_model.proofs.Prefixes.{append-cancel}
 use Rattle.run_model.proofs.RunLaws.{Lawful}
 use Rattle.run_model.proofs.Taken.{none_parts}
 use Rattle.run_model.proofs.Views.{option_cases, test_cases, view_of-append, view_of-mine, view_of-other}
-use Rattle.picked_runs.specs.declared.turn.Pick.{Pick}
+use Rattle.picked_runs.specs.declared.turn.Pick.TheVariants.{First}
 use Rattle.picked_runs.specs.Numbering.{AreNumberedInOrder, IsNumberedInOrder}
 use Rattle.picked_runs.specs.Picks.{picked_event}
 use Rattle.run_states.specs.Futures.{SameFuture}
@@ -28,7 +28,7 @@ use Rattle.quiet_calls.proofs.Staying.{free_parts}
 use Rattle.quiet_calls.proofs.Runs.{IsGood}
 use Rattle.quiet_calls.proofs.Swapping.{other_way, views_swapped}
 use Rattle.quiet_calls.proofs.Commuting.{halted_append, halted_more}
-use Rattle.quiet_calls.proofs.Diamond.{IsFirst, first_halts, first_unstuck, halting_behind, nothing_due, one_quiet, own_first}
+use Rattle.quiet_calls.proofs.Diamond.{IsFirst, first_halts, first_unstuck, halting_behind, nothing_due, own_first}
 use Rattle.quiet_calls.proofs.Fronting.{later_size, GoesBehind, IsMoved, IsPutIn, as_long, goes_behind, good_front, has_event}
 use Rattle.quiet_calls.proofs.Patience.{IsPatientView, patient_views, views_patient}
 use Rattle.quiet_calls.proofs.Stopping.{Finishes, finishes}
@@ -421,31 +421,31 @@ first_with next output n lawful futures decide races root more me call q first w
           ]
     ]
 
-pub quiet_first : (next : Next) (n : ℕ) (races : Races) (root : List Event) (rank : ℕ) (call : Call) (pick : Pick) → IsQuiet next n races root rank call pick
-    → IsFirst next n races root rank call (picked_event n root rank call pick)
-quiet_first next n races root rank call pick is =
+pub quiet_first : (next : Next) (n : ℕ) (races : Races) (root : List Event) (rank : ℕ) (call : Call) → IsQuiet next n races root rank call
+    → IsFirst next n races root rank call (picked_event n root rank call First)
+quiet_first next n races root rank call is =
     record {
       kind = is.kind;
-      below = is.move.below;
-      asked = is.move.asked;
-      event = sym (one_quiet n races root rank call pick is.kind is.move.offered);
-      free = is.move.free;
+      below = is.below;
+      asked = is.asked;
+      event = refl;
+      free = is.free;
       ready = is.ready;
       probe = is.probe;
     }
 
 pub goes_first : (next : Next) (output : Output) (n : ℕ) → Lawful next → FuturesAreSame next output n → HaltsDecideOutcomes next output n → QuietCallsGoFirst next output n
-goes_first next output n lawful futures decide races root more rank call pick is whole calm agreed full =
-    first_with next output n lawful futures decide races root more rank call (picked_event n root rank call pick) (quiet_first next n races root rank call pick is) whole calm agreed full
+goes_first next output n lawful futures decide races root more rank call is whole calm agreed full =
+    first_with next output n lawful futures decide races root more rank call (picked_event n root rank call First) (quiet_first next n races root rank call is) whole calm agreed full
 
 pub goes_ahead : (next : Next) (output : Output) (n : ℕ) → Lawful next → FuturesAreSame next output n → QuietCallsGoAhead next n
-goes_ahead next output n lawful futures races root front rank call pick is run numbered free calm agreed full =
-    let q : Event = picked_event n root rank call pick in
+goes_ahead next output n lawful futures races root front rank call is run numbered free calm agreed full =
+    let q : Event = picked_event n root rank call First in
     let C : List Event → Type 0 = λ l. is_calm races (root ++ l) ≡ true in
     let g : GoesBehind next n races root front rank call q = goes_behind next output n lawful futures races root front [] rank call q
     (record {
       good = record { run = run; numbered = numbered };
-      first = quiet_first next n races root rank call pick is;
+      first = quiet_first next n races root rank call is;
       calm = subst C (sym (append-nil front)) calm;
       agreed = λ enters. (let A : List Event → Type 0 = λ l. is_mismatched n (root ++ l) (view_of root rank) call ≡ false in subst A (sym (append-nil front)) (agreed enters));
       free = free;

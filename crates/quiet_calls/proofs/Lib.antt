@@ -27,6 +27,7 @@ mod Sizes
 mod FarBelow
 mod Agreeing
 mod Onwards
+mod Agreed
 mod Foreseen
 mod MissingNothing
 mod ClosedExample

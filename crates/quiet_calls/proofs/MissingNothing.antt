@@ -14,6 +14,7 @@ use Rattle.run_model.specs.Views.{Next, View, replies_in, view_of}
 use Rattle.run_model.proofs.Along.{Along-back, Along-front}
 use Rattle.run_model.proofs.RunLaws.{Lawful}
 use Rattle.run_model.proofs.Views.{length-view_of, option_cases}
+use Rattle.picked_runs.specs.declared.turn.Pick.TheVariants.{First}
 use Rattle.picked_runs.specs.Picks.{picked_event}
 use Rattle.run_states.specs.Moves.{IsMet}
 use Rattle.run_states.specs.Outcomes.{IsPatientEvent, IsProbeKept, IsWhole, Outcome, Output, outcome_of, vain_after, vain_in}
@@ -28,22 +29,23 @@ use Rattle.quiet_calls.proofs.GoingFirst.{HasFirstHalt, all_free, along_join, fi
 use Rattle.quiet_calls.proofs.Agreeing.{agreed_stopped, agreed_tail}
 use Rattle.quiet_calls.proofs.FarBelow.{below_same, room_far}
 use Rattle.quiet_calls.proofs.Onwards.{GoesOn, patience_across}
-use Rattle.quiet_calls.proofs.Foreseen.{IsForeseenFrom, IsSearchedQuietly, all_agreed, all_calm, all_foreseen, at_most, back, calm_put, is_longer, none_left, one_less}
+use Rattle.quiet_calls.proofs.Agreed.{all_reckoned, at_most, is_longer, none_left, one_less}
+use Rattle.quiet_calls.proofs.Foreseen.{IsForeseenFrom, IsSearchedQuietly, all_agreed, all_calm, all_foreseen, back, calm_put}
 
 -- what whole runs that go on from a history come to is met
 abbrev IsAnswered : Next → Output → ℕ → ℕ → List (List Event) → List Event → Type 0
-IsAnswered next output n most visited one =
-    (more : List Event) → IsWhole next n (one ++ more) → Along (IsPatientEvent most) one more → IsOutcomeMet next output n visited (outcome_of output n (one ++ more))
+IsAnswered next output n most opened one =
+    (more : List Event) → IsWhole next n (one ++ more) → Along (IsPatientEvent most) one more → IsOutcomeMet next output n opened (outcome_of output n (one ++ more))
 
-abbrev LongerAreAnswered : Next → Output → ℕ → ℕ → List (List Event) → List Event → Type 0
-LongerAreAnswered next output n most visited one = (two : List Event) → IsIn two visited → length one < length two → IsAnswered next output n most visited two
+abbrev LongerAreAnswered : Next → Output → ℕ → ℕ → List (List Event) → List (List Event) → List Event → Type 0
+LongerAreAnswered next output n most opened visited one = (two : List Event) → IsIn two visited → length one < length two → IsAnswered next output n most opened two
 
 -- 1. where what is made of a history is met
 
 -- a whole run has its like, which goes on from the history that is met
 met_answered : (next : Next) (output : Output) (n : ℕ) (races : Races) (most : ℕ) (visited : List (List Event)) → FuturesAreSame next output n
-    → IsSearchedQuietly next n races most visited → (mid : List Event) (met : IsMet n visited mid) → IsAnswered next output n most visited met.0
-    → IsAnswered next output n most visited mid
+    → (c : IsSearchedQuietly next n races most visited) → (mid : List Event) (met : IsMet n visited mid) → IsAnswered next output n most c.opened met.0
+    → IsAnswered next output n most c.opened mid
 met_answered next output n races most visited futures c mid met answered after whole patient =
     let two : List Event = met.0 in
     let way : IsOnItsWay next n two = c.runs two met.1 in
@@ -54,35 +56,35 @@ met_answered next output n races most visited futures c mid met answered after w
       numbered = like.numbered;
       probes = along_join IsProbeKept [] two like.rest way.probes (like.probes (Along-back IsProbeKept [] mid after whole.probes));
     } in
-    let O : Outcome → Type 0 = λ o. IsOutcomeMet next output n visited o in
+    let O : Outcome → Type 0 = λ o. IsOutcomeMet next output n c.opened o in
     subst O (sym like.outcome)
     (answered like.rest there (patience_across most mid two after like.rest (λ rank. sym (met.2.views rank)) like.future.views patient))
 
 step_answered : (next : Next) (output : Output) (n : ℕ) (races : Races) (most : ℕ) (visited : List (List Event)) → FuturesAreSame next output n
-    → IsSearchedQuietly next n races most visited → (one : List Event) (event : Event) → LongerAreAnswered next output n most visited one
+    → (c : IsSearchedQuietly next n races most visited) → (one : List Event) (event : Event) → LongerAreAnswered next output n most c.opened visited one
     → IsMet n visited (one ++ event ∷ []) → (after : List Event) → IsWhole next n (one ++ event ∷ after) → Along (IsPatientEvent most) one (event ∷ after)
-    → IsOutcomeMet next output n visited (outcome_of output n (one ++ event ∷ after))
+    → IsOutcomeMet next output n c.opened (outcome_of output n (one ++ event ∷ after))
 step_answered next output n races most visited futures c one event longer met after whole patient =
     let same : (one ++ event ∷ []) ++ after ≡ one ++ event ∷ after = append_assoc one (event ∷ []) after in
     let W : List Event → Type 0 = λ l. IsWhole next n l in
-    let O : List Event → Type 0 = λ l. IsOutcomeMet next output n visited (outcome_of output n l) in
+    let O : List Event → Type 0 = λ l. IsOutcomeMet next output n c.opened (outcome_of output n l) in
     subst O same
     (met_answered next output n races most visited futures c (one ++ event ∷ []) met (longer met.0 met.1 (is_longer n one met.0 event met.2)) after (subst W (sym same) whole) patient.1)
 
 moves_answered : (next : Next) (output : Output) (n : ℕ) (races : Races) (most : ℕ) (visited : List (List Event)) → FuturesAreSame next output n → EveryStepIsMade next n
-    → HaltsDecideOutcomes next output n → IsSearchedQuietly next n races most visited → (one : List Event) → IsIn one visited
-    → AreMovesMet next n (IsPatientStep most) visited one → LongerAreAnswered next output n most visited one → IsAnswered next output n most visited one
-moves_answered next output n races most visited futures steps decide c one there moves longer [] whole patient =
+    → HaltsDecideOutcomes next output n → (c : IsSearchedQuietly next n races most visited) → (one : List Event) → IsIn one visited → IsIn one c.opened
+    → AreMovesMet next n (IsPatientStep most) visited one → LongerAreAnswered next output n most c.opened visited one → IsAnswered next output n most c.opened one
+moves_answered next output n races most visited futures steps decide c one there wide moves longer [] whole patient =
     let W : List Event → Type 0 = λ l. IsWhole next n l in
     let here : IsWhole next n one = subst W (append-nil one) whole in
-    (one, there, inl (record { ended = here.ended; outcome_is = ap (outcome_of output n) (append-nil one) }))
-moves_answered next output n races most visited futures steps decide c one there moves longer (x ∷ after) whole patient =
+    (one, wide, inl (record { ended = here.ended; outcome_is = ap (outcome_of output n) (append-nil one) }))
+moves_answered next output n races most visited futures steps decide c one there wide moves longer (x ∷ after) whole patient =
     let made : IsMade next n one x = steps one after x whole.run whole.numbered in
     elim (option_cases (halt_in x.reply)) [
       | inl some ↦
           let stopped = stopped_by x.reply some.0 some.1 in (
             one,
-            there,
+            wide,
             inr (record {
               rank = x.rank;
               call = x.call;
@@ -172,10 +174,10 @@ whole_agreed next n one more own call whole agreed free enters =
     ]
 
 quiet_answered : (next : Next) (output : Output) (n : ℕ) → Lawful next → (races : Races) (most : ℕ) (visited : List (List Event)) → FuturesAreSame next output n → EveryStepIsMade next n
-    → HaltsDecideOutcomes next output n → IsSearchedQuietly next n races most visited → (one : List Event) → IsIn one visited → IsQuietCallMet next n races visited one
-    → LongerAreAnswered next output n most visited one → IsAnswered next output n most visited one
+    → HaltsDecideOutcomes next output n → (c : IsSearchedQuietly next n races most visited) → (one : List Event) → IsIn one visited → IsQuietCallMet next n races visited one
+    → LongerAreAnswered next output n most c.opened visited one → IsAnswered next output n most c.opened one
 quiet_answered next output n lawful races most visited futures steps decide c one there quiet longer more whole patient =
-    let q : Event = picked_event n one quiet.rank quiet.call quiet.pick in
+    let q : Event = picked_event n one quiet.rank quiet.call First in
     let way : IsOnItsWay next n one = c.runs one there in
     let kept : Along IsProbeKept one more = Along-back IsProbeKept [] one more whole.probes in
     let far : IsFarBelow (one ++ q ∷ []) = below_same quiet.met.0 (one ++ q ∷ []) quiet.met.2.views (c.runs quiet.met.0 quiet.met.1).below in
@@ -184,37 +186,39 @@ quiet_answered next output n lawful races most visited futures steps decide c on
     let below : IsFarBelow (one ++ before_halt more) = (foreseen (before_halt more) goes).below in
     let calm : is_calm races (one ++ more) ≡ true = whole_calm next n races most one more foreseen (c.reckoned.past one there) whole goes in
     let full : is_full (one ++ q ∷ before_halt more) ≡ false = not_full (one ++ q ∷ before_halt more) (room_far one (before_halt more) q far below) in
-    let b : GoesOnBehind next output n one more q = goes_first next output n lawful futures decide races one more quiet.rank quiet.call quiet.pick quiet.quiet whole
+    let b : GoesOnBehind next output n one more q = goes_first next output n lawful futures decide races one more quiet.rank quiet.call quiet.quiet whole
     calm (whole_agreed next n one more (view_of one quiet.rank) quiet.call whole
     (all_agreed next output n lawful races most visited futures steps c one there quiet (before_halt more) goes) goes.free) full in
-    let O : Outcome → Type 0 = λ o. IsOutcomeMet next output n visited o in
+    let O : Outcome → Type 0 = λ o. IsOutcomeMet next output n c.opened o in
     subst O (sym b.outcome) (step_answered next output n races most visited futures c one q longer quiet.met b.rest b.whole (b.patient most patient))
 
 -- 3. of all of them
 
 by_length : (next : Next) (output : Output) (n : ℕ) → Lawful next → (races : Races) (most : ℕ) (visited : List (List Event)) → FuturesAreSame next output n → EveryStepIsMade next n
-    → HaltsDecideOutcomes next output n → IsSearchedQuietly next n races most visited → (k : ℕ) (one : List Event) → IsIn one visited → MOST_EVENTS ≤ length one + k
-    → IsAnswered next output n most visited one
+    → HaltsDecideOutcomes next output n → (c : IsSearchedQuietly next n races most visited) → (k : ℕ) (one : List Event) → IsIn one visited → MOST_EVENTS ≤ length one + k
+    → IsAnswered next output n most c.opened one
 by_length next output n lawful races most visited futures steps decide c zero one there enough more whole patient =
     absurd (none_left (length one) MOST_EVENTS (c.runs one there).below.count enough)
 by_length next output n lawful races most visited futures steps decide c (suc k) one there enough more whole patient =
-    let longer : LongerAreAnswered next output n most visited one =
+    let longer : LongerAreAnswered next output n most c.opened visited one =
     λ two in_two less. by_length next output n lawful races most visited futures steps decide c k two in_two (one_less (length one) (length two) MOST_EVENTS k enough less) in
     elim (c.more one there) [
-      | inl moves ↦ moves_answered next output n races most visited futures steps decide c one there moves longer more whole patient
+      | inl moves ↦ moves_answered next output n races most visited futures steps decide c one there moves.0 moves.1 longer more whole patient
       | inr quiet ↦ quiet_answered next output n lawful races most visited futures steps decide c one there quiet longer more whole patient
     ]
 
 all_answered : (next : Next) (output : Output) (n : ℕ) → Lawful next → (races : Races) (most : ℕ) (visited : List (List Event)) → FuturesAreSame next output n → EveryStepIsMade next n
-    → HaltsDecideOutcomes next output n → IsSearchedQuietly next n races most visited → (root : List Event) → IsMet n visited root → IsAnswered next output n most visited root
+    → HaltsDecideOutcomes next output n → (c : IsSearchedQuietly next n races most visited) → (root : List Event) → IsMet n visited root → IsAnswered next output n most c.opened root
 all_answered next output n lawful races most visited futures steps decide c root met =
     met_answered next output n races most visited futures c root met
     (by_length next output n lawful races most visited futures steps decide c MOST_EVENTS met.0 met.1 (at_most MOST_EVENTS (length met.0)))
 
 pub patient_missed : (next : Next) (output : Output) (n : ℕ) → Lawful next → FuturesAreSame next output n → EveryStepIsMade next n → HaltsDecideOutcomes next output n
     → QuietCallsMissNothingPatient next output n
-patient_missed next output n lawful futures steps decide most races root more visited closed reckoned whole patient =
-    all_answered next output n lawful races most visited futures steps decide (record { runs = closed.runs; more = closed.more; reckoned = reckoned }) root closed.first more whole patient
+patient_missed next output n lawful futures steps decide most races root more opened visited closed reckoned whole patient =
+    all_answered next output n lawful races most visited futures steps decide
+    (record { opened = opened; runs = closed.runs; more = closed.more; reckoned = all_reckoned next n races root (IsPatientStep most) opened visited closed reckoned })
+    root closed.first more whole patient
 
 -- 4. every run is patient enough
 
@@ -239,16 +243,17 @@ patient_enough most before (event ∷ events) less =
 
 pub nothing_missed : (next : Next) (output : Output) (n : ℕ) → Lawful next → FuturesAreSame next output n → EveryStepIsMade next n → HaltsDecideOutcomes next output n
     → QuietCallsMissNothing next output n
-nothing_missed next output n lawful futures steps decide races root more visited closed reckoned whole =
+nothing_missed next output n lawful futures steps decide races root more opened visited closed reckoned whole =
     let most : ℕ = suc (length (root ++ more)) in
     all_answered next output n lawful races most visited futures steps decide
     (record {
+      opened = opened;
       runs = closed.runs;
       more = λ before there. elim (closed.more before there) [
-        | inl moves ↦ inl (λ rank call pick move wanted. moves rank call pick move wanted.0)
+        | inl moves ↦ inl (moves.0, λ rank call pick move wanted. moves.1 rank call pick move wanted.0)
         | inr quiet ↦ inr quiet
       ];
-      reckoned = reckoned;
+      reckoned = all_reckoned next n races root IsProbeKept opened visited closed reckoned;
     }) root closed.first more whole (patient_enough most root more (one_more (length (root ++ more))))
 
 -- 5. the steady calls alone
@@ -257,20 +262,20 @@ any_calm : (events : List Event) → is_calm any_race events ≡ true
 any_calm [] = refl
 any_calm (event ∷ events) = or_right (is_some (halt_in event.reply)) (is_calm any_race events) (any_calm events)
 
-any_reckoned : (next : Next) (n : ℕ) (visited : List (List Event)) → AreReckonedWith next n any_race visited
-any_reckoned next n visited =
+any_reckoned : (next : Next) (n : ℕ) (opened visited : List (List Event)) → AreReckonedWith next n any_race opened visited
+any_reckoned next n opened visited =
     record {
       past = λ before there. any_calm before;
       calls = λ before rank call there below asked. refl;
-      agreed = λ partial before rank call there below asked enters. absurd (cc);
+      agreed = λ partial before rank call pick second there halting. absurd (cc);
     }
 
 pub steady_missed : (next : Next) (output : Output) (n : ℕ) → Lawful next → FuturesAreSame next output n → EveryStepIsMade next n → HaltsDecideOutcomes next output n
     → SteadyCallsMissNothing next output n
-steady_missed next output n lawful futures steps decide root more visited closed whole =
-    nothing_missed next output n lawful futures steps decide any_race root more visited closed (any_reckoned next n visited) whole
+steady_missed next output n lawful futures steps decide root more opened visited closed whole =
+    nothing_missed next output n lawful futures steps decide any_race root more opened visited closed (any_reckoned next n opened visited) whole
 
 pub patient_steady_missed : (next : Next) (output : Output) (n : ℕ) → Lawful next → FuturesAreSame next output n → EveryStepIsMade next n → HaltsDecideOutcomes next output n
     → SteadyCallsMissNothingPatient next output n
-patient_steady_missed next output n lawful futures steps decide most root more visited closed whole patient =
-    patient_missed next output n lawful futures steps decide most any_race root more visited closed (any_reckoned next n visited) whole patient
+patient_steady_missed next output n lawful futures steps decide most root more opened visited closed whole patient =
+    patient_missed next output n lawful futures steps decide most any_race root more opened visited closed (any_reckoned next n opened visited) whole patient

@@ -1,6 +1,7 @@
 -- Histories that a search has met which follows one quiet call alone where there is one.
 use Rattle.std.specs.Prelude.{◌≡◌, ◌<◌, ◌⊎◌, ◌+◌, ℕ, List, [], ◌∷◌, ◌++◌, Some, None, true, false, length}
 use Rattle.mpi_call.specs.declared.call.Call.{Call}
+use Rattle.mpi_call.specs.declared.call.Halt.TheVariants.{Mismatched}
 use Rattle.mpi_call.specs.declared.limits.TheConstants.{MOST_EVENTS, MOST_SIZE}
 use Rattle.mpi_call.specs.Lists.{IsIn}
 use Rattle.run_model.specs.declared.event.Event.{Event}
@@ -8,14 +9,15 @@ use Rattle.run_model.specs.Due.{halted, total_size}
 use Rattle.run_model.specs.Lists.{Along}
 use Rattle.run_model.specs.Run.{IsRun}
 use Rattle.run_model.specs.Serial.{call_after}
-use Rattle.run_model.specs.Views.{Next, view_of}
+use Rattle.run_model.specs.Views.{Next}
 use Rattle.picked_runs.specs.declared.turn.Pick.{Pick}
+use Rattle.picked_runs.specs.declared.turn.Pick.TheVariants.{First}
 use Rattle.picked_runs.specs.Numbering.{AreNumberedInOrder}
 use Rattle.picked_runs.specs.Picks.{picked_event}
-use Rattle.run_states.specs.Moves.{IsMet, IsMove}
+use Rattle.run_states.specs.Moves.{IsHalting, IsMet, IsMove}
 use Rattle.run_states.specs.Outcomes.{IsPatientEvent, IsProbeKept, IsWhole, KeepsProbes, Output, outcome_of}
 use Rattle.run_states.specs.StateLaws.{IsOutcomeMet, IsPatientStep}
-use Rattle.quiet_calls.specs.Quiet.{IsAgreed, IsQuiet, Races, is_calm, is_reckoned}
+use Rattle.quiet_calls.specs.Quiet.{IsQuiet, Races, is_calm, is_reckoned}
 
 -- less than half of the bound, in events and in size
 pub record IsFarBelow (events : List Event) : Type 0 where
@@ -40,37 +42,37 @@ AreMovesMet next n IsWanted visited before =
 pub record IsQuietCallMet (next : Next) (n : ℕ) (races : Races) (visited : List (List Event)) (before : List Event) : Type 0 where
   pub rank : ℕ
   pub call : Call
-  pub pick : Pick
-  pub quiet : IsQuiet next n races before rank call pick
-  pub met : IsMet n visited (before ++ picked_event n before rank call pick ∷ [])
+  pub quiet : IsQuiet next n races before rank call
+  pub met : IsMet n visited (before ++ picked_event n before rank call First ∷ [])
 
--- these histories, each of them a run on its way, have met a first one, and of each of them what its moves make, as far as the steps are wanted,
--- or else what one quiet call makes
-pub record AreClosedQuietly (next : Next) (n : ℕ) (races : Races) (root : List Event) (IsWanted : List Event → Event → Type 0) (visited : List (List Event)) : Type 0 where
+-- these histories, each of them a run on its way, have met a first one, and of each of them what one quiet call makes; or else what its moves
+-- make, as far as the steps are wanted: those are opened
+pub record AreClosedQuietly (next : Next) (n : ℕ) (races : Races) (root : List Event) (IsWanted : List Event → Event → Type 0) (opened visited : List (List Event)) : Type 0 where
   pub first : IsMet n visited root
   pub runs : (before : List Event) → IsIn before visited → IsOnItsWay next n before
-  pub more : (before : List Event) → IsIn before visited → AreMovesMet next n IsWanted visited before ⊎ IsQuietCallMet next n races visited before
+  pub more : (before : List Event) → IsIn before visited → (IsIn before opened × AreMovesMet next n IsWanted visited before) ⊎ IsQuietCallMet next n races visited before
 
--- the calls of these histories, and each rank's next call, are reckoned with; where no rank completes in part, no next call is mismatched
-pub record AreReckonedWith (next : Next) (n : ℕ) (races : Races) (visited : List (List Event)) : Type 0 where
+-- the calls of these histories, and each rank's next call, are reckoned with; where no rank completes in part, none that was opened is
+-- halted by a mismatch
+pub record AreReckonedWith (next : Next) (n : ℕ) (races : Races) (opened visited : List (List Event)) : Type 0 where
   pub past : (before : List Event) → IsIn before visited → is_calm races before ≡ true
   pub calls : (before : List Event) (rank : ℕ) (call : Call) → IsIn before visited → rank < n → call_after next n before rank ≡ Some call
       → is_reckoned races rank call ≡ true
-  pub agreed : races.partial ≡ false → (before : List Event) (rank : ℕ) (call : Call) → IsIn before visited → rank < n
-      → call_after next n before rank ≡ Some call → IsAgreed n before (view_of before rank) call
+  pub agreed : races.partial ≡ false → (before : List Event) (rank : ℕ) (call : Call) (pick : Pick) (second : ℕ) → IsIn before opened
+      → IsHalting next n before rank call pick (Mismatched second) → ⊥
 
--- what each whole run from the first of such histories on comes to is met
+-- what each whole run from the first of such histories on comes to is what one that was opened comes to
 abbrev pub QuietCallsMissNothing : Next → Output → ℕ → Type 0
 QuietCallsMissNothing next output n =
-    (races : Races) (root more : List Event) (visited : List (List Event)) → AreClosedQuietly next n races root IsProbeKept visited
-    → AreReckonedWith next n races visited → IsWhole next n (root ++ more) → IsOutcomeMet next output n visited (outcome_of output n (root ++ more))
+    (races : Races) (root more : List Event) (opened visited : List (List Event)) → AreClosedQuietly next n races root IsProbeKept opened visited
+    → AreReckonedWith next n races opened visited → IsWhole next n (root ++ more) → IsOutcomeMet next output n opened (outcome_of output n (root ++ more))
 
 -- where patient steps alone are wanted, what each does that is patient from there on
 abbrev pub QuietCallsMissNothingPatient : Next → Output → ℕ → Type 0
 QuietCallsMissNothingPatient next output n =
-    (most : ℕ) (races : Races) (root more : List Event) (visited : List (List Event)) → AreClosedQuietly next n races root (IsPatientStep most) visited
-    → AreReckonedWith next n races visited → IsWhole next n (root ++ more) → Along (IsPatientEvent most) root more
-    → IsOutcomeMet next output n visited (outcome_of output n (root ++ more))
+    (most : ℕ) (races : Races) (root more : List Event) (opened visited : List (List Event))
+    → AreClosedQuietly next n races root (IsPatientStep most) opened visited → AreReckonedWith next n races opened visited
+    → IsWhole next n (root ++ more) → Along (IsPatientEvent most) root more → IsOutcomeMet next output n opened (outcome_of output n (root ++ more))
 
 -- any race is reckoned with, so that the steady calls alone are quiet
 abbrev pub any_race : Races
@@ -79,11 +81,12 @@ any_race = record { ranks = λ rank. true; partial = true }
 -- then nothing is asked of the calls that ranks make
 abbrev pub SteadyCallsMissNothing : Next → Output → ℕ → Type 0
 SteadyCallsMissNothing next output n =
-    (root more : List Event) (visited : List (List Event)) → AreClosedQuietly next n any_race root IsProbeKept visited
-    → IsWhole next n (root ++ more) → IsOutcomeMet next output n visited (outcome_of output n (root ++ more))
+    (root more : List Event) (opened visited : List (List Event)) → AreClosedQuietly next n any_race root IsProbeKept opened visited
+    → IsWhole next n (root ++ more) → IsOutcomeMet next output n opened (outcome_of output n (root ++ more))
 
 -- nor of those that are patient
 abbrev pub SteadyCallsMissNothingPatient : Next → Output → ℕ → Type 0
 SteadyCallsMissNothingPatient next output n =
-    (most : ℕ) (root more : List Event) (visited : List (List Event)) → AreClosedQuietly next n any_race root (IsPatientStep most) visited
-    → IsWhole next n (root ++ more) → Along (IsPatientEvent most) root more → IsOutcomeMet next output n visited (outcome_of output n (root ++ more))
+    (most : ℕ) (root more : List Event) (opened visited : List (List Event))
+    → AreClosedQuietly next n any_race root (IsPatientStep most) opened visited → IsWhole next n (root ++ more) → Along (IsPatientEvent most) root more
+    → IsOutcomeMet next output n opened (outcome_of output n (root ++ more))

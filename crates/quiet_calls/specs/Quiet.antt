@@ -1,5 +1,5 @@
 -- Calls that can go first: others can neither change how they are answered nor see that they were.
-use Rattle.std.specs.Prelude.{◌≡◌, ◌≢◌, ◌≤◌, ◌⊎◌, ◌+◌, ℕ, List, [], ◌∷◌, ◌++◌, ◌&&◌, ◌||◌, if◌then◌else◌, Some, None, Bool, true, false, is_some, length, not}
+use Rattle.std.specs.Prelude.{◌≡◌, ◌≢◌, ◌<◌, ◌≤◌, ◌⊎◌, ◌+◌, ℕ, List, [], ◌∷◌, ◌++◌, ◌&&◌, ◌||◌, if◌then◌else◌, Some, None, Bool, true, false, is_some, length, not}
 use Rattle.mpi_call.specs.declared.call.Call.{Call}
 use Rattle.mpi_call.specs.declared.call.Call.TheVariants.{Send, Post, Enter, Take, Peek, End}
 use Rattle.mpi_call.specs.declared.call.Source.TheVariants.{Any, From, Null}
@@ -13,12 +13,10 @@ use Rattle.run_model.specs.Lists.{Along}
 use Rattle.run_model.specs.Run.{IsRun}
 use Rattle.run_model.specs.Serial.{call_after}
 use Rattle.run_model.specs.Views.{Next, View, view_of}
-use Rattle.picked_runs.specs.declared.turn.Pick.{Pick}
 use Rattle.picked_runs.specs.declared.turn.Pick.TheVariants.{First}
 use Rattle.picked_runs.specs.Numbering.{AreNumberedInOrder}
 use Rattle.picked_runs.specs.Picks.{picked_event, picked_reply}
 use Rattle.run_states.specs.Futures.{SameFuture}
-use Rattle.run_states.specs.Moves.{IsMove}
 use Rattle.run_states.specs.Outcomes.{IsPatientEvent, IsProbeKept, IsWhole, Output, outcome_of}
 
 -- the end of a rank, a receive from the null process, a completion of all that it lists: they pair nothing and enter nothing, and once they
@@ -69,12 +67,15 @@ is_quiet races call = is_steady call
 abbrev pub IsAgreed : ℕ → List Event → View → Call → Type 0
 IsAgreed n events own call = is_enter call ≡ true → is_mismatched n events own call ≡ false
 
--- a rank's next call is such a one, and is answered now, other than by a halt or by NotYet
-pub record IsQuiet (next : Next) (n : ℕ) (races : Races) (before : List Event) (rank : ℕ) (call : Call) (pick : Pick) : Type 0 where
+-- a rank's next call is such a one, and is answered now, other than by a halt or by NotYet. Whatever it could pick, it comes to the same, so
+-- that nothing is picked
+pub record IsQuiet (next : Next) (n : ℕ) (races : Races) (before : List Event) (rank : ℕ) (call : Call) : Type 0 where
   pub kind : is_quiet races call ≡ true
-  pub move : IsMove next n before rank call pick
-  pub ready : picked_reply n before rank call pick ≢ NotYet
-  pub probe : IsProbeKept before (picked_event n before rank call pick)
+  pub below : rank < n
+  pub asked : call_after next n before rank ≡ Some call
+  pub free : halt_in (picked_reply n before rank call First) ≡ None
+  pub ready : picked_reply n before rank call First ≢ NotYet
+  pub probe : IsProbeKept before (picked_event n before rank call First)
 
 -- the rank's next event in what goes on from a history comes before any halt
 pub record IsMadeFree (before more : List Event) (rank : ℕ) : Type 0 where
@@ -104,10 +105,10 @@ pub record GoesOnBehind (next : Next) (output : Output) (n : ℕ) (root more : L
 -- call first, if the run is below its bound with one call more, as far as its first halt
 abbrev pub QuietCallsGoFirst : Next → Output → ℕ → Type 0
 QuietCallsGoFirst next output n =
-    (races : Races) (root more : List Event) (rank : ℕ) (call : Call) (pick : Pick) → IsQuiet next n races root rank call pick
+    (races : Races) (root more : List Event) (rank : ℕ) (call : Call) → IsQuiet next n races root rank call
     → IsWhole next n (root ++ more) → is_calm races (root ++ more) ≡ true → IsAgreed n (root ++ more) (view_of root rank) call
-    → is_full (root ++ picked_event n root rank call pick ∷ before_halt more) ≡ false
-    → GoesOnBehind next output n root more (picked_event n root rank call pick)
+    → is_full (root ++ picked_event n root rank call First ∷ before_halt more) ≡ false
+    → GoesOnBehind next output n root more (picked_event n root rank call First)
 
 -- the call was made in what goes on: it is as if it had been made first
 pub record IsMadeThere (n : ℕ) (root front rest : List Event) (first : Event) : Type 0 where
@@ -135,7 +136,7 @@ pub record GoesAhead (next : Next) (n : ℕ) (root front : List Event) (rank : �
 -- the same of runs that have not ended, as far as they go without a halt
 abbrev pub QuietCallsGoAhead : Next → ℕ → Type 0
 QuietCallsGoAhead next n =
-    (races : Races) (root front : List Event) (rank : ℕ) (call : Call) (pick : Pick) → IsQuiet next n races root rank call pick
+    (races : Races) (root front : List Event) (rank : ℕ) (call : Call) → IsQuiet next n races root rank call
     → IsRun next n (root ++ front) → AreNumberedInOrder n (root ++ front) → halted (root ++ front) ≡ None → is_calm races (root ++ front) ≡ true
-    → IsAgreed n (root ++ front) (view_of root rank) call → is_full (root ++ picked_event n root rank call pick ∷ front) ≡ false
-    → GoesAhead next n root front rank call (picked_event n root rank call pick)
+    → IsAgreed n (root ++ front) (view_of root rank) call → is_full (root ++ picked_event n root rank call First ∷ front) ≡ false
+    → GoesAhead next n root front rank call (picked_event n root rank call First)

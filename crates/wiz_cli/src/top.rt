@@ -36,7 +36,7 @@ use crate::threaded::Threaded;
 use crate::viewing::ask::View;
 use c_program::CProgram;
 use c_types::one_program;
-use explore::search::Bounds;
+use explore::course::Bounds;
 use explore::watch::{Silent, Watcher};
 use group_plan::one_reading;
 use msg_races::names::Name;

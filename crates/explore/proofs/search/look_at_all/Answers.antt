@@ -35,7 +35,7 @@ loop-at-preserved g c =
     record {
       went = went_trans next output n root c.args.met.now c.loop-at.met c.look_at.new.met inv.went ok.went;
       few = below_longer c.loop-at.at c.loop-at.met.states c.look_at.new.met.states ok.went.grows.states_stay below;
-      looked = looked_more next output n c.args.bounds.polls c.loop-at.met c.look_at.new.met c.loop-at.at c.in_ok-turns.turns ok.went.grows below got inv.looked ok.looked;
+      looked = looked_more next output n c.args.bounds.polls c.loop-at.met c.look_at.new.met c.loop-at.at c.in_ok-turns.turns ok.went.grows got inv.looked ok.looked;
     }
 
 pub returns-clause-looked : goal.returns-clause-looked

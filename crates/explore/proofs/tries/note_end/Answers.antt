@@ -5,7 +5,7 @@ use Rattle.run_states.specs.Outcomes.{Output}
 use Rattle.explore.specs.Explored.{made_by}
 use Rattle.explore.proofs.Noting.{found_by, found_noted, found_went}
 use Rattle.explore.proofs.Trying.{on_ok_map}
-use Rattle.explore.proofs.search.note_end.Goals as goal
+use Rattle.explore.proofs.tries.note_end.Goals as goal
 
 pub returns : goal.returns
 returns g c =

@@ -15,7 +15,7 @@ use Rattle.explore.proofs.Noting.{went_not}
 use Rattle.explore.proofs.Offering.{senders_of}
 use Rattle.explore.proofs.RankTries.{rank_first, rank_indices, rank_senders, went_trans}
 use Rattle.explore.proofs.Trying.{if_ok_map, on_ok_map}
-use Rattle.explore.proofs.search.try_rank.Goals as goal
+use Rattle.explore.proofs.tries.try_rank.Goals as goal
 
 pub returns-in_default : goal.returns-in_default
 returns-in_default g c =

@@ -13,7 +13,7 @@ use Rattle.explore.proofs.Begun.{run_of}
 use Rattle.explore.proofs.Offering.{pick_within}
 use Rattle.explore.proofs.Tried.{halt_end, halt_listed, halt_state, halt_under, next_step, stuck_end, stuck_listed, tried_end, tried_state}
 use Rattle.explore.proofs.Trying.{on_ok_map}
-use Rattle.explore.proofs.search.note.Goals as goal
+use Rattle.explore.proofs.tries.note.Goals as goal
 
 pub note_state-requires-clause-step : goal.note_state-requires-clause-step
 note_state-requires-clause-step g c =

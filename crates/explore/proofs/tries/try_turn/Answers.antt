@@ -7,7 +7,7 @@ use Rattle.explore.proofs.Begun.{answered_there, asked_call, asked_there, course
 use Rattle.explore.proofs.Noting.{went_not}
 use Rattle.explore.proofs.Tried.{unanswered_ended, unanswered_held}
 use Rattle.std.proofs.lemmas.Bool.Decides.{when_false, when_true}
-use Rattle.explore.proofs.search.try_turn.Goals as goal
+use Rattle.explore.proofs.tries.try_turn.Goals as goal
 
 pub returns-in_default : goal.returns-in_default
 returns-in_default g c =

@@ -7,8 +7,8 @@ use Rattle.explore.specs.Searching.{HasTriedRanks}
 use Rattle.explore.proofs.Joining.{ranks_more, ranks_none}
 use Rattle.explore.proofs.Noting.{went_not}
 use Rattle.explore.proofs.RankTries.{joined, or_with, went_trans}
-use Rattle.explore.proofs.search.try_ranks.Goals.{then-branch, else-branch}
-use Rattle.explore.proofs.search.try_ranks.Goals as goal
+use Rattle.explore.proofs.tries.try_ranks.Goals.{then-branch, else-branch}
+use Rattle.explore.proofs.tries.try_ranks.Goals as goal
 
 pub loop-rank-init : goal.loop-rank-init
 loop-rank-init g c =

@@ -7,8 +7,8 @@ use Rattle.explore.specs.Searching.{HasTriedPicks, IsSenderBelow}
 use Rattle.explore.proofs.Joining.{picks_none}
 use Rattle.explore.proofs.Noting.{went_not}
 use Rattle.explore.proofs.RankTries.{joined, sender_more, went_trans}
-use Rattle.explore.proofs.search.try_senders.Goals.{then-branch, else-branch}
-use Rattle.explore.proofs.search.try_senders.Goals as goal
+use Rattle.explore.proofs.tries.try_senders.Goals.{then-branch, else-branch}
+use Rattle.explore.proofs.tries.try_senders.Goals as goal
 
 pub loop-sender-init : goal.loop-sender-init
 loop-sender-init g c =

@@ -1,12 +1,12 @@
 use Rattle.explore.specs.Courses.{IsCourse}
 use Rattle.explore.specs.Explored.{made_by}
-use Rattle.explore.specs.Searching.{HasTriedRanks, WentOn}
-use Rattle.explore.proofs.search.try_ranks.Given as goal
+use Rattle.explore.specs.Searching.{HasTriedPicks, IsSenderBelow, WentOn}
+use Rattle.explore.proofs.tries.try_senders.Given as goal
 
-abbrev pub invariant-loop-rank : goal.invariant-loop-rank
-invariant-loop-rank g l =
+abbrev pub invariant-loop-sender : goal.invariant-loop-sender
+invariant-loop-sender g l =
     record {
       course : IsCourse g.R.RankRun.standing l.setting.program.now l.setting.ranks (made_by (g.P.Program.next l.setting.program.now) l.setting.ranks l.turns) l.course.machine l.course.runs.items;
       went : WentOn (g.P.Program.next l.setting.program.now) (g.P.Program.output l.setting.program.now) l.setting.ranks (made_by (g.P.Program.next l.setting.program.now) l.setting.ranks l.setting.under.now) l.fn.met l.met;
-      tried : HasTriedRanks (g.P.Program.next l.setting.program.now) (g.P.Program.output l.setting.program.now) l.setting.ranks l.bounds.polls l.met (made_by (g.P.Program.next l.setting.program.now) l.setting.ranks l.turns) l.rank l.made;
+      tried : HasTriedPicks (g.P.Program.next l.setting.program.now) (g.P.Program.output l.setting.program.now) l.setting.ranks l.bounds.polls l.met (made_by (g.P.Program.next l.setting.program.now) l.setting.ranks l.turns) l.rank (IsSenderBelow l.sender) l.made;
     }

@@ -10,7 +10,7 @@ use Rattle.explore.specs.Searching.{IsStep, code_at, histories}
 use Rattle.explore.proofs.Noting.{state_met, state_went, went_not}
 use Rattle.explore.proofs.Stepping.{followed_met, followed_none, followed_unkept, followed_vain, last_split, step_kept, vain_went}
 use Rattle.explore.proofs.Trying.{on_ok_map}
-use Rattle.explore.proofs.search.note_state.Goals as goal
+use Rattle.explore.proofs.tries.note_state.Goals as goal
 
 pub returns-in_default : goal.returns-in_default
 returns-in_default g c =

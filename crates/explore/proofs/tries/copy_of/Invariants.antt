@@ -1,5 +1,5 @@
 use Rattle.std.proofs.Common.{◌≡◌, ◌++◌, length}
-use Rattle.explore.proofs.search.copy_of.Given as goal
+use Rattle.explore.proofs.tries.copy_of.Given as goal
 
 abbrev pub invariant-loop-rest : goal.invariant-loop-rest
 invariant-loop-rest l = l.copy ++ l.rest ≡ l.turns

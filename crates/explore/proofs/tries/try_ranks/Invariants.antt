@@ -1,12 +1,12 @@
 use Rattle.explore.specs.Courses.{IsCourse}
 use Rattle.explore.specs.Explored.{made_by}
-use Rattle.explore.specs.Searching.{HasTriedPicks, IsIndexBelow, WentOn}
-use Rattle.explore.proofs.search.try_indices.Given as goal
+use Rattle.explore.specs.Searching.{HasTriedRanks, WentOn}
+use Rattle.explore.proofs.tries.try_ranks.Given as goal
 
-abbrev pub invariant-loop-index : goal.invariant-loop-index
-invariant-loop-index g l =
+abbrev pub invariant-loop-rank : goal.invariant-loop-rank
+invariant-loop-rank g l =
     record {
       course : IsCourse g.R.RankRun.standing l.setting.program.now l.setting.ranks (made_by (g.P.Program.next l.setting.program.now) l.setting.ranks l.turns) l.course.machine l.course.runs.items;
       went : WentOn (g.P.Program.next l.setting.program.now) (g.P.Program.output l.setting.program.now) l.setting.ranks (made_by (g.P.Program.next l.setting.program.now) l.setting.ranks l.setting.under.now) l.fn.met l.met;
-      tried : HasTriedPicks (g.P.Program.next l.setting.program.now) (g.P.Program.output l.setting.program.now) l.setting.ranks l.bounds.polls l.met (made_by (g.P.Program.next l.setting.program.now) l.setting.ranks l.turns) l.rank (IsIndexBelow l.index) l.made;
+      tried : HasTriedRanks (g.P.Program.next l.setting.program.now) (g.P.Program.output l.setting.program.now) l.setting.ranks l.bounds.polls l.met (made_by (g.P.Program.next l.setting.program.now) l.setting.ranks l.turns) l.rank l.made;
     }

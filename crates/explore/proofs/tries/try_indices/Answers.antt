@@ -9,8 +9,8 @@ use Rattle.explore.specs.Searching.{HasTried, HasTriedPicks, IsIndexBelow, IsUna
 use Rattle.explore.proofs.Joining.{picks_none}
 use Rattle.explore.proofs.Noting.{went_not}
 use Rattle.explore.proofs.RankTries.{index_more, joined, went_trans}
-use Rattle.explore.proofs.search.try_indices.Goals.{then-branch, else-branch}
-use Rattle.explore.proofs.search.try_indices.Goals as goal
+use Rattle.explore.proofs.tries.try_indices.Goals.{then-branch, else-branch}
+use Rattle.explore.proofs.tries.try_indices.Goals as goal
 
 pub loop-index-init : goal.loop-index-init
 loop-index-init g c =

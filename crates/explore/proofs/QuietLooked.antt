@@ -1,0 +1,105 @@
+-- A state at which one quiet call was followed.
+use Rattle.std.proofs.Common.{◌≡◌, ◌<◌, ◌≤◌, ◌+◌, ◌∙◌, ◌++◌, ◌∷◌, ◌⊎◌, ℕ, List, [], Option, Some, None, Bool, true, false, arith, inl, inr, refl, ap, sym, subst}
+use Rattle.std.proofs.lemmas.Bool.{cases_order}
+use Rattle.mpi_call.specs.declared.call.Call.{Call}
+use Rattle.mpi_call.specs.declared.reply.Reply.{Reply}
+use Rattle.mpi_call.specs.declared.reply.Reply.TheVariants.{NotYet}
+use Rattle.run_model.specs.declared.event.Event.{Event}
+use Rattle.run_model.specs.Due.{halt_in}
+use Rattle.run_model.specs.Serial.{call_after}
+use Rattle.run_model.specs.Views.{Next}
+use Rattle.picked_runs.specs.declared.turn.Pick.TheVariants.{First}
+use Rattle.picked_runs.specs.declared.turn.Turn.{Turn}
+use Rattle.picked_runs.specs.Picks.{picked_event, picked_reply}
+use Rattle.run_states.specs.Outcomes.{IsProbeKept, Output}
+use Rattle.quiet_calls.specs.Closure.{IsFarBelow, IsQuietCallMet}
+use Rattle.quiet_calls.specs.Quiet.{Races, is_calm, is_quiet, is_reckoned}
+use Rattle.explore.specs.declared.found.Found.{Found}
+use Rattle.explore.specs.declared.met.Met.{Met}
+use Rattle.explore.specs.Courses.{IsAnswered}
+use Rattle.explore.specs.Explored.{made_by}
+use Rattle.explore.specs.QuietFirst.{AreReckonedBelow, HasLookedAtQuietly, HasMetQuietly, IsLastAnswered, IsLookedAtQuietly}
+use Rattle.explore.specs.Searching.{Grows, HasLookedAt, HasTried, IsFollowed, IsTried, histories}
+use Rattle.explore.proofs.Stepping.{AreSame, snoc_same}
+use Rattle.explore.proofs.Trying.{looked_longer, met_longer}
+
+-- 1. a quiet call that was made
+
+record IsQuietlyMade (next : Next) (n : ℕ) (before : List Event) (rank : ℕ) (call : Call) : Type 0 where
+  free : halt_in (picked_reply n before rank call First) ≡ None
+  ready : picked_reply n before rank call First ≡ NotYet → ⊥
+  probe : IsProbeKept before (picked_event n before rank call First)
+
+quietly_made : (next : Next) (n : ℕ) (before after : List Event) (rank : ℕ) (call : Call) → IsAnswered next n before after rank call First → IsLastAnswered after
+    → IsQuietlyMade next n before rank call
+quietly_made next n before after rank call answered last =
+    let q : Event = picked_event n before rank call First in
+    let s : AreSame last.before before last.event q = snoc_same last.before before last.event q (sym last.whole ∙ answered.events_are) in
+    let F : Event → Type 0 = λ e. halt_in e.reply ≡ None in
+    let R : Event → Type 0 = λ e. e.reply ≡ NotYet → ⊥ in
+    let P : List Event → Event → Type 0 = λ l e. IsProbeKept l e in
+    record {
+      free = subst F s.lasts last.free;
+      ready = subst R s.lasts last.ready;
+      probe = subst (λ l. P l q) s.fronts (subst (λ e. P last.before e) s.lasts last.probe);
+    }
+
+pub quiet_met : (next : Next) (output : Output) (n polls : ℕ) (races : Races) (met : Met) (before after : List Event) (rank : ℕ) (call : Call) → rank < n
+    → call_after next n before rank ≡ Some call → is_quiet races call ≡ true → IsAnswered next n before after rank call First → IsLastAnswered after
+    → HasTried next output n polls met before (record { rank = rank; pick = First }) → IsQuietCallMet next n races (histories next n met.states) before
+quiet_met next output n polls races met before after rank call below asked kind answered last tried =
+    let made : IsQuietlyMade next n before rank call = quietly_made next n before after rank call answered last in
+    let both : Some tried.call ≡ Some call = sym tried.asked ∙ asked in
+    let same : tried.call ≡ call = cc in
+    let M : Call → Type 0 = λ c. halt_in (picked_reply n before rank c First) ≡ None → IsProbeKept before (picked_event n before rank c First)
+        → IsFollowed next n polls met.states met.polled before (picked_event n before rank c First) in
+    let followed : IsFollowed next n polls met.states met.polled before (picked_event n before rank call First) = subst M same tried.moves made.free made.probe in
+    record {
+      rank = rank;
+      call = call;
+      quiet = record { kind = kind; below = below; asked = asked; free = made.free; ready = made.ready; probe = made.probe };
+      met = elim followed [
+        | inl met ↦ met
+        | inr vain ↦ absurd (vain.1 (λ held. absurd (made.ready held)))
+      ];
+    }
+
+-- 2. next calls that are reckoned with
+
+pub reckoned_none : (next : Next) (n : ℕ) (races : Races) (before : List Event) → AreReckonedBelow next n races before 0
+reckoned_none next n races before rank call below asked = absurd (omega (arith, below))
+
+pub reckoned_more : (next : Next) (n : ℕ) (races : Races) (before : List Event) (rank : ℕ) (next_call : Option Call) → call_after next n before rank ≡ next_call
+    → ((call : Call) → next_call ≡ Some call → is_reckoned races rank call ≡ true) → AreReckonedBelow next n races before rank
+    → AreReckonedBelow next n races before (rank + 1)
+reckoned_more next n races before rank next_call is here earlier other call below asked =
+    elim (cases_order other rank) [
+      | inl same ↦
+          let F : ℕ → Type 0 = λ r. is_reckoned races r call ≡ true in
+          subst F (sym same) (here call (sym is ∙ (ap (call_after next n before) (sym same) ∙ asked)))
+      | inr apart ↦ elim apart [
+        | inl less ↦ earlier other call less asked
+        | inr more ↦ absurd (omega (arith, more, below))
+      ]
+    ]
+
+-- 3. what was looked at stays looked at
+
+pub quietly_longer : (next : Next) (output : Output) (n polls : ℕ) (races : Races) (met met' : Met) (turns : List Turn)
+    → Grows met.states met'.states met.found met'.found met.polled met'.polled → HasLookedAtQuietly next output n polls races met turns
+    → HasLookedAtQuietly next output n polls races met' turns
+quietly_longer next output n polls races met met' turns grows l =
+    record {
+      below = l.below;
+      past = l.past;
+      calls = l.calls;
+      looked = elim l.looked [
+        | inl wide ↦ inl (looked_longer next output n polls met.states met'.states met.found met'.found met.polled met'.polled (made_by next n turns) grows wide)
+        | inr quiet ↦ inr (record {
+            rank = quiet.rank;
+            call = quiet.call;
+            quiet = quiet.quiet;
+            met = met_longer next n met.states met'.states (made_by next n turns ++ picked_event n (made_by next n turns) quiet.rank quiet.call First ∷ []) grows.states_stay quiet.met;
+          })
+      ];
+    }

@@ -1,0 +1,72 @@
+-- A search that follows one quiet call alone where there is one, and why nothing is missed.
+use Rattle.std.specs.Prelude.{◌≡◌, ◌≢◌, ◌<◌, ◌⊎◌, ◌++◌, ◌∷◌, ℕ, List, [], Some, None, Bool, true, false}
+use Rattle.mpi_call.specs.declared.call.Call.{Call}
+use Rattle.mpi_call.specs.declared.call.Halt.TheVariants.{Mismatched}
+use Rattle.mpi_call.specs.declared.reply.Reply.TheVariants.{NotYet}
+use Rattle.mpi_call.specs.Lists.{IsIn}
+use Rattle.run_model.specs.declared.ending.Ending.TheVariants.{Halted}
+use Rattle.run_model.specs.declared.event.Event.{Event}
+use Rattle.run_model.specs.Due.{halt_in}
+use Rattle.run_model.specs.Lists.{Along}
+use Rattle.run_model.specs.Serial.{call_after}
+use Rattle.run_model.specs.Views.{Next}
+use Rattle.picked_runs.specs.declared.turn.Turn.{Turn}
+use Rattle.run_states.specs.Moves.{IsMet}
+use Rattle.run_states.specs.Outcomes.{IsPatientEvent, IsProbeKept, IsWhole, Output, outcome_of}
+use Rattle.quiet_calls.specs.Closure.{IsFarBelow, IsQuietCallMet}
+use Rattle.quiet_calls.specs.Quiet.{Races, is_calm, is_reckoned}
+use Rattle.explore.specs.declared.found.Found.{Found}
+use Rattle.explore.specs.declared.met.Met.{Met}
+use Rattle.explore.specs.Explored.{IsListed, made_by}
+use Rattle.explore.specs.Searching.{IsLookedAt, IsState, histories}
+
+-- a state was looked at that is far below the bound, and whose calls, and each rank's next call, are reckoned with: as any state is; or one
+-- quiet call was followed
+pub record IsLookedAtQuietly (next : Next) (output : Output) (n polls : ℕ) (races : Races) (states : List (List Turn)) (listed : List Found) (polled : Bool) (before : List Event) : Type 0 where
+  pub below : IsFarBelow before
+  pub past : is_calm races before ≡ true
+  pub calls : (rank : ℕ) (call : Call) → rank < n → call_after next n before rank ≡ Some call → is_reckoned races rank call ≡ true
+  pub looked : IsLookedAt next output n polls states listed polled before ⊎ IsQuietCallMet next n races (histories next n states) before
+
+-- each state of a root was looked at so, and the root is met; where no rank completes in part, nothing that is listed ended by a mismatch
+pub record IsSearchedQuietly (next : Next) (output : Output) (n polls : ℕ) (races : Races) (root : List Event) (states : List (List Turn)) (listed : List Found) (polled : Bool) : Type 0 where
+  pub first : IsMet n (histories next n states) root
+  pub are_states : (turns : List Turn) → IsIn turns states → IsState next n root turns
+  pub looked : (turns : List Turn) → IsIn turns states → IsLookedAtQuietly next output n polls races states listed polled (made_by next n turns)
+  pub agreed : races.partial ≡ false → (found : Found) (second : ℕ) → IsIn found listed → found.outcome.ending ≢ Halted (Mismatched second)
+
+-- then what each whole run comes to that is patient from the root on is listed
+abbrev pub PatientRunsAreListedQuietly : Next → Output → ℕ → Type 0
+PatientRunsAreListedQuietly next output n =
+    (polls : ℕ) (races : Races) (root more : List Event) (states : List (List Turn)) (listed : List Found) (polled : Bool)
+    → IsSearchedQuietly next output n polls races root states listed polled
+    → IsWhole next n (root ++ more) → Along (IsPatientEvent polls) root more → IsListed listed (outcome_of output n (root ++ more))
+
+-- and what each whole run does, where no rank was held back
+abbrev pub AllRunsAreListedQuietly : Next → Output → ℕ → Type 0
+AllRunsAreListedQuietly next output n =
+    (polls : ℕ) (races : Races) (root more : List Event) (states : List (List Turn)) (listed : List Found) (polled : Bool)
+    → IsSearchedQuietly next output n polls races root states listed polled → polled ≡ false
+    → IsWhole next n (root ++ more) → IsListed listed (outcome_of output n (root ++ more))
+
+-- the last of these events was answered, other than by a halt or NotYet, and keeps its rank's probe
+pub record IsLastAnswered (events : List Event) : Type 0 where
+  pub before : List Event
+  pub event : Event
+  pub whole : events ≡ before ++ event ∷ []
+  pub free : halt_in event.reply ≡ None
+  pub ready : event.reply ≢ NotYet
+  pub probe : IsProbeKept before event
+
+-- of a search that has met this, a state was looked at so; one of its quiet calls was followed
+abbrev pub HasLookedAtQuietly : Next → Output → ℕ → ℕ → Races → Met → List Turn → Type 0
+HasLookedAtQuietly next output n polls races met turns =
+    IsLookedAtQuietly next output n polls races met.states met.found met.polled (made_by next n turns)
+
+abbrev pub HasMetQuietly : Next → ℕ → Races → Met → List Turn → Type 0
+HasMetQuietly next n races met turns = IsQuietCallMet next n races (histories next n met.states) (made_by next n turns)
+
+-- each rank's next call below a number is reckoned with
+abbrev pub AreReckonedBelow : Next → ℕ → Races → List Event → ℕ → Type 0
+AreReckonedBelow next n races before count =
+    (rank : ℕ) (call : Call) → rank < count → call_after next n before rank ≡ Some call → is_reckoned races rank call ≡ true
