@@ -52,7 +52,7 @@ quiet_met next output n polls races met before after rank call below asked kind 
     let both : Some tried.call ≡ Some call = sym tried.asked ∙ asked in
     let same : tried.call ≡ call = cc in
     let M : Call → Type 0 = λ c. halt_in (picked_reply n before rank c First) ≡ None → IsProbeKept before (picked_event n before rank c First)
-        → IsFollowed next n polls met.states met.polled before (picked_event n before rank c First) in
+    → IsFollowed next n polls met.states met.polled before (picked_event n before rank c First) in
     let followed : IsFollowed next n polls met.states met.polled before (picked_event n before rank call First) = subst M same tried.moves made.free made.probe in
     record {
       rank = rank;
@@ -96,10 +96,10 @@ quietly_longer next output n polls races met met' turns grows l =
       looked = elim l.looked [
         | inl wide ↦ inl (looked_longer next output n polls met.states met'.states met.found met'.found met.polled met'.polled (made_by next n turns) grows wide)
         | inr quiet ↦ inr (record {
-            rank = quiet.rank;
-            call = quiet.call;
-            quiet = quiet.quiet;
-            met = met_longer next n met.states met'.states (made_by next n turns ++ picked_event n (made_by next n turns) quiet.rank quiet.call First ∷ []) grows.states_stay quiet.met;
-          })
+          rank = quiet.rank;
+          call = quiet.call;
+          quiet = quiet.quiet;
+          met = met_longer next n met.states met'.states (made_by next n turns ++ picked_event n (made_by next n turns) quiet.rank quiet.call First ∷ []) grows.states_stay quiet.met;
+        })
       ];
     }

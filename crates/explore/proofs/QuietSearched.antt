@@ -52,18 +52,18 @@ explored_quietly next output n polls races under first met explored e found left
     let none : (turns : List Turn) → IsIn turns explored.left → ⊥ = λ turns there. (let I : List (List Turn) → Type 0 = λ l. IsIn turns l in subst I left there) in
     let patient : (more : List Event) → IsWhole next n (root ++ more) → Along (IsPatientEvent polls) root more → IsListed explored.found (outcome_of output n (root ++ more)) =
     λ more whole steady. (
-      let L : List Found → Type 0 = λ l. IsListed l (outcome_of output n (root ++ more)) in
-      subst L (sym found) (elim (option_cases (halted root)) [
-        | inl some ↦ root_listed next output n under first met some.0 more e.halts e.begun e.grows some.1 whole
-        | inr free ↦ e.patient polls races root more met.states met.found met.polled (searched next output n polls races under first met e free) whole steady
-      ])) in
+    let L : List Found → Type 0 = λ l. IsListed l (outcome_of output n (root ++ more)) in
+    subst L (sym found) (elim (option_cases (halted root)) [
+      | inl some ↦ root_listed next output n under first met some.0 more e.halts e.begun e.grows some.1 whole
+      | inr free ↦ e.patient polls races root more met.states met.found met.polled (searched next output n polls races under first met e free) whole steady
+    ])) in
     let all : explored.polled ≡ false → (more : List Event) → IsWhole next n (root ++ more) → IsListed explored.found (outcome_of output n (root ++ more)) =
     λ never more whole. (
-      let L : List Found → Type 0 = λ l. IsListed l (outcome_of output n (root ++ more)) in
-      subst L (sym found) (elim (option_cases (halted root)) [
-        | inl some ↦ root_listed next output n under first met some.0 more e.halts e.begun e.grows some.1 whole
-        | inr free ↦ e.all polls races root more met.states met.found met.polled (searched next output n polls races under first met e free) (sym polled ∙ never) whole
-      ])) in
+    let L : List Found → Type 0 = λ l. IsListed l (outcome_of output n (root ++ more)) in
+    subst L (sym found) (elim (option_cases (halted root)) [
+      | inl some ↦ root_listed next output n under first met some.0 more e.halts e.begun e.grows some.1 whole
+      | inr free ↦ e.all polls races root more met.states met.found met.polled (searched next output n polls races under first met e free) (sym polled ∙ never) whole
+    ])) in
     record {
       sound = subst S (sym found) e.way.found;
       apart = subst A (sym found) e.way.apart;

@@ -149,6 +149,7 @@ fn follow_quiet<'a, P: Program, R: RankRun<Of = P>, S: StartRanks<P, R>>(
     requires state { IsState (P.next setting.now.program.now) setting.now.ranks (made_by (P.next setting.now.program.now) setting.now.ranks setting.now.under.now) turns.now }
     requires met { IsUnderWay (P.next setting.now.program.now) (P.output setting.now.program.now) setting.now.ranks (made_by (P.next setting.now.program.now) setting.now.ranks setting.now.under.now) met.old }
     requires course { IsCourse R.standing setting.now.program.now setting.now.ranks (made_by (P.next setting.now.program.now) setting.now.ranks turns.now) course.old.machine course.old.runs.items }
+    ensures course { IfOk result (λ made. made ≡ false → IsCourse R.standing setting.now.program.now setting.now.ranks (made_by (P.next setting.now.program.now) setting.now.ranks turns.now) course.new.machine course.new.runs.items) }
     ensures went { OnOk result (WentOn (P.next setting.now.program.now) (P.output setting.now.program.now) setting.now.ranks (made_by (P.next setting.now.program.now) setting.now.ranks setting.now.under.now) met.old met.new) }
     ensures followed { IfOk result (λ made. made ≡ true → HasMetQuietly (P.next setting.now.program.now) setting.now.ranks races.now met.new turns.now) }
 {
@@ -161,8 +162,8 @@ fn follow_quiet<'a, P: Program, R: RankRun<Of = P>, S: StartRanks<P, R>>(
 }
 
 /// Looks at a state: follows one quiet call, where there is one, and else tries all turns. Where the search cannot go on so, it says why.
-pub fn look_quietly<P: Program, R: RankRun<Of = P>, S: StartRanks<P, R>>(
-    setting: &Setting<'_, P, S>,
+pub fn look_quietly<'a, P: Program, R: RankRun<Of = P>, S: StartRanks<P, R>>(
+    setting: &Setting<'a, P, S>,
     bounds: Bounds,
     races: &Races,
     met: &mut Met,
@@ -174,7 +175,7 @@ pub fn look_quietly<P: Program, R: RankRun<Of = P>, S: StartRanks<P, R>>(
     ensures went { OnOk result (WentOn (P.next setting.now.program.now) (P.output setting.now.program.now) setting.now.ranks (made_by (P.next setting.now.program.now) setting.now.ranks setting.now.under.now) met.old met.new) }
     ensures looked { IfOk result (λ hindrance. hindrance ≡ None → HasLookedAtQuietly (P.next setting.now.program.now) (P.output setting.now.program.now) setting.now.ranks bounds.polls races.now met.new turns) }
 {
-    let mut course: Course<'_, P, R> = after_turns(setting, turns.as_slice())?;
+    let mut course: Course<'a, P, R> = after_turns(setting, turns.as_slice())?;
     let events = course.machine.history().as_slice();
     if !is_far_below(events) {
         return Ok(Some(Hindrance::Large));
@@ -186,7 +187,7 @@ pub fn look_quietly<P: Program, R: RankRun<Of = P>, S: StartRanks<P, R>>(
         return Ok(Some(Hindrance::Racy(race)));
     }
     if !follow_quiet(setting, bounds, races, met, &mut course, turns.as_slice())? {
-        look_at(setting, bounds, met, turns)?;
+        look_at(setting, bounds, met, &mut course, turns)?;
     }
     Ok(None)
 }

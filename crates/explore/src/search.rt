@@ -65,8 +65,8 @@ fn tell<W: Watcher>(met: &Met, looked: u32, watcher: &mut W) {
 }
 
 /// Looks at states in the order in which they were met, until all or enough are looked at: how many were looked at.
-fn look_at_all<P: Program, R: RankRun<Of = P>, S: StartRanks<P, R>, W: Watcher>(
-    setting: &Setting<'_, P, S>,
+fn look_at_all<'a, P: Program, R: RankRun<Of = P>, S: StartRanks<P, R>, W: Watcher>(
+    setting: &Setting<'a, P, S>,
     bounds: Bounds,
     met: &mut Met,
     watcher: &mut W,
@@ -81,7 +81,8 @@ fn look_at_all<P: Program, R: RankRun<Of = P>, S: StartRanks<P, R>, W: Watcher>(
             return Ok(at);
         };
         let turns = copy_of(setting.alloc, turns.as_slice())?;
-        look_at(setting, bounds, met, turns)?;
+        let mut course: Course<'a, P, R> = after_turns(setting, turns.as_slice())?;
+        look_at(setting, bounds, met, &mut course, turns)?;
         tell(met, at + 1, watcher);
     }
     Ok(bounds.most)

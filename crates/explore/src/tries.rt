@@ -292,40 +292,43 @@ fn try_ranks<'a, P: Program, R: RankRun<Of = P>, S: StartRanks<P, R>>(
     setting: &Setting<'a, P, S>,
     bounds: Bounds,
     met: &mut Met,
+    course: &mut Course<'a, P, R>,
     turns: &[Turn],
 ) -> Result<bool, AllocError>
     requires setting { IsSetting (S.program setting.now.starter.now) setting.now.program.now (number_of_ranks setting.now.plan.now) setting.now.ranks }
     requires state { IsState (P.next setting.now.program.now) setting.now.ranks (made_by (P.next setting.now.program.now) setting.now.ranks setting.now.under.now) turns.now }
     requires met { IsUnderWay (P.next setting.now.program.now) (P.output setting.now.program.now) setting.now.ranks (made_by (P.next setting.now.program.now) setting.now.ranks setting.now.under.now) met.old }
+    requires course { IsCourse R.standing setting.now.program.now setting.now.ranks (made_by (P.next setting.now.program.now) setting.now.ranks turns.now) course.old.machine course.old.runs.items }
     ensures went { OnOk result (WentOn (P.next setting.now.program.now) (P.output setting.now.program.now) setting.now.ranks (made_by (P.next setting.now.program.now) setting.now.ranks setting.now.under.now) met.old met.new) }
     ensures tried { IfOk result (λ made. HasTriedRanks (P.next setting.now.program.now) (P.output setting.now.program.now) setting.now.ranks bounds.polls met.new (made_by (P.next setting.now.program.now) setting.now.ranks turns.now) setting.now.ranks made) }
 {
-    let mut course: Course<'a, P, R> = after_turns(setting, turns)?;
     let mut made = false;
     for rank in 0..setting.ranks {
-        if try_rank(setting, bounds, met, &mut course, turns, rank)? {
+        if try_rank(setting, bounds, met, course, turns, rank)? {
             made = true;
         }
     }
     Ok(made)
 }
 
-/// Looks at a state: tries all turns of each rank after it, and, where none is answered, notes what it comes to.
-pub fn look_at<P: Program, R: RankRun<Of = P>, S: StartRanks<P, R>>(
-    setting: &Setting<'_, P, S>,
+/// Looks at a state, which the course stands at: tries all turns of each rank after it, and, where none is answered, notes what it comes to.
+pub fn look_at<'a, P: Program, R: RankRun<Of = P>, S: StartRanks<P, R>>(
+    setting: &Setting<'a, P, S>,
     bounds: Bounds,
     met: &mut Met,
+    course: &mut Course<'a, P, R>,
     turns: Turns,
 ) -> Result<(), AllocError>
     requires setting { IsSetting (S.program setting.now.starter.now) setting.now.program.now (number_of_ranks setting.now.plan.now) setting.now.ranks }
     requires state { IsState (P.next setting.now.program.now) setting.now.ranks (made_by (P.next setting.now.program.now) setting.now.ranks setting.now.under.now) turns }
     requires met { IsUnderWay (P.next setting.now.program.now) (P.output setting.now.program.now) setting.now.ranks (made_by (P.next setting.now.program.now) setting.now.ranks setting.now.under.now) met.old }
+    requires course { IsCourse R.standing setting.now.program.now setting.now.ranks (made_by (P.next setting.now.program.now) setting.now.ranks turns) course.old.machine course.old.runs.items }
     ensures went { OnOk result (WentOn (P.next setting.now.program.now) (P.output setting.now.program.now) setting.now.ranks (made_by (P.next setting.now.program.now) setting.now.ranks setting.now.under.now) met.old met.new) }
     ensures looked { OnOk result (HasLookedAt (P.next setting.now.program.now) (P.output setting.now.program.now) setting.now.ranks bounds.polls met.new turns) }
 {
     // A law: what a run comes to that is halted is decided by what was before, and by the halt.
     halts_decide_outcomes(setting.program, setting.ranks);
-    if try_ranks(setting, bounds, met, turns.as_slice())? {
+    if try_ranks(setting, bounds, met, course, turns.as_slice())? {
         return Ok(());
     }
     note_end(setting, met, turns)

@@ -17,7 +17,7 @@ loop-rank-init g c =
     let n : ℕ = c.args.setting.now.ranks in
     let root : List Event = made_by next n c.args.setting.now.under.now in
     record {
-      course = c.in_ok-course.ensures;
+      course = c.requires.course;
       went = went_not next output n root c.args.met.now c.requires.met;
       tried = ranks_none next output n c.args.bounds.polls c.args.met.now (made_by next n c.args.turns.now);
     }
