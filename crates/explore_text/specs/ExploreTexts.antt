@@ -8,9 +8,8 @@ use Rattle.run_states.specs.Outcomes.{Outcome}
 use Rattle.explore.specs.declared.found.Explored.{Explored}
 use Rattle.explore.specs.declared.found.Found.{Found}
 use Rattle.explore.specs.declared.watch.Progress.{Progress}
+use Rattle.run_text.specs.RecordTexts.{ending_text, output_text}
 use Rattle.wiz_base.specs.Decimals.{decimal_text}
-use Rattle.wiz_trace.specs.RecordTexts.{ending_text}
-use Rattle.wiz_trace.specs.TraceTexts.{output_text}
 
 -- rank R output B, the bytes and a newline
 abbrev pub printed_text : ℕ × List ℕ → List ℕ

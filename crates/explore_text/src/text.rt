@@ -8,10 +8,9 @@ use explore::found::{Explored, Found, Outcome};
 use explore::watch::Progress;
 use mpi_call::call::Halt;
 use run_model::ending::Ending;
+use run_text::recording::{push_ending, push_output};
 use std::alloc::{AllocError, Global};
 use wiz_base::{Bytes, push_decimal, push_text};
-use wiz_trace::recording::push_ending;
-use wiz_trace::trace::push_output;
 
 /// What a search found, each outcome with the text of who waits in it, if there is one, and whether that is all.
 pub fn explore_text(

@@ -11,11 +11,11 @@ use Rattle.mpi_call.specs.declared.call.Tag.TheVariants.{Any as AnyTag, Is}
 use Rattle.msg_races.specs.Listing.{joined as for_ranks}
 use Rattle.run_model.specs.declared.ending.Ending.{Ending}
 use Rattle.run_model.specs.declared.ending.Ending.TheVariants.{Halted}
+use Rattle.run_text.specs.CallTexts.{joined, numbers_text}
 use Rattle.wait_graph.specs.declared.graph.Blocked.{Blocked}
 use Rattle.wait_graph.specs.declared.graph.Graph.{Graph}
 use Rattle.wait_graph.specs.declared.wait.Wait.{Wait}
 use Rattle.wiz_base.specs.Decimals.{decimal_text}
-use Rattle.wiz_trace.specs.CallTexts.{joined, numbers_text}
 use Rattle.svg_text.specs.declared.endings.Arc.{Arc}
 use Rattle.svg_text.specs.declared.filling.Part.TheVariants.{Number}
 use Rattle.svg_text.specs.declared.grid.Grid.{Grid}

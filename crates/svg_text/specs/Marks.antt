@@ -11,8 +11,8 @@ use Rattle.mpi_call.specs.declared.reply.Reply.{Reply}
 use Rattle.mpi_call.specs.declared.reply.Reply.TheVariants.{NotYet, Stopped, Took}
 use Rattle.run_model.specs.Views.{View}
 use Rattle.run_drawing.specs.declared.drawing.Mark.{Mark}
+use Rattle.run_text.specs.CallTexts.{call_text, kind_text, numbers_text, reply_text}
 use Rattle.wiz_base.specs.Decimals.{decimal_text}
-use Rattle.wiz_trace.specs.CallTexts.{call_text, kind_text, numbers_text, reply_text}
 use Rattle.svg_text.specs.declared.filling.Part.{Part}
 use Rattle.svg_text.specs.declared.filling.Part.TheVariants.{Deep, Number, Wild}
 use Rattle.svg_text.specs.declared.grid.Grid.{Grid}

@@ -9,10 +9,10 @@ use Rattle.run_drawing.specs.declared.drawing.Message.{Message}
 use Rattle.run_drawing.specs.declared.drawing.Point.{Point}
 use Rattle.run_drawing.specs.declared.drawing.Receive.{Receive}
 use Rattle.run_drawing.specs.Drawn.{Drawn}
+use Rattle.run_text.specs.CallTexts.{halt_text}
 use Rattle.wait_graph.specs.declared.graph.Blocked.{Blocked}
 use Rattle.wait_graph.specs.declared.graph.Graph.{Graph}
 use Rattle.wiz_base.specs.Decimals.{decimal_text}
-use Rattle.wiz_trace.specs.CallTexts.{halt_text}
 use Rattle.svg_text.specs.declared.filling.Part.TheVariants.{Number}
 use Rattle.svg_text.specs.declared.grid.Grid.{Grid}
 use Rattle.svg_text.specs.declared.grid.Grid.TheVariants.{Dense, Wide}

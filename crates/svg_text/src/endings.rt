@@ -2,8 +2,8 @@
 ghost use Rattle.std.specs.Prelude.{◌≡◌, ◌+◌, ◌*◌, ◌≤◌, ◌<◌, ◌^◌, ◌++◌, ◌∷◌, [], ℕ, List, IfOk, OnOk, Option, Some, codes, flat_map, length, option_map, slice_index_or, take};
 ghost use Rattle.std.specs.List.{list_any};
 ghost use Rattle.run_model.specs.declared.ending.Ending.{Ending as EndingSpec};
+ghost use Rattle.run_text.specs.CallTexts.{joined, numbers_text};
 ghost use Rattle.wiz_base.specs.Decimals.{decimal_text};
-ghost use Rattle.wiz_trace.specs.CallTexts.{joined, numbers_text};
 ghost use Rattle.svg_text.specs.Endings.{arc_out, arc_text, arc_to, arcs_of, arcs_of_rank, arcs_of_wait, arrives_at, beside, beside_by, beside_text, beside_texts, blocked_at, blocked_of, byte_text, cycle_text, cycles_of, cycles_text, dots_text, ended_text, ending_text, entering_text, endings_text, farthest, is_blocked, leaves_at, longest, message_text, most_cycles, output_text, plain_text, receiver_text, round_text, source_text, style_text, tag_text, wait_text, waiting_text};
 ghost use Rattle.svg_text.specs.Grids.{distance, y_of};
 
@@ -13,11 +13,11 @@ use mpi_call::call::{Call, Halt, Source, Tag};
 use mpi_call::lists::Ranks;
 use run_model::ending::Ending;
 use run_model::lists::Outputs;
+use run_text::call_text::push_list;
 use std::alloc::{AllocError, Global};
 use wait_graph::graph::{Blocked, Graph};
 use wait_graph::wait::Wait;
 use wiz_base::{Bytes, push_decimal, push_text};
-use wiz_trace::call_text::push_list;
 
 /// How many bytes of an output are shown.
 const SHOWN: usize = 30;

@@ -1,8 +1,8 @@
 //! The marks of calls.
 ghost use Rattle.std.specs.Prelude.{◌≡◌, ◌≤◌, ◌<◌, ◌^◌, ◌++◌, IfOk, OnOk, List, ℕ, Some, codes, slice_get, slice_index};
 ghost use Rattle.run_model.specs.Views.{view_of};
+ghost use Rattle.run_text.specs.CallTexts.{kind_text};
 ghost use Rattle.wiz_base.specs.Decimals.{decimal_text};
-ghost use Rattle.wiz_trace.specs.CallTexts.{kind_text};
 ghost use Rattle.svg_text.specs.Grids.{x_of, y_of};
 ghost use Rattle.svg_text.specs.Marks.{any_text, below_text, call_shape, cross_text, diamond_text, done_text, end_text, enter_text, from_text, label_begin, label_text, mark_by, mark_in, mark_text, post_by, post_text, send_text, shape_text, source_of, sources_in, sources_of, take_text, title_text, wild_text};
 
@@ -14,9 +14,9 @@ use mpi_call::lists::Ranks;
 use mpi_call::reply::{Got, Item, Reply};
 use run_drawing::drawing::Mark;
 use run_model::by_rank::ByRank;
+use run_text::call_text::{push_call, push_kind, push_list, push_reply};
 use std::alloc::{AllocError, Global};
 use wiz_base::{Bytes, push_decimal, push_text};
-use wiz_trace::call_text::{push_call, push_kind, push_list, push_reply};
 
 /// A mark with its title.
 pub fn push_mark(

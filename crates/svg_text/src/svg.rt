@@ -24,10 +24,10 @@ use run_model::by_rank::ByRank;
 use run_model::ending::Ending;
 use run_model::history::History;
 use run_model::lists::Outputs;
+use run_text::call_text::push_halt;
 use std::alloc::{AllocError, Global};
 use wait_graph::graph::{Blocked, Graph};
 use wiz_base::{Bytes, push_decimal, push_text};
-use wiz_trace::call_text::push_halt;
 
 /// The picture of a run: its history and drawing, who waits for whom, how it ended, and what its ranks printed.
 pub fn svg_text(

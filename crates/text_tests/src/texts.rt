@@ -1,4 +1,7 @@
 //! Texts that no command prints: of numbers that no run has, of no events, of a plan that is refused, and the demo's program.
+use explanation_text::advice::advice_text;
+use explanation_text::order::{order_text, other_order_text};
+use explanation_text::races::races_text;
 use group_plan::read_plan;
 use mpi_call::call::Halt;
 use mpi_call::lists::Ranks;
@@ -15,10 +18,7 @@ use std::process::Abort;
 use std::rt::HostRuntime;
 use std::test::Fail;
 use wiz_base::Bytes;
-use wiz_trace::advice::advice_text;
 use wiz_trace::demo::demo_program;
-use wiz_trace::order::{order_text, other_order_text};
-use wiz_trace::races::races_text;
 use wiz_trace::regroup::refined_text;
 use wiz_trace::trace::traces_text;
 

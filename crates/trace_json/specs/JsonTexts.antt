@@ -12,8 +12,8 @@ use Rattle.run_drawing.specs.declared.drawing.Receive.{Receive}
 use Rattle.run_drawing.specs.Drawn.{Drawn}
 use Rattle.run_model.specs.declared.event.Event.{Event}
 use Rattle.run_model.specs.Views.{View, view_of}
+use Rattle.run_text.specs.CallTexts.{call_text, reply_text}
 use Rattle.wiz_base.specs.Decimals.{decimal_text}
-use Rattle.wiz_trace.specs.CallTexts.{call_text, reply_text}
 
 -- the names of groups, the first of which begins the list
 abbrev pub head_text : List ℕ

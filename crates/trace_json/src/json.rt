@@ -9,9 +9,9 @@ use mpi_call::reply::Reply;
 use run_drawing::drawing::{Drawing, Mark, Message, Point, Receive};
 use run_model::by_rank::ByRank;
 use run_model::history::History;
+use run_text::call_text::{push_call, push_reply};
 use std::alloc::{AllocError, Global};
 use wiz_base::{Bytes, push_decimal, push_text};
-use wiz_trace::call_text::{push_call, push_reply};
 
 /// The trace events of a run, one a line: the names of groups and ranks, its calls, its messages.
 pub fn trace_json(alloc: Global, history: &History, drawing: &Drawing) -> Result<Bytes, AllocError>

@@ -6,6 +6,7 @@ use Rattle.c_program.specs.declared.program.CProgram.{CProgram}
 use Rattle.c_program.specs.Program.{SameMeaning, next_of, output_of}
 use Rattle.c_types.specs.Checks.{IsProgramOf}
 use Rattle.causes.specs.Clocks.{AreOfRanks}
+use Rattle.explanation_text.specs.DiffTexts.{diff_text}
 use Rattle.mpi_call.specs.Lists.{IsIn}
 use Rattle.mpi_call.specs.Members.{is_member}
 use Rattle.replay_model.specs.declared.replayed.Replayed.{Replayed}
@@ -34,7 +35,6 @@ use Rattle.wiz_tool.specs.declared.status.Status.TheVariants.{Done}
 use Rattle.wiz_tool.specs.declared.status.Status.TheVariants as s
 use Rattle.wiz_tool.specs.declared.report.Done.{Done as Told}
 use Rattle.wiz_tool.specs.inside.Told.{outcome_of}
-use Rattle.wiz_trace.specs.DiffTexts.{diff_text}
 use Rattle.wiz_trace.specs.TraceTexts.{traces_text}
 use Rattle.wiz_cli.specs.Regroupings.{traces_outcome}
 use Rattle.wiz_tool.specs.Environment.{Environment}

@@ -1,6 +1,7 @@
 -- Telling the races of a recording.
 use Rattle.std.proofs.Common.{◌≡◌, ℕ, List, [], Option, subst, sym, true}
 use Rattle.c_program.specs.Program.{next_of}
+use Rattle.explanation_text.proofs.OrderLaws.{IsOrderText-turns}
 use Rattle.group_plan.specs.Plans.{number_of_ranks}
 use Rattle.msg_races.specs.declared.receives.Receive.{Receive}
 use Rattle.mpi_call.specs.Lists.{IsIn}
@@ -18,7 +19,6 @@ use Rattle.wiz_cli.specs.inside.Recording.{IsMade}
 use Rattle.wiz_tool.specs.declared.report.Done.{Done}
 use Rattle.wiz_tool.specs.inside.Told.{outcome_of}
 use Rattle.wiz_tool.proofs.FinishLemmas.{with_files}
-use Rattle.wiz_trace.proofs.OrderLaws.{IsOrderText-turns}
 
 -- the picks of a recording
 pub picks_made : (ready : Ready) (recording : Recording) (n : ℕ) → IsMade true ready recording → n ≡ number_of_ranks ready.plan

@@ -4,6 +4,8 @@ use Rattle.std.specs.List.{AllByRecursion, AllZip, list_any}
 use Rattle.std.specs.declared.alloc.AllocError.{AllocError}
 use Rattle.std.proofs.lemmas.List.Elements.{All-head, All-tail}
 use Rattle.c_program.specs.Program.{next_of, output_of}
+use Rattle.explanation_text.proofs.OrderLaws.{IsOrderText-turns}
+use Rattle.explanation_text.specs.WaitsTexts.{waiting_text}
 use Rattle.explore.specs.declared.found.Explored.{Explored}
 use Rattle.explore.specs.declared.found.Found.{Found}
 use Rattle.explore.specs.Explored.{AreTurnsOf, IsExplored, IsListed, made_by}
@@ -36,8 +38,6 @@ use Rattle.wiz_tool.specs.Environment.{Environment}
 use Rattle.wiz_tool.specs.Inputs.{AreHeld}
 use Rattle.wiz_tool.specs.inside.Told.{outcome_of as outcome_told}
 use Rattle.wiz_tool.specs.Statuses.{number_of}
-use Rattle.wiz_trace.specs.WaitsTexts.{waiting_text}
-use Rattle.wiz_trace.proofs.OrderLaws.{IsOrderText-turns}
 use Rattle.wiz_words.specs.declared.command.Command.TheVariants.{Explore}
 use Rattle.wiz_words.specs.declared.command.RunWords.{RunWords}
 

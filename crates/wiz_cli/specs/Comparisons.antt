@@ -4,6 +4,7 @@ use Rattle.std.specs.List.{list_any}
 use Rattle.c_program.specs.declared.program.CProgram.{CProgram}
 use Rattle.c_program.specs.Program.{next_of, output_of}
 use Rattle.c_types.specs.Checks.{IsProgramOf}
+use Rattle.explanation_text.specs.DiffTexts.{diff_text}
 use Rattle.replay_model.specs.declared.replayed.Replayed.{Replayed}
 use Rattle.replay_model.specs.Laws.{IsRunWith}
 use Rattle.run_model.specs.declared.event.Event.{Event}
@@ -14,7 +15,6 @@ use Rattle.view_diff.specs.declared.compared.Compared.{Compared}
 use Rattle.view_diff.specs.Compared.{AreCompared, comes_first}
 use Rattle.view_diff.specs.Comparing.{CanCompare}
 use Rattle.view_diff.specs.Laws.{PartsByAReply, PartsByAReplyAlone}
-use Rattle.wiz_trace.specs.DiffTexts.{diff_text}
 use Rattle.wiz_tool.specs.declared.status.Status.{Status}
 use Rattle.wiz_tool.specs.declared.status.Status.TheVariants.{Done, Parted}
 use Rattle.wiz_tool.specs.Outcomes.{Outcome}

@@ -4,6 +4,8 @@ use Rattle.std.specs.List.{AllZip, list_any}
 use Rattle.clap.specs.Words.{Text}
 use Rattle.c_program.specs.declared.program.CProgram.{CProgram}
 use Rattle.c_program.specs.Program.{next_of, output_of}
+use Rattle.explanation_text.specs.OrderTexts.{turns_text}
+use Rattle.explanation_text.specs.WaitsTexts.{waiting_text}
 use Rattle.explore.specs.declared.found.Explored.{Explored}
 use Rattle.explore.specs.declared.found.Found.{Found}
 use Rattle.explore.specs.Explored.{IsExplored, made_by}
@@ -28,8 +30,6 @@ use Rattle.wiz_tool.specs.declared.status.Status.{Status}
 use Rattle.wiz_tool.specs.declared.status.Status.TheVariants.{Done, Halted, Incomplete}
 use Rattle.wiz_tool.specs.Files.{NamedFile}
 use Rattle.wiz_tool.specs.Outcomes.{Outcome}
-use Rattle.wiz_trace.specs.OrderTexts.{turns_text}
-use Rattle.wiz_trace.specs.WaitsTexts.{waiting_text}
 
 -- ---- files
 

@@ -1,6 +1,7 @@
 -- The order files of races: each makes a receive of the recorded run take another message.
 use Rattle.std.specs.Prelude.{ℕ, List, [], ◌++◌, Option, Some, None, codes, map, take}
 use Rattle.clap.specs.Words.{Text}
+use Rattle.explanation_text.specs.OrderTexts.{other_order_text}
 use Rattle.group_plan.specs.OrderText.{IsOrderText}
 use Rattle.other_picks.specs.declared.other.OtherPick.{OtherPick}
 use Rattle.other_picks.specs.declared.other.TheConstants.{MOST_OTHER_PICKS}
@@ -10,7 +11,6 @@ use Rattle.run_model.specs.Views.{Next}
 use Rattle.srr_record.specs.declared.recording.Recording.{Recording}
 use Rattle.wiz_base.specs.Decimals.{decimal_text}
 use Rattle.wiz_tool.specs.Files.{NamedFile}
-use Rattle.wiz_trace.specs.OrderTexts.{other_order_text}
 
 -- PREFIX.R.K.S.order: the receive's rank and its start number, and the sender
 abbrev pub other_name : Text → OtherPick → Text

@@ -4,8 +4,8 @@ use Rattle.mpi_call.specs.declared.reply.Reply.{Reply}
 use Rattle.replay_views.specs.declared.snapshot.Ahead.{Ahead}
 use Rattle.replay_views.specs.declared.snapshot.Ahead.TheVariants.{Calls, Ended, LogEnded}
 use Rattle.replay_views.specs.declared.snapshot.Snapshot.{Snapshot}
+use Rattle.run_text.specs.CallTexts.{call_text, reply_text}
 use Rattle.wiz_base.specs.Decimals.{decimal_text}
-use Rattle.wiz_trace.specs.CallTexts.{call_text, reply_text}
 use Rattle.wiz_trace.specs.TraceTexts.{variable_text}
 
 -- call K CALL · ended · log ended

@@ -6,8 +6,8 @@ use Rattle.msg_races.specs.declared.names.Name.{Name}
 use Rattle.replay_views.specs.declared.role.Role.{Role}
 use Rattle.replay_views.specs.declared.role.Role.TheVariants.{Sent, Found, Took}
 use Rattle.replay_views.specs.Places.{Place}
+use Rattle.run_text.specs.CallTexts.{call_text, reply_text}
 use Rattle.wiz_base.specs.Decimals.{decimal_text}
-use Rattle.wiz_trace.specs.CallTexts.{call_text, reply_text}
 
 -- R:K CALL
 abbrev pub spot_text : Place → List ℕ

@@ -2,10 +2,10 @@
 ghost use Rattle.std.specs.Prelude.{◌≡◌, ◌++◌, OnOk, IfOk, flat_map};
 ghost use Rattle.wiz_trace.specs.AtTexts.{ahead_text, at_text, last_text, snapshot_text};
 
-use crate::call_text::{push_call, push_reply};
 use crate::trace::push_variables;
 use mpi_call::reply::Reply;
 use replay_views::snapshot::{Ahead, Snapshot, Snapshots};
+use run_text::call_text::{push_call, push_reply};
 use std::alloc::{AllocError, Global};
 use wiz_base::{Bytes, push_decimal, push_text};
 

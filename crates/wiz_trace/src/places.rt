@@ -4,11 +4,11 @@ ghost use Rattle.std.specs.List.{list_any};
 ghost use Rattle.replay_views.specs.Places.{place_view};
 ghost use Rattle.wiz_trace.specs.WhereTexts.{answered_text, got_text, outside_text, places_text, sent_text, spot_text, takes, untaken_text, where_text};
 
-use crate::call_text::{push_call, push_reply};
 use mpi_call::members::is_member;
 use msg_races::names::Name;
 use replay_views::places::Place;
 use replay_views::role::Role;
+use run_text::call_text::{push_call, push_reply};
 use std::alloc::{AllocError, Global};
 use wiz_base::{Bytes, push_decimal, push_text};
 

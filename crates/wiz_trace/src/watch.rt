@@ -2,9 +2,9 @@
 ghost use Rattle.std.specs.Prelude.{◌≡◌, ◌++◌, OnOk, IfOk, flat_map};
 ghost use Rattle.wiz_trace.specs.WatchTexts.{between_text, change_text, count_text, values_text, watch_text};
 
-use crate::call_text::push_list;
 use mpi_call::lists::Ints;
 use replay_views::changes::{Change, Changes};
+use run_text::call_text::push_list;
 use std::alloc::{AllocError, Global};
 use wiz_base::{Bytes, push_decimal, push_text};
 

@@ -11,6 +11,7 @@ ghost use Rattle.wiz_words.specs.declared.command.Command.TheVariants.{Advise};
 
 use crate::recording::ready::{Ready, read_run};
 use crate::runner::Runner;
+use explanation_text::advice::advice_text;
 use plan_advice::{every_cutting_costs, one_advice, plan_cost};
 use srr_record::Recording;
 use std::alloc::{AllocError, Global};
@@ -18,7 +19,6 @@ use wiz_io::{Sink, Store};
 use wiz_tool::failure::Failure;
 use wiz_tool::report::{Done, Report, tell, text_of_run};
 use wiz_tool::status::of_ending;
-use wiz_trace::advice::advice_text;
 use wiz_words::command::RunWords;
 
 /// Records what the arguments name, and advises on blocks of at most `most` ranks: `runner` runs the ranks.

@@ -11,6 +11,7 @@ use crate::comparing::subject::{TwoRuns, read_runs};
 use crate::regrouping::make::{replay_own, two_replays};
 use crate::runner::Runner;
 use c_types::text_fixes_meaning;
+use explanation_text::diff::diff_text;
 use replay_model::replayed::Replayed;
 use std::alloc::{AllocError, Global};
 use view_diff::compare::compare;
@@ -20,7 +21,6 @@ use wiz_io::{Sink, Store};
 use wiz_tool::failure::Failure;
 use wiz_tool::report::{Done, Report, tell, text_of_replays};
 use wiz_tool::status::{Status, of_both};
-use wiz_trace::diff::diff_text;
 use wiz_trace::trace::traces_text;
 
 /// Compares two logs: `runner` replays them.

@@ -5,12 +5,12 @@ ghost use Rattle.wiz_tool.specs.Files.{AreWritten};
 ghost use Rattle.wiz_tool.specs.inside.Told.{IsStopped};
 ghost use Rattle.wiz_cli.specs.Explorations.{found_turns, left_prefix, numbered_file, numbered_files, numbered_name, search_files};
 
+use explanation_text::order::turns_text;
 use explore::found::{Explored, Found};
 use picked_runs::turn::{Turn, Turns};
 use std::alloc::{AllocError, Global};
 use wiz_io::Store;
 use wiz_tool::writing::{Unwritten, write_file};
-use wiz_trace::order::turns_text;
 
 /// Writes the order of each outcome, and then that of each state that is left.
 pub fn write_orders<S: Store>(

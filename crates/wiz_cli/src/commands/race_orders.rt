@@ -8,13 +8,13 @@ ghost use Rattle.wiz_tool.specs.Files.{AreWritten};
 ghost use Rattle.wiz_tool.specs.inside.Told.{IsStopped};
 ghost use Rattle.wiz_cli.specs.RaceOrders.{order_files, other_file, other_name};
 
+use explanation_text::order::other_order_text;
 use other_picks::listing::other_picks;
 use other_picks::other::OtherPick;
 use srr_record::Recording;
 use std::alloc::{AllocError, Global};
 use wiz_io::Store;
 use wiz_tool::writing::{Unwritten, write_file};
-use wiz_trace::order::other_order_text;
 
 /// Writes the order files of the other picks of a run of n ranks, where a prefix is given.
 pub fn write_orders<S: Store>(

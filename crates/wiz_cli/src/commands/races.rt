@@ -22,6 +22,7 @@ ghost use Rattle.wiz_words.specs.declared.command.Command.TheVariants.{Races};
 use crate::commands::race_orders::write_orders;
 use crate::recording::ready::{Ready, read_run};
 use crate::runner::Runner;
+use explanation_text::races::races_text;
 use msg_races::fault::{MOST_OTHERS, RaceFault};
 use msg_races::laws::one_list;
 use other_picks::laws::others_are_taken;
@@ -33,7 +34,6 @@ use wiz_tool::failure::Failure;
 use wiz_tool::finish::finish;
 use wiz_tool::report::{Report, text_of_run};
 use wiz_tool::status::{Status, of_ending};
-use wiz_trace::races::races_text;
 use wiz_words::command::RunWords;
 
 /// Records what the arguments name, and lists the message races of the run: `runner` runs the ranks.

@@ -12,6 +12,7 @@ ghost use Rattle.wiz_words.specs.declared.command.Command.TheVariants.{Record};
 use crate::commands::record_files::write_files;
 use crate::recording::ready::read_run;
 use crate::runner::Runner;
+use run_text::recording::record_text;
 use srr_record::Recording;
 use std::alloc::{AllocError, Global};
 use wiz_io::{Sink, Store};
@@ -19,7 +20,6 @@ use wiz_tool::failure::Failure;
 use wiz_tool::finish::finish;
 use wiz_tool::report::{Report, text_of_run};
 use wiz_tool::status::of_ending;
-use wiz_trace::recording::record_text;
 use wiz_words::command::RunWords;
 
 /// Records what the arguments name: `runner` runs the ranks.

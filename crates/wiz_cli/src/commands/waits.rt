@@ -11,6 +11,7 @@ ghost use Rattle.wiz_words.specs.declared.command.Command.TheVariants.{Waits};
 
 use crate::recording::ready::{Ready, read_run};
 use crate::runner::Runner;
+use explanation_text::waits::waits_text;
 use srr_record::Recording;
 use std::alloc::{AllocError, Global};
 use wait_graph::laws::{has_cause, none_fits, opens_differ, stuck_exactly};
@@ -19,7 +20,6 @@ use wiz_io::{Sink, Store};
 use wiz_tool::failure::Failure;
 use wiz_tool::report::{Done, Report, tell, text_of_run};
 use wiz_tool::status::of_ending;
-use wiz_trace::waits::waits_text;
 use wiz_words::command::RunWords;
 
 /// Records what the arguments name, and tells who waits for whom: `runner` runs the ranks.

@@ -17,6 +17,7 @@ use crate::exploring::start::Starter;
 use crate::ranks::{Rank, start_all};
 use crate::recording::ready::Ready;
 use c_program::CProgram;
+use explanation_text::waits::waiting_text;
 use explore::course::{Bounds, Setting};
 use explore::found::{Explored, Found};
 use explore::search::explore;
@@ -29,7 +30,6 @@ use srr_record::record_serial;
 use std::alloc::{AllocError, Global};
 use wait_graph::stuck::graph;
 use wiz_base::Bytes;
-use wiz_trace::waits::waiting_text;
 
 /// What a search found, and for each outcome the text of the ranks that wait in it.
 #[derive(Drop)]

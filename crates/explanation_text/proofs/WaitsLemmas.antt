@@ -1,0 +1,27 @@
+-- Lines of who waits for whom.
+use Rattle.std.proofs.Common.{◌≡◌, ◌∙◌, ◌<◌, ◌≤◌, ◌++◌, ◌-◌, ℕ, suc, List, [], ◌∷◌, append-nil, append_assoc, arith, drop, flat_map, get_or, length, refl, sym, take}
+use Rattle.std.proofs.Math.Seq.{take-length}
+use Rattle.run_model.specs.declared.event.Event.{Event}
+use Rattle.explanation_text.specs.WaitsTexts.{from_ranks_text, from_text}
+
+-- where there is some rank, the ranks are told
+pub some_awaited : (n : ℕ) (events : List Event) (ranks : List ℕ) → 0 < length ranks → from_text n events ranks ≡ from_ranks_text n events ranks
+some_awaited n events [] some = absurd (omega (arith, some))
+some_awaited n events (rank ∷ ranks) some = refl
+
+-- one more text, of all that are told one after the other
+pub texts_more : (f : ℕ → List ℕ) (out more whole rest : List ℕ) → out ++ flat_map f rest ≡ whole → 1 ≤ length rest → more ≡ out ++ f (get_or rest 0 0)
+    → more ++ flat_map f (take (length rest - 1) (drop 1 rest)) ≡ whole
+texts_more f out more whole [] so_far some grown = absurd (omega (arith, some))
+texts_more f out more whole (x ∷ rest) so_far some grown =
+    let less : suc (length rest) - 1 ≡ length rest = omega arith in
+    rw (grown, append_assoc, less, take-length rest) so_far
+
+-- where none is left, all are told
+pub all_texts : (f : ℕ → List ℕ) (out whole rest : List ℕ) → length rest < 1 → out ++ flat_map f rest ≡ whole → out ≡ whole
+all_texts f out whole [] none so_far = sym (append-nil out) ∙ so_far
+all_texts f out whole (x ∷ rest) none so_far = absurd (omega (arith, none))
+
+-- the messages that were taken, and then those that are open
+pub both_told : (old middle new taken whole opens : List ℕ) → middle ≡ old ++ taken → taken ≡ whole → new ≡ middle ++ opens → new ≡ old ++ (whole ++ opens)
+both_told old middle new taken whole opens first same last = rw (last, first, same, append_assoc) refl

@@ -1,0 +1,10 @@
+use Rattle.std.proofs.Common.{◌≡◌, ◌++◌, flat_map, length}
+use Rattle.explanation_text.specs.WaitsTexts.{cycle_text}
+use Rattle.explanation_text.proofs.waits.push_cycles.Given as goal
+
+abbrev pub invariant-loop-rest : goal.invariant-loop-rest
+invariant-loop-rest l =
+    l.out ++ flat_map cycle_text l.rest ≡ l.initial.out ++ flat_map cycle_text l.cycles
+
+abbrev pub decreases-loop-rest : goal.decreases-loop-rest
+decreases-loop-rest l = length l.rest

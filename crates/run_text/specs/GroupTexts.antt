@@ -1,0 +1,7 @@
+-- The text of a group.
+use Rattle.std.specs.Prelude.{ℕ, List, ◌++◌, codes, flat_map}
+use Rattle.wiz_base.specs.Decimals.{decimal_text}
+
+-- ranks, a blank before each
+abbrev pub group_text : List ℕ → List ℕ
+group_text ranks = flat_map (λ rank. codes " " ++ decimal_text rank) ranks

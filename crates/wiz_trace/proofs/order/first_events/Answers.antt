@@ -1,5 +1,0 @@
-use Rattle.wiz_trace.proofs.OrderLaws.{take_within}
-use Rattle.wiz_trace.proofs.order.first_events.Goals as goal
-
-pub returns : goal.returns
-returns c = rw (c.min-count.ensures, c.as_slice-events.ensures.events) (take_within c.args.count c.args.history.now.events)

@@ -1,9 +1,0 @@
-use Rattle.std.proofs.Common.{◌≡◌, ◌++◌, length}
-use Rattle.wiz_trace.specs.OrderTexts.{turns_text}
-use Rattle.wiz_trace.proofs.order.turns_text.Given as goal
-
-abbrev pub invariant-loop-rest : goal.invariant-loop-rest
-invariant-loop-rest l = l.out ++ turns_text l.rest ≡ turns_text l.fn.turns
-
-abbrev pub decreases-loop-rest : goal.decreases-loop-rest
-decreases-loop-rest l = length l.rest
