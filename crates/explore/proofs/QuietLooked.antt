@@ -1,13 +1,15 @@
 -- A state at which one quiet call was followed.
-use Rattle.std.proofs.Common.{◌≡◌, ◌<◌, ◌≤◌, ◌+◌, ◌∙◌, ◌++◌, ◌∷◌, ◌⊎◌, ℕ, List, [], Option, Some, None, Bool, true, false, arith, inl, inr, refl, ap, sym, subst}
+use Rattle.std.proofs.Common.{◌≡◌, ◌<◌, ◌≤◌, ◌+◌, ◌∙◌, ◌++◌, ◌∷◌, ◌⊎◌, ℕ, List, [], Option, Some, None, Bool, MatchBool, true, false, is_some, arith, inl, inr, refl, ap, sym, subst}
 use Rattle.std.proofs.lemmas.Bool.{cases_order}
 use Rattle.mpi_call.specs.declared.call.Call.{Call}
 use Rattle.mpi_call.specs.declared.reply.Reply.{Reply}
-use Rattle.mpi_call.specs.declared.reply.Reply.TheVariants.{NotYet}
+use Rattle.mpi_call.specs.declared.call.Halt.{Halt}
+use Rattle.mpi_call.specs.declared.reply.Reply.TheVariants.{NotYet, Stopped}
 use Rattle.run_model.specs.declared.event.Event.{Event}
 use Rattle.run_model.specs.Due.{halt_in}
 use Rattle.run_model.specs.Serial.{call_after}
 use Rattle.run_model.specs.Views.{Next}
+use Rattle.run_model.proofs.Views.{option_cases}
 use Rattle.picked_runs.specs.declared.turn.Pick.TheVariants.{First}
 use Rattle.picked_runs.specs.declared.turn.Turn.{Turn}
 use Rattle.picked_runs.specs.Picks.{picked_event, picked_reply}
@@ -21,6 +23,7 @@ use Rattle.explore.specs.Explored.{made_by}
 use Rattle.explore.specs.QuietFirst.{AreReckonedBelow, HasLookedAtQuietly, HasMetQuietly, IsLastAnswered, IsLookedAtQuietly}
 use Rattle.explore.specs.Searching.{Grows, HasLookedAt, HasTried, IsFollowed, IsTried, histories}
 use Rattle.explore.proofs.Stepping.{AreSame, snoc_same}
+use Rattle.explore.proofs.Tried.{stopped_by}
 use Rattle.explore.proofs.Trying.{looked_longer, met_longer}
 
 -- 1. a quiet call that was made
@@ -90,9 +93,7 @@ pub quietly_longer : (next : Next) (output : Output) (n polls : ℕ) (races : Ra
     → HasLookedAtQuietly next output n polls races met' turns
 quietly_longer next output n polls races met met' turns grows l =
     record {
-      below = l.below;
-      past = l.past;
-      calls = l.calls;
+      reckoned = l.reckoned;
       looked = elim l.looked [
         | inl wide ↦ inl (looked_longer next output n polls met.states met'.states met.found met'.found met.polled met'.polled (made_by next n turns) grows wide)
         | inr quiet ↦ inr (record {
@@ -103,3 +104,32 @@ quietly_longer next output n polls races met met' turns grows l =
         })
       ];
     }
+
+-- 4. whether the last event was answered
+
+not_stopped : (reply : Reply) → ((halt : Halt) → reply ≡ Stopped halt → ⊥) → halt_in reply ≡ None
+not_stopped reply free =
+    elim (option_cases (halt_in reply)) [
+      | inl some ↦ absurd (free some.0 (stopped_by reply some.0 some.1))
+      | inr none ↦ none
+    ]
+
+pub last_answered : (before : List Event) (event : Event) (events : List Event) (kept : Bool) → events ≡ before ++ event ∷ [] → (event.reply ≡ NotYet → ⊥)
+    → ((halt : Halt) → event.reply ≡ Stopped halt → ⊥) → MatchBool kept (IsProbeKept before event) (IsProbeKept before event → ⊥)
+    → MatchBool kept (IsLastAnswered events) (IsLastAnswered events → ⊥)
+last_answered before event events true whole ready free probe =
+    record { before = before; event = event; whole = whole; free = not_stopped event.reply free; ready = ready; probe = probe }
+last_answered before event events false whole ready free not =
+    λ last. (
+    let s : AreSame last.before before last.event event = snoc_same last.before before last.event event (sym last.whole ∙ whole) in
+    let P : List Event → Event → Type 0 = λ l e. IsProbeKept l e in
+    not (subst (λ l. P l event) s.fronts (subst (λ e. P last.before e) s.lasts last.probe)))
+
+-- 5. what is not so
+
+pub not_both : {A : Type 0} → false ≡ true → A
+not_both h = absurd (cc)
+
+pub hindered : {A B : Type 0} (o : Option A) → is_some o ≡ true → o ≡ None → B
+hindered None h none = (let no : false ≡ true = h in not_both no)
+hindered (Some x) h none = absurd (cc)

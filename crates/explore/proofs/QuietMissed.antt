@@ -1,5 +1,6 @@
 -- Where every state was looked at with quiet calls first, nothing is missed.
 use Rattle.std.proofs.Common.{◌≡◌, ◌∙◌, ◌++◌, ◌∷◌, ◌⊎◌, ℕ, List, [], Bool, true, false, inl, inr, refl, ap, sym, subst}
+use Rattle.std.proofs.lemmas.Bool.{or_parts}
 use Rattle.mpi_call.specs.declared.call.Call.{Call}
 use Rattle.mpi_call.specs.declared.call.Halt.TheVariants.{Mismatched}
 use Rattle.mpi_call.specs.Lists.{IsIn}
@@ -15,7 +16,7 @@ use Rattle.quiet_calls.specs.Closure.{AreClosedQuietly, AreMovesMet, AreReckoned
 use Rattle.quiet_calls.specs.Quiet.{Races, is_calm, is_reckoned}
 use Rattle.explore.specs.declared.found.Found.{Found}
 use Rattle.explore.specs.Explored.{IsListed, made_by}
-use Rattle.explore.specs.QuietFirst.{AllRunsAreListedQuietly, IsLookedAtQuietly, IsSearchedQuietly, PatientRunsAreListedQuietly}
+use Rattle.explore.specs.QuietFirst.{AllRunsAreListedQuietly, IsLookedAtQuietly, IsSearchedQuietly, PatientRunsAreListedQuietly, has_mismatch, is_mismatch}
 use Rattle.explore.specs.Searching.{IsLookedAt, histories}
 use Rattle.explore.proofs.Noting.{along_join}
 use Rattle.explore.proofs.NothingMissed.{history_in, listed_as}
@@ -67,6 +68,16 @@ open_all next output n polls races states listed polled (first ∷ some) all =
 
 -- 2. the histories are closed, and reckoned with
 
+none_in : (listed : List Found) (found : Found) → has_mismatch listed ≡ false → IsIn found listed → is_mismatch found.outcome.ending ≡ false
+none_in [] found none there = absurd there
+none_in (first ∷ listed) found none there =
+    let parts = or_parts (is_mismatch first.outcome.ending) (has_mismatch listed) none in
+    let F : Found → Type 0 = λ f. is_mismatch f.outcome.ending ≡ false in
+    elim there [
+      | inl same ↦ subst F same parts.0
+      | inr later ↦ none_in listed found parts.1 later
+    ]
+
 ways : (next : Next) (output : Output) (n polls : ℕ) (races : Races) (root : List Event) (states : List (List Turn)) (listed : List Found) (polled : Bool)
     → IsSearchedQuietly next output n polls races root states listed polled → Along IsProbeKept [] root
     → (before : List Event) → IsIn before (histories next n states) → IsOnItsWay next n before
@@ -81,7 +92,7 @@ ways next output n polls races root states listed polled s probes before there =
       numbered = state.under.numbered;
       probes = subst K (sym state.under.made) (along_join IsProbeKept [] root state.under.more probes state.under.probes);
       free = state.free;
-      below = (s.looked found.0 found.1).below;
+      below = (s.looked found.0 found.1).reckoned.below;
     })
 
 closed : (next : Next) (output : Output) (n polls : ℕ) (races : Races) (root : List Event) (states : List (List Turn)) (listed : List Found) (polled : Bool)
@@ -111,13 +122,15 @@ reckoned next output n polls races root states listed polled s o =
       past = λ before there. (
           let found = history_in next n states before there in
           let C : List Event → Type 0 = λ l. is_calm races l ≡ true in
-          subst C found.2 (s.looked found.0 found.1).past);
+          subst C found.2 (s.looked found.0 found.1).reckoned.past);
       calls = λ before rank call there below asked. (
           let found = history_in next n states before there in
-          (s.looked found.0 found.1).calls rank call below (ap (λ l. call_after next n l rank) found.2 ∙ asked));
+          (s.looked found.0 found.1).reckoned.calls rank call below (ap (λ l. call_after next n l rank) found.2 ∙ asked));
       agreed = λ whole before rank call pick second there halting. (
           let listed_is = (o.looked before there).halts rank call pick (Mismatched second) halting in
-          s.agreed whole listed_is.0 0 listed_is.1 (ap (λ (x : Outcome). x.ending) listed_is.2));
+          let ended : is_mismatch (listed_is.0).outcome.ending ≡ true = ap (λ (x : Outcome). is_mismatch x.ending) listed_is.2 in
+          let no : true ≡ false = sym ended ∙ none_in listed listed_is.0 (s.agreed whole) listed_is.1 in
+          cc);
     }
 
 -- 3. so what each run comes to is listed

@@ -16,7 +16,7 @@ use Rattle.explore.specs.declared.found.Explored.{Explored}
 use Rattle.explore.specs.declared.found.Found.{Found}
 use Rattle.explore.specs.declared.met.Met.{Met}
 use Rattle.explore.specs.Explored.{AreApart, IsExplored, IsFound, IsListed, made_by}
-use Rattle.explore.specs.QuietFirst.{AllRunsAreListedQuietly, HasLookedAtQuietly, IsSearchedQuietly, PatientRunsAreListedQuietly}
+use Rattle.explore.specs.QuietFirst.{AllRunsAreListedQuietly, HasLookedAtQuietly, IsSearchedQuietly, PatientRunsAreListedQuietly, has_mismatch}
 use Rattle.explore.specs.Searching.{Grows, HasBegun, IsUnderWay}
 use Rattle.explore.proofs.Looking.{root_listed}
 use Rattle.explore.proofs.Trying.{met_longer}
@@ -30,7 +30,7 @@ pub record HasEndedQuietly (next : Next) (output : Output) (n polls : ℕ) (race
   pub way : IsUnderWay next output n (made_by next n under) met
   pub grows : Grows first.states met.states first.found met.found first.polled met.polled
   pub looked : (turns : List Turn) → IsIn turns met.states → HasLookedAtQuietly next output n polls races met turns
-  pub agreed : races.partial ≡ false → (found : Found) (second : ℕ) → IsIn found met.found → found.outcome.ending ≢ Halted (Mismatched second)
+  pub agreed : races.partial ≡ false → has_mismatch met.found ≡ false
 
 searched : (next : Next) (output : Output) (n polls : ℕ) (races : Races) (under : List Turn) (first met : Met) → HasEndedQuietly next output n polls races under first met
     → halted (made_by next n under) ≡ None → IsSearchedQuietly next output n polls races (made_by next n under) met.states met.found met.polled

@@ -1,9 +1,11 @@
 -- A search that follows one quiet call alone where there is one, and why nothing is missed.
 use Rattle.std.specs.Prelude.{◌≡◌, ◌≢◌, ◌<◌, ◌⊎◌, ◌++◌, ◌∷◌, ℕ, List, [], Some, None, Bool, true, false}
+use Rattle.std.specs.List.{list_any}
 use Rattle.mpi_call.specs.declared.call.Call.{Call}
 use Rattle.mpi_call.specs.declared.call.Halt.TheVariants.{Mismatched}
 use Rattle.mpi_call.specs.declared.reply.Reply.TheVariants.{NotYet}
 use Rattle.mpi_call.specs.Lists.{IsIn}
+use Rattle.run_model.specs.declared.ending.Ending.{Ending}
 use Rattle.run_model.specs.declared.ending.Ending.TheVariants.{Halted}
 use Rattle.run_model.specs.declared.event.Event.{Event}
 use Rattle.run_model.specs.Due.{halt_in}
@@ -20,20 +22,36 @@ use Rattle.explore.specs.declared.met.Met.{Met}
 use Rattle.explore.specs.Explored.{IsListed, made_by}
 use Rattle.explore.specs.Searching.{IsLookedAt, IsState, histories}
 
--- a state was looked at that is far below the bound, and whose calls, and each rank's next call, are reckoned with: as any state is; or one
--- quiet call was followed
-pub record IsLookedAtQuietly (next : Next) (output : Output) (n polls : ℕ) (races : Races) (states : List (List Turn)) (listed : List Found) (polled : Bool) (before : List Event) : Type 0 where
+-- each rank's next call below a number is reckoned with
+abbrev pub AreReckonedBelow : Next → ℕ → Races → List Event → ℕ → Type 0
+AreReckonedBelow next n races before count =
+    (rank : ℕ) (call : Call) → rank < count → call_after next n before rank ≡ Some call → is_reckoned races rank call ≡ true
+
+-- a history is far below the bound, and its calls, and each rank's next call, are reckoned with
+pub record IsReckonedWith (next : Next) (n : ℕ) (races : Races) (before : List Event) : Type 0 where
   pub below : IsFarBelow before
   pub past : is_calm races before ≡ true
-  pub calls : (rank : ℕ) (call : Call) → rank < n → call_after next n before rank ≡ Some call → is_reckoned races rank call ≡ true
+  pub calls : AreReckonedBelow next n races before n
+
+-- a state that is reckoned with was looked at as any state is; or one quiet call was followed
+pub record IsLookedAtQuietly (next : Next) (output : Output) (n polls : ℕ) (races : Races) (states : List (List Turn)) (listed : List Found) (polled : Bool) (before : List Event) : Type 0 where
+  pub reckoned : IsReckonedWith next n races before
   pub looked : IsLookedAt next output n polls states listed polled before ⊎ IsQuietCallMet next n races (histories next n states) before
+
+-- a run that ended by a mismatch; whether one of these did that were found
+abbrev pub is_mismatch : Ending → Bool
+is_mismatch (Halted (Mismatched second)) = true
+is_mismatch ending = false
+
+abbrev pub has_mismatch : List Found → Bool
+has_mismatch listed = list_any (λ found. is_mismatch found.outcome.ending) listed
 
 -- each state of a root was looked at so, and the root is met; where no rank completes in part, nothing that is listed ended by a mismatch
 pub record IsSearchedQuietly (next : Next) (output : Output) (n polls : ℕ) (races : Races) (root : List Event) (states : List (List Turn)) (listed : List Found) (polled : Bool) : Type 0 where
   pub first : IsMet n (histories next n states) root
   pub are_states : (turns : List Turn) → IsIn turns states → IsState next n root turns
   pub looked : (turns : List Turn) → IsIn turns states → IsLookedAtQuietly next output n polls races states listed polled (made_by next n turns)
-  pub agreed : races.partial ≡ false → (found : Found) (second : ℕ) → IsIn found listed → found.outcome.ending ≢ Halted (Mismatched second)
+  pub agreed : races.partial ≡ false → has_mismatch listed ≡ false
 
 -- then what each whole run comes to that is patient from the root on is listed
 abbrev pub PatientRunsAreListedQuietly : Next → Output → ℕ → Type 0
@@ -65,8 +83,3 @@ HasLookedAtQuietly next output n polls races met turns =
 
 abbrev pub HasMetQuietly : Next → ℕ → Races → Met → List Turn → Type 0
 HasMetQuietly next n races met turns = IsQuietCallMet next n races (histories next n met.states) (made_by next n turns)
-
--- each rank's next call below a number is reckoned with
-abbrev pub AreReckonedBelow : Next → ℕ → Races → List Event → ℕ → Type 0
-AreReckonedBelow next n races before count =
-    (rank : ℕ) (call : Call) → rank < count → call_after next n before rank ≡ Some call → is_reckoned races rank call ≡ true

@@ -1,19 +1,15 @@
 //! Looking at states where quiet calls go first.
-ghost use Rattle.std.specs.Prelude.{◌≡◌, ◌≢◌, ◌<◌, IfOk, MatchBool, None, OnOk, false, true, ℕ};
+ghost use Rattle.std.specs.Prelude.{◌≡◌, ◌<◌, IfOk, MatchBool, None, OnOk, false, true};
 ghost use Rattle.mpi_machine.specs.Courses.{capped};
 ghost use Rattle.run_model.specs.Due.{total_size};
-ghost use Rattle.mpi_call.specs.declared.limits.TheConstants.{MOST_EVENTS, MOST_SIZE};
-ghost use Rattle.mpi_call.specs.Lists.{IsIn};
 ghost use Rattle.group_plan.specs.Plans.{number_of_ranks};
 ghost use Rattle.run_model.specs.declared.event.Event.{Event};
 ghost use Rattle.picked_runs.specs.declared.turn.Turn.{Turn};
-ghost use Rattle.explore.specs.declared.found.Found.{Found};
-ghost use Rattle.run_model.specs.declared.ending.Ending.TheVariants.{Halted};
-ghost use Rattle.mpi_call.specs.declared.call.Halt.TheVariants.{Mismatched};
 ghost use Rattle.quiet_calls.specs.Closure.{IsFarBelow};
 ghost use Rattle.explore.specs.Courses.{IsCourse, IsSetting};
 ghost use Rattle.explore.specs.Explored.{made_by};
-ghost use Rattle.explore.specs.QuietFirst.{AreReckonedBelow, HasLookedAtQuietly, HasMetQuietly, IsLastAnswered};
+ghost use Rattle.explore.specs.RaceFlags.{races_of};
+ghost use Rattle.explore.specs.QuietFirst.{AreReckonedBelow, HasLookedAtQuietly, HasMetQuietly, IsLastAnswered, IsReckonedWith, has_mismatch, is_mismatch};
 ghost use Rattle.explore.specs.Searching.{IsState, IsUnderWay, WentOn};
 
 use crate::course::{Bounds, Course, Setting, after_turns, answer};
@@ -22,7 +18,8 @@ use crate::met::Met;
 use crate::probes::keeps_probe;
 use crate::races::{Race, Races};
 use crate::ranks::StartRanks;
-use crate::tries::{call_of, look_at, note};
+use crate::tries;
+use crate::tries::{call_of, note};
 use mpi_call::call::Halt;
 use mpi_call::limits::{MOST_EVENTS, MOST_SIZE};
 use mpi_call::reply::Reply;
@@ -79,7 +76,7 @@ fn is_last_answered(events: &[Event]) -> bool
 }
 
 /// The race of some rank's next call that is not reckoned with.
-fn race_next<'a, P: Program, R: RankRun<Of = P>, S>(
+fn race_of_next<'a, P: Program, R: RankRun<Of = P>, S>(
     setting: &Setting<'a, P, S>,
     races: &Races,
     course: &mut Course<'a, P, R>,
@@ -87,13 +84,13 @@ fn race_next<'a, P: Program, R: RankRun<Of = P>, S>(
 ) -> Result<Option<Race>, AllocError>
     requires course { IsCourse R.standing setting.now.program.now setting.now.ranks (made_by (P.next setting.now.program.now) setting.now.ranks turns.now) course.old.machine course.old.runs.items }
     ensures course { OnOk result (IsCourse R.standing setting.now.program.now setting.now.ranks (made_by (P.next setting.now.program.now) setting.now.ranks turns.now) course.new.machine course.new.runs.items) }
-    ensures reckoned { IfOk result (λ race. race ≡ None → AreReckonedBelow (P.next setting.now.program.now) setting.now.ranks races.now (made_by (P.next setting.now.program.now) setting.now.ranks turns.now) setting.now.ranks) }
+    ensures reckoned { IfOk result (λ race. race ≡ None → AreReckonedBelow (P.next setting.now.program.now) setting.now.ranks (races_of races.now) (made_by (P.next setting.now.program.now) setting.now.ranks turns.now) setting.now.ranks) }
 {
     for rank in 0..setting.ranks {
-        if let Some(call) = call_of(&mut course.runs[rank as usize])? {
-            if let Some(race) = races.race_of(rank, &call) {
-                return Ok(Some(race));
-            }
+        let next = call_of(&mut course.runs[rank as usize])?;
+        let race = races.race_next(rank, &next);
+        if race.is_some() {
+            return Ok(race);
         }
     }
     Ok(None)
@@ -116,7 +113,7 @@ fn make_quiet<'a, P: Program, R: RankRun<Of = P>, S: StartRanks<P, R>>(
     requires rank { rank < setting.now.ranks }
     ensures course { IfOk result (λ made. made ≡ false → IsCourse R.standing setting.now.program.now setting.now.ranks (made_by (P.next setting.now.program.now) setting.now.ranks turns.now) course.new.machine course.new.runs.items) }
     ensures went { OnOk result (WentOn (P.next setting.now.program.now) (P.output setting.now.program.now) setting.now.ranks (made_by (P.next setting.now.program.now) setting.now.ranks setting.now.under.now) met.old met.new) }
-    ensures followed { IfOk result (λ made. made ≡ true → HasMetQuietly (P.next setting.now.program.now) setting.now.ranks races.now met.new turns.now) }
+    ensures followed { IfOk result (λ made. made ≡ true → HasMetQuietly (P.next setting.now.program.now) setting.now.ranks (races_of races.now) met.new turns.now) }
 {
     let Some(call) = call_of(&mut course.runs[rank as usize])? else {
         return Ok(false);
@@ -151,7 +148,7 @@ fn follow_quiet<'a, P: Program, R: RankRun<Of = P>, S: StartRanks<P, R>>(
     requires course { IsCourse R.standing setting.now.program.now setting.now.ranks (made_by (P.next setting.now.program.now) setting.now.ranks turns.now) course.old.machine course.old.runs.items }
     ensures course { IfOk result (λ made. made ≡ false → IsCourse R.standing setting.now.program.now setting.now.ranks (made_by (P.next setting.now.program.now) setting.now.ranks turns.now) course.new.machine course.new.runs.items) }
     ensures went { OnOk result (WentOn (P.next setting.now.program.now) (P.output setting.now.program.now) setting.now.ranks (made_by (P.next setting.now.program.now) setting.now.ranks setting.now.under.now) met.old met.new) }
-    ensures followed { IfOk result (λ made. made ≡ true → HasMetQuietly (P.next setting.now.program.now) setting.now.ranks races.now met.new turns.now) }
+    ensures followed { IfOk result (λ made. made ≡ true → HasMetQuietly (P.next setting.now.program.now) setting.now.ranks (races_of races.now) met.new turns.now) }
 {
     for rank in 0..setting.ranks {
         if make_quiet(setting, bounds, races, met, course, turns, rank)? {
@@ -161,7 +158,57 @@ fn follow_quiet<'a, P: Program, R: RankRun<Of = P>, S: StartRanks<P, R>>(
     Ok(false)
 }
 
-/// Looks at a state: follows one quiet call, where there is one, and else tries all turns. Where the search cannot go on so, it says why.
+/// Why a search in which quiet calls go first cannot go on at a state, which the course stands at.
+fn hindrance_at<'a, P: Program, R: RankRun<Of = P>, S>(
+    setting: &Setting<'a, P, S>,
+    races: &Races,
+    course: &mut Course<'a, P, R>,
+    turns: &[Turn],
+) -> Result<Option<Hindrance>, AllocError>
+    requires course { IsCourse R.standing setting.now.program.now setting.now.ranks (made_by (P.next setting.now.program.now) setting.now.ranks turns.now) course.old.machine course.old.runs.items }
+    ensures course { OnOk result (IsCourse R.standing setting.now.program.now setting.now.ranks (made_by (P.next setting.now.program.now) setting.now.ranks turns.now) course.new.machine course.new.runs.items) }
+    ensures met { IfOk result (λ hindrance. hindrance ≡ None → IsReckonedWith (P.next setting.now.program.now) setting.now.ranks (races_of races.now) (made_by (P.next setting.now.program.now) setting.now.ranks turns.now)) }
+{
+    let events = course.machine.history().as_slice();
+    if !is_far_below(events) {
+        return Ok(Some(Hindrance::Large));
+    }
+    if let Some(race) = races.race_in(events) {
+        return Ok(Some(Hindrance::Racy(race)));
+    }
+    match race_of_next(setting, races, course, turns)? {
+        Some(race) => Ok(Some(Hindrance::Racy(race))),
+        None => Ok(None),
+    }
+}
+
+/// Looks at a state, which the course stands at: follows one quiet call, where there is one, and else tries all turns.
+fn look_from<'a, P: Program, R: RankRun<Of = P>, S: StartRanks<P, R>>(
+    setting: &Setting<'a, P, S>,
+    bounds: Bounds,
+    races: &Races,
+    met: &mut Met,
+    course: &mut Course<'a, P, R>,
+    turns: Turns,
+) -> Result<Option<Hindrance>, AllocError>
+    requires setting { IsSetting (S.program setting.now.starter.now) setting.now.program.now (number_of_ranks setting.now.plan.now) setting.now.ranks }
+    requires state { IsState (P.next setting.now.program.now) setting.now.ranks (made_by (P.next setting.now.program.now) setting.now.ranks setting.now.under.now) turns }
+    requires met { IsUnderWay (P.next setting.now.program.now) (P.output setting.now.program.now) setting.now.ranks (made_by (P.next setting.now.program.now) setting.now.ranks setting.now.under.now) met.old }
+    requires course { IsCourse R.standing setting.now.program.now setting.now.ranks (made_by (P.next setting.now.program.now) setting.now.ranks turns) course.old.machine course.old.runs.items }
+    ensures went { OnOk result (WentOn (P.next setting.now.program.now) (P.output setting.now.program.now) setting.now.ranks (made_by (P.next setting.now.program.now) setting.now.ranks setting.now.under.now) met.old met.new) }
+    ensures looked { IfOk result (λ hindrance. hindrance ≡ None → HasLookedAtQuietly (P.next setting.now.program.now) (P.output setting.now.program.now) setting.now.ranks bounds.polls (races_of races.now) met.new turns) }
+{
+    let hindrance = hindrance_at(setting, races, course, turns.as_slice())?;
+    if hindrance.is_some() {
+        return Ok(hindrance);
+    }
+    if !follow_quiet(setting, bounds, races, met, course, turns.as_slice())? {
+        tries::look_from(setting, bounds, met, course, turns)?;
+    }
+    Ok(None)
+}
+
+/// Looks at a state, where quiet calls go first. Where the search cannot go on so, it says why.
 pub fn look_quietly<'a, P: Program, R: RankRun<Of = P>, S: StartRanks<P, R>>(
     setting: &Setting<'a, P, S>,
     bounds: Bounds,
@@ -173,35 +220,29 @@ pub fn look_quietly<'a, P: Program, R: RankRun<Of = P>, S: StartRanks<P, R>>(
     requires state { IsState (P.next setting.now.program.now) setting.now.ranks (made_by (P.next setting.now.program.now) setting.now.ranks setting.now.under.now) turns }
     requires met { IsUnderWay (P.next setting.now.program.now) (P.output setting.now.program.now) setting.now.ranks (made_by (P.next setting.now.program.now) setting.now.ranks setting.now.under.now) met.old }
     ensures went { OnOk result (WentOn (P.next setting.now.program.now) (P.output setting.now.program.now) setting.now.ranks (made_by (P.next setting.now.program.now) setting.now.ranks setting.now.under.now) met.old met.new) }
-    ensures looked { IfOk result (λ hindrance. hindrance ≡ None → HasLookedAtQuietly (P.next setting.now.program.now) (P.output setting.now.program.now) setting.now.ranks bounds.polls races.now met.new turns) }
+    ensures looked { IfOk result (λ hindrance. hindrance ≡ None → HasLookedAtQuietly (P.next setting.now.program.now) (P.output setting.now.program.now) setting.now.ranks bounds.polls (races_of races.now) met.new turns) }
 {
     let mut course: Course<'a, P, R> = after_turns(setting, turns.as_slice())?;
-    let events = course.machine.history().as_slice();
-    if !is_far_below(events) {
-        return Ok(Some(Hindrance::Large));
-    }
-    if let Some(race) = races.race_in(events) {
-        return Ok(Some(Hindrance::Racy(race)));
-    }
-    if let Some(race) = race_next(setting, races, &mut course, turns.as_slice())? {
-        return Ok(Some(Hindrance::Racy(race)));
-    }
-    if !follow_quiet(setting, bounds, races, met, &mut course, turns.as_slice())? {
-        look_at(setting, bounds, met, &mut course, turns)?;
-    }
-    Ok(None)
+    look_from(setting, bounds, races, met, &mut course, turns)
 }
 
-/// Whether some run that was found ended by a mismatch.
+/// Whether a run ended by a mismatch.
+fn is_mismatch(ending: Ending) -> bool
+    ensures { result ≡ is_mismatch ending }
+{
+    match ending {
+        Ending::Halted(halt) => matches!(halt, Halt::Mismatched { .. }),
+        Ending::Finished => false,
+    }
+}
+
+/// Whether one of the runs that were found ended by a mismatch.
 pub fn has_mismatch(listed: &[Found]) -> bool
-    ensures { result ≡ false → (found : Found) → (second : ℕ) → IsIn found listed.now → found.outcome.ending ≢ Halted (Mismatched second) }
+    ensures { result ≡ has_mismatch listed.now }
 {
     let mut rest = listed;
     while let [found, after @ ..] = rest {
-        if matches!(
-            found.outcome.ending(),
-            Ending::Halted(Halt::Mismatched { .. })
-        ) {
+        if is_mismatch(found.outcome.ending()) {
             return true;
         }
         rest = after;

@@ -1,12 +1,13 @@
 //! Which calls can go first: others can neither change how they are answered nor see that they were.
-ghost use Rattle.std.specs.Prelude.{◌≡◌, IfOk, MatchBool, None, Some, false, true};
+ghost use Rattle.std.specs.Prelude.{◌≡◌, None, Some, true};
+ghost use Rattle.mpi_call.specs.declared.call.Call.{Call};
 ghost use Rattle.run_model.specs.Allowed.{takes_all};
 ghost use Rattle.mpi_call.specs.Calls.{makes};
+ghost use Rattle.explore.specs.RaceFlags.{races_of};
 ghost use Rattle.quiet_calls.specs.Quiet.{is_calm, is_partial, is_quiet, is_racy, is_reckoned};
 
 use mpi_call::call::{Call, Kind, Source, TakeMode};
 use run_model::event::Event;
-use run_model::program::RankRun;
 use std::alloc::{AllocError, Global};
 use std::marker::Model;
 
@@ -26,13 +27,11 @@ pub struct Races {
 }
 
 impl Model for Races {
-    ghost use Rattle.quiet_calls.specs.Quiet.{Races};
-    ghost use Rattle.std.specs.List.{slice_index_or};
-    ghost use Rattle.std.specs.Prelude.{false};
+    ghost use Rattle.explore.specs.RaceFlags.{RaceFlags};
 
-    ghost Value = { Races };
+    ghost Value = { RaceFlags };
 
-    ghost view = { λ s. record { ranks = λ rank. slice_index_or s.ranks.items rank false; partial = s.partial } };
+    ghost view = { λ s. record { ranks = s.ranks.items; partial = s.partial } };
 }
 
 impl Races {
@@ -74,7 +73,7 @@ impl Races {
 
     /// Whether a rank may make racy calls.
     fn has_rank(&self, rank: u8) -> bool
-        ensures { result ≡ self.now.ranks rank }
+        ensures { result ≡ (races_of self.now).ranks rank }
     {
         match self.ranks.get(rank as usize) {
             Some(flag) => *flag,
@@ -84,14 +83,14 @@ impl Races {
 
     /// Whether a rank's call is reckoned with.
     fn is_reckoned(&self, rank: u8, call: &Call) -> bool
-        ensures { result ≡ is_reckoned self.now rank call.now }
+        ensures { result ≡ is_reckoned (races_of self.now) rank call.now }
     {
         (self.has_rank(rank) || !is_racy(call)) && (self.partial || !is_partial(call))
     }
 
     /// The race of a rank's call, where it is not reckoned with.
     pub fn race_of(&self, rank: u8, call: &Call) -> Option<Race>
-        ensures { result ≡ None → is_reckoned self.now rank call.now ≡ true }
+        ensures { result ≡ None → is_reckoned (races_of self.now) rank call.now ≡ true }
     {
         if self.is_reckoned(rank, call) {
             return None;
@@ -100,9 +99,19 @@ impl Races {
         Some(Race { rank, partial })
     }
 
+    /// The race of a rank's next call, where it makes one that is not reckoned with.
+    pub fn race_next(&self, rank: u8, next: &Option<Call>) -> Option<Race>
+        ensures { result ≡ None → (call : Call) → next.now ≡ Some call → is_reckoned (races_of self.now) rank call ≡ true }
+    {
+        match next {
+            Some(call) => self.race_of(rank, call),
+            None => None,
+        }
+    }
+
     /// The first race of these events that is not reckoned with.
     pub fn race_in(&self, events: &[Event]) -> Option<Race>
-        ensures { result ≡ None → is_calm self.now events.now ≡ true }
+        ensures { result ≡ None → is_calm (races_of self.now) events.now ≡ true }
     {
         let mut rest = events;
         while let [event, after @ ..] = rest {
@@ -116,7 +125,7 @@ impl Races {
 
     /// Whether a call can go first, once it can be answered.
     pub fn is_quiet(&self, call: &Call) -> bool
-        ensures { result ≡ is_quiet self.now call.now }
+        ensures { result ≡ is_quiet (races_of self.now) call.now }
     {
         match call {
             Call::Post { source, .. } => match source {

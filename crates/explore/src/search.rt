@@ -6,6 +6,7 @@ ghost use Rattle.picked_runs.specs.declared.turn.Turn.{Turn};
 ghost use Rattle.picked_runs.specs.Turns.{IsPickOf};
 ghost use Rattle.explore.specs.Courses.{IsSetting};
 ghost use Rattle.explore.specs.Explored.{IsExplored, made_by};
+ghost use Rattle.explore.specs.RaceFlags.{races_of};
 ghost use Rattle.explore.specs.QuietFirst.{HasLookedAtQuietly};
 ghost use Rattle.explore.specs.declared.found.Explored.{Explored};
 ghost use Rattle.explore.specs.declared.search.Attempt.TheVariants.{Whole};
@@ -65,8 +66,8 @@ fn tell<W: Watcher>(met: &Met, looked: u32, watcher: &mut W) {
 }
 
 /// Looks at states in the order in which they were met, until all or enough are looked at: how many were looked at.
-fn look_at_all<'a, P: Program, R: RankRun<Of = P>, S: StartRanks<P, R>, W: Watcher>(
-    setting: &Setting<'a, P, S>,
+fn look_at_all<P: Program, R: RankRun<Of = P>, S: StartRanks<P, R>, W: Watcher>(
+    setting: &Setting<'_, P, S>,
     bounds: Bounds,
     met: &mut Met,
     watcher: &mut W,
@@ -81,8 +82,7 @@ fn look_at_all<'a, P: Program, R: RankRun<Of = P>, S: StartRanks<P, R>, W: Watch
             return Ok(at);
         };
         let turns = copy_of(setting.alloc, turns.as_slice())?;
-        let mut course: Course<'a, P, R> = after_turns(setting, turns.as_slice())?;
-        look_at(setting, bounds, met, &mut course, turns)?;
+        look_at(setting, bounds, met, turns)?;
         tell(met, at + 1, watcher);
     }
     Ok(bounds.most)
@@ -99,7 +99,7 @@ fn look_at_all_quietly<P: Program, R: RankRun<Of = P>, S: StartRanks<P, R>, W: W
     requires setting { IsSetting (S.program setting.now.starter.now) setting.now.program.now (number_of_ranks setting.now.plan.now) setting.now.ranks }
     requires met { IsUnderWay (P.next setting.now.program.now) (P.output setting.now.program.now) setting.now.ranks (made_by (P.next setting.now.program.now) setting.now.ranks setting.now.under.now) met.old }
     ensures went { OnOk result (WentOn (P.next setting.now.program.now) (P.output setting.now.program.now) setting.now.ranks (made_by (P.next setting.now.program.now) setting.now.ranks setting.now.under.now) met.old met.new) }
-    ensures looked { IfOk result (λ hindrance. hindrance ≡ None → (turns : List Turn) → IsIn turns met.new.states → HasLookedAtQuietly (P.next setting.now.program.now) (P.output setting.now.program.now) setting.now.ranks bounds.polls races.now met.new turns) }
+    ensures looked { IfOk result (λ hindrance. hindrance ≡ None → (turns : List Turn) → IsIn turns met.new.states → HasLookedAtQuietly (P.next setting.now.program.now) (P.output setting.now.program.now) setting.now.ranks bounds.polls (races_of races.now) met.new turns) }
 {
     for at in 0..bounds.most {
         let Some(turns) = met.states.as_slice().get(at as usize) else {

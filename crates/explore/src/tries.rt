@@ -1,5 +1,5 @@
 //! The turns that can be made after a state: each is tried, and noted.
-ghost use Rattle.std.specs.Prelude.{◌≡◌, ◌<◌, ◌++◌, ◌∷◌, [], List, All, IfOk, MatchBool, None, OnOk, Some, if◌then◌else◌, length};
+ghost use Rattle.std.specs.Prelude.{◌≡◌, ◌<◌, ◌++◌, ◌∷◌, [], List, All, IfOk, MatchBool, None, OnOk, Some, if◌then◌else◌, length, true};
 ghost use Rattle.mpi_call.specs.Calls.{listed_by};
 ghost use Rattle.group_plan.specs.Plans.{number_of_ranks};
 ghost use Rattle.run_model.specs.declared.event.Event.{Event};
@@ -312,7 +312,7 @@ fn try_ranks<'a, P: Program, R: RankRun<Of = P>, S: StartRanks<P, R>>(
 }
 
 /// Looks at a state, which the course stands at: tries all turns of each rank after it, and, where none is answered, notes what it comes to.
-pub fn look_at<'a, P: Program, R: RankRun<Of = P>, S: StartRanks<P, R>>(
+pub fn look_from<'a, P: Program, R: RankRun<Of = P>, S: StartRanks<P, R>>(
     setting: &Setting<'a, P, S>,
     bounds: Bounds,
     met: &mut Met,
@@ -332,4 +332,21 @@ pub fn look_at<'a, P: Program, R: RankRun<Of = P>, S: StartRanks<P, R>>(
         return Ok(());
     }
     note_end(setting, met, turns)
+}
+
+/// Looks at a state: tries all turns of each rank after it, and, where none is answered, notes what it comes to.
+pub fn look_at<'a, P: Program, R: RankRun<Of = P>, S: StartRanks<P, R>>(
+    setting: &Setting<'a, P, S>,
+    bounds: Bounds,
+    met: &mut Met,
+    turns: Turns,
+) -> Result<(), AllocError>
+    requires setting { IsSetting (S.program setting.now.starter.now) setting.now.program.now (number_of_ranks setting.now.plan.now) setting.now.ranks }
+    requires state { IsState (P.next setting.now.program.now) setting.now.ranks (made_by (P.next setting.now.program.now) setting.now.ranks setting.now.under.now) turns }
+    requires met { IsUnderWay (P.next setting.now.program.now) (P.output setting.now.program.now) setting.now.ranks (made_by (P.next setting.now.program.now) setting.now.ranks setting.now.under.now) met.old }
+    ensures went { OnOk result (WentOn (P.next setting.now.program.now) (P.output setting.now.program.now) setting.now.ranks (made_by (P.next setting.now.program.now) setting.now.ranks setting.now.under.now) met.old met.new) }
+    ensures looked { OnOk result (HasLookedAt (P.next setting.now.program.now) (P.output setting.now.program.now) setting.now.ranks bounds.polls met.new turns) }
+{
+    let mut course: Course<'a, P, R> = after_turns(setting, turns.as_slice())?;
+    look_from(setting, bounds, met, &mut course, turns)
 }

@@ -8,7 +8,7 @@ use Rattle.explore.specs.Searching.{HasTriedRanks}
 use Rattle.explore.proofs.Looking.{idle_end, looked_idle, looked_made}
 use Rattle.explore.proofs.RankTries.{went_trans}
 use Rattle.explore.proofs.Trying.{on_ok_map, on_ok_two}
-use Rattle.explore.proofs.tries.look_at.Goals as goal
+use Rattle.explore.proofs.tries.look_from.Goals as goal
 
 pub returns-then-branch-clause-looked : goal.returns-then-branch-clause-looked
 returns-then-branch-clause-looked g c =
