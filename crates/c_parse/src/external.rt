@@ -10,7 +10,7 @@ ghost use Rattle.c_grammar.specs.StmtReading.{body_of, define_of, head_tail, par
 ghost use Rattle.c_parse.specs.Gives.{Gives};
 
 use crate::function_head::head;
-use crate::read::{ReadError, expected, followed, heads, optional};
+use crate::read::{ReadError, expected, followed, heads, optional, read};
 use crate::statement::parts;
 use crate::symbols::Class;
 use c_grammar::limits::MOST_DEPTHS;
@@ -29,10 +29,7 @@ pub fn program(alloc: Global, terminals: &[Terminal]) -> Result<Tree, ReadError>
     let mut externals = Vec::new(alloc);
     let mut rest = terminals;
     while !rest.is_empty() {
-        let (one, after) = match external(alloc, rest) {
-            Ok(read) => read,
-            Err(error) => return Err(error),
-        };
+        let (one, after) = read!(external(alloc, rest));
         externals.push(one)?;
         rest = after;
     }
@@ -50,7 +47,7 @@ fn external(
     if heads(terminals, Class::Is(Symbol::Define)) {
         define(alloc, terminals)
     } else {
-        let (head, rest) = head(alloc, MOST_DEPTHS, terminals)?;
+        let (head, rest) = read!(head(alloc, MOST_DEPTHS, terminals));
         function(alloc, head, rest)
     }
 }
@@ -61,10 +58,10 @@ fn define(
 ) -> Result<(ExternalDeclaration, &[Terminal]), ReadError>
     ensures { Gives (λ x. (external_view x.0, x.1.now)) result (define_of terminals.now) }
 {
-    let (directive, rest) = expected(terminals, Symbol::Define)?;
-    let (name, rest) = expected(rest, Symbol::Name)?;
-    let (value, rest) = value(alloc, rest)?;
-    let ((value, end), rest) = followed(value, rest, Symbol::EndLine)?;
+    let (directive, rest) = read!(expected(terminals, Symbol::Define));
+    let (name, rest) = read!(expected(rest, Symbol::Name));
+    let (value, rest) = read!(value(alloc, rest));
+    let ((value, end), rest) = read!(followed(value, rest, Symbol::EndLine));
     let define = ExternalDeclaration::Define {
         directive,
         name,
@@ -79,10 +76,10 @@ fn define(
 fn value(alloc: Global, terminals: &[Terminal]) -> Result<(Value, &[Terminal]), ReadError>
     ensures { Gives (λ x. (value_view x.0, x.1.now)) result (value_of terminals.now) }
 {
-    let (opens, rest) = opens(alloc, terminals)?;
+    let (opens, rest) = read!(opens(alloc, terminals));
     let (minus, rest) = optional(rest, Symbol::Minus);
-    let (number, rest) = expected(rest, Symbol::Number)?;
-    let (closes, rest) = closes(alloc, opens.len(), rest)?;
+    let (number, rest) = read!(expected(rest, Symbol::Number));
+    let (closes, rest) = read!(closes(alloc, opens.len(), rest));
     let value = Value {
         opens,
         minus,
@@ -98,10 +95,7 @@ fn opens(alloc: Global, terminals: &[Terminal]) -> Result<(Vec<Span>, &[Terminal
     let mut found = Vec::new(alloc);
     let mut rest = terminals;
     while heads(rest, Class::Is(Symbol::OpenParen)) {
-        let (one, after) = match expected(rest, Symbol::OpenParen) {
-            Ok(read) => read,
-            Err(error) => return Err(error),
-        };
+        let (one, after) = read!(expected(rest, Symbol::OpenParen));
         found.push(one)?;
         rest = after;
     }
@@ -119,10 +113,7 @@ fn closes(
     let mut found = Vec::new(alloc);
     let mut rest = terminals;
     for _ in 0..count {
-        let (one, after) = match expected(rest, Symbol::CloseParen) {
-            Ok(read) => read,
-            Err(error) => return Err(error),
-        };
+        let (one, after) = read!(expected(rest, Symbol::CloseParen));
         found.push(one)?;
         rest = after;
     }
@@ -144,7 +135,7 @@ fn function(
             Err(ReadError::At(Why::Unexpected, terminals))
         }
     } else {
-        let ((head, end), rest) = followed(head, terminals, Symbol::Semicolon)?;
+        let ((head, end), rest) = read!(followed(head, terminals, Symbol::Semicolon));
         Ok((ExternalDeclaration::Prototype { head, end }, rest))
     }
 }
@@ -157,9 +148,9 @@ fn block(
 ) -> Result<(ExternalDeclaration, &[Terminal]), ReadError>
     ensures { Gives (λ x. (external_view x.0, x.1.now)) result (body_of (part_at MOST_DEPTHS) (head_view head) true terminals.now) }
 {
-    let ((head, opening), rest) = followed(head, terminals, Symbol::OpenBrace)?;
-    let (parts, rest) = parts(alloc, MOST_DEPTHS, rest)?;
-    let ((parts, closing), rest) = followed(parts, rest, Symbol::CloseBrace)?;
+    let ((head, opening), rest) = read!(followed(head, terminals, Symbol::OpenBrace));
+    let (parts, rest) = read!(parts(alloc, MOST_DEPTHS, rest));
+    let ((parts, closing), rest) = read!(followed(parts, rest, Symbol::CloseBrace));
     let function = ExternalDeclaration::Function {
         head,
         opening,

@@ -8,7 +8,19 @@ ghost use Rattle.c_grammar.specs.Symbols.{is};
 use crate::symbols::{Class, is_in};
 use c_grammar::terminal::{Span, Symbol, Terminal};
 use c_lex::Why;
-use std::alloc::{AllocError, AllocFailed};
+use std::alloc::{AllocError, AllocFailed, Global};
+
+/// What was read. Where reading stopped, the reader that asks for it stops too: as `?`, with no conversion of the error.
+macro_rules! read {
+    ($reading:expr) => {
+        match $reading {
+            Ok(read) => read,
+            Err(error) => return Err(error),
+        }
+    };
+}
+
+pub(crate) use read;
 
 /// Why reading stopped, and the terminals from there on.
 #[derive(Drop)]
@@ -112,7 +124,7 @@ pub fn followed<T: Drop>(
     ensures thing { IfOk result (λ x. x.0.0 ≡ thing) }
     ensures read { Gives (λ x. (x.0.1, x.1.now)) result (expect symbol terminals.now) }
 {
-    let (end, rest) = expected(terminals, symbol)?;
+    let (end, rest) = read!(expected(terminals, symbol));
     Ok(((thing, end), rest))
 }
 
@@ -131,4 +143,12 @@ pub fn optional(terminals: &[Terminal], symbol: Symbol) -> (Option<Span>, &[Term
         }
         None => (None, terminals),
     }
+}
+
+/// A thing in a box.
+pub fn boxed<T: Drop>(alloc: Global, thing: T) -> Result<Box<T>, AllocError>
+    ensures { IfOk result (λ made. made.value ≡ thing) }
+{
+    let made = Box::new(alloc, thing)?;
+    Ok(made)
 }

@@ -11,7 +11,7 @@ ghost use Rattle.c_parse.specs.Gives.{Fails, Gives};
 
 use crate::declaration::declared;
 use crate::jump::{break_statement, continue_statement, return_statement};
-use crate::read::{ReadError, expected, first_of, followed, heads};
+use crate::read::{ReadError, boxed, expected, first_of, followed, heads, read};
 use crate::simple::{empty, plain};
 use crate::statement_head::{TestHead, both, for_head, test_head, until};
 use crate::symbols::{Class, starts_part, starts_stmt};
@@ -49,8 +49,10 @@ fn inner(
     requires { 0 < left }
     ensures { Gives (λ x. (stmt_view x.0.value, x.1.now)) result (stmt_at (left - 1) terminals.now) }
 {
-    let (tree, rest) = stmt(alloc, left - 1, terminals)?;
-    let tree = Box::new(alloc, tree)?;
+    let (tree, rest) = read!(stmt(alloc, left - 1, terminals));
+    let Ok(tree) = boxed(alloc, tree) else {
+        return Err(ReadError::Memory);
+    };
     Ok((tree, rest))
 }
 
@@ -81,9 +83,9 @@ fn block(alloc: Global, left: u8, terminals: &[Terminal]) -> Result<(Stmt, &[Ter
     requires { 0 < left }
     ensures { Gives (λ x. (stmt_view x.0, x.1.now)) result (block_of (part_at (left - 1)) terminals.now) }
 {
-    let (opening, rest) = expected(terminals, Symbol::OpenBrace)?;
-    let (parts, rest) = parts(alloc, left - 1, rest)?;
-    let ((parts, closing), rest) = followed(parts, rest, Symbol::CloseBrace)?;
+    let (opening, rest) = read!(expected(terminals, Symbol::OpenBrace));
+    let (parts, rest) = read!(parts(alloc, left - 1, rest));
+    let ((parts, closing), rest) = read!(followed(parts, rest, Symbol::CloseBrace));
     let block = Stmt::Block {
         opening,
         parts,
@@ -104,10 +106,7 @@ pub fn parts(
     let mut found = Vec::new(alloc);
     let mut rest = terminals;
     while heads(rest, Class::Isnt(Symbol::CloseBrace)) {
-        let (one, after) = match part(alloc, left, rest) {
-            Ok(read) => read,
-            Err(error) => return Err(error),
-        };
+        let (one, after) = read!(part(alloc, left, rest));
         found.push(one)?;
         rest = after;
     }
@@ -125,7 +124,7 @@ fn part(alloc: Global, left: u8, terminals: &[Terminal]) -> Result<(Part, &[Term
     if heads(terminals, Class::Kind) {
         declared(alloc, left, terminals)
     } else {
-        let (inner, rest) = stmt(alloc, left, terminals)?;
+        let (inner, rest) = read!(stmt(alloc, left, terminals));
         Ok((Part::Stmt(inner), rest))
     }
 }
@@ -140,8 +139,8 @@ fn if_statement(
     requires { 0 < left }
     ensures { Gives (λ x. (stmt_view x.0, x.1.now)) result (if_of (expr_at left true) (stmt_at (left - 1)) terminals.now) }
 {
-    let (head, rest) = test_head(alloc, left, Symbol::If, terminals)?;
-    let ((head, then), rest) = both(head, inner(alloc, left, rest))?;
+    let (head, rest) = read!(test_head(alloc, left, Symbol::If, terminals));
+    let ((head, then), rest) = read!(both(head, inner(alloc, left, rest)));
     otherwise(alloc, left, Branch { head, then }, rest)
 }
 
@@ -160,8 +159,8 @@ fn otherwise(
         (stmt_view branch.then.value) terminals.now) }
 {
     if heads(terminals, Class::Is(Symbol::Else)) {
-        let ((branch, else_keyword), rest) = followed(branch, terminals, Symbol::Else)?;
-        let ((branch, other), rest) = both(branch, inner(alloc, left, rest))?;
+        let ((branch, else_keyword), rest) = read!(followed(branch, terminals, Symbol::Else));
+        let ((branch, other), rest) = read!(both(branch, inner(alloc, left, rest)));
         let Branch { head, then } = branch;
         let full = Stmt::IfElse {
             keyword: head.keyword,
@@ -196,8 +195,8 @@ fn while_statement(
     requires { 0 < left }
     ensures { Gives (λ x. (stmt_view x.0, x.1.now)) result (while_of (expr_at left true) (stmt_at (left - 1)) terminals.now) }
 {
-    let (head, rest) = test_head(alloc, left, Symbol::While, terminals)?;
-    let ((head, body), rest) = both(head, inner(alloc, left, rest))?;
+    let (head, rest) = read!(test_head(alloc, left, Symbol::While, terminals));
+    let ((head, body), rest) = read!(both(head, inner(alloc, left, rest)));
     let repeat = Stmt::While {
         keyword: head.keyword,
         opening: head.opening,
@@ -218,9 +217,9 @@ fn do_statement(
     requires { 0 < left }
     ensures { Gives (λ x. (stmt_view x.0, x.1.now)) result (do_of (expr_at left true) (stmt_at (left - 1)) terminals.now) }
 {
-    let (keyword, rest) = expected(terminals, Symbol::Do)?;
-    let (body, rest) = inner(alloc, left, rest)?;
-    let ((body, (head, end)), rest) = both(body, until(alloc, left, rest))?;
+    let (keyword, rest) = read!(expected(terminals, Symbol::Do));
+    let (body, rest) = read!(inner(alloc, left, rest));
+    let ((body, (head, end)), rest) = read!(both(body, until(alloc, left, rest)));
     let repeat = Stmt::Do {
         keyword,
         body,
@@ -244,8 +243,8 @@ fn for_statement(
     ensures { Gives (λ x. (stmt_view x.0, x.1.now)) result
         (for_of (expr_at left true) (expr_at (left - 1) true) (stmt_at (left - 1)) terminals.now) }
 {
-    let (head, rest) = for_head(alloc, left, terminals)?;
-    let ((head, body), rest) = both(head, inner(alloc, left, rest))?;
+    let (head, rest) = read!(for_head(alloc, left, terminals));
+    let ((head, body), rest) = read!(both(head, inner(alloc, left, rest)));
     let repeat = Stmt::For {
         keyword: head.keyword,
         opening: head.opening,

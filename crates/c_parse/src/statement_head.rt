@@ -11,7 +11,7 @@ ghost use Rattle.c_parse.specs.StatementHeads.{ended_of, for_head_of, for_head_v
 
 use crate::declaration::declaration;
 use crate::expression::expr;
-use crate::read::{ReadError, expected, followed, heads};
+use crate::read::{ReadError, expected, followed, heads, read};
 use crate::simple::simple;
 use crate::symbols::Class;
 use c_grammar::statement::{ForStart, Simple};
@@ -47,7 +47,7 @@ pub fn both<'a, A: Drop, B: Drop>(
     ensures second { IfOk result (λ all. read.entry ≡ Ok (all.0.1, all.1)) }
     ensures error { IfErr result (λ error. read.entry ≡ Err error) }
 {
-    let (second, rest) = read?;
+    let (second, rest) = read!(read);
     Ok(((first, second), rest))
 }
 
@@ -61,10 +61,10 @@ pub fn test_head(
 ) -> Result<(TestHead, &[Terminal]), ReadError>
     ensures { Gives (λ x. (test_head_view x.0, x.1.now)) result (test_head_of (expr_at left true) symbol terminals.now) }
 {
-    let (keyword, rest) = expected(terminals, symbol)?;
-    let (opening, rest) = expected(rest, Symbol::OpenParen)?;
-    let (test, rest) = expr(alloc, left, true, rest)?;
-    let ((test, closing), rest) = followed(test, rest, Symbol::CloseParen)?;
+    let (keyword, rest) = read!(expected(terminals, symbol));
+    let (opening, rest) = read!(expected(rest, Symbol::OpenParen));
+    let (test, rest) = read!(expr(alloc, left, true, rest));
+    let ((test, closing), rest) = read!(followed(test, rest, Symbol::CloseParen));
     let head = TestHead {
         keyword,
         opening,
@@ -84,7 +84,7 @@ pub fn until(
     ensures { Gives (λ x. ((test_head_view x.0.0, x.0.1), x.1.now)) result
         (ended_of (test_head_of (expr_at left true) w.While) w.Semicolon terminals.now) }
 {
-    let (head, rest) = test_head(alloc, left, Symbol::While, terminals)?;
+    let (head, rest) = read!(test_head(alloc, left, Symbol::While, terminals));
     followed(head, rest, Symbol::Semicolon)
 }
 
@@ -98,11 +98,11 @@ pub fn for_head(
     requires { 0 < left }
     ensures { Gives (λ x. (for_head_view x.0, x.1.now)) result (for_head_of (expr_at left true) (expr_at (left - 1) true) terminals.now) }
 {
-    let (keyword, rest) = expected(terminals, Symbol::For)?;
-    let (opening, rest) = expected(rest, Symbol::OpenParen)?;
-    let (start, rest) = start(alloc, left, rest)?;
-    let ((start, test), rest) = both(start, test(alloc, left, rest))?;
-    let (((start, test), step), rest) = both((start, test), step(alloc, left, rest))?;
+    let (keyword, rest) = read!(expected(terminals, Symbol::For));
+    let (opening, rest) = read!(expected(rest, Symbol::OpenParen));
+    let (start, rest) = read!(start(alloc, left, rest));
+    let ((start, test), rest) = read!(both(start, test(alloc, left, rest)));
+    let (((start, test), step), rest) = read!(both((start, test), step(alloc, left, rest)));
     let head = ForHead {
         keyword,
         opening,
@@ -124,7 +124,7 @@ fn start(
     ensures { Gives (λ x. ((start_view x.0.0, x.0.1), x.1.now)) result
         (ended_of (start_of (expr_at left true) (expr_at (left - 1) true)) w.Semicolon terminals.now) }
 {
-    let (start, rest) = for_start(alloc, left, terminals)?;
+    let (start, rest) = read!(for_start(alloc, left, terminals));
     followed(start, rest, Symbol::Semicolon)
 }
 
@@ -139,7 +139,7 @@ fn test(
     ensures { Gives (λ x. ((option_map view x.0.0, x.0.1), x.1.now)) result
         (ended_of (maybe (isnt w.Semicolon) (expr_at left true)) w.Semicolon terminals.now) }
 {
-    let (test, rest) = for_test(alloc, left, terminals)?;
+    let (test, rest) = read!(for_test(alloc, left, terminals));
     followed(test, rest, Symbol::Semicolon)
 }
 
@@ -154,7 +154,7 @@ fn step(
     ensures { Gives (λ x. ((option_map simple_view x.0.0, x.0.1), x.1.now)) result
         (ended_of (maybe (isnt w.CloseParen) (simple_of (expr_at left true) (expr_at (left - 1) true))) w.CloseParen terminals.now) }
 {
-    let (step, rest) = for_step(alloc, left, terminals)?;
+    let (step, rest) = read!(for_step(alloc, left, terminals));
     followed(step, rest, Symbol::CloseParen)
 }
 
@@ -171,10 +171,10 @@ fn for_start(
     if heads(terminals, Class::Is(Symbol::Semicolon)) {
         Ok((ForStart::Nothing, terminals))
     } else if heads(terminals, Class::Kind) {
-        let (declaration, rest) = declaration(alloc, left, terminals)?;
+        let (declaration, rest) = read!(declaration(alloc, left, terminals));
         Ok((ForStart::Declaration(declaration), rest))
     } else {
-        let (simple, rest) = simple(alloc, left, terminals)?;
+        let (simple, rest) = read!(simple(alloc, left, terminals));
         Ok((ForStart::Simple(simple), rest))
     }
 }
@@ -189,7 +189,7 @@ fn for_test(
     ensures { Gives (λ x. (option_map view x.0, x.1.now)) result (maybe (isnt w.Semicolon) (expr_at left true) terminals.now) }
 {
     if heads(terminals, Class::Isnt(Symbol::Semicolon)) {
-        let (test, rest) = expr(alloc, left, true, terminals)?;
+        let (test, rest) = read!(expr(alloc, left, true, terminals));
         Ok((Some(test), rest))
     } else {
         Ok((None, terminals))
@@ -207,7 +207,7 @@ fn for_step(
         (maybe (isnt w.CloseParen) (simple_of (expr_at left true) (expr_at (left - 1) true)) terminals.now) }
 {
     if heads(terminals, Class::Isnt(Symbol::CloseParen)) {
-        let (step, rest) = simple(alloc, left, terminals)?;
+        let (step, rest) = read!(simple(alloc, left, terminals));
         Ok((Some(step), rest))
     } else {
         Ok((None, terminals))
