@@ -1,8 +1,11 @@
 -- What a function gave is what reading gives, unless memory ran out.
-use Rattle.std.specs.Prelude.{◌≡◌, List, ◌∷◌, [], Option, Some, None, Result, Ok, Err}
+use Rattle.std.specs.Prelude.{◌≡◌, true, false, List, ◌∷◌, [], Option, Some, None, Result, Ok, Err}
 use Rattle.std.specs.Borrow.{Bor}
+use Rattle.c_grammar.specs.declared.terminal.Symbol.{Symbol}
+use Rattle.c_grammar.specs.declared.terminal.Span.{Span}
 use Rattle.c_grammar.specs.declared.terminal.Terminal.{Terminal}
-use Rattle.c_grammar.specs.Reading.{Answer, refuse}
+use Rattle.c_grammar.specs.Symbols.{is}
+use Rattle.c_grammar.specs.Reading.{Answer, expect, heads, refuse}
 use Rattle.c_parse.specs.declared.read.ReadError.{ReadError}
 use Rattle.c_parse.specs.declared.read.ReadError.TheVariants as errors
 
@@ -25,3 +28,8 @@ HasPlace (errors.At why rest) = Unit {0}
 abbrev pub IsHead : List Terminal → Option (Terminal × Bor (List Terminal)) → Type 0
 IsHead terminals None = terminals ≡ []
 IsHead terminals (Some x) = terminals ≡ x.0 ∷ x.1.now
+
+-- the first terminal is of this symbol, with its place and those after it; or it is not
+abbrev pub IsTaken : Symbol → List Terminal → Option (Span × Bor (List Terminal)) → Type 0
+IsTaken symbol terminals None = heads (is symbol) terminals ≡ false
+IsTaken symbol terminals (Some x) = (heads (is symbol) terminals ≡ true) × (expect symbol terminals ≡ Ok (x.0, x.1.now))

@@ -12,7 +12,7 @@ ghost use Rattle.c_parse.specs.Declarations.{declared_of};
 use crate::call::right;
 use crate::comma_list::{InCommaList, comma_list};
 use crate::expression::place;
-use crate::read::{ReadError, expected, followed, heads, one_of, read};
+use crate::read::{ReadError, expected, followed, heads, one_of, read, taken};
 use crate::symbols::Class;
 use c_grammar::statement::{Declaration, InitDeclarator, Initializer, Part};
 use c_grammar::terminal::{Symbol, Terminal};
@@ -104,8 +104,7 @@ fn initial(
     ensures { Gives (λ x. (initial_view x.0, x.1.now)) result (initial_of (expr_at left true) (expr_at (left - 1) true) terminals.now) }
 {
     let (mark, rest) = read!(expected(terminals, Symbol::Assign));
-    if heads(rest, Class::Is(Symbol::OpenBrace)) {
-        let (opening, rest) = read!(expected(rest, Symbol::OpenBrace));
+    if let Some((opening, rest)) = taken(rest, Symbol::OpenBrace) {
         let (values, rest) = read!(comma_list(alloc, left, rest));
         let ((values, closing), rest) = read!(followed(values, rest, Symbol::CloseBrace));
         let braced = Initializer::Braced {

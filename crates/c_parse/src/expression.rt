@@ -8,7 +8,7 @@ ghost use Rattle.c_grammar.specs.Reading.{bin_of, branches_of, chained, choice_o
 ghost use Rattle.c_parse.specs.Gives.{Fails, Gives};
 
 use crate::comma_list::InCommaList;
-use crate::read::{ReadError, boxed, expected, first_of, heads, one_of, read};
+use crate::read::{ReadError, both, boxed, expected, first_of, heads, one_of, read, taken};
 use crate::symbols::{Class, starts_expr};
 use c_grammar::limits::CONDITIONAL_LEVEL;
 use c_grammar::terminal::{Symbol, Terminal};
@@ -115,7 +115,7 @@ fn bin(
         return unary(alloc, left, terminals);
     }
     let (first, rest) = read!(bin(alloc, left, most - 1, terminals));
-    let (links, rest) = read!(links(alloc, left, most, rest));
+    let ((first, links), rest) = read!(both(first, links(alloc, left, most, rest)));
     match chain(alloc, most, first, links) {
         Ok(chain) => Ok((chain, rest)),
         Err(AllocError) => Err(ReadError::Memory),
@@ -230,8 +230,7 @@ pub fn place(
     ensures { Gives (λ x. (place_view x.0, x.1.now)) result (place_of (expr_at (left - 1) true) terminals.now) }
 {
     let (name, rest) = read!(expected(terminals, Symbol::Name));
-    if heads(rest, Class::Is(Symbol::OpenBracket)) {
-        let (opening, rest) = read!(expected(rest, Symbol::OpenBracket));
+    if let Some((opening, rest)) = taken(rest, Symbol::OpenBracket) {
         let (index, rest) = read!(deeper(alloc, left, true, rest));
         let (closing, rest) = read!(expected(rest, Symbol::CloseBracket));
         let cell = Place::Cell {
@@ -259,8 +258,7 @@ fn number(terminals: &[Terminal]) -> Result<(Expr, &[Terminal]), ReadError>
 fn field(place: Place, terminals: &[Terminal]) -> Result<(Expr, &[Terminal]), ReadError>
     ensures { Gives (λ x. (view x.0, x.1.now)) result (field_tail (place_view place) terminals.now) }
 {
-    if heads(terminals, Class::Is(Symbol::Dot)) {
-        let (dot, rest) = read!(expected(terminals, Symbol::Dot));
+    if let Some((dot, rest)) = taken(terminals, Symbol::Dot) {
         let (name, rest) = read!(expected(rest, Symbol::Name));
         Ok((Expr::Field { place, dot, name }, rest))
     } else {

@@ -10,8 +10,8 @@ ghost use Rattle.c_grammar.specs.StmtReading.{body_of, define_of, head_tail, par
 ghost use Rattle.c_parse.specs.Gives.{Gives};
 
 use crate::function_head::head;
-use crate::read::{ReadError, expected, followed, heads, optional, read};
-use crate::statement::parts;
+use crate::read::{ReadError, both, expected, followed, heads, optional, read};
+use crate::statement::block;
 use crate::symbols::Class;
 use c_grammar::limits::MOST_DEPTHS;
 use c_grammar::statement::{
@@ -130,7 +130,7 @@ fn function(
 {
     if heads(terminals, Class::Is(Symbol::OpenBrace)) {
         if is_named(&head.parameters) {
-            block(alloc, head, terminals)
+            body(alloc, head, terminals)
         } else {
             Err(ReadError::At(Why::Unexpected, terminals))
         }
@@ -141,21 +141,20 @@ fn function(
 }
 
 /// A head and its block.
-fn block(
+#[tactic(auto, using(crate::proofs::ByHead::body_by_braces))]
+fn body(
     alloc: Global,
     head: Head,
     terminals: &[Terminal],
 ) -> Result<(ExternalDeclaration, &[Terminal]), ReadError>
     ensures { Gives (λ x. (external_view x.0, x.1.now)) result (body_of (part_at MOST_DEPTHS) (head_view head) true terminals.now) }
 {
-    let ((head, opening), rest) = read!(followed(head, terminals, Symbol::OpenBrace));
-    let (parts, rest) = read!(parts(alloc, MOST_DEPTHS, rest));
-    let ((parts, closing), rest) = read!(followed(parts, rest, Symbol::CloseBrace));
+    let ((head, block), rest) = read!(both(head, block(alloc, MOST_DEPTHS, terminals)));
     let function = ExternalDeclaration::Function {
         head,
-        opening,
-        parts,
-        closing,
+        opening: block.opening,
+        parts: block.parts,
+        closing: block.closing,
     };
     Ok((function, rest))
 }

@@ -11,7 +11,7 @@ ghost use Rattle.c_parse.specs.Gives.{Gives};
 
 use crate::comma_list::{InCommaList, comma_list};
 use crate::expression::expr;
-use crate::read::{ReadError, expected, first_of, followed, heads, one_of, optional, read};
+use crate::read::{ReadError, expected, first_of, followed, heads, one_of, optional, read, taken};
 use crate::symbols::Class;
 use c_grammar::statement::{Head, Parameter, Parameters};
 use c_grammar::terminal::{Span, Symbol, Terminal};
@@ -111,8 +111,7 @@ fn int_parameter(
     requires { 0 < left }
     ensures { Gives (λ x. (parameter_view x.0, x.1.now)) result (int_tail (expr_at (left - 1) true) keyword terminals.now) }
 {
-    if heads(terminals, Class::Is(Symbol::Times)) {
-        let (star, rest) = read!(expected(terminals, Symbol::Times));
+    if let Some((star, rest)) = taken(terminals, Symbol::Times) {
         let (name, rest) = optional(rest, Symbol::Name);
         Ok((
             Parameter::Pointer {
@@ -139,8 +138,7 @@ fn array_parameter(
     requires { 0 < left }
     ensures { Gives (λ x. (parameter_view x.0, x.1.now)) result (array_tail (expr_at (left - 1) true) keyword name terminals.now) }
 {
-    if heads(terminals, Class::Is(Symbol::OpenBracket)) {
-        let (opening, rest) = read!(expected(terminals, Symbol::OpenBracket));
+    if let Some((opening, rest)) = taken(terminals, Symbol::OpenBracket) {
         let (length, rest) = read!(length(alloc, left, rest));
         let ((length, closing), rest) = read!(followed(length, rest, Symbol::CloseBracket));
         let array = Parameter::Array {
@@ -181,8 +179,7 @@ fn char_parameter(
 ) -> Result<(Parameter, &[Terminal]), ReadError>
     ensures { Gives (λ x. (parameter_view x.0, x.1.now)) result (char_tail keyword star terminals.now) }
 {
-    if heads(terminals, Class::Is(Symbol::Times)) {
-        let (second, rest) = read!(expected(terminals, Symbol::Times));
+    if let Some((second, rest)) = taken(terminals, Symbol::Times) {
         let (name, rest) = optional(rest, Symbol::Name);
         let texts = Parameter::TextPointers {
             keyword,

@@ -1,8 +1,8 @@
 //! What all readers share.
-ghost use Rattle.std.specs.Prelude.{◌≡◌, IfErr, IfOk, Ok};
+ghost use Rattle.std.specs.Prelude.{◌≡◌, Err, IfErr, IfOk, Ok};
 ghost use Rattle.c_grammar.specs.Reading.{expect, first_of, heads, maybe, one_of};
 ghost use Rattle.c_parse.specs.Classes.{is_in};
-ghost use Rattle.c_parse.specs.Gives.{Gives, HasPlace, IsHead};
+ghost use Rattle.c_parse.specs.Gives.{Gives, HasPlace, IsHead, IsTaken};
 ghost use Rattle.c_grammar.specs.Symbols.{is};
 
 use crate::symbols::{Class, is_in};
@@ -115,6 +115,23 @@ pub fn expected(terminals: &[Terminal], symbol: Symbol) -> Result<(Span, &[Termi
     }
 }
 
+/// The place of the first terminal and the terminals after it, where it is this symbol.
+#[tactic(auto, unfolding(c_grammar::specs::Reading::expect))]
+pub fn taken(terminals: &[Terminal], symbol: Symbol) -> Option<(Span, &[Terminal])>
+    ensures { IsTaken symbol terminals.now result }
+{
+    match head(terminals) {
+        Some((first, rest)) => {
+            if is_in(Class::Is(symbol), first.symbol) {
+                Some((first.span, rest))
+            } else {
+                None
+            }
+        }
+        None => None,
+    }
+}
+
 /// A thing, and the place of the first terminal after it, which has to be this symbol. Takes no memory.
 pub fn followed<T: Drop>(
     thing: T,
@@ -126,6 +143,19 @@ pub fn followed<T: Drop>(
 {
     let (end, rest) = read!(expected(terminals, symbol));
     Ok(((thing, end), rest))
+}
+
+/// A thing, and what was read after it.
+pub fn both<'a, A: Drop, B: Drop>(
+    first: A,
+    read: Result<(B, &'a [Terminal]), ReadError<'a>>,
+) -> Result<((A, B), &'a [Terminal]), ReadError<'a>>
+    ensures first { IfOk result (λ all. all.0.0 ≡ first) }
+    ensures second { IfOk result (λ all. read.entry ≡ Ok (all.0.1, all.1)) }
+    ensures error { IfErr result (λ error. read.entry ≡ Err error) }
+{
+    let (second, rest) = read!(read);
+    Ok(((first, second), rest))
 }
 
 /// The place of the first terminal, where it is this symbol, and the terminals after it.

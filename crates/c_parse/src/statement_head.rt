@@ -1,5 +1,5 @@
 //! The readers of what is before or after the inner statement of a statement.
-ghost use Rattle.std.specs.Prelude.{◌≡◌, ◌<◌, ◌-◌, true, Err, IfErr, IfOk, Ok, option_map};
+ghost use Rattle.std.specs.Prelude.{◌≡◌, ◌<◌, ◌-◌, true, option_map};
 ghost use Rattle.c_grammar.specs.View.{view};
 ghost use Rattle.c_grammar.specs.StmtView.{simple_view, start_view};
 ghost use Rattle.c_grammar.specs.Symbols.{isnt};
@@ -11,7 +11,7 @@ ghost use Rattle.c_parse.specs.StatementHeads.{ended_of, for_head_of, for_head_v
 
 use crate::declaration::declaration;
 use crate::expression::expr;
-use crate::read::{ReadError, expected, followed, heads, read};
+use crate::read::{ReadError, both, expected, followed, heads, read};
 use crate::simple::simple;
 use crate::symbols::Class;
 use c_grammar::statement::{ForStart, Simple};
@@ -36,19 +36,6 @@ pub struct ForHead {
     pub start: (ForStart, Span),
     pub test: (Option<Expr>, Span),
     pub step: (Option<Simple>, Span),
-}
-
-/// A thing, and what was read after it.
-pub fn both<'a, A: Drop, B: Drop>(
-    first: A,
-    read: Result<(B, &'a [Terminal]), ReadError<'a>>,
-) -> Result<((A, B), &'a [Terminal]), ReadError<'a>>
-    ensures first { IfOk result (λ all. all.0.0 ≡ first) }
-    ensures second { IfOk result (λ all. read.entry ≡ Ok (all.0.1, all.1)) }
-    ensures error { IfErr result (λ error. read.entry ≡ Err error) }
-{
-    let (second, rest) = read!(read);
-    Ok(((first, second), rest))
 }
 
 /// A keyword and the test in parentheses after it.
