@@ -10,7 +10,7 @@ ghost use Rattle.c_parse.specs.Gives.{Gives};
 
 use crate::comma_list::{InCommaList, comma_list};
 use crate::expression::{expr, place};
-use crate::read::{ReadError, expected, first_of, followed, heads, read};
+use crate::read::{ReadError, ended, expected, first_of, heads, read};
 use crate::symbols::{Class, is_in};
 use c_grammar::statement::{Argument, Call, CommaList, Right};
 use c_grammar::terminal::{Symbol, Terminal};
@@ -73,10 +73,14 @@ pub fn call(
     requires { 0 < left }
     ensures { Gives (λ x. (call_view x.0, x.1.now)) result (call_of (expr_at left true) (expr_at (left - 1) true) terminals.now) }
 {
-    let (name, rest) = read!(expected(terminals, Symbol::Name));
-    let (opening, rest) = read!(expected(rest, Symbol::OpenParen));
-    let (arguments, rest) = read!(arguments(alloc, left, rest));
-    let ((arguments, closing), rest) = read!(followed(arguments, rest, Symbol::CloseParen));
+    let ((name, opening), rest) = read!(ended(
+        expected(terminals, Symbol::Name),
+        Symbol::OpenParen
+    ));
+    let ((arguments, closing), rest) = read!(ended(
+        arguments(alloc, left, rest),
+        Symbol::CloseParen
+    ));
     let call = Call {
         name,
         opening,

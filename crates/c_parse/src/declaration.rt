@@ -12,7 +12,7 @@ ghost use Rattle.c_parse.specs.Declarations.{declared_of};
 use crate::call::right;
 use crate::comma_list::{InCommaList, comma_list};
 use crate::expression::place;
-use crate::read::{ReadError, expected, followed, heads, one_of, read, taken};
+use crate::read::{ReadError, ended, expected, heads, one_of, read, taken};
 use crate::symbols::Class;
 use c_grammar::statement::{Declaration, InitDeclarator, Initializer, Part};
 use c_grammar::terminal::{Symbol, Terminal};
@@ -48,8 +48,10 @@ pub fn declared(
     requires { 0 < left }
     ensures { Gives (λ x. (part_view x.0, x.1.now)) result (declared_of (expr_at left true) (expr_at (left - 1) true) terminals.now) }
 {
-    let (declaration, rest) = read!(declaration(alloc, left, terminals));
-    let ((declaration, end), rest) = read!(followed(declaration, rest, Symbol::Semicolon));
+    let ((declaration, end), rest) = read!(ended(
+        declaration(alloc, left, terminals),
+        Symbol::Semicolon
+    ));
     Ok((Part::Declaration { declaration, end }, rest))
 }
 
@@ -105,8 +107,10 @@ fn initial(
 {
     let (mark, rest) = read!(expected(terminals, Symbol::Assign));
     if let Some((opening, rest)) = taken(rest, Symbol::OpenBrace) {
-        let (values, rest) = read!(comma_list(alloc, left, rest));
-        let ((values, closing), rest) = read!(followed(values, rest, Symbol::CloseBrace));
+        let ((values, closing), rest) = read!(ended(
+            comma_list(alloc, left, rest),
+            Symbol::CloseBrace
+        ));
         let braced = Initializer::Braced {
             mark,
             opening,

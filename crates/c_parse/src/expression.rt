@@ -8,7 +8,7 @@ ghost use Rattle.c_grammar.specs.Reading.{bin_of, branches_of, chained, choice_o
 ghost use Rattle.c_parse.specs.Gives.{Fails, Gives};
 
 use crate::comma_list::InCommaList;
-use crate::read::{ReadError, both, boxed, expected, first_of, heads, one_of, read, taken};
+use crate::read::{ReadError, both, boxed, ended, expected, first_of, heads, one_of, read, taken};
 use crate::symbols::{Class, starts_expr};
 use c_grammar::limits::CONDITIONAL_LEVEL;
 use c_grammar::terminal::{Symbol, Terminal};
@@ -67,8 +67,7 @@ fn branches(
         return Err(ReadError::Memory);
     };
     let (question, rest) = read!(expected(terminals, Symbol::Question));
-    let (then, rest) = read!(deeper(alloc, left, true, rest));
-    let (colon, rest) = read!(expected(rest, Symbol::Colon));
+    let ((then, colon), rest) = read!(ended(deeper(alloc, left, true, rest), Symbol::Colon));
     let (other, rest) = read!(deeper(alloc, left, true, rest));
     let choice = Expr::Choice {
         test,
@@ -192,8 +191,10 @@ fn paren(alloc: Global, left: u8, terminals: &[Terminal]) -> Result<(Expr, &[Ter
     ensures { Gives (λ x. (view x.0, x.1.now)) result (paren_of (expr_at (left - 1)) terminals.now) }
 {
     let (opening, rest) = read!(expected(terminals, Symbol::OpenParen));
-    let (inner, rest) = read!(deeper(alloc, left, true, rest));
-    let (closing, rest) = read!(expected(rest, Symbol::CloseParen));
+    let ((inner, closing), rest) = read!(ended(
+        deeper(alloc, left, true, rest),
+        Symbol::CloseParen
+    ));
     let paren = Expr::Paren {
         opening,
         inner,
@@ -231,8 +232,10 @@ pub fn place(
 {
     let (name, rest) = read!(expected(terminals, Symbol::Name));
     if let Some((opening, rest)) = taken(rest, Symbol::OpenBracket) {
-        let (index, rest) = read!(deeper(alloc, left, true, rest));
-        let (closing, rest) = read!(expected(rest, Symbol::CloseBracket));
+        let ((index, closing), rest) = read!(ended(
+            deeper(alloc, left, true, rest),
+            Symbol::CloseBracket
+        ));
         let cell = Place::Cell {
             name,
             opening,

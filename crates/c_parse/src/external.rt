@@ -10,7 +10,7 @@ ghost use Rattle.c_grammar.specs.StmtReading.{body_of, define_of, head_tail, par
 ghost use Rattle.c_parse.specs.Gives.{Gives};
 
 use crate::function_head::head;
-use crate::read::{ReadError, both, expected, followed, heads, optional, read};
+use crate::read::{ReadError, both, ended, expected, followed, heads, optional, read};
 use crate::statement::block;
 use crate::symbols::Class;
 use c_grammar::limits::MOST_DEPTHS;
@@ -58,10 +58,8 @@ fn define(
 ) -> Result<(ExternalDeclaration, &[Terminal]), ReadError>
     ensures { Gives (λ x. (external_view x.0, x.1.now)) result (define_of terminals.now) }
 {
-    let (directive, rest) = read!(expected(terminals, Symbol::Define));
-    let (name, rest) = read!(expected(rest, Symbol::Name));
-    let (value, rest) = read!(value(alloc, rest));
-    let ((value, end), rest) = read!(followed(value, rest, Symbol::EndLine));
+    let ((directive, name), rest) = read!(ended(expected(terminals, Symbol::Define), Symbol::Name));
+    let ((value, end), rest) = read!(ended(value(alloc, rest), Symbol::EndLine));
     let define = ExternalDeclaration::Define {
         directive,
         name,

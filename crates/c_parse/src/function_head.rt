@@ -11,7 +11,7 @@ ghost use Rattle.c_parse.specs.Gives.{Gives};
 
 use crate::comma_list::{InCommaList, comma_list};
 use crate::expression::expr;
-use crate::read::{ReadError, expected, first_of, followed, heads, one_of, optional, read, taken};
+use crate::read::{ReadError, ended, expected, first_of, heads, one_of, optional, read, taken};
 use crate::symbols::Class;
 use c_grammar::statement::{Head, Parameter, Parameters};
 use c_grammar::terminal::{Span, Symbol, Terminal};
@@ -29,10 +29,11 @@ pub fn head(
     ensures { Gives (λ x. (head_view x.0, x.1.now)) result (head_of (expr_at (left - 1) true) terminals.now) }
 {
     let (result, rest) = read!(one_of(terminals, Class::Outcome));
-    let (name, rest) = read!(expected(rest, Symbol::Name));
-    let (opening, rest) = read!(expected(rest, Symbol::OpenParen));
-    let (parameters, rest) = read!(parameters(alloc, left, rest));
-    let ((parameters, closing), rest) = read!(followed(parameters, rest, Symbol::CloseParen));
+    let ((name, opening), rest) = read!(ended(expected(rest, Symbol::Name), Symbol::OpenParen));
+    let ((parameters, closing), rest) = read!(ended(
+        parameters(alloc, left, rest),
+        Symbol::CloseParen
+    ));
     let head = Head {
         result: result.symbol,
         at: result.span,
@@ -93,8 +94,10 @@ impl InCommaList for Parameter {
                 Ok((Parameter::Communicator { keyword, name }, rest))
             }
             _ => {
-                let (keyword, rest) = read!(expected(terminals, Symbol::Char));
-                let (star, rest) = read!(expected(rest, Symbol::Times));
+                let ((keyword, star), rest) = read!(ended(
+                    expected(terminals, Symbol::Char),
+                    Symbol::Times
+                ));
                 char_parameter(keyword, star, rest)
             }
         }
@@ -139,8 +142,10 @@ fn array_parameter(
     ensures { Gives (λ x. (parameter_view x.0, x.1.now)) result (array_tail (expr_at (left - 1) true) keyword name terminals.now) }
 {
     if let Some((opening, rest)) = taken(terminals, Symbol::OpenBracket) {
-        let (length, rest) = read!(length(alloc, left, rest));
-        let ((length, closing), rest) = read!(followed(length, rest, Symbol::CloseBracket));
+        let ((length, closing), rest) = read!(ended(
+            length(alloc, left, rest),
+            Symbol::CloseBracket
+        ));
         let array = Parameter::Array {
             keyword,
             name,
@@ -190,8 +195,10 @@ fn char_parameter(
         Ok((texts, rest))
     } else {
         let (name, rest) = optional(terminals, Symbol::Name);
-        let (opening, rest) = read!(expected(rest, Symbol::OpenBracket));
-        let (closing, rest) = read!(expected(rest, Symbol::CloseBracket));
+        let ((opening, closing), rest) = read!(ended(
+            expected(rest, Symbol::OpenBracket),
+            Symbol::CloseBracket
+        ));
         let array = Parameter::TextArray {
             keyword,
             star,

@@ -2,7 +2,7 @@
 ghost use Rattle.std.specs.Prelude.{◌≡◌, Err, IfErr, IfOk, Ok};
 ghost use Rattle.c_grammar.specs.Reading.{expect, first_of, heads, maybe, one_of};
 ghost use Rattle.c_parse.specs.Classes.{is_in};
-ghost use Rattle.c_parse.specs.Gives.{Gives, HasPlace, IsHead, IsTaken};
+ghost use Rattle.c_parse.specs.Gives.{Gives, HasPlace, IsEnded, IsHead, TakesSymbol};
 ghost use Rattle.c_grammar.specs.Symbols.{is};
 
 use crate::symbols::{Class, is_in};
@@ -27,16 +27,6 @@ pub(crate) use read;
 pub enum ReadError<'a> {
     Memory,
     At(Why, &'a [Terminal]),
-}
-
-impl<'a> From<AllocError> for ReadError<'a> {
-    ghost use Rattle.c_parse.specs.declared.read.ReadError.TheVariants.{Memory};
-
-    ghost from_gives = { λ _ error. error ≡ Memory };
-
-    fn from(_error: AllocError) -> Self {
-        ReadError::Memory
-    }
 }
 
 impl<'a, T: Drop> From<AllocFailed<T>> for ReadError<'a> {
@@ -118,7 +108,7 @@ pub fn expected(terminals: &[Terminal], symbol: Symbol) -> Result<(Span, &[Termi
 /// The place of the first terminal and the terminals after it, where it is this symbol.
 #[tactic(auto, unfolding(c_grammar::specs::Reading::expect))]
 pub fn taken(terminals: &[Terminal], symbol: Symbol) -> Option<(Span, &[Terminal])>
-    ensures { IsTaken symbol terminals.now result }
+    ensures { TakesSymbol symbol terminals.now result }
 {
     match head(terminals) {
         Some((first, rest)) => {
@@ -143,6 +133,17 @@ pub fn followed<T: Drop>(
 {
     let (end, rest) = read!(expected(terminals, symbol));
     Ok(((thing, end), rest))
+}
+
+/// A thing that is read, and the place of the first terminal after it, which has to be this symbol.
+pub fn ended<'a, T: Drop>(
+    read: Result<(T, &'a [Terminal]), ReadError<'a>>,
+    symbol: Symbol,
+) -> Result<((T, Span), &'a [Terminal]), ReadError<'a>>
+    ensures { IsEnded symbol read.entry result }
+{
+    let (thing, rest) = read!(read);
+    followed(thing, rest, symbol)
 }
 
 /// A thing, and what was read after it.

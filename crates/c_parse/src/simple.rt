@@ -8,7 +8,7 @@ ghost use Rattle.c_parse.specs.Gives.{Gives};
 
 use crate::call::{call, calls, right};
 use crate::expression::place;
-use crate::read::{ReadError, expected, followed, heads, one_of, read};
+use crate::read::{ReadError, ended, expected, heads, one_of, read};
 use crate::symbols::Class;
 use c_grammar::statement::{Simple, Stmt};
 use c_grammar::terminal::{Symbol, Terminal};
@@ -100,8 +100,7 @@ pub fn plain(
     requires { 0 < left }
     ensures { Gives (λ x. (stmt_view x.0, x.1.now)) result (plain_of (expr_at left true) (expr_at (left - 1) true) terminals.now) }
 {
-    let (simple, rest) = read!(simple(alloc, left, terminals));
-    let ((simple, end), rest) = read!(followed(simple, rest, Symbol::Semicolon));
+    let ((simple, end), rest) = read!(ended(simple(alloc, left, terminals), Symbol::Semicolon));
     Ok((Stmt::Simple { simple, end }, rest))
 }
 

@@ -12,7 +12,7 @@ ghost use Rattle.c_parse.specs.Gives.{Fails, Gives};
 
 use crate::declaration::declared;
 use crate::jump::{break_statement, continue_statement, return_statement};
-use crate::read::{ReadError, both, boxed, expected, first_of, followed, heads, read, taken};
+use crate::read::{ReadError, both, boxed, ended, expected, first_of, heads, read, taken};
 use crate::simple::{empty, plain};
 use crate::statement_head::{TestHead, for_head, test_head, until};
 use crate::symbols::{Class, starts_part, starts_stmt};
@@ -116,8 +116,7 @@ pub fn block(
     ensures { Gives (λ x. (block_view x.0, x.1.now)) result (braces_of (part_at left) terminals.now) }
 {
     let (opening, rest) = read!(expected(terminals, Symbol::OpenBrace));
-    let (parts, rest) = read!(parts(alloc, left, rest));
-    let ((parts, closing), rest) = read!(followed(parts, rest, Symbol::CloseBrace));
+    let ((parts, closing), rest) = read!(ended(parts(alloc, left, rest), Symbol::CloseBrace));
     let block = BlockParts {
         opening,
         parts,

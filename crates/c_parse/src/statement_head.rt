@@ -11,7 +11,7 @@ ghost use Rattle.c_parse.specs.StatementHeads.{ended_of, for_head_of, for_head_v
 
 use crate::declaration::declaration;
 use crate::expression::expr;
-use crate::read::{ReadError, both, expected, followed, heads, read};
+use crate::read::{ReadError, both, ended, expected, heads, read};
 use crate::simple::simple;
 use crate::symbols::Class;
 use c_grammar::statement::{ForStart, Simple};
@@ -48,10 +48,8 @@ pub fn test_head(
 ) -> Result<(TestHead, &[Terminal]), ReadError>
     ensures { Gives (λ x. (test_head_view x.0, x.1.now)) result (test_head_of (expr_at left true) symbol terminals.now) }
 {
-    let (keyword, rest) = read!(expected(terminals, symbol));
-    let (opening, rest) = read!(expected(rest, Symbol::OpenParen));
-    let (test, rest) = read!(expr(alloc, left, true, rest));
-    let ((test, closing), rest) = read!(followed(test, rest, Symbol::CloseParen));
+    let ((keyword, opening), rest) = read!(ended(expected(terminals, symbol), Symbol::OpenParen));
+    let ((test, closing), rest) = read!(ended(expr(alloc, left, true, rest), Symbol::CloseParen));
     let head = TestHead {
         keyword,
         opening,
@@ -71,12 +69,14 @@ pub fn until(
     ensures { Gives (λ x. ((test_head_view x.0.0, x.0.1), x.1.now)) result
         (ended_of (test_head_of (expr_at left true) w.While) w.Semicolon terminals.now) }
 {
-    let (head, rest) = read!(test_head(alloc, left, Symbol::While, terminals));
-    followed(head, rest, Symbol::Semicolon)
+    ended(
+        test_head(alloc, left, Symbol::While, terminals),
+        Symbol::Semicolon,
+    )
 }
 
 /// What is before the statement of a `for`.
-#[tactic(auto, unfolding(crate::specs::StatementHeads::for_head_of))]
+#[tactic(auto, unfolding(crate::specs::StatementHeads::for_head_of, crate::specs::StatementHeads::ended_of))]
 pub fn for_head(
     alloc: Global,
     left: u8,
@@ -85,11 +85,15 @@ pub fn for_head(
     requires { 0 < left }
     ensures { Gives (λ x. (for_head_view x.0, x.1.now)) result (for_head_of (expr_at left true) (expr_at (left - 1) true) terminals.now) }
 {
-    let (keyword, rest) = read!(expected(terminals, Symbol::For));
-    let (opening, rest) = read!(expected(rest, Symbol::OpenParen));
-    let (start, rest) = read!(start(alloc, left, rest));
-    let ((start, test), rest) = read!(both(start, test(alloc, left, rest)));
-    let (((start, test), step), rest) = read!(both((start, test), step(alloc, left, rest)));
+    let ((keyword, opening), rest) = read!(ended(
+        expected(terminals, Symbol::For),
+        Symbol::OpenParen
+    ));
+    let (start, rest) = read!(ended(for_start(alloc, left, rest), Symbol::Semicolon));
+    let test = ended(for_test(alloc, left, rest), Symbol::Semicolon);
+    let ((start, test), rest) = read!(both(start, test));
+    let step = ended(for_step(alloc, left, rest), Symbol::CloseParen);
+    let (((start, test), step), rest) = read!(both((start, test), step));
     let head = ForHead {
         keyword,
         opening,
@@ -98,51 +102,6 @@ pub fn for_head(
         step,
     };
     Ok((head, rest))
-}
-
-/// How a `for` begins, and its `;`.
-#[tactic(auto, unfolding(crate::specs::StatementHeads::ended_of))]
-fn start(
-    alloc: Global,
-    left: u8,
-    terminals: &[Terminal],
-) -> Result<((ForStart, Span), &[Terminal]), ReadError>
-    requires { 0 < left }
-    ensures { Gives (λ x. ((start_view x.0.0, x.0.1), x.1.now)) result
-        (ended_of (start_of (expr_at left true) (expr_at (left - 1) true)) w.Semicolon terminals.now) }
-{
-    let (start, rest) = read!(for_start(alloc, left, terminals));
-    followed(start, rest, Symbol::Semicolon)
-}
-
-/// The test of a `for`, if any, and its `;`.
-#[tactic(auto, unfolding(crate::specs::StatementHeads::ended_of))]
-fn test(
-    alloc: Global,
-    left: u8,
-    terminals: &[Terminal],
-) -> Result<((Option<Expr>, Span), &[Terminal]), ReadError>
-    requires { 0 < left }
-    ensures { Gives (λ x. ((option_map view x.0.0, x.0.1), x.1.now)) result
-        (ended_of (maybe (isnt w.Semicolon) (expr_at left true)) w.Semicolon terminals.now) }
-{
-    let (test, rest) = read!(for_test(alloc, left, terminals));
-    followed(test, rest, Symbol::Semicolon)
-}
-
-/// The step of a `for`, if any, and the `)` after it.
-#[tactic(auto, unfolding(crate::specs::StatementHeads::ended_of))]
-fn step(
-    alloc: Global,
-    left: u8,
-    terminals: &[Terminal],
-) -> Result<((Option<Simple>, Span), &[Terminal]), ReadError>
-    requires { 0 < left }
-    ensures { Gives (λ x. ((option_map simple_view x.0.0, x.0.1), x.1.now)) result
-        (ended_of (maybe (isnt w.CloseParen) (simple_of (expr_at left true) (expr_at (left - 1) true))) w.CloseParen terminals.now) }
-{
-    let (step, rest) = read!(for_step(alloc, left, terminals));
-    followed(step, rest, Symbol::CloseParen)
 }
 
 /// How a `for` begins.

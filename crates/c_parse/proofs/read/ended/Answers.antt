@@ -1,0 +1,18 @@
+use Rattle.std.proofs.Common.{◌≡◌, inr, IfOk, Result, Ok, Err, List, sym, ap, ◌∙◌, Bor}
+use Rattle.c_grammar.specs.declared.terminal.Span.{Span}
+use Rattle.c_grammar.specs.declared.terminal.Symbol.{Symbol}
+use Rattle.c_grammar.specs.declared.terminal.Terminal.{Terminal}
+use Rattle.c_grammar.specs.Reading.{expect}
+use Rattle.c_parse.specs.declared.read.ReadError.{ReadError}
+use Rattle.c_parse.specs.Gives.{Gives, IsEnded}
+use Rattle.c_parse.proofs.read.ended.Goals as goal
+
+-- what was read, and what was read or refused after it
+ended_is : {X : Type 0} (symbol : Symbol) (read : Result (X × Bor (List Terminal)) ReadError) (result : Result ((X × Span) × Bor (List Terminal)) ReadError)
+    (thing : X) (middle : Bor (List Terminal)) → read ≡ Ok (thing, middle) → IfOk result (λ x. x.0.0 ≡ thing)
+    → Gives (λ x. (x.0.1, x.1.now)) result (expect symbol middle.now) → IsEnded symbol read result
+ended_is symbol read (Ok x) thing middle is same gives = (middle, is ∙ ap (λ z. Ok (z, middle)) (sym same), gives)
+ended_is symbol read (Err error) thing middle is same gives = inr (thing, middle, is, gives)
+
+pub returns : goal.returns
+returns g c = ended_is c.args.symbol _ _ c.in-Ok.read.0 c.in-Ok.read.1 c.in-Ok.is c.followed.ensures.thing c.followed.ensures.read
