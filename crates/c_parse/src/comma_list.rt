@@ -8,7 +8,7 @@ ghost use Rattle.c_grammar.specs.Reading.{Answer, many};
 ghost use Rattle.c_grammar.specs.StmtReading.{after_comma_of, comma_list_of};
 ghost use Rattle.c_parse.specs.Gives.{Gives};
 
-use crate::read::{ReadError, expected, heads, read};
+use crate::read::{ReadError, expected, heads, push, read};
 use crate::symbols::Class;
 use c_grammar::statement::{AfterComma, CommaList};
 use c_grammar::terminal::{Symbol, Terminal};
@@ -66,7 +66,7 @@ fn others<T: InCommaList>(
     let mut rest = terminals;
     while heads(rest, Class::Is(Symbol::Comma)) {
         let (one, after) = read!(after_comma(alloc, left, rest));
-        found.push(one)?;
+        push(&mut found, one)?;
         rest = after;
     }
     Ok((found, rest))

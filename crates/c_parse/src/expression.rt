@@ -8,7 +8,9 @@ ghost use Rattle.c_grammar.specs.Reading.{bin_of, branches_of, chained, choice_o
 ghost use Rattle.c_parse.specs.Gives.{Fails, Gives};
 
 use crate::comma_list::InCommaList;
-use crate::read::{ReadError, both, boxed, ended, expected, first_of, heads, one_of, read, taken};
+use crate::read::{
+    ReadError, both, boxed, ended, expected, first_of, heads, one_of, push, read, taken,
+};
 use crate::symbols::{Class, starts_expr};
 use c_grammar::limits::CONDITIONAL_LEVEL;
 use c_grammar::terminal::{Symbol, Terminal};
@@ -139,7 +141,7 @@ fn links(
     let mut rest = terminals;
     while heads(rest, Class::Level(most)) {
         let (link, after) = read!(link(alloc, left, most, rest));
-        found.push(link)?;
+        push(&mut found, link)?;
         rest = after;
     }
     Ok((found, rest))

@@ -10,7 +10,7 @@ ghost use Rattle.c_grammar.specs.StmtReading.{body_of, define_of, head_tail, par
 ghost use Rattle.c_parse.specs.Gives.{Gives};
 
 use crate::function_head::head;
-use crate::read::{ReadError, both, ended, expected, followed, heads, optional, read};
+use crate::read::{ReadError, both, ended, expected, heads, optional, push, read};
 use crate::statement::block;
 use crate::symbols::Class;
 use c_grammar::limits::MOST_DEPTHS;
@@ -30,7 +30,7 @@ pub fn program(alloc: Global, terminals: &[Terminal]) -> Result<Tree, ReadError>
     let mut rest = terminals;
     while !rest.is_empty() {
         let (one, after) = read!(external(alloc, rest));
-        externals.push(one)?;
+        push(&mut externals, one)?;
         rest = after;
     }
     Ok(Tree { externals })
@@ -94,7 +94,7 @@ fn opens(alloc: Global, terminals: &[Terminal]) -> Result<(Vec<Span>, &[Terminal
     let mut rest = terminals;
     while heads(rest, Class::Is(Symbol::OpenParen)) {
         let (one, after) = read!(expected(rest, Symbol::OpenParen));
-        found.push(one)?;
+        push(&mut found, one)?;
         rest = after;
     }
     Ok((found, rest))
@@ -112,7 +112,7 @@ fn closes(
     let mut rest = terminals;
     for _ in 0..count {
         let (one, after) = read!(expected(rest, Symbol::CloseParen));
-        found.push(one)?;
+        push(&mut found, one)?;
         rest = after;
     }
     Ok((found, rest))
@@ -133,7 +133,7 @@ fn function(
             Err(ReadError::At(Why::Unexpected, terminals))
         }
     } else {
-        let ((head, end), rest) = read!(followed(head, terminals, Symbol::Semicolon));
+        let ((head, end), rest) = read!(both(head, expected(terminals, Symbol::Semicolon)));
         Ok((ExternalDeclaration::Prototype { head, end }, rest))
     }
 }

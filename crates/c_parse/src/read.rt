@@ -1,5 +1,5 @@
 //! What all readers share.
-ghost use Rattle.std.specs.Prelude.{◌≡◌, Err, IfErr, IfOk, Ok};
+ghost use Rattle.std.specs.Prelude.{◌≡◌, ◌++◌, ◌∷◌, [], Err, IfErr, IfOk, Ok, OnOk};
 ghost use Rattle.c_grammar.specs.Reading.{expect, first_of, heads, maybe, one_of};
 ghost use Rattle.c_parse.specs.Classes.{is_in};
 ghost use Rattle.c_parse.specs.Gives.{Gives, HasPlace, IsEnded, IsHead, TakesSymbol};
@@ -8,7 +8,7 @@ ghost use Rattle.c_grammar.specs.Symbols.{is};
 use crate::symbols::{Class, is_in};
 use c_grammar::terminal::{Span, Symbol, Terminal};
 use c_lex::Why;
-use std::alloc::{AllocError, AllocFailed, Global};
+use std::alloc::{AllocError, Global};
 
 /// What was read. Where reading stopped, the reader that asks for it stops too: as `?`, with no conversion of the error.
 macro_rules! read {
@@ -29,12 +29,12 @@ pub enum ReadError<'a> {
     At(Why, &'a [Terminal]),
 }
 
-impl<'a, T: Drop> From<AllocFailed<T>> for ReadError<'a> {
+impl<'a> From<AllocError> for ReadError<'a> {
     ghost use Rattle.c_parse.specs.declared.read.ReadError.TheVariants.{Memory};
 
     ghost from_gives = { λ _ error. error ≡ Memory };
 
-    fn from(_error: AllocFailed<T>) -> Self {
+    fn from(_error: AllocError) -> Self {
         ReadError::Memory
     }
 }
@@ -122,19 +122,6 @@ pub fn taken(terminals: &[Terminal], symbol: Symbol) -> Option<(Span, &[Terminal
     }
 }
 
-/// A thing, and the place of the first terminal after it, which has to be this symbol. Takes no memory.
-pub fn followed<T: Drop>(
-    thing: T,
-    terminals: &[Terminal],
-    symbol: Symbol,
-) -> Result<((T, Span), &[Terminal]), ReadError>
-    ensures thing { IfOk result (λ x. x.0.0 ≡ thing) }
-    ensures read { Gives (λ x. (x.0.1, x.1.now)) result (expect symbol terminals.now) }
-{
-    let (end, rest) = read!(expected(terminals, symbol));
-    Ok(((thing, end), rest))
-}
-
 /// A thing that is read, and the place of the first terminal after it, which has to be this symbol.
 pub fn ended<'a, T: Drop>(
     read: Result<(T, &'a [Terminal]), ReadError<'a>>,
@@ -143,7 +130,7 @@ pub fn ended<'a, T: Drop>(
     ensures { IsEnded symbol read.entry result }
 {
     let (thing, rest) = read!(read);
-    followed(thing, rest, symbol)
+    both(thing, expected(rest, symbol))
 }
 
 /// A thing, and what was read after it.
@@ -182,4 +169,12 @@ pub fn boxed<T: Drop>(alloc: Global, thing: T) -> Result<Box<T>, AllocError>
 {
     let made = Box::new(alloc, thing)?;
     Ok(made)
+}
+
+/// Puts a thing behind the others.
+pub fn push<T: Drop>(list: &mut Vec<T>, item: T) -> Result<(), AllocError>
+    ensures { OnOk result (list.new.items ≡ list.old.items ++ item ∷ []) }
+{
+    list.push(item)?;
+    Ok(())
 }

@@ -12,7 +12,7 @@ ghost use Rattle.c_parse.specs.Gives.{Fails, Gives};
 
 use crate::declaration::declared;
 use crate::jump::{break_statement, continue_statement, return_statement};
-use crate::read::{ReadError, both, boxed, ended, expected, first_of, heads, read, taken};
+use crate::read::{ReadError, both, boxed, ended, expected, first_of, heads, push, read, taken};
 use crate::simple::{empty, plain};
 use crate::statement_head::{TestHead, for_head, test_head, until};
 use crate::symbols::{Class, starts_part, starts_stmt};
@@ -138,7 +138,7 @@ fn parts(
     let mut rest = terminals;
     while heads(rest, Class::Isnt(Symbol::CloseBrace)) {
         let (one, after) = read!(part(alloc, left, rest));
-        found.push(one)?;
+        push(&mut found, one)?;
         rest = after;
     }
     Ok((found, rest))
