@@ -6,8 +6,10 @@ use Rattle.c_grammar.specs.declared.terminal.Span.{Span}
 use Rattle.c_grammar.specs.declared.terminal.Terminal.{Terminal}
 use Rattle.c_grammar.specs.Tree as t
 use Rattle.c_grammar.specs.Symbols.{isnt}
-use Rattle.c_grammar.specs.Reading.{Answer, ◌>>=◌, expect, expr_at, maybe}
-use Rattle.c_grammar.specs.StmtReading.{do_of, else_of, for_of, if_of, simple_of, start_of, stmt_at, while_of}
+use Rattle.c_grammar.specs.Reading.{Answer, ◌>>=◌, expect, expr_at, many, maybe}
+use Rattle.c_grammar.specs.StmtView.{parts_from}
+use Rattle.c_grammar.specs.StmtReading.{block_of, body_of, do_of, else_of, for_of, if_of, simple_of, start_of, stmt_at, while_of}
+use Rattle.c_parse.specs.Blocks.{BlockTree, braces_of}
 use Rattle.c_parse.specs.StatementHeads.{ForTree, TestTree, test_head_of, ended_of, for_head_of}
 
 -- what goes on alike
@@ -91,3 +93,23 @@ for_by_head n ts =
     ∙ alike (ended_of (maybe (isnt w.Semicolon) expr) w.Semicolon start.1) (λ test.
     ended_then (maybe (isnt w.CloseParen) (simple_of expr index)) w.CloseParen test.1 _))))
     ∙ for_head_then expr index ts _
+
+-- what is read after a block's braces
+braces_then : {A : Type 0} (part : List Terminal → Answer t.Part) (ts : List Terminal) (next : BlockTree × List Terminal → Answer A)
+    → (expect w.OpenBrace ts >>= λ opening. many (isnt w.CloseBrace) part opening.1 >>= λ parts. expect w.CloseBrace parts.1
+    >>= λ closing. next (record { opening = opening.0; parts = parts.0; closing = closing.0 }, closing.1))
+    ≡ (braces_of part ts >>= next)
+unfolding braces_of
+braces_then part ts next =
+    alike (expect w.OpenBrace ts) (λ opening.
+    alike (many (isnt w.CloseBrace) part opening.1) (λ parts. regroup (expect w.CloseBrace parts.1) _ next)
+    ∙ regroup (many (isnt w.CloseBrace) part opening.1) _ next)
+    ∙ regroup (expect w.OpenBrace ts) _ next
+
+pub block_by_braces : (part : List Terminal → Answer t.Part) (ts : List Terminal) → block_of part ts
+    ≡ (braces_of part ts >>= λ block. Ok (t.block block.0.opening (parts_from block.0.parts) block.0.closing, block.1))
+block_by_braces part ts = braces_then part ts _
+
+pub body_by_braces : (part : List Terminal → Answer t.Part) (head : t.Head) (ts : List Terminal) → body_of part head true ts
+    ≡ (braces_of part ts >>= λ block. Ok (t.function head block.0.opening (parts_from block.0.parts) block.0.closing, block.1))
+body_by_braces part head ts = braces_then part ts _

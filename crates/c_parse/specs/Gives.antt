@@ -1,8 +1,11 @@
 -- What a function gave is what reading gives, unless memory ran out.
-use Rattle.std.specs.Prelude.{◌≡◌, List, ◌∷◌, [], Option, Some, None, Result, Ok, Err}
+use Rattle.std.specs.Prelude.{◌≡◌, ◌⊎◌, true, false, List, ◌∷◌, [], Option, Some, None, Result, Ok, Err}
 use Rattle.std.specs.Borrow.{Bor}
+use Rattle.c_grammar.specs.declared.terminal.Symbol.{Symbol}
+use Rattle.c_grammar.specs.declared.terminal.Span.{Span}
 use Rattle.c_grammar.specs.declared.terminal.Terminal.{Terminal}
-use Rattle.c_grammar.specs.Reading.{Answer, refuse}
+use Rattle.c_grammar.specs.Symbols.{is}
+use Rattle.c_grammar.specs.Reading.{Answer, expect, heads, refuse}
 use Rattle.c_parse.specs.declared.read.ReadError.{ReadError}
 use Rattle.c_parse.specs.declared.read.ReadError.TheVariants as errors
 
@@ -25,3 +28,14 @@ HasPlace (errors.At why rest) = Unit {0}
 abbrev pub IsHead : List Terminal → Option (Terminal × Bor (List Terminal)) → Type 0
 IsHead terminals None = terminals ≡ []
 IsHead terminals (Some x) = terminals ≡ x.0 ∷ x.1.now
+
+-- the first terminal is of this symbol, with its place and those after it; or it is not
+abbrev pub TakesSymbol : Symbol → List Terminal → Option (Span × Bor (List Terminal)) → Type 0
+TakesSymbol symbol terminals None = heads (is symbol) terminals ≡ false
+TakesSymbol symbol terminals (Some x) = (heads (is symbol) terminals ≡ true) × (expect symbol terminals ≡ Ok (x.0, x.1.now))
+
+-- a thing was read, and then a terminal of this symbol; or one of the two was not
+abbrev pub IsEnded : {X : Type 0} → Symbol → Result (X × Bor (List Terminal)) ReadError → Result ((X × Span) × Bor (List Terminal)) ReadError → Type 0
+IsEnded symbol read (Ok x) = (middle : Bor (List Terminal)) × (read ≡ Ok (x.0.0, middle)) × (expect symbol middle.now ≡ Ok (x.0.1, x.1.now))
+IsEnded {X} symbol read (Err error) =
+    (read ≡ Err error) ⊎ ((thing : X) × (middle : Bor (List Terminal)) × (read ≡ Ok (thing, middle)) × Fails error (expect symbol middle.now))

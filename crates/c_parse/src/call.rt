@@ -10,7 +10,7 @@ ghost use Rattle.c_parse.specs.Gives.{Gives};
 
 use crate::comma_list::{InCommaList, comma_list};
 use crate::expression::{expr, place};
-use crate::read::{ReadError, expected, first_of, followed, heads};
+use crate::read::{ReadError, ended, expected, first_of, heads, read};
 use crate::symbols::{Class, is_in};
 use c_grammar::statement::{Argument, Call, CommaList, Right};
 use c_grammar::terminal::{Symbol, Terminal};
@@ -35,16 +35,16 @@ impl InCommaList for Argument {
     ) -> Result<(Self, &'a [Terminal]), ReadError<'a>> {
         match first_of(terminals) {
             Some(Symbol::Text) => {
-                let (text, rest) = expected(terminals, Symbol::Text)?;
+                let (text, rest) = read!(expected(terminals, Symbol::Text));
                 Ok((Argument::Text(text), rest))
             }
             Some(Symbol::And) => {
-                let (mark, rest) = expected(terminals, Symbol::And)?;
-                let (place, rest) = place(alloc, left, rest)?;
+                let (mark, rest) = read!(expected(terminals, Symbol::And));
+                let (place, rest) = read!(place(alloc, left, rest));
                 Ok((Argument::Address { mark, place }, rest))
             }
             _ => {
-                let (value, rest) = expr(alloc, left, true, terminals)?;
+                let (value, rest) = read!(expr(alloc, left, true, terminals));
                 Ok((Argument::Value(value), rest))
             }
         }
@@ -73,10 +73,14 @@ pub fn call(
     requires { 0 < left }
     ensures { Gives (λ x. (call_view x.0, x.1.now)) result (call_of (expr_at left true) (expr_at (left - 1) true) terminals.now) }
 {
-    let (name, rest) = expected(terminals, Symbol::Name)?;
-    let (opening, rest) = expected(rest, Symbol::OpenParen)?;
-    let (arguments, rest) = arguments(alloc, left, rest)?;
-    let ((arguments, closing), rest) = followed(arguments, rest, Symbol::CloseParen)?;
+    let ((name, opening), rest) = read!(ended(
+        expected(terminals, Symbol::Name),
+        Symbol::OpenParen
+    ));
+    let ((arguments, closing), rest) = read!(ended(
+        arguments(alloc, left, rest),
+        Symbol::CloseParen
+    ));
     let call = Call {
         name,
         opening,
@@ -96,7 +100,7 @@ fn arguments(
         (maybe (isnt w.CloseParen) (comma_list_of (argument_of (expr_at left true) (expr_at (left - 1) true))) terminals.now) }
 {
     if heads(terminals, Class::Isnt(Symbol::CloseParen)) {
-        let (list, rest) = comma_list(alloc, left, terminals)?;
+        let (list, rest) = read!(comma_list(alloc, left, terminals));
         Ok((Some(list), rest))
     } else {
         Ok((None, terminals))
@@ -114,10 +118,10 @@ pub fn right(
     ensures { Gives (λ x. (right_view x.0, x.1.now)) result (right_of (expr_at left true) (expr_at (left - 1) true) terminals.now) }
 {
     if calls(terminals) {
-        let (call, rest) = call(alloc, left, terminals)?;
+        let (call, rest) = read!(call(alloc, left, terminals));
         Ok((Right::Call(call), rest))
     } else {
-        let (value, rest) = expr(alloc, left, true, terminals)?;
+        let (value, rest) = read!(expr(alloc, left, true, terminals));
         Ok((Right::Value(value), rest))
     }
 }

@@ -8,7 +8,7 @@ ghost use Rattle.c_grammar.specs.Reading.{Answer, many};
 ghost use Rattle.c_grammar.specs.StmtReading.{after_comma_of, comma_list_of};
 ghost use Rattle.c_parse.specs.Gives.{Gives};
 
-use crate::read::{ReadError, expected, heads};
+use crate::read::{ReadError, expected, heads, push, read};
 use crate::symbols::Class;
 use c_grammar::statement::{AfterComma, CommaList};
 use c_grammar::terminal::{Symbol, Terminal};
@@ -47,8 +47,8 @@ pub fn comma_list<T: InCommaList>(
     requires { 0 < left }
     ensures { Gives (λ x. (comma_list_view T.view x.0, x.1.now)) result (comma_list_of (T.reading left) terminals.now) }
 {
-    let (first, rest) = T::read(alloc, left, terminals)?;
-    let (more, rest) = others(alloc, left, rest)?;
+    let (first, rest) = read!(T::read(alloc, left, terminals));
+    let (more, rest) = read!(others(alloc, left, rest));
     Ok((CommaList { first, more }, rest))
 }
 
@@ -65,11 +65,8 @@ fn others<T: InCommaList>(
     let mut found = Vec::new(alloc);
     let mut rest = terminals;
     while heads(rest, Class::Is(Symbol::Comma)) {
-        let (one, after) = match after_comma(alloc, left, rest) {
-            Ok(read) => read,
-            Err(error) => return Err(error),
-        };
-        found.push(one)?;
+        let (one, after) = read!(after_comma(alloc, left, rest));
+        push(&mut found, one)?;
         rest = after;
     }
     Ok((found, rest))
@@ -84,7 +81,7 @@ fn after_comma<T: InCommaList>(
     requires { 0 < left }
     ensures { Gives (λ x. ((x.0.comma, T.view x.0.item), x.1.now)) result (after_comma_of (T.reading left) terminals.now) }
 {
-    let (comma, rest) = expected(terminals, Symbol::Comma)?;
-    let (item, rest) = T::read(alloc, left, rest)?;
+    let (comma, rest) = read!(expected(terminals, Symbol::Comma));
+    let (item, rest) = read!(T::read(alloc, left, rest));
     Ok((AfterComma { comma, item }, rest))
 }

@@ -12,7 +12,7 @@ ghost use Rattle.c_parse.specs.Declarations.{declared_of};
 use crate::call::right;
 use crate::comma_list::{InCommaList, comma_list};
 use crate::expression::place;
-use crate::read::{ReadError, expected, followed, heads, one_of};
+use crate::read::{ReadError, ended, expected, heads, one_of, read, taken};
 use crate::symbols::Class;
 use c_grammar::statement::{Declaration, InitDeclarator, Initializer, Part};
 use c_grammar::terminal::{Symbol, Terminal};
@@ -28,8 +28,8 @@ pub fn declaration(
     requires { 0 < left }
     ensures { Gives (λ x. (declaration_view x.0, x.1.now)) result (declaration_of (expr_at left true) (expr_at (left - 1) true) terminals.now) }
 {
-    let (kind, rest) = one_of(terminals, Class::Kind)?;
-    let (items, rest) = comma_list(alloc, left, rest)?;
+    let (kind, rest) = read!(one_of(terminals, Class::Kind));
+    let (items, rest) = read!(comma_list(alloc, left, rest));
     let declaration = Declaration {
         kind: kind.symbol,
         at: kind.span,
@@ -48,8 +48,10 @@ pub fn declared(
     requires { 0 < left }
     ensures { Gives (λ x. (part_view x.0, x.1.now)) result (declared_of (expr_at left true) (expr_at (left - 1) true) terminals.now) }
 {
-    let (declaration, rest) = declaration(alloc, left, terminals)?;
-    let ((declaration, end), rest) = followed(declaration, rest, Symbol::Semicolon)?;
+    let ((declaration, end), rest) = read!(ended(
+        declaration(alloc, left, terminals),
+        Symbol::Semicolon
+    ));
     Ok((Part::Declaration { declaration, end }, rest))
 }
 
@@ -70,8 +72,8 @@ impl InCommaList for InitDeclarator {
         left: u8,
         terminals: &'a [Terminal],
     ) -> Result<(Self, &'a [Terminal]), ReadError<'a>> {
-        let (place, rest) = place(alloc, left, terminals)?;
-        let (initial, rest) = maybe_initial(alloc, left, rest)?;
+        let (place, rest) = read!(place(alloc, left, terminals));
+        let (initial, rest) = read!(maybe_initial(alloc, left, rest));
         Ok((InitDeclarator { place, initial }, rest))
     }
 }
@@ -87,7 +89,7 @@ fn maybe_initial(
         (maybe (is w.Assign) (initial_of (expr_at left true) (expr_at (left - 1) true)) terminals.now) }
 {
     if heads(terminals, Class::Is(Symbol::Assign)) {
-        let (initial, rest) = initial(alloc, left, terminals)?;
+        let (initial, rest) = read!(initial(alloc, left, terminals));
         Ok((Some(initial), rest))
     } else {
         Ok((None, terminals))
@@ -103,11 +105,12 @@ fn initial(
     requires { 0 < left }
     ensures { Gives (λ x. (initial_view x.0, x.1.now)) result (initial_of (expr_at left true) (expr_at (left - 1) true) terminals.now) }
 {
-    let (mark, rest) = expected(terminals, Symbol::Assign)?;
-    if heads(rest, Class::Is(Symbol::OpenBrace)) {
-        let (opening, rest) = expected(rest, Symbol::OpenBrace)?;
-        let (values, rest) = comma_list(alloc, left, rest)?;
-        let ((values, closing), rest) = followed(values, rest, Symbol::CloseBrace)?;
+    let (mark, rest) = read!(expected(terminals, Symbol::Assign));
+    if let Some((opening, rest)) = taken(rest, Symbol::OpenBrace) {
+        let ((values, closing), rest) = read!(ended(
+            comma_list(alloc, left, rest),
+            Symbol::CloseBrace
+        ));
         let braced = Initializer::Braced {
             mark,
             opening,
@@ -116,7 +119,7 @@ fn initial(
         };
         Ok((braced, rest))
     } else {
-        let (right, rest) = right(alloc, left, rest)?;
+        let (right, rest) = read!(right(alloc, left, rest));
         Ok((Initializer::Right { mark, right }, rest))
     }
 }

@@ -8,7 +8,9 @@ ghost use Rattle.c_grammar.specs.Reading.{bin_of, branches_of, chained, choice_o
 ghost use Rattle.c_parse.specs.Gives.{Fails, Gives};
 
 use crate::comma_list::InCommaList;
-use crate::read::{ReadError, expected, first_of, heads, one_of};
+use crate::read::{
+    ReadError, both, boxed, ended, expected, first_of, heads, one_of, push, read, taken,
+};
 use crate::symbols::{Class, starts_expr};
 use c_grammar::limits::CONDITIONAL_LEVEL;
 use c_grammar::terminal::{Symbol, Terminal};
@@ -43,7 +45,7 @@ fn choice(alloc: Global, left: u8, terminals: &[Terminal]) -> Result<(Expr, &[Te
     requires { 0 < left }
     ensures { Gives (λ x. (view x.0, x.1.now)) result (choice_of (expr_at (left - 1)) terminals.now) }
 {
-    let (test, rest) = bin(alloc, left, CONDITIONAL_LEVEL - 1, terminals)?;
+    let (test, rest) = read!(bin(alloc, left, CONDITIONAL_LEVEL - 1, terminals));
     if heads(rest, Class::Is(Symbol::Question)) {
         branches(alloc, left, test, rest)
     } else {
@@ -63,11 +65,12 @@ fn branches(
     requires { 0 < left }
     ensures { Gives (λ x. (view x.0, x.1.now)) result (branches_of (expr_at (left - 1)) (view test) terminals.now) }
 {
-    let test = Box::new(alloc, test)?;
-    let (question, rest) = expected(terminals, Symbol::Question)?;
-    let (then, rest) = deeper(alloc, left, true, rest)?;
-    let (colon, rest) = expected(rest, Symbol::Colon)?;
-    let (other, rest) = deeper(alloc, left, true, rest)?;
+    let Ok(test) = boxed(alloc, test) else {
+        return Err(ReadError::Memory);
+    };
+    let (question, rest) = read!(expected(terminals, Symbol::Question));
+    let ((then, colon), rest) = read!(ended(deeper(alloc, left, true, rest), Symbol::Colon));
+    let (other, rest) = read!(deeper(alloc, left, true, rest));
     let choice = Expr::Choice {
         test,
         question,
@@ -89,8 +92,10 @@ fn deeper(
     requires { 0 < left }
     ensures { Gives (λ x. (view x.0.value, x.1.now)) result (expr_at (left - 1) full terminals.now) }
 {
-    let (tree, rest) = expr(alloc, left - 1, full, terminals)?;
-    let tree = Box::new(alloc, tree)?;
+    let (tree, rest) = read!(expr(alloc, left - 1, full, terminals));
+    let Ok(tree) = boxed(alloc, tree) else {
+        return Err(ReadError::Memory);
+    };
     Ok((tree, rest))
 }
 
@@ -110,10 +115,12 @@ fn bin(
     if most == 0 {
         return unary(alloc, left, terminals);
     }
-    let (first, rest) = bin(alloc, left, most - 1, terminals)?;
-    let (links, rest) = links(alloc, left, most, rest)?;
-    let chain = chain(alloc, most, first, links)?;
-    Ok((chain, rest))
+    let (first, rest) = read!(bin(alloc, left, most - 1, terminals));
+    let ((first, links), rest) = read!(both(first, links(alloc, left, most, rest)));
+    match chain(alloc, most, first, links) {
+        Ok(chain) => Ok((chain, rest)),
+        Err(AllocError) => Err(ReadError::Memory),
+    }
 }
 
 /// The operators of a level and the operands after them.
@@ -133,11 +140,8 @@ fn links(
     let mut found = Vec::new(alloc);
     let mut rest = terminals;
     while heads(rest, Class::Level(most)) {
-        let (link, after) = match link(alloc, left, most, rest) {
-            Ok(read) => read,
-            Err(error) => return Err(error),
-        };
-        found.push(link)?;
+        let (link, after) = read!(link(alloc, left, most, rest));
+        push(&mut found, link)?;
         rest = after;
     }
     Ok((found, rest))
@@ -155,8 +159,8 @@ fn link(
     requires most { most < CONDITIONAL_LEVEL }
     ensures { Gives (λ x. (piece x.0, x.1.now)) result (link_of (bin_of (unary_of (expr_at (left - 1))) (most - 1)) most terminals.now) }
 {
-    let (operator, rest) = one_of(terminals, Class::Level(most))?;
-    let (operand, rest) = bin(alloc, left, most - 1, rest)?;
+    let (operator, rest) = read!(one_of(terminals, Class::Level(most)));
+    let (operand, rest) = read!(bin(alloc, left, most - 1, rest));
     let link = Link {
         operator: operator.symbol,
         at: operator.span,
@@ -174,7 +178,7 @@ fn unary(alloc: Global, left: u8, terminals: &[Terminal]) -> Result<(Expr, &[Ter
     match first_of(terminals) {
         Some(Symbol::Number) => number(terminals),
         Some(Symbol::Name) => {
-            let (place, rest) = place(alloc, left, terminals)?;
+            let (place, rest) = read!(place(alloc, left, terminals));
             field(place, rest)
         }
         Some(Symbol::OpenParen) => paren(alloc, left, terminals),
@@ -188,9 +192,11 @@ fn paren(alloc: Global, left: u8, terminals: &[Terminal]) -> Result<(Expr, &[Ter
     requires { 0 < left }
     ensures { Gives (λ x. (view x.0, x.1.now)) result (paren_of (expr_at (left - 1)) terminals.now) }
 {
-    let (opening, rest) = expected(terminals, Symbol::OpenParen)?;
-    let (inner, rest) = deeper(alloc, left, true, rest)?;
-    let (closing, rest) = expected(rest, Symbol::CloseParen)?;
+    let (opening, rest) = read!(expected(terminals, Symbol::OpenParen));
+    let ((inner, closing), rest) = read!(ended(
+        deeper(alloc, left, true, rest),
+        Symbol::CloseParen
+    ));
     let paren = Expr::Paren {
         opening,
         inner,
@@ -205,8 +211,8 @@ fn signed(alloc: Global, left: u8, terminals: &[Terminal]) -> Result<(Expr, &[Te
     requires { 0 < left }
     ensures { Gives (λ x. (view x.0, x.1.now)) result (signed_of (expr_at (left - 1)) terminals.now) }
 {
-    let (sign, rest) = one_of(terminals, Class::Sign)?;
-    let (operand, rest) = deeper(alloc, left, false, rest)?;
+    let (sign, rest) = read!(one_of(terminals, Class::Sign));
+    let (operand, rest) = read!(deeper(alloc, left, false, rest));
     let unary = Expr::Unary {
         sign: sign.symbol,
         at: sign.span,
@@ -226,11 +232,12 @@ pub fn place(
     requires { 0 < left }
     ensures { Gives (λ x. (place_view x.0, x.1.now)) result (place_of (expr_at (left - 1) true) terminals.now) }
 {
-    let (name, rest) = expected(terminals, Symbol::Name)?;
-    if heads(rest, Class::Is(Symbol::OpenBracket)) {
-        let (opening, rest) = expected(rest, Symbol::OpenBracket)?;
-        let (index, rest) = deeper(alloc, left, true, rest)?;
-        let (closing, rest) = expected(rest, Symbol::CloseBracket)?;
+    let (name, rest) = read!(expected(terminals, Symbol::Name));
+    if let Some((opening, rest)) = taken(rest, Symbol::OpenBracket) {
+        let ((index, closing), rest) = read!(ended(
+            deeper(alloc, left, true, rest),
+            Symbol::CloseBracket
+        ));
         let cell = Place::Cell {
             name,
             opening,
@@ -247,7 +254,7 @@ pub fn place(
 fn number(terminals: &[Terminal]) -> Result<(Expr, &[Terminal]), ReadError>
     ensures { Gives (λ x. (view x.0, x.1.now)) result (number_of terminals.now) }
 {
-    let (at, rest) = expected(terminals, Symbol::Number)?;
+    let (at, rest) = read!(expected(terminals, Symbol::Number));
     Ok((Expr::Number(at), rest))
 }
 
@@ -256,9 +263,8 @@ fn number(terminals: &[Terminal]) -> Result<(Expr, &[Terminal]), ReadError>
 fn field(place: Place, terminals: &[Terminal]) -> Result<(Expr, &[Terminal]), ReadError>
     ensures { Gives (λ x. (view x.0, x.1.now)) result (field_tail (place_view place) terminals.now) }
 {
-    if heads(terminals, Class::Is(Symbol::Dot)) {
-        let (dot, rest) = expected(terminals, Symbol::Dot)?;
-        let (name, rest) = expected(rest, Symbol::Name)?;
+    if let Some((dot, rest)) = taken(terminals, Symbol::Dot) {
+        let (name, rest) = read!(expected(rest, Symbol::Name));
         Ok((Expr::Field { place, dot, name }, rest))
     } else {
         Ok((Expr::Read(place), terminals))
@@ -289,7 +295,9 @@ fn chain(alloc: Global, level: u8, first: Expr, links: Vec<Link>) -> Result<Expr
     if links.is_empty() {
         return Ok(first);
     }
-    let first = Box::new(alloc, first)?;
+    let Ok(first) = boxed(alloc, first) else {
+        return Err(AllocError);
+    };
     Ok(Expr::Chain {
         level,
         first,

@@ -10,8 +10,8 @@ ghost use Rattle.c_grammar.specs.StmtReading.{body_of, define_of, head_tail, par
 ghost use Rattle.c_parse.specs.Gives.{Gives};
 
 use crate::function_head::head;
-use crate::read::{ReadError, expected, followed, heads, optional};
-use crate::statement::parts;
+use crate::read::{ReadError, both, ended, expected, heads, optional, push, read};
+use crate::statement::block;
 use crate::symbols::Class;
 use c_grammar::limits::MOST_DEPTHS;
 use c_grammar::statement::{
@@ -29,11 +29,8 @@ pub fn program(alloc: Global, terminals: &[Terminal]) -> Result<Tree, ReadError>
     let mut externals = Vec::new(alloc);
     let mut rest = terminals;
     while !rest.is_empty() {
-        let (one, after) = match external(alloc, rest) {
-            Ok(read) => read,
-            Err(error) => return Err(error),
-        };
-        externals.push(one)?;
+        let (one, after) = read!(external(alloc, rest));
+        push(&mut externals, one)?;
         rest = after;
     }
     Ok(Tree { externals })
@@ -50,7 +47,7 @@ fn external(
     if heads(terminals, Class::Is(Symbol::Define)) {
         define(alloc, terminals)
     } else {
-        let (head, rest) = head(alloc, MOST_DEPTHS, terminals)?;
+        let (head, rest) = read!(head(alloc, MOST_DEPTHS, terminals));
         function(alloc, head, rest)
     }
 }
@@ -61,10 +58,8 @@ fn define(
 ) -> Result<(ExternalDeclaration, &[Terminal]), ReadError>
     ensures { Gives (λ x. (external_view x.0, x.1.now)) result (define_of terminals.now) }
 {
-    let (directive, rest) = expected(terminals, Symbol::Define)?;
-    let (name, rest) = expected(rest, Symbol::Name)?;
-    let (value, rest) = value(alloc, rest)?;
-    let ((value, end), rest) = followed(value, rest, Symbol::EndLine)?;
+    let ((directive, name), rest) = read!(ended(expected(terminals, Symbol::Define), Symbol::Name));
+    let ((value, end), rest) = read!(ended(value(alloc, rest), Symbol::EndLine));
     let define = ExternalDeclaration::Define {
         directive,
         name,
@@ -79,10 +74,10 @@ fn define(
 fn value(alloc: Global, terminals: &[Terminal]) -> Result<(Value, &[Terminal]), ReadError>
     ensures { Gives (λ x. (value_view x.0, x.1.now)) result (value_of terminals.now) }
 {
-    let (opens, rest) = opens(alloc, terminals)?;
+    let (opens, rest) = read!(opens(alloc, terminals));
     let (minus, rest) = optional(rest, Symbol::Minus);
-    let (number, rest) = expected(rest, Symbol::Number)?;
-    let (closes, rest) = closes(alloc, opens.len(), rest)?;
+    let (number, rest) = read!(expected(rest, Symbol::Number));
+    let (closes, rest) = read!(closes(alloc, opens.len(), rest));
     let value = Value {
         opens,
         minus,
@@ -98,11 +93,8 @@ fn opens(alloc: Global, terminals: &[Terminal]) -> Result<(Vec<Span>, &[Terminal
     let mut found = Vec::new(alloc);
     let mut rest = terminals;
     while heads(rest, Class::Is(Symbol::OpenParen)) {
-        let (one, after) = match expected(rest, Symbol::OpenParen) {
-            Ok(read) => read,
-            Err(error) => return Err(error),
-        };
-        found.push(one)?;
+        let (one, after) = read!(expected(rest, Symbol::OpenParen));
+        push(&mut found, one)?;
         rest = after;
     }
     Ok((found, rest))
@@ -119,11 +111,8 @@ fn closes(
     let mut found = Vec::new(alloc);
     let mut rest = terminals;
     for _ in 0..count {
-        let (one, after) = match expected(rest, Symbol::CloseParen) {
-            Ok(read) => read,
-            Err(error) => return Err(error),
-        };
-        found.push(one)?;
+        let (one, after) = read!(expected(rest, Symbol::CloseParen));
+        push(&mut found, one)?;
         rest = after;
     }
     Ok((found, rest))
@@ -139,32 +128,31 @@ fn function(
 {
     if heads(terminals, Class::Is(Symbol::OpenBrace)) {
         if is_named(&head.parameters) {
-            block(alloc, head, terminals)
+            body(alloc, head, terminals)
         } else {
             Err(ReadError::At(Why::Unexpected, terminals))
         }
     } else {
-        let ((head, end), rest) = followed(head, terminals, Symbol::Semicolon)?;
+        let ((head, end), rest) = read!(both(head, expected(terminals, Symbol::Semicolon)));
         Ok((ExternalDeclaration::Prototype { head, end }, rest))
     }
 }
 
 /// A head and its block.
-fn block(
+#[tactic(auto, using(crate::proofs::ByHead::body_by_braces))]
+fn body(
     alloc: Global,
     head: Head,
     terminals: &[Terminal],
 ) -> Result<(ExternalDeclaration, &[Terminal]), ReadError>
     ensures { Gives (λ x. (external_view x.0, x.1.now)) result (body_of (part_at MOST_DEPTHS) (head_view head) true terminals.now) }
 {
-    let ((head, opening), rest) = followed(head, terminals, Symbol::OpenBrace)?;
-    let (parts, rest) = parts(alloc, MOST_DEPTHS, rest)?;
-    let ((parts, closing), rest) = followed(parts, rest, Symbol::CloseBrace)?;
+    let ((head, block), rest) = read!(both(head, block(alloc, MOST_DEPTHS, terminals)));
     let function = ExternalDeclaration::Function {
         head,
-        opening,
-        parts,
-        closing,
+        opening: block.opening,
+        parts: block.parts,
+        closing: block.closing,
     };
     Ok((function, rest))
 }

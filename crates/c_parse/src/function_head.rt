@@ -11,7 +11,7 @@ ghost use Rattle.c_parse.specs.Gives.{Gives};
 
 use crate::comma_list::{InCommaList, comma_list};
 use crate::expression::expr;
-use crate::read::{ReadError, expected, first_of, followed, heads, one_of, optional};
+use crate::read::{ReadError, ended, expected, first_of, heads, one_of, optional, read, taken};
 use crate::symbols::Class;
 use c_grammar::statement::{Head, Parameter, Parameters};
 use c_grammar::terminal::{Span, Symbol, Terminal};
@@ -28,11 +28,12 @@ pub fn head(
     requires { 0 < left }
     ensures { Gives (λ x. (head_view x.0, x.1.now)) result (head_of (expr_at (left - 1) true) terminals.now) }
 {
-    let (result, rest) = one_of(terminals, Class::Outcome)?;
-    let (name, rest) = expected(rest, Symbol::Name)?;
-    let (opening, rest) = expected(rest, Symbol::OpenParen)?;
-    let (parameters, rest) = parameters(alloc, left, rest)?;
-    let ((parameters, closing), rest) = followed(parameters, rest, Symbol::CloseParen)?;
+    let (result, rest) = read!(one_of(terminals, Class::Outcome));
+    let ((name, opening), rest) = read!(ended(expected(rest, Symbol::Name), Symbol::OpenParen));
+    let ((parameters, closing), rest) = read!(ended(
+        parameters(alloc, left, rest),
+        Symbol::CloseParen
+    ));
     let head = Head {
         result: result.symbol,
         at: result.span,
@@ -55,11 +56,11 @@ fn parameters(
     match first_of(terminals) {
         Some(Symbol::CloseParen) => Ok((Parameters::Nothing, terminals)),
         Some(Symbol::Void) => {
-            let (at, rest) = expected(terminals, Symbol::Void)?;
+            let (at, rest) = read!(expected(terminals, Symbol::Void));
             Ok((Parameters::Void(at), rest))
         }
         _ => {
-            let (list, rest) = comma_list(alloc, left, terminals)?;
+            let (list, rest) = read!(comma_list(alloc, left, terminals));
             Ok((Parameters::Listed(list), rest))
         }
     }
@@ -84,17 +85,19 @@ impl InCommaList for Parameter {
     ) -> Result<(Self, &'a [Terminal]), ReadError<'a>> {
         match first_of(terminals) {
             Some(Symbol::Int) => {
-                let (keyword, rest) = expected(terminals, Symbol::Int)?;
+                let (keyword, rest) = read!(expected(terminals, Symbol::Int));
                 int_parameter(alloc, left, keyword, rest)
             }
             Some(Symbol::Communicator) => {
-                let (keyword, rest) = expected(terminals, Symbol::Communicator)?;
+                let (keyword, rest) = read!(expected(terminals, Symbol::Communicator));
                 let (name, rest) = optional(rest, Symbol::Name);
                 Ok((Parameter::Communicator { keyword, name }, rest))
             }
             _ => {
-                let (keyword, rest) = expected(terminals, Symbol::Char)?;
-                let (star, rest) = expected(rest, Symbol::Times)?;
+                let ((keyword, star), rest) = read!(ended(
+                    expected(terminals, Symbol::Char),
+                    Symbol::Times
+                ));
                 char_parameter(keyword, star, rest)
             }
         }
@@ -111,8 +114,7 @@ fn int_parameter(
     requires { 0 < left }
     ensures { Gives (λ x. (parameter_view x.0, x.1.now)) result (int_tail (expr_at (left - 1) true) keyword terminals.now) }
 {
-    if heads(terminals, Class::Is(Symbol::Times)) {
-        let (star, rest) = expected(terminals, Symbol::Times)?;
+    if let Some((star, rest)) = taken(terminals, Symbol::Times) {
         let (name, rest) = optional(rest, Symbol::Name);
         Ok((
             Parameter::Pointer {
@@ -139,10 +141,11 @@ fn array_parameter(
     requires { 0 < left }
     ensures { Gives (λ x. (parameter_view x.0, x.1.now)) result (array_tail (expr_at (left - 1) true) keyword name terminals.now) }
 {
-    if heads(terminals, Class::Is(Symbol::OpenBracket)) {
-        let (opening, rest) = expected(terminals, Symbol::OpenBracket)?;
-        let (length, rest) = length(alloc, left, rest)?;
-        let ((length, closing), rest) = followed(length, rest, Symbol::CloseBracket)?;
+    if let Some((opening, rest)) = taken(terminals, Symbol::OpenBracket) {
+        let ((length, closing), rest) = read!(ended(
+            length(alloc, left, rest),
+            Symbol::CloseBracket
+        ));
         let array = Parameter::Array {
             keyword,
             name,
@@ -166,7 +169,7 @@ fn length(
     ensures { Gives (λ x. (option_map view x.0, x.1.now)) result (maybe (isnt w.CloseBracket) (expr_at (left - 1) true) terminals.now) }
 {
     if heads(terminals, Class::Isnt(Symbol::CloseBracket)) {
-        let (length, rest) = expr(alloc, left - 1, true, terminals)?;
+        let (length, rest) = read!(expr(alloc, left - 1, true, terminals));
         Ok((Some(length), rest))
     } else {
         Ok((None, terminals))
@@ -181,8 +184,7 @@ fn char_parameter(
 ) -> Result<(Parameter, &[Terminal]), ReadError>
     ensures { Gives (λ x. (parameter_view x.0, x.1.now)) result (char_tail keyword star terminals.now) }
 {
-    if heads(terminals, Class::Is(Symbol::Times)) {
-        let (second, rest) = expected(terminals, Symbol::Times)?;
+    if let Some((second, rest)) = taken(terminals, Symbol::Times) {
         let (name, rest) = optional(rest, Symbol::Name);
         let texts = Parameter::TextPointers {
             keyword,
@@ -193,8 +195,10 @@ fn char_parameter(
         Ok((texts, rest))
     } else {
         let (name, rest) = optional(terminals, Symbol::Name);
-        let (opening, rest) = expected(rest, Symbol::OpenBracket)?;
-        let (closing, rest) = expected(rest, Symbol::CloseBracket)?;
+        let ((opening, closing), rest) = read!(ended(
+            expected(rest, Symbol::OpenBracket),
+            Symbol::CloseBracket
+        ));
         let array = Parameter::TextArray {
             keyword,
             star,

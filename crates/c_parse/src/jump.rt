@@ -8,7 +8,7 @@ ghost use Rattle.c_grammar.specs.StmtReading.{break_of, continue_of, return_of, 
 ghost use Rattle.c_parse.specs.Gives.{Gives};
 
 use crate::call::right;
-use crate::read::{ReadError, expected, followed, heads};
+use crate::read::{ReadError, ended, expected, heads, read};
 use crate::symbols::Class;
 use c_grammar::statement::{Right, Stmt};
 use c_grammar::terminal::{Symbol, Terminal};
@@ -18,8 +18,10 @@ use std::alloc::Global;
 pub fn break_statement(terminals: &[Terminal]) -> Result<(Stmt, &[Terminal]), ReadError>
     ensures { Gives (λ x. (stmt_view x.0, x.1.now)) result (break_of terminals.now) }
 {
-    let (keyword, rest) = expected(terminals, Symbol::Break)?;
-    let (end, rest) = expected(rest, Symbol::Semicolon)?;
+    let ((keyword, end), rest) = read!(ended(
+        expected(terminals, Symbol::Break),
+        Symbol::Semicolon
+    ));
     Ok((Stmt::Break { keyword, end }, rest))
 }
 
@@ -27,8 +29,10 @@ pub fn break_statement(terminals: &[Terminal]) -> Result<(Stmt, &[Terminal]), Re
 pub fn continue_statement(terminals: &[Terminal]) -> Result<(Stmt, &[Terminal]), ReadError>
     ensures { Gives (λ x. (stmt_view x.0, x.1.now)) result (continue_of terminals.now) }
 {
-    let (keyword, rest) = expected(terminals, Symbol::Continue)?;
-    let (end, rest) = expected(rest, Symbol::Semicolon)?;
+    let ((keyword, end), rest) = read!(ended(
+        expected(terminals, Symbol::Continue),
+        Symbol::Semicolon
+    ));
     Ok((Stmt::Continue { keyword, end }, rest))
 }
 
@@ -41,9 +45,8 @@ pub fn return_statement(
     requires { 0 < left }
     ensures { Gives (λ x. (stmt_view x.0, x.1.now)) result (return_of (expr_at left true) (expr_at (left - 1) true) terminals.now) }
 {
-    let (keyword, rest) = expected(terminals, Symbol::Return)?;
-    let (value, rest) = value(alloc, left, rest)?;
-    let ((value, end), rest) = followed(value, rest, Symbol::Semicolon)?;
+    let (keyword, rest) = read!(expected(terminals, Symbol::Return));
+    let ((value, end), rest) = read!(ended(value(alloc, left, rest), Symbol::Semicolon));
     Ok((
         Stmt::Return {
             keyword,
@@ -65,7 +68,7 @@ fn value(
         (maybe (isnt w.Semicolon) (right_of (expr_at left true) (expr_at (left - 1) true)) terminals.now) }
 {
     if heads(terminals, Class::Isnt(Symbol::Semicolon)) {
-        let (right, rest) = right(alloc, left, terminals)?;
+        let (right, rest) = read!(right(alloc, left, terminals));
         Ok((Some(right), rest))
     } else {
         Ok((None, terminals))

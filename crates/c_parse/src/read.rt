@@ -1,14 +1,26 @@
 //! What all readers share.
-ghost use Rattle.std.specs.Prelude.{◌≡◌, IfErr, IfOk, Ok};
+ghost use Rattle.std.specs.Prelude.{◌≡◌, ◌++◌, ◌∷◌, [], Err, IfErr, IfOk, Ok, OnOk};
 ghost use Rattle.c_grammar.specs.Reading.{expect, first_of, heads, maybe, one_of};
 ghost use Rattle.c_parse.specs.Classes.{is_in};
-ghost use Rattle.c_parse.specs.Gives.{Gives, HasPlace, IsHead};
+ghost use Rattle.c_parse.specs.Gives.{Gives, HasPlace, IsEnded, IsHead, TakesSymbol};
 ghost use Rattle.c_grammar.specs.Symbols.{is};
 
 use crate::symbols::{Class, is_in};
 use c_grammar::terminal::{Span, Symbol, Terminal};
 use c_lex::Why;
-use std::alloc::{AllocError, AllocFailed};
+use std::alloc::{AllocError, Global};
+
+/// What was read. Where reading stopped, the reader that asks for it stops too: as `?`, with no conversion of the error.
+macro_rules! read {
+    ($reading:expr) => {
+        match $reading {
+            Ok(read) => read,
+            Err(error) => return Err(error),
+        }
+    };
+}
+
+pub(crate) use read;
 
 /// Why reading stopped, and the terminals from there on.
 #[derive(Drop)]
@@ -23,16 +35,6 @@ impl<'a> From<AllocError> for ReadError<'a> {
     ghost from_gives = { λ _ error. error ≡ Memory };
 
     fn from(_error: AllocError) -> Self {
-        ReadError::Memory
-    }
-}
-
-impl<'a, T: Drop> From<AllocFailed<T>> for ReadError<'a> {
-    ghost use Rattle.c_parse.specs.declared.read.ReadError.TheVariants.{Memory};
-
-    ghost from_gives = { λ _ error. error ≡ Memory };
-
-    fn from(_error: AllocFailed<T>) -> Self {
         ReadError::Memory
     }
 }
@@ -103,17 +105,45 @@ pub fn expected(terminals: &[Terminal], symbol: Symbol) -> Result<(Span, &[Termi
     }
 }
 
-/// A thing, and the place of the first terminal after it, which has to be this symbol. Takes no memory.
-pub fn followed<T: Drop>(
-    thing: T,
-    terminals: &[Terminal],
-    symbol: Symbol,
-) -> Result<((T, Span), &[Terminal]), ReadError>
-    ensures thing { IfOk result (λ x. x.0.0 ≡ thing) }
-    ensures read { Gives (λ x. (x.0.1, x.1.now)) result (expect symbol terminals.now) }
+/// The place of the first terminal and the terminals after it, where it is this symbol.
+#[tactic(auto, unfolding(c_grammar::specs::Reading::expect))]
+pub fn taken(terminals: &[Terminal], symbol: Symbol) -> Option<(Span, &[Terminal])>
+    ensures { TakesSymbol symbol terminals.now result }
 {
-    let (end, rest) = expected(terminals, symbol)?;
-    Ok(((thing, end), rest))
+    match head(terminals) {
+        Some((first, rest)) => {
+            if is_in(Class::Is(symbol), first.symbol) {
+                Some((first.span, rest))
+            } else {
+                None
+            }
+        }
+        None => None,
+    }
+}
+
+/// A thing that is read, and the place of the first terminal after it, which has to be this symbol.
+pub fn ended<'a, T: Drop>(
+    read: Result<(T, &'a [Terminal]), ReadError<'a>>,
+    symbol: Symbol,
+) -> Result<((T, Span), &'a [Terminal]), ReadError<'a>>
+    ensures { IsEnded symbol read.entry result }
+{
+    let (thing, rest) = read!(read);
+    both(thing, expected(rest, symbol))
+}
+
+/// A thing, and what was read after it.
+pub fn both<'a, A: Drop, B: Drop>(
+    first: A,
+    read: Result<(B, &'a [Terminal]), ReadError<'a>>,
+) -> Result<((A, B), &'a [Terminal]), ReadError<'a>>
+    ensures first { IfOk result (λ all. all.0.0 ≡ first) }
+    ensures second { IfOk result (λ all. read.entry ≡ Ok (all.0.1, all.1)) }
+    ensures error { IfErr result (λ error. read.entry ≡ Err error) }
+{
+    let (second, rest) = read!(read);
+    Ok(((first, second), rest))
 }
 
 /// The place of the first terminal, where it is this symbol, and the terminals after it.
@@ -131,4 +161,20 @@ pub fn optional(terminals: &[Terminal], symbol: Symbol) -> (Option<Span>, &[Term
         }
         None => (None, terminals),
     }
+}
+
+/// A thing in a box.
+pub fn boxed<T: Drop>(alloc: Global, thing: T) -> Result<Box<T>, AllocError>
+    ensures { IfOk result (λ made. made.value ≡ thing) }
+{
+    let made = Box::new(alloc, thing)?;
+    Ok(made)
+}
+
+/// Puts a thing behind the others.
+pub fn push<T: Drop>(list: &mut Vec<T>, item: T) -> Result<(), AllocError>
+    ensures { OnOk result (list.new.items ≡ list.old.items ++ item ∷ []) }
+{
+    list.push(item)?;
+    Ok(())
 }

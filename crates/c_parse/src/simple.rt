@@ -8,7 +8,7 @@ ghost use Rattle.c_parse.specs.Gives.{Gives};
 
 use crate::call::{call, calls, right};
 use crate::expression::place;
-use crate::read::{ReadError, expected, followed, heads, one_of};
+use crate::read::{ReadError, ended, expected, heads, one_of, read};
 use crate::symbols::Class;
 use c_grammar::statement::{Simple, Stmt};
 use c_grammar::terminal::{Symbol, Terminal};
@@ -26,7 +26,7 @@ pub fn simple(
     ensures { Gives (λ x. (simple_view x.0, x.1.now)) result (simple_of (expr_at left true) (expr_at (left - 1) true) terminals.now) }
 {
     if calls(terminals) {
-        let (call, rest) = call(alloc, left, terminals)?;
+        let (call, rest) = read!(call(alloc, left, terminals));
         Ok((Simple::Call(call), rest))
     } else {
         change(alloc, left, terminals)
@@ -44,8 +44,8 @@ fn change(
     ensures { Gives (λ x. (simple_view x.0, x.1.now)) result (change_of (expr_at left true) (expr_at (left - 1) true) terminals.now) }
 {
     if heads(terminals, Class::Step) {
-        let (operator, rest) = one_of(terminals, Class::Step)?;
-        let (place, rest) = place(alloc, left, rest)?;
+        let (operator, rest) = read!(one_of(terminals, Class::Step));
+        let (place, rest) = read!(place(alloc, left, rest));
         let before = Simple::Before {
             operator: operator.symbol,
             at: operator.span,
@@ -53,7 +53,7 @@ fn change(
         };
         Ok((before, rest))
     } else {
-        let (place, rest) = place(alloc, left, terminals)?;
+        let (place, rest) = read!(place(alloc, left, terminals));
         changed(alloc, left, place, rest)
     }
 }
@@ -70,7 +70,7 @@ fn changed(
         (simple_tail (expr_at left true) (expr_at (left - 1) true) (place_view place) terminals.now) }
 {
     if heads(terminals, Class::Step) {
-        let (operator, rest) = one_of(terminals, Class::Step)?;
+        let (operator, rest) = read!(one_of(terminals, Class::Step));
         let after = Simple::After {
             place,
             operator: operator.symbol,
@@ -78,8 +78,8 @@ fn changed(
         };
         Ok((after, rest))
     } else {
-        let (operator, rest) = one_of(terminals, Class::Assign)?;
-        let (right, rest) = right(alloc, left, rest)?;
+        let (operator, rest) = read!(one_of(terminals, Class::Assign));
+        let (right, rest) = read!(right(alloc, left, rest));
         let assign = Simple::Assign {
             place,
             operator: operator.symbol,
@@ -100,8 +100,7 @@ pub fn plain(
     requires { 0 < left }
     ensures { Gives (λ x. (stmt_view x.0, x.1.now)) result (plain_of (expr_at left true) (expr_at (left - 1) true) terminals.now) }
 {
-    let (simple, rest) = simple(alloc, left, terminals)?;
-    let ((simple, end), rest) = followed(simple, rest, Symbol::Semicolon)?;
+    let ((simple, end), rest) = read!(ended(simple(alloc, left, terminals), Symbol::Semicolon));
     Ok((Stmt::Simple { simple, end }, rest))
 }
 
@@ -110,6 +109,6 @@ pub fn plain(
 pub fn empty(terminals: &[Terminal]) -> Result<(Stmt, &[Terminal]), ReadError>
     ensures { Gives (λ x. (stmt_view x.0, x.1.now)) result (empty_of terminals.now) }
 {
-    let (at, rest) = expected(terminals, Symbol::Semicolon)?;
+    let (at, rest) = read!(expected(terminals, Symbol::Semicolon));
     Ok((Stmt::Empty(at), rest))
 }

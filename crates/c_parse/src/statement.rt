@@ -7,18 +7,27 @@ ghost use Rattle.c_grammar.specs.Symbols.{isnt, starts_part, starts_stmt};
 ghost use Rattle.c_grammar.specs.declared.terminal.Symbol.TheVariants as w;
 ghost use Rattle.c_grammar.specs.Reading.{expr_at, many, too_deep};
 ghost use Rattle.c_grammar.specs.StmtReading.{block_of, do_of, else_of, for_of, if_of, part_at, part_of, stmt_at, stmt_of, while_of};
+ghost use Rattle.c_parse.specs.Blocks.{block_view, braces_of};
 ghost use Rattle.c_parse.specs.Gives.{Fails, Gives};
 
 use crate::declaration::declared;
 use crate::jump::{break_statement, continue_statement, return_statement};
-use crate::read::{ReadError, expected, first_of, followed, heads};
+use crate::read::{ReadError, both, boxed, ended, expected, first_of, heads, push, read, taken};
 use crate::simple::{empty, plain};
-use crate::statement_head::{TestHead, both, for_head, test_head, until};
+use crate::statement_head::{TestHead, for_head, test_head, until};
 use crate::symbols::{Class, starts_part, starts_stmt};
 use c_grammar::statement::{Part, Stmt};
-use c_grammar::terminal::{Symbol, Terminal};
+use c_grammar::terminal::{Span, Symbol, Terminal};
 use c_lex::Why;
 use std::alloc::Global;
+
+/// What a block holds, and its braces.
+#[derive(Drop)]
+pub struct BlockParts {
+    pub opening: Span,
+    pub parts: Vec<Part>,
+    pub closing: Span,
+}
 
 /// An `if` without its else.
 #[derive(Drop)]
@@ -49,8 +58,10 @@ fn inner(
     requires { 0 < left }
     ensures { Gives (λ x. (stmt_view x.0.value, x.1.now)) result (stmt_at (left - 1) terminals.now) }
 {
-    let (tree, rest) = stmt(alloc, left - 1, terminals)?;
-    let tree = Box::new(alloc, tree)?;
+    let (tree, rest) = read!(stmt(alloc, left - 1, terminals));
+    let Ok(tree) = boxed(alloc, tree) else {
+        return Err(ReadError::Memory);
+    };
     Ok((tree, rest))
 }
 
@@ -62,7 +73,7 @@ fn body(alloc: Global, left: u8, terminals: &[Terminal]) -> Result<(Stmt, &[Term
         (stmt_of (expr_at left true) (expr_at (left - 1) true) (stmt_at (left - 1)) (part_at (left - 1)) terminals.now) }
 {
     match first_of(terminals) {
-        Some(Symbol::OpenBrace) => block(alloc, left, terminals),
+        Some(Symbol::OpenBrace) => block_statement(alloc, left, terminals),
         Some(Symbol::Semicolon) => empty(terminals),
         Some(Symbol::Break) => break_statement(terminals),
         Some(Symbol::Continue) => continue_statement(terminals),
@@ -76,15 +87,37 @@ fn body(alloc: Global, left: u8, terminals: &[Terminal]) -> Result<(Stmt, &[Term
 }
 
 #[cycle(statement)]
-#[tactic(auto, using(c_grammar::proofs::StmtViewed::stmt_views))]
-fn block(alloc: Global, left: u8, terminals: &[Terminal]) -> Result<(Stmt, &[Terminal]), ReadError>
+#[tactic(auto, using(crate::proofs::ByHead::block_by_braces, c_grammar::proofs::StmtViewed::stmt_views))]
+fn block_statement(
+    alloc: Global,
+    left: u8,
+    terminals: &[Terminal],
+) -> Result<(Stmt, &[Terminal]), ReadError>
     requires { 0 < left }
     ensures { Gives (λ x. (stmt_view x.0, x.1.now)) result (block_of (part_at (left - 1)) terminals.now) }
 {
-    let (opening, rest) = expected(terminals, Symbol::OpenBrace)?;
-    let (parts, rest) = parts(alloc, left - 1, rest)?;
-    let ((parts, closing), rest) = followed(parts, rest, Symbol::CloseBrace)?;
+    let (block, rest) = read!(block(alloc, left - 1, terminals));
     let block = Stmt::Block {
+        opening: block.opening,
+        parts: block.parts,
+        closing: block.closing,
+    };
+    Ok((block, rest))
+}
+
+/// Braces and what they hold, with `left` depths left.
+#[cycle(statement)]
+#[tactic(auto, unfolding(crate::specs::Blocks::braces_of))]
+pub fn block(
+    alloc: Global,
+    left: u8,
+    terminals: &[Terminal],
+) -> Result<(BlockParts, &[Terminal]), ReadError>
+    ensures { Gives (λ x. (block_view x.0, x.1.now)) result (braces_of (part_at left) terminals.now) }
+{
+    let (opening, rest) = read!(expected(terminals, Symbol::OpenBrace));
+    let ((parts, closing), rest) = read!(ended(parts(alloc, left, rest), Symbol::CloseBrace));
+    let block = BlockParts {
         opening,
         parts,
         closing,
@@ -94,7 +127,7 @@ fn block(alloc: Global, left: u8, terminals: &[Terminal]) -> Result<(Stmt, &[Ter
 
 /// What a block holds, up to its `}`, with `left` depths left.
 #[cycle(statement)]
-pub fn parts(
+fn parts(
     alloc: Global,
     left: u8,
     terminals: &[Terminal],
@@ -104,11 +137,8 @@ pub fn parts(
     let mut found = Vec::new(alloc);
     let mut rest = terminals;
     while heads(rest, Class::Isnt(Symbol::CloseBrace)) {
-        let (one, after) = match part(alloc, left, rest) {
-            Ok(read) => read,
-            Err(error) => return Err(error),
-        };
-        found.push(one)?;
+        let (one, after) = read!(part(alloc, left, rest));
+        push(&mut found, one)?;
         rest = after;
     }
     Ok((found, rest))
@@ -125,7 +155,7 @@ fn part(alloc: Global, left: u8, terminals: &[Terminal]) -> Result<(Part, &[Term
     if heads(terminals, Class::Kind) {
         declared(alloc, left, terminals)
     } else {
-        let (inner, rest) = stmt(alloc, left, terminals)?;
+        let (inner, rest) = read!(stmt(alloc, left, terminals));
         Ok((Part::Stmt(inner), rest))
     }
 }
@@ -140,8 +170,8 @@ fn if_statement(
     requires { 0 < left }
     ensures { Gives (λ x. (stmt_view x.0, x.1.now)) result (if_of (expr_at left true) (stmt_at (left - 1)) terminals.now) }
 {
-    let (head, rest) = test_head(alloc, left, Symbol::If, terminals)?;
-    let ((head, then), rest) = both(head, inner(alloc, left, rest))?;
+    let (head, rest) = read!(test_head(alloc, left, Symbol::If, terminals));
+    let ((head, then), rest) = read!(both(head, inner(alloc, left, rest)));
     otherwise(alloc, left, Branch { head, then }, rest)
 }
 
@@ -159,9 +189,8 @@ fn otherwise(
         (else_of (stmt_at (left - 1)) branch.head.keyword branch.head.opening (view branch.head.test) branch.head.closing
         (stmt_view branch.then.value) terminals.now) }
 {
-    if heads(terminals, Class::Is(Symbol::Else)) {
-        let ((branch, else_keyword), rest) = followed(branch, terminals, Symbol::Else)?;
-        let ((branch, other), rest) = both(branch, inner(alloc, left, rest))?;
+    if let Some((else_keyword, rest)) = taken(terminals, Symbol::Else) {
+        let ((branch, other), rest) = read!(both(branch, inner(alloc, left, rest)));
         let Branch { head, then } = branch;
         let full = Stmt::IfElse {
             keyword: head.keyword,
@@ -196,8 +225,8 @@ fn while_statement(
     requires { 0 < left }
     ensures { Gives (λ x. (stmt_view x.0, x.1.now)) result (while_of (expr_at left true) (stmt_at (left - 1)) terminals.now) }
 {
-    let (head, rest) = test_head(alloc, left, Symbol::While, terminals)?;
-    let ((head, body), rest) = both(head, inner(alloc, left, rest))?;
+    let (head, rest) = read!(test_head(alloc, left, Symbol::While, terminals));
+    let ((head, body), rest) = read!(both(head, inner(alloc, left, rest)));
     let repeat = Stmt::While {
         keyword: head.keyword,
         opening: head.opening,
@@ -218,9 +247,9 @@ fn do_statement(
     requires { 0 < left }
     ensures { Gives (λ x. (stmt_view x.0, x.1.now)) result (do_of (expr_at left true) (stmt_at (left - 1)) terminals.now) }
 {
-    let (keyword, rest) = expected(terminals, Symbol::Do)?;
-    let (body, rest) = inner(alloc, left, rest)?;
-    let ((body, (head, end)), rest) = both(body, until(alloc, left, rest))?;
+    let (keyword, rest) = read!(expected(terminals, Symbol::Do));
+    let (body, rest) = read!(inner(alloc, left, rest));
+    let ((body, (head, end)), rest) = read!(both(body, until(alloc, left, rest)));
     let repeat = Stmt::Do {
         keyword,
         body,
@@ -244,8 +273,8 @@ fn for_statement(
     ensures { Gives (λ x. (stmt_view x.0, x.1.now)) result
         (for_of (expr_at left true) (expr_at (left - 1) true) (stmt_at (left - 1)) terminals.now) }
 {
-    let (head, rest) = for_head(alloc, left, terminals)?;
-    let ((head, body), rest) = both(head, inner(alloc, left, rest))?;
+    let (head, rest) = read!(for_head(alloc, left, terminals));
+    let ((head, body), rest) = read!(both(head, inner(alloc, left, rest)));
     let repeat = Stmt::For {
         keyword: head.keyword,
         opening: head.opening,

@@ -1,5 +1,5 @@
 //! The readers of what is before or after the inner statement of a statement.
-ghost use Rattle.std.specs.Prelude.{◌≡◌, ◌<◌, ◌-◌, true, Err, IfErr, IfOk, Ok, option_map};
+ghost use Rattle.std.specs.Prelude.{◌≡◌, ◌<◌, ◌-◌, true, option_map};
 ghost use Rattle.c_grammar.specs.View.{view};
 ghost use Rattle.c_grammar.specs.StmtView.{simple_view, start_view};
 ghost use Rattle.c_grammar.specs.Symbols.{isnt};
@@ -11,7 +11,7 @@ ghost use Rattle.c_parse.specs.StatementHeads.{ended_of, for_head_of, for_head_v
 
 use crate::declaration::declaration;
 use crate::expression::expr;
-use crate::read::{ReadError, expected, followed, heads};
+use crate::read::{ReadError, both, ended, expected, heads, read};
 use crate::simple::simple;
 use crate::symbols::Class;
 use c_grammar::statement::{ForStart, Simple};
@@ -38,19 +38,6 @@ pub struct ForHead {
     pub step: (Option<Simple>, Span),
 }
 
-/// A thing, and what was read after it.
-pub fn both<'a, A: Drop, B: Drop>(
-    first: A,
-    read: Result<(B, &'a [Terminal]), ReadError<'a>>,
-) -> Result<((A, B), &'a [Terminal]), ReadError<'a>>
-    ensures first { IfOk result (λ all. all.0.0 ≡ first) }
-    ensures second { IfOk result (λ all. read.entry ≡ Ok (all.0.1, all.1)) }
-    ensures error { IfErr result (λ error. read.entry ≡ Err error) }
-{
-    let (second, rest) = read?;
-    Ok(((first, second), rest))
-}
-
 /// A keyword and the test in parentheses after it.
 #[tactic(auto, unfolding(crate::specs::StatementHeads::test_head_of))]
 pub fn test_head(
@@ -61,10 +48,8 @@ pub fn test_head(
 ) -> Result<(TestHead, &[Terminal]), ReadError>
     ensures { Gives (λ x. (test_head_view x.0, x.1.now)) result (test_head_of (expr_at left true) symbol terminals.now) }
 {
-    let (keyword, rest) = expected(terminals, symbol)?;
-    let (opening, rest) = expected(rest, Symbol::OpenParen)?;
-    let (test, rest) = expr(alloc, left, true, rest)?;
-    let ((test, closing), rest) = followed(test, rest, Symbol::CloseParen)?;
+    let ((keyword, opening), rest) = read!(ended(expected(terminals, symbol), Symbol::OpenParen));
+    let ((test, closing), rest) = read!(ended(expr(alloc, left, true, rest), Symbol::CloseParen));
     let head = TestHead {
         keyword,
         opening,
@@ -84,12 +69,14 @@ pub fn until(
     ensures { Gives (λ x. ((test_head_view x.0.0, x.0.1), x.1.now)) result
         (ended_of (test_head_of (expr_at left true) w.While) w.Semicolon terminals.now) }
 {
-    let (head, rest) = test_head(alloc, left, Symbol::While, terminals)?;
-    followed(head, rest, Symbol::Semicolon)
+    ended(
+        test_head(alloc, left, Symbol::While, terminals),
+        Symbol::Semicolon,
+    )
 }
 
 /// What is before the statement of a `for`.
-#[tactic(auto, unfolding(crate::specs::StatementHeads::for_head_of))]
+#[tactic(auto, unfolding(crate::specs::StatementHeads::for_head_of, crate::specs::StatementHeads::ended_of))]
 pub fn for_head(
     alloc: Global,
     left: u8,
@@ -98,11 +85,15 @@ pub fn for_head(
     requires { 0 < left }
     ensures { Gives (λ x. (for_head_view x.0, x.1.now)) result (for_head_of (expr_at left true) (expr_at (left - 1) true) terminals.now) }
 {
-    let (keyword, rest) = expected(terminals, Symbol::For)?;
-    let (opening, rest) = expected(rest, Symbol::OpenParen)?;
-    let (start, rest) = start(alloc, left, rest)?;
-    let ((start, test), rest) = both(start, test(alloc, left, rest))?;
-    let (((start, test), step), rest) = both((start, test), step(alloc, left, rest))?;
+    let ((keyword, opening), rest) = read!(ended(
+        expected(terminals, Symbol::For),
+        Symbol::OpenParen
+    ));
+    let (start, rest) = read!(ended(for_start(alloc, left, rest), Symbol::Semicolon));
+    let test = ended(for_test(alloc, left, rest), Symbol::Semicolon);
+    let ((start, test), rest) = read!(both(start, test));
+    let step = ended(for_step(alloc, left, rest), Symbol::CloseParen);
+    let (((start, test), step), rest) = read!(both((start, test), step));
     let head = ForHead {
         keyword,
         opening,
@@ -111,51 +102,6 @@ pub fn for_head(
         step,
     };
     Ok((head, rest))
-}
-
-/// How a `for` begins, and its `;`.
-#[tactic(auto, unfolding(crate::specs::StatementHeads::ended_of))]
-fn start(
-    alloc: Global,
-    left: u8,
-    terminals: &[Terminal],
-) -> Result<((ForStart, Span), &[Terminal]), ReadError>
-    requires { 0 < left }
-    ensures { Gives (λ x. ((start_view x.0.0, x.0.1), x.1.now)) result
-        (ended_of (start_of (expr_at left true) (expr_at (left - 1) true)) w.Semicolon terminals.now) }
-{
-    let (start, rest) = for_start(alloc, left, terminals)?;
-    followed(start, rest, Symbol::Semicolon)
-}
-
-/// The test of a `for`, if any, and its `;`.
-#[tactic(auto, unfolding(crate::specs::StatementHeads::ended_of))]
-fn test(
-    alloc: Global,
-    left: u8,
-    terminals: &[Terminal],
-) -> Result<((Option<Expr>, Span), &[Terminal]), ReadError>
-    requires { 0 < left }
-    ensures { Gives (λ x. ((option_map view x.0.0, x.0.1), x.1.now)) result
-        (ended_of (maybe (isnt w.Semicolon) (expr_at left true)) w.Semicolon terminals.now) }
-{
-    let (test, rest) = for_test(alloc, left, terminals)?;
-    followed(test, rest, Symbol::Semicolon)
-}
-
-/// The step of a `for`, if any, and the `)` after it.
-#[tactic(auto, unfolding(crate::specs::StatementHeads::ended_of))]
-fn step(
-    alloc: Global,
-    left: u8,
-    terminals: &[Terminal],
-) -> Result<((Option<Simple>, Span), &[Terminal]), ReadError>
-    requires { 0 < left }
-    ensures { Gives (λ x. ((option_map simple_view x.0.0, x.0.1), x.1.now)) result
-        (ended_of (maybe (isnt w.CloseParen) (simple_of (expr_at left true) (expr_at (left - 1) true))) w.CloseParen terminals.now) }
-{
-    let (step, rest) = for_step(alloc, left, terminals)?;
-    followed(step, rest, Symbol::CloseParen)
 }
 
 /// How a `for` begins.
@@ -171,10 +117,10 @@ fn for_start(
     if heads(terminals, Class::Is(Symbol::Semicolon)) {
         Ok((ForStart::Nothing, terminals))
     } else if heads(terminals, Class::Kind) {
-        let (declaration, rest) = declaration(alloc, left, terminals)?;
+        let (declaration, rest) = read!(declaration(alloc, left, terminals));
         Ok((ForStart::Declaration(declaration), rest))
     } else {
-        let (simple, rest) = simple(alloc, left, terminals)?;
+        let (simple, rest) = read!(simple(alloc, left, terminals));
         Ok((ForStart::Simple(simple), rest))
     }
 }
@@ -189,7 +135,7 @@ fn for_test(
     ensures { Gives (λ x. (option_map view x.0, x.1.now)) result (maybe (isnt w.Semicolon) (expr_at left true) terminals.now) }
 {
     if heads(terminals, Class::Isnt(Symbol::Semicolon)) {
-        let (test, rest) = expr(alloc, left, true, terminals)?;
+        let (test, rest) = read!(expr(alloc, left, true, terminals));
         Ok((Some(test), rest))
     } else {
         Ok((None, terminals))
@@ -207,7 +153,7 @@ fn for_step(
         (maybe (isnt w.CloseParen) (simple_of (expr_at left true) (expr_at (left - 1) true)) terminals.now) }
 {
     if heads(terminals, Class::Isnt(Symbol::CloseParen)) {
-        let (step, rest) = simple(alloc, left, terminals)?;
+        let (step, rest) = read!(simple(alloc, left, terminals));
         Ok((Some(step), rest))
     } else {
         Ok((None, terminals))

@@ -5,8 +5,8 @@ use Rattle.c_parse.proofs.comma_list.others.Goals as goal
 
 pub loop-alloc-preserved : goal.loop-alloc-preserved
 loop-alloc-preserved g c =
-    so_far-push (λ one. (one.comma, g.T.InCommaList.view one.item)) _ _ _ c.loop-alloc.found.items c.push.new.self.items c.in-Ok.read.0 c.loop-alloc.rest.now c.in-Ok.read.1.now
-    (sym c.heads.ensures ∙ c.loop-alloc-test.true) c.in-Ok.ensures (after_comma_shorter _ (λ ts y h. g.met.T.InCommaList.shorter c.args.left ts y c.requires h) _ _ c.in-Ok.ensures) c.in_ok-push.ensures.items c.loop-alloc.invariant
+    so_far-push (λ one. (one.comma, g.T.InCommaList.view one.item)) _ _ _ c.loop-alloc.found.items c.push.new.list.items c.in-Ok.read.0 c.loop-alloc.rest.now c.in-Ok.read.1.now
+    (sym c.heads.ensures ∙ c.loop-alloc-test.true) c.in-Ok.ensures (after_comma_shorter _ (λ ts y h. g.met.T.InCommaList.shorter c.args.left ts y c.requires h) _ _ c.in-Ok.ensures) c.in_ok-push.ensures c.loop-alloc.invariant
 
 pub loop-alloc-smaller : goal.loop-alloc-smaller
 loop-alloc-smaller g c = after_comma_shorter _ (λ ts y h. g.met.T.InCommaList.shorter c.args.left ts y c.requires h) _ _ c.in-Ok.ensures

@@ -16,6 +16,6 @@ chained_some k e (l ∷ ls) h = refl
 
 pub returns : goal.returns
 returns c =
-    view-chain c.args.level c.in_ok-first.first c.args.links
-    ∙ ap (λ z. t.chain c.args.level z (links_from (map piece c.args.links.items))) (ap view c.in_ok-first.ensures.ok)
+    view-chain c.args.level c.in-Ok.first c.args.links
+    ∙ ap (λ z. t.chain c.args.level z (links_from (map piece c.args.links.items))) (ap view c.in-Ok.ensures)
     ∙ sym (chained_some c.args.level _ c.args.links.items (some _ _ _ c.if-is_empty.false c.is_empty.ensures c.args.links.ok.0))

@@ -9,7 +9,7 @@ use Rattle.c_parse.proofs.external.opens.Goals as goal
 
 pub loop-rest-preserved : goal.loop-rest-preserved
 loop-rest-preserved c =
-    subst (λ (z : List Span). SoFar (is OpenParen) (expect OpenParen) c.args.terminals.now z c.in-Ok.read.1.now) (sym c.in_ok-push.ensures.items)
+    subst (λ (z : List Span). SoFar (is OpenParen) (expect OpenParen) c.args.terminals.now z c.in-Ok.read.1.now) (sym c.in_ok-push.ensures)
     (so_far-step _ _ _ c.loop-rest.found.items c.loop-rest.rest.now c.in-Ok.read.1.now c.in-Ok.read.0
     (sym c.heads.ensures ∙ c.loop-rest-test.true) c.in-Ok.ensures.read (expect_shorter _ _ _ c.in-Ok.ensures.read) c.loop-rest.invariant)
 

@@ -12,8 +12,8 @@ more_heads (terminal ∷ terminals) some = refl
 
 pub loop-rest-preserved : goal.loop-rest-preserved
 loop-rest-preserved c =
-    so_far-push external_view _ _ _ c.loop-rest.externals.items c.push.new.self.items c.in-Ok.read.0 c.loop-rest.rest.now c.in-Ok.read.1.now
-    (more_heads _ (sym c.is_empty.ensures ∙ c.loop-rest-test.true)) c.in-Ok.ensures (external_shorter _ _ c.in-Ok.ensures) c.in_ok-push.ensures.items c.loop-rest.invariant
+    so_far-push external_view _ _ _ c.loop-rest.externals.items c.push.new.list.items c.in-Ok.read.0 c.loop-rest.rest.now c.in-Ok.read.1.now
+    (more_heads _ (sym c.is_empty.ensures ∙ c.loop-rest-test.true)) c.in-Ok.ensures (external_shorter _ _ c.in-Ok.ensures) c.in_ok-push.ensures c.loop-rest.invariant
 
 pub loop-rest-smaller : goal.loop-rest-smaller
 loop-rest-smaller c = external_shorter _ _ c.in-Ok.ensures

@@ -6,8 +6,8 @@ use Rattle.c_parse.proofs.statement.+statement.Goals as goal
 
 pub parts-loop-alloc-preserved : goal.parts-loop-alloc-preserved
 parts-loop-alloc-preserved t c =
-    so_far-push part_view _ _ _ c.loop-alloc.found.items c.push.new.self.items c.in-Ok.read.0 c.loop-alloc.rest.now c.in-Ok.read.1.now
-    (sym c.heads.ensures ∙ c.loop-alloc-test.true) c.in-Ok.ensures (part_shorter _ _ _ c.in-Ok.ensures) c.in_ok-push.ensures.items c.loop-alloc.invariant
+    so_far-push part_view _ _ _ c.loop-alloc.found.items c.push.new.list.items c.in-Ok.read.0 c.loop-alloc.rest.now c.in-Ok.read.1.now
+    (sym c.heads.ensures ∙ c.loop-alloc-test.true) c.in-Ok.ensures (part_shorter _ _ _ c.in-Ok.ensures) c.in_ok-push.ensures c.loop-alloc.invariant
 
 pub parts-loop-alloc-smaller : goal.parts-loop-alloc-smaller
 parts-loop-alloc-smaller t c = part_shorter _ _ _ c.in-Ok.ensures

@@ -18,8 +18,11 @@ decreases-stmt l = 8 * l.left + 5
 abbrev pub decreases-body : goal.decreases-body
 decreases-body l = 8 * l.left + 4
 
+abbrev pub decreases-block_statement : goal.decreases-block_statement
+decreases-block_statement l = 8 * l.left + 2
+
 abbrev pub decreases-block : goal.decreases-block
-decreases-block l = 8 * l.left + 2
+decreases-block l = 8 * l.left + 8
 
 abbrev pub decreases-if_statement : goal.decreases-if_statement
 decreases-if_statement l = 8 * l.left + 3
