@@ -1,6 +1,8 @@
 -- A state at which one quiet call was followed.
-use Rattle.std.proofs.Common.{◌≡◌, ◌<◌, ◌≤◌, ◌+◌, ◌∙◌, ◌++◌, ◌∷◌, ◌⊎◌, ℕ, List, [], Option, Some, None, Bool, MatchBool, true, false, is_some, arith, inl, inr, refl, ap, sym, subst}
+use Rattle.std.proofs.Common.{◌≡◌, ◌<◌, ◌≤◌, ◌+◌, ◌∙◌, ◌++◌, ◌∷◌, ◌⊎◌, ℕ, List, [], Option, Some, None, Bool, MatchBool, true, false, is_some, length, ltb-false, nat_lt, slice_get, take, arith, inl, inr, refl, ap, sym, subst}
 use Rattle.std.proofs.lemmas.Bool.{cases_order}
+use Rattle.std.proofs.lemmas.List.{take_all}
+use Rattle.mpi_call.specs.Lists.{IsIn}
 use Rattle.mpi_call.specs.declared.call.Call.{Call}
 use Rattle.mpi_call.specs.declared.reply.Reply.{Reply}
 use Rattle.mpi_call.specs.declared.call.Halt.{Halt}
@@ -22,6 +24,7 @@ use Rattle.explore.specs.Courses.{IsAnswered}
 use Rattle.explore.specs.Explored.{made_by}
 use Rattle.explore.specs.QuietFirst.{AreReckonedBelow, HasLookedAtQuietly, HasMetQuietly, IsLastAnswered, IsLookedAtQuietly}
 use Rattle.explore.specs.Searching.{Grows, HasLookedAt, HasTried, IsFollowed, IsTried, histories}
+use Rattle.explore.proofs.Looking.{taken_more}
 use Rattle.explore.proofs.Stepping.{AreSame, snoc_same}
 use Rattle.explore.proofs.Tried.{stopped_by}
 use Rattle.explore.proofs.Trying.{looked_longer, met_longer}
@@ -133,3 +136,25 @@ not_both h = absurd (cc)
 pub hindered : {A B : Type 0} (o : Option A) → is_some o ≡ true → o ≡ None → B
 hindered None h none = (let no : false ≡ true = h in not_both no)
 hindered (Some x) h none = absurd (cc)
+
+pub some_none : {A B : Type 0} {x : A} → Some x ≡ None → B
+some_none h = absurd (cc)
+
+-- 6. all states
+
+pub quietly_more : (next : Next) (output : Output) (n polls : ℕ) (races : Races) (met met' : Met) (at : ℕ) (turns : List Turn)
+    → Grows met.states met'.states met.found met'.found met.polled met'.polled → slice_get met.states at ≡ Some turns
+    → ((one : List Turn) → IsIn one (take at met.states) → HasLookedAtQuietly next output n polls races met one) → HasLookedAtQuietly next output n polls races met' turns
+    → (one : List Turn) → IsIn one (take (at + 1) met'.states) → HasLookedAtQuietly next output n polls races met' one
+quietly_more next output n polls races met met' at turns grows got all here =
+    let L : List Turn → Type 0 = λ l. HasLookedAtQuietly next output n polls races met' l in
+    taken_more L at turns met.states met'.states grows.states_stay got (λ one front. quietly_longer next output n polls races met met' one grows (all one front)) here
+
+pub not_below : (a b : ℕ) → false ≡ nat_lt a b → b ≤ a
+not_below a b h = ltb-false a b (sym h)
+
+pub all_quietly : (P : List Turn → Type 0) (at : ℕ) (states : List (List Turn)) → length states ≤ at → ((one : List Turn) → IsIn one (take at states) → P one)
+    → (one : List Turn) → IsIn one states → P one
+all_quietly P at states enough all =
+    let F : List (List Turn) → Type 0 = λ l. (one : List Turn) → IsIn one l → P one in
+    subst F (take_all at states enough) all

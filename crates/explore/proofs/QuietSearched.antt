@@ -15,6 +15,7 @@ use Rattle.quiet_calls.specs.Quiet.{Races}
 use Rattle.explore.specs.declared.found.Explored.{Explored}
 use Rattle.explore.specs.declared.found.Found.{Found}
 use Rattle.explore.specs.declared.met.Met.{Met}
+use Rattle.explore.specs.declared.search.Attempt.TheVariants.{Whole}
 use Rattle.explore.specs.Explored.{AreApart, IsExplored, IsFound, IsListed, made_by}
 use Rattle.explore.specs.QuietFirst.{AllRunsAreListedQuietly, HasLookedAtQuietly, IsSearchedQuietly, PatientRunsAreListedQuietly, has_mismatch}
 use Rattle.explore.specs.Searching.{Grows, HasBegun, IsUnderWay}
@@ -74,3 +75,6 @@ explored_quietly next output n polls races under first met explored e found left
       divided_patient = λ more whole steady. inl (patient more whole steady);
       divided = λ never more whole. inl (all never more whole);
     }
+
+pub whole_is : (one other : Explored) → Whole one ≡ Whole other → one ≡ other
+whole_is one other h = cc

@@ -5,7 +5,7 @@ use Rattle.run_states.specs.Outcomes.{Output}
 use Rattle.explore.specs.Explored.{made_by}
 use Rattle.std.proofs.Common.{drop}
 use Rattle.explore.proofs.Looking.{explored_all}
-use Rattle.explore.proofs.search.explore.Goals as goal
+use Rattle.explore.proofs.search.search_all.Goals as goal
 
 pub returns : goal.returns
 returns g c =
