@@ -1,17 +1,35 @@
 -- Laws of the names and forms of the commands.
-use Rattle.std.proofs.Common.{◌≡◌, ◌≢◌, ◌∙◌, ap, refl, sym, true, false, Bool, cond, Option, Some, None, List, [], ◌∷◌, find, slice_get, Bor}
+use Rattle.std.proofs.Common.{◌≡◌, ◌≢◌, ◌≤◌, ◌-◌, ◌∙◌, ap, arith, refl, sym, true, false, Bool, cond, Option, Some, None, List, [], ◌∷◌, drop, find, fold, get_or, length, map, slice_get, take, Bor}
+use Rattle.std.proofs.Math.Seq.{take-length}
 use Rattle.std.specs.Prelude.{MatchOption, option_map}
 use Rattle.std.specs.Str.{bytes_eq}
 use Rattle.std.proofs.lemmas.Option.{slice_get-map}
 use Rattle.std.proofs.lemmas.Slice.Eq.{bytes_eq-Decides}
-use Rattle.clap.specs.Words.{App, Row, Text, fault_of, is_simple_and_free, matches_of}
+use Rattle.clap.specs.Words.{AddsArg, App, Row, Text, app_of, fault_of, is_simple_and_free, matches_of, new_app, rule_of, with_rule}
+use Rattle.clap.specs.declared.builder.arg.Arg.{Arg}
+use Rattle.clap.specs.declared.builder.command.Command.{Command as Form}
 use Rattle.clap.proofs.OnLiterals.{clap_on_literals}
 use Rattle.wiz_words.specs.declared.command.Command.{Command}
 use Rattle.wiz_words.specs.declared.command.Verb.{Verb}
 use Rattle.wiz_words.specs.declared.command.Verb.TheVariants.{Record, Check, Races, Advise, Demo, Replay, Show, Stats, Convert, Refine, Join, Diff, Waits, Picture, Watch, At, Where, Explore}
-use Rattle.wiz_words.specs.Forms.{form_of, name_of, verb_named, verbs}
+use Rattle.wiz_words.specs.declared.forms.Form.{Form as FormRow}
+use Rattle.wiz_words.specs.declared.forms.FormPart.{FormPart}
+use Rattle.wiz_words.specs.Forms.{IsForm, form_of, name_of, rule_by, verb_named, verbs}
 use Rattle.wiz_words.specs.Texts.{texts, with_texts}
 use Rattle.wiz_words.specs.Words.{AskFor, AskForNothing, IsCommandIn, verb_of}
+
+-- the first part is added to a form, and the others are left
+pub one_more : (whole : App) (form more : Form) (argument : Arg) (parts : List FormPart) (other : FormPart) → 1 ≤ length parts
+    → rule_of argument ≡ rule_by (get_or parts 0 other) → AddsArg form argument more → argument.global ≡ false → fold with_rule (app_of form) (map rule_by parts) ≡ whole
+    → fold with_rule (app_of more) (map rule_by (take (length parts - 1) (drop 1 parts))) ≡ whole
+one_more whole form more argument [] other some rule adds local so_far = absurd (omega arith)
+one_more whole form more argument (first ∷ after) other some rule adds local so_far =
+    let less : length (first ∷ after) - 1 ≡ length after = omega arith in
+    rw (less, take-length after, adds.shape local, rule) so_far
+
+-- the form that is made of a row is that of its command
+pub form_is : (app : App) (form : FormRow) → IsForm form → app ≡ fold with_rule (new_app form.name.now) (map rule_by form.parts.now) → app ≡ form_of form.verb
+form_is app form is made = rw (made, is.name_is, is.rules_are) refl
 
 -- clap's exact reading covers each form
 pub form_is_simple : (verb : Verb) → is_simple_and_free (form_of verb) ≡ true

@@ -1,10 +1,13 @@
 -- The commands by name, and the arguments of each, in the terms of clap.
-use Rattle.std.specs.Prelude.{List, [], ◌∷◌, ◌++◌, Option, Some, true, codes, find, fold}
+use Rattle.std.specs.Prelude.{◌≡◌, List, [], ◌∷◌, ◌++◌, Option, Some, true, codes, find, fold, map}
 use Rattle.std.specs.Str.{bytes_eq}
 use Rattle.clap.specs.Words.{App, Rule, Text, new_app, new_rule, with_rule}
 use Rattle.clap.specs.declared.builder.action.ArgAction.TheVariants.{SetTrue}
 use Rattle.wiz_words.specs.declared.command.Verb.{Verb}
 use Rattle.wiz_words.specs.declared.command.Verb.TheVariants.{Record, Check, Races, Advise, Demo, Replay, Show, Stats, Convert, Refine, Join, Diff, Waits, Picture, Watch, At, Where, Explore}
+use Rattle.wiz_words.specs.declared.forms.Form.{Form}
+use Rattle.wiz_words.specs.declared.forms.FormPart.{FormPart}
+use Rattle.wiz_words.specs.declared.forms.FormPart.TheVariants.{Positional, Valued, Flag}
 
 -- the first word of each command
 abbrev pub name_of : Verb → Text
@@ -46,6 +49,12 @@ option name = record (new_rule name) { long = Some name }
 abbrev pub flag : Text → Rule
 flag name = record (new_rule name) { long = Some name; action = Some SetTrue }
 
+-- the rule of a part of a form
+abbrev pub rule_by : FormPart → Rule
+rule_by (Positional name) = positional name.now
+rule_by (Valued name) = option name.now
+rule_by (Flag name) = flag name.now
+
 -- the arguments of a command that records a run and tells of it
 abbrev pub arguments_of_run : List Rule
 arguments_of_run = positional (codes "PROGRAM") ∷ positional (codes "PLAN") ∷ option (codes "order") ∷ flag (codes "serial") ∷ []
@@ -79,3 +88,8 @@ arguments_of Explore =
 -- the clap command that reads the arguments of a command: its name and its arguments, and no other setting
 abbrev pub form_of : Verb → App
 form_of verb = fold with_rule (new_app (name_of verb)) (arguments_of verb)
+
+-- a row of the table of forms: it has the name of its command, and a part for each of its arguments
+pub record IsForm (form : Form) : Type 0 where
+  pub name_is : form.name.now ≡ name_of form.verb
+  pub rules_are : map rule_by form.parts.now ≡ arguments_of form.verb

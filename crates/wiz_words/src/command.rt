@@ -28,7 +28,6 @@ pub enum Verb {
 
 /// The program and the plan of a run, and how its ranks take their turns. With neither an order nor `is_serial` each rank
 /// has a thread of its own; the two stand together in a search alone.
-#[derive(PartialEq, Eq)]
 pub struct RunWords<T> {
     pub program: T,
     pub plan: T,
@@ -51,7 +50,6 @@ impl<T: Copy> Clone for RunWords<T> {
 impl<T: Copy> Copy for RunWords<T> {}
 
 /// The log of a replay, and how it is replayed.
-#[derive(PartialEq, Eq)]
 pub struct ReplayWords<T> {
     pub log: T,
     /// The file of a program that takes the place of the log's own.
@@ -75,7 +73,6 @@ impl<T: Copy> Clone for ReplayWords<T> {
 impl<T: Copy> Copy for ReplayWords<T> {}
 
 /// A command with what its arguments say.
-#[derive(PartialEq, Eq)]
 pub enum Command<T> {
     /// Records a run; `prefix` is the front of the names of the files that are written.
     Record {

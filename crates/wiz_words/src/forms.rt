@@ -1,170 +1,274 @@
-//! The commands by name, and one clap command for each.
-ghost use Rattle.std.specs.Prelude.{◌≡◌, IfOk, codes, fold, map};
-ghost use Rattle.clap.specs.Words.{app_of, new_app, with_rule};
-ghost use Rattle.wiz_words.specs.Forms.{flag, form_of, option, positional, verb_named};
-ghost use Rattle.wiz_words.specs.Texts.{texts};
-ghost use Rattle.wiz_words.specs.declared.command.Verb.TheVariants.{Explore, Picture};
+//! The forms of the commands, as a table, and the clap command that reads one.
+ghost use Rattle.std.specs.Prelude.{◌≡◌, IfOk, MatchOption, None, Some, false, fold, map};
+ghost use Rattle.clap.specs.Words.{app_of, new_app, rule_of, with_rule};
+ghost use Rattle.wiz_words.specs.Forms.{IsForm, rule_by, verb_named};
 
 use crate::command::Verb;
+use crate::forms::FormPart::{Flag, Positional, Valued};
 use clap::{Arg, ArgAction, Command};
 use std::alloc::{AllocError, Global};
 
-/// The command of a name.
-pub fn verb_named(name: &str) -> Option<Verb>
-    ensures { result ≡ verb_named name.now }
-{
-    match name {
-        "record" => Some(Verb::Record),
-        "check" => Some(Verb::Check),
-        "races" => Some(Verb::Races),
-        "advise" => Some(Verb::Advise),
-        "demo" => Some(Verb::Demo),
-        "replay" => Some(Verb::Replay),
-        "show" => Some(Verb::Show),
-        "stats" => Some(Verb::Stats),
-        "convert" => Some(Verb::Convert),
-        "refine" => Some(Verb::Refine),
-        "join" => Some(Verb::Join),
-        "diff" => Some(Verb::Diff),
-        "waits" => Some(Verb::Waits),
-        "picture" => Some(Verb::Picture),
-        "watch" => Some(Verb::Watch),
-        "at" => Some(Verb::At),
-        "where" => Some(Verb::Where),
-        "explore" => Some(Verb::Explore),
-        _ => None,
-    }
+/// A command, its name, and the parts that its arguments have.
+pub struct Form {
+    pub verb: Verb,
+    pub name: &'static str,
+    pub parts: &'static [FormPart],
 }
 
-/// The clap command that reads the arguments of a command.
-pub fn form_of<'a>(alloc: Global, verb: Verb) -> Result<Command<'a>, AllocError>
-    ensures { IfOk result (λ form. app_of form ≡ form_of verb) }
+/// A part of a form, by its name.
+#[derive(Clone, Copy)]
+pub enum FormPart {
+    /// A value that has to be there, by its place.
+    Positional(&'static str),
+    /// An option that has a value.
+    Valued(&'static str),
+    /// An option that has no value.
+    Flag(&'static str),
+}
+
+/// The arguments of a recording.
+const RECORD: &[FormPart] = &[
+    Positional("PROGRAM"),
+    Positional("PLAN"),
+    Positional("PREFIX"),
+    Valued("order"),
+    Flag("serial"),
+];
+
+/// The arguments of a check.
+const CHECK: &[FormPart] = &[Positional("PROGRAM"), Positional("PLAN"), Flag("serial")];
+
+/// The arguments of a list of races.
+const RACES: &[FormPart] = &[
+    Positional("PROGRAM"),
+    Positional("PLAN"),
+    Valued("order"),
+    Flag("serial"),
+    Valued("orders"),
+];
+
+/// The arguments of an advice.
+const ADVISE: &[FormPart] = &[
+    Positional("PROGRAM"),
+    Positional("PLAN"),
+    Positional("K"),
+    Valued("order"),
+    Flag("serial"),
+];
+
+/// The arguments of a demo.
+const DEMO: &[FormPart] = &[Positional("SEED"), Positional("ROUNDS")];
+
+/// The arguments of a replay.
+const REPLAY: &[FormPart] = &[
+    Positional("LOG"),
+    Valued("program"),
+    Valued("break"),
+    Flag("serial"),
+];
+
+/// The arguments of what reads one log.
+const SHOW: &[FormPart] = &[Positional("LOG")];
+
+/// The arguments of a conversion.
+const CONVERT: &[FormPart] = &[Positional("LOG"), Positional("FILE"), Flag("text")];
+
+/// The arguments of a refinement.
+const REFINE: &[FormPart] = &[Positional("LOG"), Positional("PLAN"), Positional("PREFIX")];
+
+/// The arguments of a join.
+const JOIN: &[FormPart] = &[Positional("LOG"), Positional("OTHER"), Positional("FILE")];
+
+/// The arguments of a comparison.
+const DIFF: &[FormPart] = &[Positional("LOG"), Positional("OTHER")];
+
+/// The arguments of a list of waits.
+const WAITS: &[FormPart] = &[
+    Positional("PROGRAM"),
+    Positional("PLAN"),
+    Valued("order"),
+    Flag("serial"),
+];
+
+/// The arguments of a picture.
+const PICTURE: &[FormPart] = &[
+    Positional("PROGRAM"),
+    Positional("PLAN"),
+    Positional("FILE"),
+    Valued("order"),
+    Flag("trace"),
+    Flag("serial"),
+];
+
+/// The arguments of a watch.
+const WATCH: &[FormPart] = &[
+    Positional("LOG"),
+    Positional("RANK"),
+    Positional("NAME"),
+    Valued("program"),
+    Flag("serial"),
+];
+
+/// The arguments of a place of a replay.
+const AT: &[FormPart] = &[
+    Positional("LOG"),
+    Positional("break"),
+    Valued("program"),
+    Flag("serial"),
+];
+
+/// The arguments of the way of a message.
+const WHERE: &[FormPart] = &[
+    Positional("LOG"),
+    Positional("MESSAGE"),
+    Valued("program"),
+    Flag("serial"),
+];
+
+/// The arguments of a search.
+const EXPLORE: &[FormPart] = &[
+    Positional("PROGRAM"),
+    Positional("PLAN"),
+    Positional("PREFIX"),
+    Valued("most"),
+    Valued("polls"),
+    Valued("under"),
+];
+
+/// How many commands there are.
+const COMMANDS: usize = 18;
+
+/// The forms of the commands.
+static FORMS: [Form; COMMANDS] = [
+    Form {
+        verb: Verb::Record,
+        name: "record",
+        parts: RECORD,
+    },
+    Form {
+        verb: Verb::Check,
+        name: "check",
+        parts: CHECK,
+    },
+    Form {
+        verb: Verb::Races,
+        name: "races",
+        parts: RACES,
+    },
+    Form {
+        verb: Verb::Advise,
+        name: "advise",
+        parts: ADVISE,
+    },
+    Form {
+        verb: Verb::Demo,
+        name: "demo",
+        parts: DEMO,
+    },
+    Form {
+        verb: Verb::Replay,
+        name: "replay",
+        parts: REPLAY,
+    },
+    Form {
+        verb: Verb::Show,
+        name: "show",
+        parts: SHOW,
+    },
+    Form {
+        verb: Verb::Stats,
+        name: "stats",
+        parts: SHOW,
+    },
+    Form {
+        verb: Verb::Convert,
+        name: "convert",
+        parts: CONVERT,
+    },
+    Form {
+        verb: Verb::Refine,
+        name: "refine",
+        parts: REFINE,
+    },
+    Form {
+        verb: Verb::Join,
+        name: "join",
+        parts: JOIN,
+    },
+    Form {
+        verb: Verb::Diff,
+        name: "diff",
+        parts: DIFF,
+    },
+    Form {
+        verb: Verb::Waits,
+        name: "waits",
+        parts: WAITS,
+    },
+    Form {
+        verb: Verb::Picture,
+        name: "picture",
+        parts: PICTURE,
+    },
+    Form {
+        verb: Verb::Watch,
+        name: "watch",
+        parts: WATCH,
+    },
+    Form {
+        verb: Verb::At,
+        name: "at",
+        parts: AT,
+    },
+    Form {
+        verb: Verb::Where,
+        name: "where",
+        parts: WHERE,
+    },
+    Form {
+        verb: Verb::Explore,
+        name: "explore",
+        parts: EXPLORE,
+    },
+];
+
+/// The form of the command of a name.
+pub fn form_named(name: &str) -> Option<&'static Form>
+    ensures { MatchOption result (verb_named name.now ≡ None)
+        (λ form. (verb_named name.now ≡ Some form.now.verb) × IsForm form.now) }
 {
-    match verb {
-        Verb::Record => run_form(alloc, "record", &["PROGRAM", "PLAN", "PREFIX"]),
-        Verb::Check => {
-            let form = form_named(alloc, "check", &["PROGRAM", "PLAN"])?;
-            with_flag(alloc, form, "serial")
+    let mut rest: &[Form] = &FORMS;
+    while let [form, after @ ..] = rest {
+        if name == form.name {
+            return Some(form);
         }
-        Verb::Races => {
-            let form = run_form(alloc, "races", &["PROGRAM", "PLAN"])?;
-            with_option(alloc, form, "orders")
-        }
-        Verb::Advise => run_form(alloc, "advise", &["PROGRAM", "PLAN", "K"]),
-        Verb::Demo => form_named(alloc, "demo", &["SEED", "ROUNDS"]),
-        Verb::Replay => {
-            let form = form_named(alloc, "replay", &["LOG"])?;
-            let form = with_option(alloc, form, "program")?;
-            let form = with_option(alloc, form, "break")?;
-            with_flag(alloc, form, "serial")
-        }
-        Verb::Show => form_named(alloc, "show", &["LOG"]),
-        Verb::Stats => form_named(alloc, "stats", &["LOG"]),
-        Verb::Convert => {
-            let form = form_named(alloc, "convert", &["LOG", "FILE"])?;
-            with_flag(alloc, form, "text")
-        }
-        Verb::Refine => form_named(alloc, "refine", &["LOG", "PLAN", "PREFIX"]),
-        Verb::Join => form_named(alloc, "join", &["LOG", "OTHER", "FILE"]),
-        Verb::Diff => form_named(alloc, "diff", &["LOG", "OTHER"]),
-        Verb::Waits => run_form(alloc, "waits", &["PROGRAM", "PLAN"]),
-        Verb::Picture => picture_form(alloc),
-        Verb::Watch => replay_form(alloc, "watch", &["LOG", "RANK", "NAME"]),
-        Verb::At => replay_form(alloc, "at", &["LOG", "break"]),
-        Verb::Where => replay_form(alloc, "where", &["LOG", "MESSAGE"]),
-        Verb::Explore => explore_form(alloc),
-    }
-}
-
-/// The form of a picture.
-fn picture_form<'a>(alloc: Global) -> Result<Command<'a>, AllocError>
-    ensures { IfOk result (λ form. app_of form ≡ form_of Picture) }
-{
-    let form = form_named(alloc, "picture", &["PROGRAM", "PLAN", "FILE"])?;
-    let form = with_option(alloc, form, "order")?;
-    let form = with_flag(alloc, form, "trace")?;
-    with_flag(alloc, form, "serial")
-}
-
-/// The form of this name with these values that have to be there, and with what says how the ranks of a run take their turns.
-fn run_form<'a>(alloc: Global, name: &'a str, values: &[&'a str]) -> Result<Command<'a>, AllocError>
-    ensures { IfOk result (λ form. app_of form
-        ≡ with_rule (with_rule (fold with_rule (new_app name.entry.now) (map positional (texts values.now))) (option (codes "order"))) (flag (codes "serial"))) }
-{
-    let form = form_named(alloc, name, values)?;
-    let form = with_option(alloc, form, "order")?;
-    with_flag(alloc, form, "serial")
-}
-
-/// The form of this name with these values that have to be there, and with what says which program a log is replayed with, and how.
-fn replay_form<'a>(
-    alloc: Global,
-    name: &'a str,
-    values: &[&'a str],
-) -> Result<Command<'a>, AllocError>
-    ensures { IfOk result (λ form. app_of form
-        ≡ with_rule (with_rule (fold with_rule (new_app name.entry.now) (map positional (texts values.now))) (option (codes "program"))) (flag (codes "serial"))) }
-{
-    let form = form_named(alloc, name, values)?;
-    let form = with_option(alloc, form, "program")?;
-    with_flag(alloc, form, "serial")
-}
-
-/// The form of a search.
-fn explore_form<'a>(alloc: Global) -> Result<Command<'a>, AllocError>
-    ensures { IfOk result (λ form. app_of form ≡ form_of Explore) }
-{
-    let form = form_named(alloc, "explore", &["PROGRAM", "PLAN", "PREFIX"])?;
-    let form = with_option(alloc, form, "most")?;
-    let form = with_option(alloc, form, "polls")?;
-    with_option(alloc, form, "under")
-}
-
-/// The form of this name with these values that have to be there, each by its place.
-fn form_named<'a>(
-    alloc: Global,
-    name: &'a str,
-    values: &[&'a str],
-) -> Result<Command<'a>, AllocError>
-    ensures { IfOk result (λ form. app_of form ≡ fold with_rule (new_app name.entry.now) (map positional (texts values.now))) }
-{
-    let mut form = Command::new(alloc, name);
-    let mut rest = values;
-    while let [value, after @ ..] = rest {
-        form = with_positional(alloc, form, *value)?;
         rest = after;
     }
-    Ok(form)
+    None
 }
 
-/// A form with one more value that has to be there, by its place.
-fn with_positional<'a>(
-    alloc: Global,
-    form: Command<'a>,
-    name: &'a str,
-) -> Result<Command<'a>, AllocError>
-    ensures { IfOk result (λ more. app_of more ≡ with_rule (app_of form.entry) (positional name.entry.now)) }
+/// The clap command that reads the arguments of a form.
+pub fn clap_form<'a>(alloc: Global, form: &Form) -> Result<Command<'a>, AllocError>
+    ensures { IfOk result (λ read. app_of read ≡ fold with_rule (new_app form.now.name.now) (map rule_by form.now.parts.now)) }
 {
-    let argument = Arg::new(alloc, name).required(true);
-    form.arg(argument)
+    let name: &'a str = form.name;
+    let mut read = Command::new(alloc, name);
+    let mut rest = form.parts;
+    while let [part, after @ ..] = rest {
+        read = read.arg(argument_of(alloc, *part))?;
+        rest = after;
+    }
+    Ok(read)
 }
 
-/// A form with one more option that has a value.
-fn with_option<'a>(
-    alloc: Global,
-    form: Command<'a>,
-    name: &'a str,
-) -> Result<Command<'a>, AllocError>
-    ensures { IfOk result (λ more. app_of more ≡ with_rule (app_of form.entry) (option name.entry.now)) }
+/// The argument of a part.
+fn argument_of<'a>(alloc: Global, part: FormPart) -> Arg<'a>
+    ensures rule { rule_of result ≡ rule_by part }
+    ensures local { result.global ≡ false }
 {
-    let argument = Arg::new(alloc, name).long(name);
-    form.arg(argument)
-}
-
-/// A form with one more option that has no value.
-fn with_flag<'a>(alloc: Global, form: Command<'a>, name: &'a str) -> Result<Command<'a>, AllocError>
-    ensures { IfOk result (λ more. app_of more ≡ with_rule (app_of form.entry) (flag name.entry.now)) }
-{
-    let argument = Arg::new(alloc, name).long(name).action(ArgAction::SetTrue);
-    form.arg(argument)
+    match part {
+        Positional(name) => Arg::new(alloc, name).required(true),
+        Valued(name) => Arg::new(alloc, name).long(name),
+        Flag(name) => Arg::new(alloc, name).long(name).action(ArgAction::SetTrue),
+    }
 }

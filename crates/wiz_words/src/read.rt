@@ -10,7 +10,7 @@ ghost use Rattle.wiz_words.specs.Values.{given_by, value_in};
 ghost use Rattle.wiz_words.specs.Words.{AreReplayWords, AreRunWords, AreSearchWords, AskFor, AskForNothing, AskForOneThing, IsCommandIn};
 
 use crate::command::{Command, ReplayWords, RunWords, Verb};
-use crate::forms::{form_of, verb_named};
+use crate::forms::{clap_form, form_named};
 use crate::values::{breakpoint, flag_in, matches_of, name_in, number_in, number_or, value_in};
 use clap::ArgMatches;
 use std::alloc::{AllocError, Global};
@@ -63,11 +63,11 @@ pub fn read_command<'a>(
     let Some(name) = words.first() else {
         return Ok(None);
     };
-    let Some(verb) = verb_named(*name) else {
+    let Some(form) = form_named(*name) else {
         return Ok(None);
     };
-    match matches_of(form_of(alloc, verb)?, words)? {
-        Some(matches) => Ok(command_from(verb, &matches)),
+    match matches_of(clap_form(alloc, form)?, words)? {
+        Some(matches) => Ok(command_from(form.verb, &matches)),
         None => Ok(None),
     }
 }

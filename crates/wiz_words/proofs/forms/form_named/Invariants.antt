@@ -1,12 +1,13 @@
-use Rattle.std.proofs.Common.{◌≡◌, fold, map, length}
-use Rattle.clap.specs.Words.{app_of, new_app, with_rule}
-use Rattle.wiz_words.specs.Forms.{positional}
-use Rattle.wiz_words.specs.Texts.{texts}
+use Rattle.std.proofs.Common.{◌≡◌, find, length, map}
+use Rattle.std.specs.List.{AllByRecursion}
+use Rattle.std.specs.Str.{bytes_eq}
+use Rattle.wiz_words.specs.declared.forms.Form.{Form}
+use Rattle.wiz_words.specs.Forms.{IsForm, name_of, verb_named}
 use Rattle.wiz_words.proofs.forms.form_named.Given as goal
 
 abbrev pub invariant-loop-rest : goal.invariant-loop-rest
 invariant-loop-rest l =
-    fold with_rule (app_of l.form) (map positional (texts l.rest)) ≡ fold with_rule (new_app l.name) (map positional (texts l.values))
+    (find (λ verb. bytes_eq l.fn.name (name_of verb)) (map (λ (form : Form). form.verb) l.rest) ≡ verb_named l.fn.name) × AllByRecursion IsForm l.rest
 
 abbrev pub decreases-loop-rest : goal.decreases-loop-rest
 decreases-loop-rest l = length l.rest
