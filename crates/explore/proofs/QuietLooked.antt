@@ -1,5 +1,5 @@
 -- A state at which one quiet call was followed.
-use Rattle.std.proofs.Common.{◌≡◌, ◌<◌, ◌≤◌, ◌+◌, ◌∙◌, ◌++◌, ◌∷◌, ◌⊎◌, ℕ, List, [], Option, Some, None, Bool, MatchBool, true, false, is_some, length, ltb-false, nat_lt, slice_get, take, arith, inl, inr, refl, ap, sym, subst}
+use Rattle.std.proofs.Common.{◌≡◌, ◌<◌, ◌≤◌, ◌+◌, ◌∙◌, ◌++◌, ◌∷◌, ℕ, List, [], Option, Some, None, Bool, MatchBool, true, false, is_some, length, ltb-false, nat_lt, slice_get, take, arith, inl, inr, ap, sym, subst}
 use Rattle.std.proofs.lemmas.Bool.{cases_order}
 use Rattle.std.proofs.lemmas.List.{take_all}
 use Rattle.mpi_call.specs.Lists.{IsIn}
@@ -16,14 +16,13 @@ use Rattle.picked_runs.specs.declared.turn.Pick.TheVariants.{First}
 use Rattle.picked_runs.specs.declared.turn.Turn.{Turn}
 use Rattle.picked_runs.specs.Picks.{picked_event, picked_reply}
 use Rattle.run_states.specs.Outcomes.{IsProbeKept, Output}
-use Rattle.quiet_calls.specs.Closure.{IsFarBelow, IsQuietCallMet}
-use Rattle.quiet_calls.specs.Quiet.{Races, is_calm, is_quiet, is_reckoned}
-use Rattle.explore.specs.declared.found.Found.{Found}
+use Rattle.quiet_calls.specs.Closure.{IsQuietCallMet}
+use Rattle.quiet_calls.specs.Quiet.{Races, is_quiet, is_reckoned}
 use Rattle.explore.specs.declared.met.Met.{Met}
 use Rattle.explore.specs.Courses.{IsAnswered}
 use Rattle.explore.specs.Explored.{made_by}
-use Rattle.explore.specs.QuietFirst.{AreReckonedBelow, HasLookedAtQuietly, HasMetQuietly, IsLastAnswered, IsLookedAtQuietly}
-use Rattle.explore.specs.Searching.{Grows, HasLookedAt, HasTried, IsFollowed, IsTried, histories}
+use Rattle.explore.specs.QuietFirst.{AreReckonedBelow, HasLookedAtQuietly, IsLastAnswered}
+use Rattle.explore.specs.Searching.{Grows, HasTried, IsFollowed, histories}
 use Rattle.explore.proofs.Looking.{taken_more}
 use Rattle.explore.proofs.Stepping.{AreSame, snoc_same}
 use Rattle.explore.proofs.Tried.{stopped_by}

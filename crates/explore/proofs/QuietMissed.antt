@@ -1,7 +1,6 @@
 -- Where every state was looked at with quiet calls first, nothing is missed.
 use Rattle.std.proofs.Common.{◌≡◌, ◌∙◌, ◌++◌, ◌∷◌, ◌⊎◌, ℕ, List, [], Bool, true, false, inl, inr, refl, ap, sym, subst}
 use Rattle.std.proofs.lemmas.Bool.{or_parts}
-use Rattle.mpi_call.specs.declared.call.Call.{Call}
 use Rattle.mpi_call.specs.declared.call.Halt.TheVariants.{Mismatched}
 use Rattle.mpi_call.specs.Lists.{IsIn}
 use Rattle.run_model.specs.declared.event.Event.{Event}
@@ -10,13 +9,13 @@ use Rattle.run_model.specs.Serial.{call_after}
 use Rattle.run_model.specs.Views.{Next}
 use Rattle.run_model.proofs.Along.{Along-front}
 use Rattle.picked_runs.specs.declared.turn.Turn.{Turn}
-use Rattle.run_states.specs.Outcomes.{IsPatientEvent, IsProbeKept, Outcome, Output, outcome_of}
+use Rattle.run_states.specs.Outcomes.{IsProbeKept, Outcome, Output, outcome_of}
 use Rattle.run_states.specs.StateLaws.{IsOutcomeMet, IsPatientStep}
 use Rattle.quiet_calls.specs.Closure.{AreClosedQuietly, AreMovesMet, AreReckonedWith, IsOnItsWay, IsQuietCallMet, QuietCallsMissNothing, QuietCallsMissNothingPatient}
-use Rattle.quiet_calls.specs.Quiet.{Races, is_calm, is_reckoned}
+use Rattle.quiet_calls.specs.Quiet.{Races, is_calm}
 use Rattle.explore.specs.declared.found.Found.{Found}
 use Rattle.explore.specs.Explored.{IsListed, made_by}
-use Rattle.explore.specs.QuietFirst.{AllRunsAreListedQuietly, IsLookedAtQuietly, IsSearchedQuietly, PatientRunsAreListedQuietly, has_mismatch, is_mismatch}
+use Rattle.explore.specs.QuietFirst.{AllRunsAreListedQuietly, IsLookedAtQuietly, IsSearchedQuietly, PatientRunsAreListedQuietly, has_mismatch, is_mismatched_ending}
 use Rattle.explore.specs.Searching.{IsLookedAt, histories}
 use Rattle.explore.proofs.Noting.{along_join}
 use Rattle.explore.proofs.NothingMissed.{history_in, listed_as}
@@ -68,11 +67,11 @@ open_all next output n polls races states listed polled (first ∷ some) all =
 
 -- 2. the histories are closed, and reckoned with
 
-none_in : (listed : List Found) (found : Found) → has_mismatch listed ≡ false → IsIn found listed → is_mismatch found.outcome.ending ≡ false
+none_in : (listed : List Found) (found : Found) → has_mismatch listed ≡ false → IsIn found listed → is_mismatched_ending found.outcome.ending ≡ false
 none_in [] found none there = absurd there
 none_in (first ∷ listed) found none there =
-    let parts = or_parts (is_mismatch first.outcome.ending) (has_mismatch listed) none in
-    let F : Found → Type 0 = λ f. is_mismatch f.outcome.ending ≡ false in
+    let parts = or_parts (is_mismatched_ending first.outcome.ending) (has_mismatch listed) none in
+    let F : Found → Type 0 = λ f. is_mismatched_ending f.outcome.ending ≡ false in
     elim there [
       | inl same ↦ subst F same parts.0
       | inr later ↦ none_in listed found parts.1 later
@@ -128,7 +127,7 @@ reckoned next output n polls races root states listed polled s o =
           (s.looked found.0 found.1).reckoned.calls rank call below (ap (λ l. call_after next n l rank) found.2 ∙ asked));
       agreed = λ whole before rank call pick second there halting. (
           let listed_is = (o.looked before there).halts rank call pick (Mismatched second) halting in
-          let ended : is_mismatch (listed_is.0).outcome.ending ≡ true = ap (λ (x : Outcome). is_mismatch x.ending) listed_is.2 in
+          let ended : is_mismatched_ending (listed_is.0).outcome.ending ≡ true = ap (λ (x : Outcome). is_mismatched_ending x.ending) listed_is.2 in
           let no : true ≡ false = sym ended ∙ none_in listed listed_is.0 (s.agreed whole) listed_is.1 in
           cc);
     }

@@ -1,21 +1,19 @@
 -- From all states that were looked at with quiet calls first a search is whole.
-use Rattle.std.proofs.Common.{◌≡◌, ◌≢◌, ◌∙◌, ◌++◌, ℕ, List, [], Bool, Some, None, false, inl, inr, ap, sym, subst}
-use Rattle.mpi_call.specs.declared.call.Halt.TheVariants.{Mismatched}
+use Rattle.std.proofs.Common.{◌≡◌, ◌∙◌, ◌++◌, ℕ, List, [], None, false, inl, inr, sym, subst}
 use Rattle.mpi_call.specs.Lists.{IsIn}
-use Rattle.run_model.specs.declared.ending.Ending.TheVariants.{Halted}
 use Rattle.run_model.specs.declared.event.Event.{Event}
 use Rattle.run_model.specs.Due.{halted}
 use Rattle.run_model.specs.Lists.{Along}
 use Rattle.run_model.specs.Views.{Next}
 use Rattle.run_model.proofs.Views.{option_cases}
 use Rattle.picked_runs.specs.declared.turn.Turn.{Turn}
-use Rattle.run_states.specs.Outcomes.{IsPatientEvent, IsWhole, Outcome, Output, outcome_of}
+use Rattle.run_states.specs.Outcomes.{IsPatientEvent, IsWhole, Output, outcome_of}
 use Rattle.run_states.specs.StateLaws.{HaltsDecideOutcomes}
 use Rattle.quiet_calls.specs.Quiet.{Races}
 use Rattle.explore.specs.declared.found.Explored.{Explored}
 use Rattle.explore.specs.declared.found.Found.{Found}
 use Rattle.explore.specs.declared.met.Met.{Met}
-use Rattle.explore.specs.declared.search.Attempt.TheVariants.{Whole}
+use Rattle.explore.specs.declared.search.QuietSearch.TheVariants.{Whole}
 use Rattle.explore.specs.Explored.{AreApart, IsExplored, IsFound, IsListed, made_by}
 use Rattle.explore.specs.QuietFirst.{AllRunsAreListedQuietly, HasLookedAtQuietly, IsSearchedQuietly, PatientRunsAreListedQuietly, has_mismatch}
 use Rattle.explore.specs.Searching.{Grows, HasBegun, IsUnderWay}

@@ -39,12 +39,12 @@ pub record IsLookedAtQuietly (next : Next) (output : Output) (n polls : ℕ) (ra
   pub looked : IsLookedAt next output n polls states listed polled before ⊎ IsQuietCallMet next n races (histories next n states) before
 
 -- a run that ended by a mismatch; whether one of these did that were found
-abbrev pub is_mismatch : Ending → Bool
-is_mismatch (Halted (Mismatched second)) = true
-is_mismatch ending = false
+abbrev pub is_mismatched_ending : Ending → Bool
+is_mismatched_ending (Halted (Mismatched second)) = true
+is_mismatched_ending ending = false
 
 abbrev pub has_mismatch : List Found → Bool
-has_mismatch listed = list_any (λ found. is_mismatch found.outcome.ending) listed
+has_mismatch listed = list_any (λ found. is_mismatched_ending found.outcome.ending) listed
 
 -- each state of a root was looked at so, and the root is met; where no rank completes in part, nothing that is listed ended by a mismatch
 pub record IsSearchedQuietly (next : Next) (output : Output) (n polls : ℕ) (races : Races) (root : List Event) (states : List (List Turn)) (listed : List Found) (polled : Bool) : Type 0 where

@@ -9,7 +9,7 @@ ghost use Rattle.quiet_calls.specs.Closure.{IsFarBelow};
 ghost use Rattle.explore.specs.Courses.{IsCourse, IsSetting};
 ghost use Rattle.explore.specs.Explored.{made_by};
 ghost use Rattle.explore.specs.RaceFlags.{races_of};
-ghost use Rattle.explore.specs.QuietFirst.{AreReckonedBelow, HasLookedAtQuietly, HasMetQuietly, IsLastAnswered, IsReckonedWith, has_mismatch, is_mismatch};
+ghost use Rattle.explore.specs.QuietFirst.{AreReckonedBelow, HasLookedAtQuietly, HasMetQuietly, IsLastAnswered, IsReckonedWith, has_mismatch, is_mismatched_ending};
 ghost use Rattle.explore.specs.Searching.{IsState, IsUnderWay, WentOn};
 
 use crate::course::{Bounds, Course, Setting, after_turns, answer};
@@ -227,8 +227,8 @@ pub fn look_quietly<'a, P: Program, R: RankRun<Of = P>, S: StartRanks<P, R>>(
 }
 
 /// Whether a run ended by a mismatch.
-fn is_mismatch(ending: Ending) -> bool
-    ensures { result ≡ is_mismatch ending }
+fn is_mismatched_ending(ending: Ending) -> bool
+    ensures { result ≡ is_mismatched_ending ending }
 {
     match ending {
         Ending::Halted(halt) => matches!(halt, Halt::Mismatched { .. }),
@@ -242,7 +242,7 @@ pub fn has_mismatch(listed: &[Found]) -> bool
 {
     let mut rest = listed;
     while let [found, after @ ..] = rest {
-        if is_mismatch(found.outcome.ending()) {
+        if is_mismatched_ending(found.outcome.ending()) {
             return true;
         }
         rest = after;

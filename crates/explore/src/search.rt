@@ -9,7 +9,7 @@ ghost use Rattle.explore.specs.Explored.{IsExplored, made_by};
 ghost use Rattle.explore.specs.RaceFlags.{races_of};
 ghost use Rattle.explore.specs.QuietFirst.{HasLookedAtQuietly};
 ghost use Rattle.explore.specs.declared.found.Explored.{Explored};
-ghost use Rattle.explore.specs.declared.search.Attempt.TheVariants.{Whole};
+ghost use Rattle.explore.specs.declared.search.QuietSearch.TheVariants.{Whole};
 ghost use Rattle.explore.specs.Searching.{HasBegun, HasLookedAt, IsUnderWay, WentOn};
 
 use crate::course::{Bounds, Course, Setting, after_turns};
@@ -132,7 +132,7 @@ fn from_place(alloc: Global, states: &[Turns], place: u32) -> Result<States, All
 }
 
 /// What a search came to in which quiet calls go first.
-enum Attempt {
+enum QuietSearch {
     Whole(Explored),
     Hindered(Hindrance),
 }
@@ -143,7 +143,7 @@ fn search_quietly<P: Program, R: RankRun<Of = P>, S: StartRanks<P, R>, W: Watche
     bounds: Bounds,
     races: &Races,
     watcher: &mut W,
-) -> Result<Attempt, AllocError>
+) -> Result<QuietSearch, AllocError>
     requires setting { IsSetting (S.program setting.now.starter.now) setting.now.program.now (number_of_ranks setting.now.plan.now) setting.now.ranks }
     requires turns { All (λ turn. turn.rank < setting.now.ranks) setting.now.under.now }
     requires picks { All (λ turn. IsPickOf setting.now.ranks turn.pick) setting.now.under.now }
@@ -155,13 +155,13 @@ fn search_quietly<P: Program, R: RankRun<Of = P>, S: StartRanks<P, R>, W: Watche
     let mut met = Met::new(setting.alloc);
     begin(setting, &mut met)?;
     if let Some(hindrance) = look_at_all_quietly(setting, bounds, races, &mut met, watcher)? {
-        return Ok(Attempt::Hindered(hindrance));
+        return Ok(QuietSearch::Hindered(hindrance));
     }
     if !races.has_partial() && has_mismatch(met.found.as_slice()) {
-        return Ok(Attempt::Hindered(Hindrance::Mismatched));
+        return Ok(QuietSearch::Hindered(Hindrance::Mismatched));
     }
     let states = met.states.as_slice().len();
-    Ok(Attempt::Whole(Explored {
+    Ok(QuietSearch::Whole(Explored {
         found: met.found,
         states,
         left: States::new(setting.alloc),
@@ -215,10 +215,10 @@ pub fn explore<P: Program, R: RankRun<Of = P>, S: StartRanks<P, R>, W: Watcher>(
     // Each attempt but the last finds another rank that makes racy calls, or that some call completes in part.
     for _ in 0..u32::from(setting.ranks) + 2 {
         match search_quietly(setting, bounds, &races, watcher)? {
-            Attempt::Whole(explored) => return Ok(explored),
-            Attempt::Hindered(Hindrance::Racy(race)) => races.admit(race),
-            Attempt::Hindered(Hindrance::Mismatched) => races.admit_partial(),
-            Attempt::Hindered(Hindrance::Large) => break,
+            QuietSearch::Whole(explored) => return Ok(explored),
+            QuietSearch::Hindered(Hindrance::Racy(race)) => races.admit(race),
+            QuietSearch::Hindered(Hindrance::Mismatched) => races.admit_partial(),
+            QuietSearch::Hindered(Hindrance::Large) => break,
         }
     }
     search_all(setting, bounds, watcher)

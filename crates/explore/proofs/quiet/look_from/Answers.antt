@@ -1,4 +1,4 @@
-use Rattle.std.proofs.Common.{◌≡◌, ◌∙◌, ℕ, List, None, subst, sym}
+use Rattle.std.proofs.Common.{◌∙◌, ℕ, List, subst, sym}
 use Rattle.run_model.specs.declared.event.Event.{Event}
 use Rattle.run_model.specs.Views.{Next}
 use Rattle.picked_runs.specs.declared.turn.Turn.{Turn}
@@ -6,7 +6,6 @@ use Rattle.run_states.specs.Outcomes.{Output}
 use Rattle.explore.specs.Courses.{IsCourse}
 use Rattle.explore.specs.Explored.{made_by}
 use Rattle.explore.specs.Searching.{IsState}
-use Rattle.explore.proofs.Begun.{none_is}
 use Rattle.explore.proofs.Noting.{went_not}
 use Rattle.explore.proofs.QuietLooked.{hindered}
 use Rattle.explore.proofs.quiet.look_from.Goals as goal

@@ -1,11 +1,10 @@
-use Rattle.std.proofs.Common.{◌≡◌, ◌∙◌, ℕ, List, Some, false, subst, sym, true}
+use Rattle.std.proofs.Common.{◌≡◌, ◌∙◌, ℕ, List, subst, sym, true}
 use Rattle.mpi_call.specs.declared.call.Call.{Call}
 use Rattle.run_model.specs.declared.event.Event.{Event}
 use Rattle.run_model.specs.Views.{Next}
 use Rattle.picked_runs.specs.declared.turn.Pick.TheVariants.{First}
 use Rattle.run_states.specs.Outcomes.{Output}
 use Rattle.quiet_calls.specs.Quiet.{Races, is_quiet}
-use Rattle.explore.specs.Courses.{IsAnswered}
 use Rattle.explore.specs.Explored.{made_by}
 use Rattle.explore.specs.QuietFirst.{IsLastAnswered}
 use Rattle.explore.specs.RaceFlags.{races_of}

@@ -1,5 +1,4 @@
 use Rattle.std.proofs.Common.{◌≡◌, ◌∙◌, ℕ, List, ap, false, refl, subst, sym}
-use Rattle.run_model.specs.declared.event.Event.{Event}
 use Rattle.run_model.specs.Views.{Next}
 use Rattle.picked_runs.specs.declared.turn.Turn.{Turn}
 use Rattle.run_states.specs.Outcomes.{Output}
