@@ -2,6 +2,7 @@ mod NothingMissed
 mod QuietMissed
 mod QuietSearched
 mod QuietLooked
+mod QuietAlong
 mod Recorded
 mod Trying
 mod Begun

@@ -1,5 +1,5 @@
 -- A state at which one quiet call was followed.
-use Rattle.std.proofs.Common.{◌≡◌, ◌<◌, ◌≤◌, ◌+◌, ◌∙◌, ◌++◌, ◌∷◌, ℕ, List, [], Option, Some, None, Bool, MatchBool, true, false, is_some, length, ltb-false, nat_lt, slice_get, take, arith, inl, inr, ap, sym, subst}
+use Rattle.std.proofs.Common.{◌≡◌, ◌<◌, ◌≤◌, ◌+◌, ◌∙◌, ◌++◌, ◌∷◌, if◌then◌else◌, ℕ, suc, zero, List, [], Option, Some, None, Bool, MatchBool, true, false, is_some, length, ltb-false, nat_lt, slice_get, take, arith, inl, inr, refl, ap, sym, subst}
 use Rattle.std.proofs.lemmas.Bool.{cases_order}
 use Rattle.std.proofs.lemmas.List.{take_all}
 use Rattle.mpi_call.specs.Lists.{IsIn}
@@ -9,6 +9,7 @@ use Rattle.mpi_call.specs.declared.call.Halt.{Halt}
 use Rattle.mpi_call.specs.declared.reply.Reply.TheVariants.{NotYet, Stopped}
 use Rattle.run_model.specs.declared.event.Event.{Event}
 use Rattle.run_model.specs.Due.{halt_in}
+use Rattle.run_model.specs.Lists.{IsPrefixOf}
 use Rattle.run_model.specs.Serial.{call_after}
 use Rattle.run_model.specs.Views.{Next}
 use Rattle.run_model.proofs.Views.{option_cases}
@@ -19,9 +20,12 @@ use Rattle.run_states.specs.Outcomes.{IsProbeKept, Output}
 use Rattle.quiet_calls.specs.Closure.{IsQuietCallMet}
 use Rattle.quiet_calls.specs.Quiet.{Races, is_quiet, is_reckoned}
 use Rattle.explore.specs.declared.met.Met.{Met}
+use Rattle.explore.specs.declared.quiet.Hindrance.{Hindrance}
+use Rattle.explore.specs.declared.quiet.Look.{Look}
+use Rattle.explore.specs.declared.quiet.Look.TheVariants.{Followed, Hindered, Opened}
 use Rattle.explore.specs.Courses.{IsAnswered}
 use Rattle.explore.specs.Explored.{made_by}
-use Rattle.explore.specs.QuietFirst.{AreReckonedBelow, HasLookedAtQuietly, IsLastAnswered}
+use Rattle.explore.specs.QuietFirst.{ArePassed, AreReckonedBelow, HasLookedAtQuietly, IsLastAnswered, is_hindered}
 use Rattle.explore.specs.Searching.{Grows, HasTried, IsFollowed, histories}
 use Rattle.explore.proofs.Looking.{taken_more}
 use Rattle.explore.proofs.Stepping.{AreSame, snoc_same}
@@ -30,12 +34,12 @@ use Rattle.explore.proofs.Trying.{looked_longer, met_longer}
 
 -- 1. a quiet call that was made
 
-record IsQuietlyMade (next : Next) (n : ℕ) (before : List Event) (rank : ℕ) (call : Call) : Type 0 where
-  free : halt_in (picked_reply n before rank call First) ≡ None
-  ready : picked_reply n before rank call First ≡ NotYet → ⊥
-  probe : IsProbeKept before (picked_event n before rank call First)
+pub record IsQuietlyMade (next : Next) (n : ℕ) (before : List Event) (rank : ℕ) (call : Call) : Type 0 where
+  pub free : halt_in (picked_reply n before rank call First) ≡ None
+  pub ready : picked_reply n before rank call First ≡ NotYet → ⊥
+  pub probe : IsProbeKept before (picked_event n before rank call First)
 
-quietly_made : (next : Next) (n : ℕ) (before after : List Event) (rank : ℕ) (call : Call) → IsAnswered next n before after rank call First → IsLastAnswered after
+pub quietly_made : (next : Next) (n : ℕ) (before after : List Event) (rank : ℕ) (call : Call) → IsAnswered next n before after rank call First → IsLastAnswered after
     → IsQuietlyMade next n before rank call
 quietly_made next n before after rank call answered last =
     let q : Event = picked_event n before rank call First in
@@ -157,3 +161,65 @@ pub all_quietly : (P : List Turn → Type 0) (at : ℕ) (states : List (List Tur
 all_quietly P at states enough all =
     let F : List (List Turn) → Type 0 = λ l. (one : List Turn) → IsIn one l → P one in
     subst F (take_all at states enough) all
+
+-- 7. what came of looking
+
+pub hindered_not : {A : Type 0} {hindrance : Hindrance} {turn : Turn} → Hindered hindrance ≡ Followed turn → A
+hindered_not h = absurd (cc)
+
+pub opened_not : {A : Type 0} {turn : Turn} → Opened ≡ Followed turn → A
+opened_not h = absurd (cc)
+
+pub same_turn : (one other : Turn) → Followed one ≡ Followed other → one ≡ other
+same_turn one other h = cc
+
+-- 8. states that were looked at before their turn came
+
+got_front : {A : Type 0} (k : ℕ) (xs more : List A) (x : A) → slice_get xs k ≡ Some x → slice_get (xs ++ more) k ≡ Some x
+got_front k [] more x h = absurd (cc)
+got_front zero (y ∷ xs) more x h = h
+got_front (suc k) (y ∷ xs) more x h = got_front k xs more x h
+
+pub got_longer : {A : Type 0} (k : ℕ) (xs ys : List A) (x : A) → IsPrefixOf xs ys → slice_get xs k ≡ Some x → slice_get ys k ≡ Some x
+got_longer {A} k xs ys x longer got =
+    let F : List A → Type 0 = λ l. slice_get l k ≡ Some x in
+    subst F longer.1 (got_front k xs longer.0 x got)
+
+pub passed_longer : (next : Next) (output : Output) (n polls : ℕ) (races : Races) (met met' : Met) (places : List ℕ)
+    → Grows met.states met'.states met.found met'.found met.polled met'.polled → ArePassed next output n polls races met places → ArePassed next output n polls races met' places
+passed_longer next output n polls races met met' places grows passed place there =
+    let p = passed place there in
+    (p.0, got_longer place met.states met'.states p.0 grows.states_stay p.1, quietly_longer next output n polls races met met' p.0 grows p.2)
+
+pub passed_more : (next : Next) (output : Output) (n polls : ℕ) (races : Races) (met : Met) (places : List ℕ) (place : ℕ) (turns : List Turn)
+    → ArePassed next output n polls races met places → slice_get met.states place ≡ Some turns → HasLookedAtQuietly next output n polls races met turns
+    → ArePassed next output n polls races met (places ++ place ∷ [])
+passed_more next output n polls races met [] place turns passed got looked other there =
+    elim there [
+      | inl same ↦ (turns, (let F : ℕ → Type 0 = λ p. slice_get met.states p ≡ Some turns in subst F same got), looked)
+      | inr none ↦ absurd none
+    ]
+passed_more next output n polls races met (first ∷ places) place turns passed got looked other there =
+    elim there [
+      | inl same ↦ passed other (inl same)
+      | inr later ↦ passed_more next output n polls races met places place turns (λ p in_later. passed p (inr in_later)) got looked other later
+    ]
+
+-- where a state was looked at its place is among them
+pub passed_by : (next : Next) (output : Output) (n polls : ℕ) (races : Races) (met met' : Met) (hindered : Bool) (places : List ℕ) (place : ℕ) (turns : List Turn)
+    → Grows met.states met'.states met.found met'.found met.polled met'.polled → ArePassed next output n polls races met places → slice_get met.states place ≡ Some turns
+    → (hindered ≡ false → HasLookedAtQuietly next output n polls races met' turns)
+    → ArePassed next output n polls races met' (if hindered then places else places ++ place ∷ [])
+passed_by next output n polls races met met' true places place turns grows passed got looked = passed_longer next output n polls races met met' places grows passed
+passed_by next output n polls races met met' false places place turns grows passed got looked =
+    passed_more next output n polls races met' places place turns (passed_longer next output n polls races met met' places grows passed)
+    (got_longer place met.states met'.states turns grows.states_stay got) (looked refl)
+
+pub followed_free : (look : Look) (turn : Turn) → look ≡ Followed turn → is_hindered look ≡ false
+followed_free look turn h = ap is_hindered h
+
+pub one_place : (one other : ℕ) → Some one ≡ Some other → one ≡ other
+one_place one other h = cc
+
+pub same_state : (one other : List Turn) → Some one ≡ Some other → one ≡ other
+same_state one other h = cc

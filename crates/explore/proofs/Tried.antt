@@ -48,7 +48,7 @@ none_behind None = refl
 none_behind (Some halt) = refl
 
 -- after a history without a halt, the halt is that of the one event behind it
-halt_of_last : (before : List Event) (event : Event) → halted before ≡ None → halted (before ++ event ∷ []) ≡ halt_in event.reply
+pub halt_of_last : (before : List Event) (event : Event) → halted before ≡ None → halted (before ++ event ∷ []) ≡ halt_in event.reply
 halt_of_last before event free =
     halted-append before (event ∷ []) ∙ (ap (λ o. or_else o (halted (event ∷ []))) free ∙ none_behind (halt_in event.reply))
 

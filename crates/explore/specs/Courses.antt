@@ -1,11 +1,12 @@
 -- A machine and the ranks beside it, and what a recording comes to.
-use Rattle.std.specs.Prelude.{◌≡◌, ◌≢◌, ◌⊎◌, ℕ, List, [], ◌∷◌, ◌++◌, true, false, map}
+use Rattle.std.specs.Prelude.{◌≡◌, ◌≢◌, ◌⊎◌, ℕ, List, [], ◌∷◌, ◌++◌, Some, true, false, map}
 use Rattle.std.specs.List.{slice_index_or}
 use Rattle.mpi_call.specs.declared.call.Call.{Call}
 use Rattle.run_model.specs.declared.ending.Ending.{Ending}
 use Rattle.run_model.specs.declared.event.Event.{Event}
 use Rattle.run_model.specs.Allowed.{IsStuck, can_go}
 use Rattle.run_model.specs.Program.{Standing}
+use Rattle.run_model.specs.Serial.{call_after}
 use Rattle.run_model.specs.Views.{Next, view_of}
 use Rattle.picked_runs.specs.declared.turn.Pick.{Pick}
 use Rattle.picked_runs.specs.declared.turn.Pick.TheVariants.{First}
@@ -16,6 +17,7 @@ use Rattle.picked_runs.specs.Turns.{IsTaken}
 use Rattle.mpi_machine.specs.Turns.{MachineState}
 use Rattle.srr_record.specs.Recordings.{AreRuns}
 use Rattle.run_states.specs.Outcomes.{Outcome, Output, ending_told, outcome_of, ranks_told}
+use Rattle.quiet_calls.specs.Quiet.{Races, is_quiet}
 
 -- what starts the ranks runs this program, and a plan of all has so many
 pub record IsSetting {P : Type 0} (started program : P) (planned ranks : ℕ) : Type 0 where
@@ -40,6 +42,13 @@ pub record IsHeldBack (n : ℕ) (before after : List Event) (rank : ℕ) (call :
   pub events_are : after ≡ before
   pub absent : pick ≢ First → has_pick n before rank call pick ≡ false
   pub held : pick ≡ First → can_go n before rank (view_of before rank) call ≡ false
+
+-- a rank's next call is quiet, and was answered
+pub record IsQuietlyAnswered (next : Next) (n : ℕ) (races : Races) (before after : List Event) (rank : ℕ) : Type 0 where
+  pub call : Call
+  pub kind : is_quiet races call ≡ true
+  pub asked : call_after next n before rank ≡ Some call
+  pub answered : IsAnswered next n before after rank call First
 
 -- the run that the recording by these turns makes comes to this
 pub record ComesTo (next : Next) (output : Output) (n : ℕ) (turns : List Turn) (outcome : Outcome) : Type 0 where

@@ -1,5 +1,5 @@
 -- A search that follows one quiet call alone where there is one, and why nothing is missed.
-use Rattle.std.specs.Prelude.{◌≡◌, ◌≢◌, ◌<◌, ◌⊎◌, ◌++◌, ◌∷◌, ℕ, List, [], Some, None, Bool, true, false}
+use Rattle.std.specs.Prelude.{◌≡◌, ◌≢◌, ◌<◌, ◌⊎◌, ◌++◌, ◌∷◌, ℕ, List, [], Some, None, Bool, true, false, slice_get}
 use Rattle.std.specs.List.{list_any}
 use Rattle.mpi_call.specs.declared.call.Call.{Call}
 use Rattle.mpi_call.specs.declared.call.Halt.TheVariants.{Mismatched}
@@ -19,6 +19,8 @@ use Rattle.quiet_calls.specs.Closure.{IsFarBelow, IsQuietCallMet}
 use Rattle.quiet_calls.specs.Quiet.{Races, is_calm, is_reckoned}
 use Rattle.explore.specs.declared.found.Found.{Found}
 use Rattle.explore.specs.declared.met.Met.{Met}
+use Rattle.explore.specs.declared.quiet.Look.{Look}
+use Rattle.explore.specs.declared.quiet.Look.TheVariants.{Hindered}
 use Rattle.explore.specs.Explored.{IsListed, made_by}
 use Rattle.explore.specs.Searching.{IsLookedAt, IsState, histories}
 
@@ -83,3 +85,13 @@ HasLookedAtQuietly next output n polls races met turns =
 
 abbrev pub HasMetQuietly : Next → ℕ → Races → Met → List Turn → Type 0
 HasMetQuietly next n races met turns = IsQuietCallMet next n races (histories next n met.states) (made_by next n turns)
+
+-- a state was not looked at
+abbrev pub is_hindered : Look → Bool
+is_hindered (Hindered hindrance) = true
+is_hindered look = false
+
+-- the states at these places were looked at so
+abbrev pub ArePassed : Next → Output → ℕ → ℕ → Races → Met → List ℕ → Type 0
+ArePassed next output n polls races met places =
+    (place : ℕ) → IsIn place places → (turns : List Turn) × (slice_get met.states place ≡ Some turns) × HasLookedAtQuietly next output n polls races met turns

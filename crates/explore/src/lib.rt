@@ -1,6 +1,7 @@
 //! Every outcome that the runs of a program can have: a search over what histories leave to their future.
 #![tactic(auto)]
 
+mod ahead;
 pub mod course;
 pub mod found;
 pub mod laws;

@@ -12,11 +12,12 @@ ghost use Rattle.explore.specs.declared.found.Explored.{Explored};
 ghost use Rattle.explore.specs.declared.search.QuietSearch.TheVariants.{Whole};
 ghost use Rattle.explore.specs.Searching.{HasBegun, HasLookedAt, IsUnderWay, WentOn};
 
+use crate::ahead::PassedStates;
 use crate::course::{Bounds, Course, Setting, after_turns};
 use crate::found::{Explored, States};
 use crate::laws::{nothing_is_missed, nothing_is_missed_quietly};
 use crate::met::Met;
-use crate::quiet::{Hindrance, has_mismatch, look_quietly};
+use crate::quiet::{Hindrance, has_mismatch, look_once};
 use crate::races::Races;
 use crate::ranks::StartRanks;
 use crate::tries::{copy_of, look_at, note_end};
@@ -53,14 +54,14 @@ fn begin<'a, P: Program, R: RankRun<Of = P>, S: StartRanks<P, R>>(
     met.add_state(code, turns)
 }
 
-/// Tells how far a search is, each time that it has looked at so many more states.
-fn tell<W: Watcher>(met: &Met, looked: u32, watcher: &mut W) {
+/// Tells how far a search is, each time that it has come to so many more states; it has looked at some ahead.
+fn tell<W: Watcher>(met: &Met, looked: u32, ahead: usize, watcher: &mut W) {
     if looked % WATCHED_STATES == 0 {
         let states = met.states.as_slice().len();
         watcher.looked(Progress {
             outcomes: met.found.as_slice().len(),
             states,
-            left: states.saturating_sub(looked as usize),
+            left: states.saturating_sub(looked as usize).saturating_sub(ahead),
         });
     }
 }
@@ -83,7 +84,7 @@ fn look_at_all<P: Program, R: RankRun<Of = P>, S: StartRanks<P, R>, W: Watcher>(
         };
         let turns = copy_of(setting.alloc, turns.as_slice())?;
         look_at(setting, bounds, met, turns)?;
-        tell(met, at + 1, watcher);
+        tell(met, at + 1, 0, watcher);
     }
     Ok(bounds.most)
 }
@@ -101,16 +102,18 @@ fn look_at_all_quietly<P: Program, R: RankRun<Of = P>, S: StartRanks<P, R>, W: W
     ensures went { OnOk result (WentOn (P.next setting.now.program.now) (P.output setting.now.program.now) setting.now.ranks (made_by (P.next setting.now.program.now) setting.now.ranks setting.now.under.now) met.old met.new) }
     ensures looked { IfOk result (λ hindrance. hindrance ≡ None → (turns : List Turn) → IsIn turns met.new.states → HasLookedAtQuietly (P.next setting.now.program.now) (P.output setting.now.program.now) setting.now.ranks bounds.polls (races_of races.now) met.new turns) }
 {
+    let mut passed = PassedStates::new(setting.alloc);
     for at in 0..bounds.most {
         let Some(turns) = met.states.as_slice().get(at as usize) else {
             return Ok(None);
         };
         let turns = copy_of(setting.alloc, turns.as_slice())?;
-        let hindrance = look_quietly(setting, bounds, races, met, turns)?;
+        let place = at as usize;
+        let hindrance = look_once(setting, bounds, races, met, &mut passed, place, turns)?;
         if hindrance.is_some() {
             return Ok(hindrance);
         }
-        tell(met, at + 1, watcher);
+        tell(met, at + 1, passed.ahead(), watcher);
     }
     Ok(Some(Hindrance::Large))
 }

@@ -1,37 +1,51 @@
-use Rattle.std.proofs.Common.{◌∙◌, ℕ, List, subst, sym}
+use Rattle.std.proofs.Common.{◌++◌, ◌∷◌, ℕ, List, [], inl, inr, subst, sym}
 use Rattle.run_model.specs.declared.event.Event.{Event}
 use Rattle.run_model.specs.Views.{Next}
 use Rattle.picked_runs.specs.declared.turn.Turn.{Turn}
 use Rattle.run_states.specs.Outcomes.{Output}
 use Rattle.explore.specs.Courses.{IsCourse}
 use Rattle.explore.specs.Explored.{made_by}
-use Rattle.explore.specs.Searching.{IsState}
+use Rattle.explore.specs.Searching.{HasLookedAt}
 use Rattle.explore.proofs.Noting.{went_not}
-use Rattle.explore.proofs.QuietLooked.{hindered}
+use Rattle.explore.proofs.QuietLooked.{hindered_not, not_both, opened_not, same_turn}
+use Rattle.explore.proofs.RankTries.{went_trans}
 use Rattle.explore.proofs.quiet.look_from.Goals as goal
 
-pub returns-then-is_some : goal.returns-then-is_some
-returns-then-is_some g c =
+pub returns-in-Some : goal.returns-in-Some
+returns-in-Some g c =
     let next : Next = g.P.Program.next c.args.setting.now.program.now in
     let output : Output = g.P.Program.output c.args.setting.now.program.now in
     let n : ℕ = c.args.setting.now.ranks in
     let root : List Event = made_by next n c.args.setting.now.under.now in
     record {
       went = went_not next output n root c.args.met.now c.requires.met;
-      looked = λ none. hindered c.in_ok-hindrance.hindrance (sym c.is_some.ensures ∙ c.if-is_some.true) none;
+      looked = λ h. not_both (sym h);
+      along = λ turn h. hindered_not h;
     }
 
-pub follow_quiet-requires-clause-state : goal.follow_quiet-requires-clause-state
-follow_quiet-requires-clause-state g c =
+pub returns-in-Some-2 : goal.returns-in-Some-2
+returns-in-Some-2 g c =
     let next : Next = g.P.Program.next c.args.setting.now.program.now in
+    let output : Output = g.P.Program.output c.args.setting.now.program.now in
     let n : ℕ = c.args.setting.now.ranks in
     let root : List Event = made_by next n c.args.setting.now.under.now in
-    let S : List Turn → Type 0 = λ l. IsState next n root l in
-    subst S (sym c.as_slice-2.ensures) c.requires.state
+    let made : Turn = c.in-Some-2.turn in
+    let C : Turn → Type 0 = λ t. IsCourse g.R.RankRun.standing c.args.setting.now.program.now n (made_by next n (c.args.turns.now ++ t ∷ [])) c.follow_quiet.new.course.machine c.follow_quiet.new.course.runs.items in
+    record {
+      went = c.in_ok-turn.ensures.went;
+      looked = λ h. record { reckoned = c.in_ok-hindrance.ensures.met c.in_default.is; looked = inr (c.in_ok-turn.ensures.followed made c.in-Some-2.is) };
+      along = λ turn h. subst C (same_turn made turn h) (c.in_ok-turn.ensures.along made c.in-Some-2.is);
+    }
 
-pub follow_quiet-requires-clause-course : goal.follow_quiet-requires-clause-course
-follow_quiet-requires-clause-course g c =
+pub returns : goal.returns
+returns g c =
     let next : Next = g.P.Program.next c.args.setting.now.program.now in
+    let output : Output = g.P.Program.output c.args.setting.now.program.now in
     let n : ℕ = c.args.setting.now.ranks in
-    let C : List Turn → Type 0 = λ l. IsCourse g.R.RankRun.standing c.args.setting.now.program.now n (made_by next n l) c.hindrance_at.new.course.machine c.hindrance_at.new.course.runs.items in
-    subst C (c.as_slice.ensures ∙ sym c.as_slice-2.ensures) c.in_ok-hindrance.ensures.course
+    let root : List Event = made_by next n c.args.setting.now.under.now in
+    let L : List Turn → Type 0 = λ l. HasLookedAt next output n c.args.bounds.polls c.look_from.new.met l in
+    record {
+      went = went_trans next output n root c.args.met.now c.follow_quiet.new.met c.look_from.new.met c.in_ok-turn.ensures.went c.in_ok-look_from.ensures.went;
+      looked = λ h. record { reckoned = c.in_ok-hindrance.ensures.met c.in_default.is; looked = inl (subst L c.in_ok-copy.ensures c.in_ok-look_from.ensures.looked) };
+      along = λ turn h. opened_not h;
+    }

@@ -13,8 +13,8 @@ use Rattle.explore.proofs.QuietLooked.{all_quietly, hindered, not_below, quietly
 use Rattle.explore.proofs.RankTries.{went_trans}
 use Rattle.explore.proofs.search.look_at_all_quietly.Goals as goal
 
-pub look_quietly-requires-clause-state : goal.look_quietly-requires-clause-state
-look_quietly-requires-clause-state g c =
+pub look_once-requires-clause-state : goal.look_once-requires-clause-state
+look_once-requires-clause-state g c =
     let next : Next = g.P.Program.next c.args.setting.now.program.now in
     let output : Output = g.P.Program.output c.args.setting.now.program.now in
     let n : ℕ = c.args.setting.now.ranks in
@@ -22,6 +22,10 @@ look_quietly-requires-clause-state g c =
     let got : slice_get c.loop-at.met.states c.loop-at.at ≡ Some c.in_ok-turns.turns =
     ap (λ l. slice_get l c.loop-at.at) (sym c.as_slice.ensures) ∙ (got_at c.loop-at.at c.as_slice.result.now c.in-Some.turns.now c.in-Some.ensures.lookup.3.0 c.in-Some.ensures.lookup.1 ∙ ap (λ l. Some l) (sym (c.in_ok-turns.ensures ∙ c.as_slice-in-loop-at.ensures))) in
     c.loop-at.invariant.went.under_way.are_states c.in_ok-turns.turns (got_in c.loop-at.at c.loop-at.met.states c.in_ok-turns.turns got)
+
+pub look_once-requires-clause-place : goal.look_once-requires-clause-place
+look_once-requires-clause-place g c =
+    ap (λ l. slice_get l c.loop-at.at) (sym c.as_slice.ensures) ∙ (got_at c.loop-at.at c.as_slice.result.now c.in-Some.turns.now c.in-Some.ensures.lookup.3.0 c.in-Some.ensures.lookup.1 ∙ ap (λ l. Some l) (sym (c.in_ok-turns.ensures ∙ c.as_slice-in-loop-at.ensures)))
 
 pub loop-at-preserved : goal.loop-at-preserved
 loop-at-preserved g c =
@@ -35,9 +39,10 @@ loop-at-preserved g c =
     let got : slice_get c.loop-at.met.states c.loop-at.at ≡ Some c.in_ok-turns.turns =
     ap (λ l. slice_get l c.loop-at.at) (sym c.as_slice.ensures) ∙ (got_at c.loop-at.at c.as_slice.result.now c.in-Some.turns.now c.in-Some.ensures.lookup.3.0 c.in-Some.ensures.lookup.1 ∙ ap (λ l. Some l) (sym (c.in_ok-turns.ensures ∙ c.as_slice-in-loop-at.ensures))) in
     record {
-      went = went_trans next output n root c.args.met.now c.loop-at.met c.look_quietly.new.met inv.went ok.went;
-      looked = quietly_more next output n c.args.bounds.polls races c.loop-at.met c.look_quietly.new.met c.loop-at.at c.in_ok-turns.turns ok.went.grows got inv.looked
+      went = went_trans next output n root c.args.met.now c.loop-at.met c.look_once.new.met inv.went ok.went;
+      looked = quietly_more next output n c.args.bounds.polls races c.loop-at.met c.look_once.new.met c.loop-at.at c.in_ok-turns.turns ok.went.grows got inv.looked
           (ok.looked (none_is c.in_ok-hindrance.hindrance (sym c.is_some.ensures ∙ c.if-is_some.false)));
+      passed = ok.passed;
     }
 
 pub returns-in_default : goal.returns-in_default
@@ -62,7 +67,7 @@ returns-then-is_some g c =
     let root : List Event = made_by next n c.args.setting.now.under.now in
     let ok = c.in_ok-hindrance.ensures in
     record {
-      went = went_trans next output n root c.args.met.now c.loop-at.met c.look_quietly.new.met c.loop-at.invariant.went ok.went;
+      went = went_trans next output n root c.args.met.now c.loop-at.met c.look_once.new.met c.loop-at.invariant.went ok.went;
       looked = λ none. hindered c.in_ok-hindrance.hindrance (sym c.is_some.ensures ∙ c.if-is_some.true) none;
     }
 

@@ -2,7 +2,7 @@ use Rattle.std.proofs.Common.{List, take}
 use Rattle.mpi_call.specs.Lists.{IsIn}
 use Rattle.picked_runs.specs.declared.turn.Turn.{Turn}
 use Rattle.explore.specs.Explored.{made_by}
-use Rattle.explore.specs.QuietFirst.{HasLookedAtQuietly}
+use Rattle.explore.specs.QuietFirst.{ArePassed, HasLookedAtQuietly}
 use Rattle.explore.specs.RaceFlags.{races_of}
 use Rattle.explore.specs.Searching.{WentOn}
 use Rattle.explore.proofs.search.look_at_all_quietly.Given as goal
@@ -12,4 +12,5 @@ invariant-loop-at g l =
     record {
       went : WentOn (g.P.Program.next l.setting.program.now) (g.P.Program.output l.setting.program.now) l.setting.ranks (made_by (g.P.Program.next l.setting.program.now) l.setting.ranks l.setting.under.now) l.fn.met l.met;
       looked : (turns : List Turn) → IsIn turns (take l.at l.met.states) → HasLookedAtQuietly (g.P.Program.next l.setting.program.now) (g.P.Program.output l.setting.program.now) l.setting.ranks l.bounds.polls (races_of l.races) l.met turns;
+      passed : ArePassed (g.P.Program.next l.setting.program.now) (g.P.Program.output l.setting.program.now) l.setting.ranks l.bounds.polls (races_of l.races) l.met l.passed;
     }
