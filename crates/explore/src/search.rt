@@ -115,6 +115,9 @@ fn look_at_all_quietly<P: Program, R: RankRun<Of = P>, S: StartRanks<P, R>, W: W
         }
         tell(met, at + 1, passed.ahead(), watcher);
     }
+    if met.states.as_slice().len() <= bounds.most as usize {
+        return Ok(None);
+    }
     Ok(Some(Hindrance::Large))
 }
 

@@ -1,4 +1,4 @@
-use Rattle.std.proofs.Common.{◌≡◌, ◌≤◌, ◌∙◌, ℕ, List, Some, ap, length, slice_get, subst, sym}
+use Rattle.std.proofs.Common.{arith, ◌≡◌, ◌≤◌, ◌∙◌, ℕ, List, Some, ap, length, slice_get, subst, sym}
 use Rattle.run_model.specs.declared.event.Event.{Event}
 use Rattle.run_model.specs.Views.{Next}
 use Rattle.picked_runs.specs.declared.turn.Turn.{Turn}
@@ -69,6 +69,23 @@ returns-then-is_some g c =
     record {
       went = went_trans next output n root c.args.met.now c.loop-at.met c.look_once.new.met c.loop-at.invariant.went ok.went;
       looked = λ none. hindered c.in_ok-hindrance.hindrance (sym c.is_some.ensures ∙ c.if-is_some.true) none;
+    }
+
+pub returns-then-as_slice-bounds : goal.returns-then-as_slice-bounds
+returns-then-as_slice-bounds g c =
+    let next : Next = g.P.Program.next c.args.setting.now.program.now in
+    let output : Output = g.P.Program.output c.args.setting.now.program.now in
+    let n : ℕ = c.args.setting.now.ranks in
+    let root : List Event = made_by next n c.args.setting.now.under.now in
+    let inv = c.loop-at.invariant in
+    let L : List Turn → Type 0 = λ l. HasLookedAtQuietly next output n c.args.bounds.polls (races_of c.args.races.now) c.loop-at.met l in
+    let all : c.loop-at.at ≡ c.args.bounds.most = omega (arith, c.loop-at.auto.at-end, c.loop-at-test.false) in
+    let few : length c.as_slice-2.result.now ≤ c.args.bounds.most = c.if-as_slice-bounds.true in
+    let within : length c.as_slice-2.result.now ≤ c.loop-at.at = omega (arith, few, all) in
+    let G : List (List Turn) → Type 0 = λ l. length l ≤ c.loop-at.at in
+    record {
+      went = inv.went;
+      looked = λ none. all_quietly L c.loop-at.at c.loop-at.met.states (subst G c.as_slice-2.ensures within) inv.looked;
     }
 
 pub returns : goal.returns
