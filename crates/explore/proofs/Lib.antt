@@ -3,8 +3,10 @@ mod QuietMissed
 mod QuietSearched
 mod QuietLooked
 mod QuietAlong
+mod RaceLaws
 mod Recorded
 mod Trying
+mod Again
 mod Begun
 mod Answering
 mod Told

@@ -31,6 +31,14 @@ pub record IsCourse {P R : Type 0} (standing : R → Standing P) (program : P) (
   pub events_are : machine.events ≡ events
   pub runs_are : AreRuns standing program n events runs
 
+-- the machine has made one event more, which the runs have not seen
+pub record IsAhead {P R : Type 0} (standing : R → Standing P) (program : P) (n : ℕ) (events : List Event) (machine : MachineState P) (runs : List R) : Type 0 where
+  pub program_is : machine.program ≡ program
+  pub ranks_are : machine.ranks ≡ n
+  pub event : Event
+  pub events_are : machine.events ≡ events ++ event ∷ []
+  pub runs_are : AreRuns standing program n events runs
+
 -- a call was answered with what it picks; where it picks nothing, it can go or no call can
 pub record IsAnswered (next : Next) (n : ℕ) (before after : List Event) (rank : ℕ) (call : Call) (pick : Pick) : Type 0 where
   pub events_are : after ≡ before ++ picked_event n before rank call pick ∷ []

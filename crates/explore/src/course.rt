@@ -66,6 +66,20 @@ pub fn after_turns<'a, P: Program, R: RankRun<Of = P>, S: StartRanks<P, R>>(
     Ok(Course { machine, runs })
 }
 
+/// Makes a course anew, by these turns.
+pub fn make_anew<'a, P: Program, R: RankRun<Of = P>, S: StartRanks<P, R>>(
+    setting: &Setting<'a, P, S>,
+    course: &mut Course<'a, P, R>,
+    turns: &[Turn],
+) -> Result<(), AllocError>
+    requires setting { IsSetting (S.program setting.now.starter.now) setting.now.program.now (number_of_ranks setting.now.plan.now) setting.now.ranks }
+    requires turns { All (λ turn. turn.rank < setting.now.ranks) turns.now }
+    ensures { OnOk result (IsCourse R.standing setting.now.program.now setting.now.ranks (made_by (P.next setting.now.program.now) setting.now.ranks turns.now) course.new.machine course.new.runs.items) }
+{
+    *course = after_turns(setting, turns)?;
+    Ok(())
+}
+
 /// Whether a call was replied to.
 fn is_replied(answer: &Answer) -> bool
     ensures { MatchBool result ((reply : Reply) × (answer.now ≡ Replied reply)) (answer.now ≡ Wait) }

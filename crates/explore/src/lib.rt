@@ -2,6 +2,7 @@
 #![tactic(auto)]
 
 mod ahead;
+mod back;
 pub mod course;
 pub mod found;
 pub mod laws;

@@ -17,7 +17,7 @@ ghost use Rattle.explore.specs.QuietFirst.{ArePassed, AreReckonedBelow, HasLooke
 ghost use Rattle.explore.specs.Searching.{IsState, IsUnderWay, WentOn};
 
 use crate::ahead::{PassedStates, note_passed};
-use crate::course::{Bounds, Course, Setting, after_turns};
+use crate::course::{Bounds, Course, Setting, after_turns, make_anew};
 use crate::found::Found;
 use crate::met::Met;
 use crate::probes::keeps_probe;
@@ -173,7 +173,7 @@ fn make_quiet<'a, P: Program, R: RankRun<Of = P>, S: StartRanks<P, R>>(
         return Ok(false);
     }
     if !is_last_answered(course.machine.history().as_slice()) {
-        *course = after_turns(setting, turns)?;
+        make_anew(setting, course, turns)?;
         return Ok(false);
     }
     let pick = Pick::First;
@@ -260,23 +260,6 @@ fn look_from<'a, P: Program, R: RankRun<Of = P>, S: StartRanks<P, R>>(
     Ok(Look::Opened)
 }
 
-/// Whether these picks are the same.
-fn is_same_pick(one: Pick, other: Pick) -> bool
-    ensures { MatchBool result (one ≡ other) (one ≡ other → ⊥) }
-{
-    match one {
-        Pick::First => matches!(other, Pick::First),
-        Pick::Sender(sender) => match other {
-            Pick::Sender(number) => sender == number,
-            _ => false,
-        },
-        Pick::Index(index) => match other {
-            Pick::Index(number) => index == number,
-            _ => false,
-        },
-    }
-}
-
 /// Whether these turns are the same.
 fn is_same_turns(one: &[Turn], other: &[Turn]) -> bool
     ensures { result ≡ true → one.now ≡ other.now }
@@ -287,7 +270,7 @@ fn is_same_turns(one: &[Turn], other: &[Turn]) -> bool
         let [second, behind @ ..] = others else {
             return false;
         };
-        if turn.rank != second.rank || !is_same_pick(turn.pick, second.pick) {
+        if turn != second {
             return false;
         }
         rest = after;

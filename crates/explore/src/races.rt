@@ -1,10 +1,9 @@
 //! Which calls can go first: others can neither change how they are answered nor see that they were.
-ghost use Rattle.std.specs.Prelude.{◌≡◌, None, Some, true};
-ghost use Rattle.mpi_call.specs.declared.call.Call.{Call};
+ghost use Rattle.std.specs.Prelude.{◌≡◌, IfOk, true};
 ghost use Rattle.run_model.specs.Allowed.{takes_all};
 ghost use Rattle.mpi_call.specs.Calls.{makes};
-ghost use Rattle.explore.specs.RaceFlags.{races_of};
-ghost use Rattle.quiet_calls.specs.Quiet.{is_calm, is_partial, is_quiet, is_racy, is_reckoned};
+ghost use Rattle.explore.specs.RaceFlags.{and_race, no_races, race_in, race_next, race_of, races_of};
+ghost use Rattle.quiet_calls.specs.Quiet.{is_partial, is_quiet, is_racy, is_reckoned};
 
 use mpi_call::call::{Call, Kind, Source, TakeMode};
 use run_model::event::Event;
@@ -36,9 +35,11 @@ impl Model for Races {
 
 impl Races {
     /// No race of any of so many ranks.
-    pub fn none(alloc: Global, ranks: u8) -> Result<Self, AllocError> {
+    pub fn none(alloc: Global, ranks: u8) -> Result<Self, AllocError>
+        ensures { IfOk result (λ races. races ≡ no_races ranks) }
+    {
         let mut flags = Vec::new(alloc);
-        for _ in 0..ranks {
+        for _rank in 0..ranks {
             flags.push(false)?;
         }
         Ok(Races {
@@ -48,7 +49,9 @@ impl Races {
     }
 
     /// Reckons with this race from now on.
-    pub fn admit(&mut self, race: Race) {
+    pub fn admit(&mut self, race: Race)
+        ensures { self.new ≡ and_race self.old race }
+    {
         if let Some(flag) = self.ranks.get_mut(race.rank as usize) {
             *flag = true;
         }
@@ -59,7 +62,7 @@ impl Races {
 
     /// Reckons with completions in part from now on.
     pub fn admit_partial(&mut self)
-        ensures { self.new.partial ≡ true }
+        ensures { self.new ≡ record self.old { partial = true } }
     {
         self.partial = true;
     }
@@ -90,7 +93,7 @@ impl Races {
 
     /// The race of a rank's call, where it is not reckoned with.
     pub fn race_of(&self, rank: u8, call: &Call) -> Option<Race>
-        ensures { result ≡ None → is_reckoned (races_of self.now) rank call.now ≡ true }
+        ensures { result ≡ race_of self.now rank call.now }
     {
         if self.is_reckoned(rank, call) {
             return None;
@@ -101,7 +104,7 @@ impl Races {
 
     /// The race of a rank's next call, where it makes one that is not reckoned with.
     pub fn race_next(&self, rank: u8, next: &Option<Call>) -> Option<Race>
-        ensures { result ≡ None → (call : Call) → next.now ≡ Some call → is_reckoned (races_of self.now) rank call ≡ true }
+        ensures { result ≡ race_next self.now rank next.now }
     {
         match next {
             Some(call) => self.race_of(rank, call),
@@ -111,7 +114,7 @@ impl Races {
 
     /// The first race of these events that is not reckoned with.
     pub fn race_in(&self, events: &[Event]) -> Option<Race>
-        ensures { result ≡ None → is_calm (races_of self.now) events.now ≡ true }
+        ensures { result ≡ race_in self.now events.now }
     {
         let mut rest = events;
         while let [event, after @ ..] = rest {

@@ -9,6 +9,7 @@ ghost use Rattle.explore.specs.Courses.{IsCourse, IsSetting};
 ghost use Rattle.explore.specs.Explored.{made_by};
 ghost use Rattle.explore.specs.Searching.{HasLookedAt, HasTried, HasTriedPicks, HasTriedRanks, IsAnyPick, IsAtEnd, IsIndexBelow, IsNoted, IsSenderBelow, IsState, IsStep, IsStepFollowed, IsTurnMade, IsUnanswered, IsUnder, IsUnderWay, WentOn};
 
+use crate::back::take_back;
 use crate::course::{Bounds, Course, Setting, after_turns, answer, outcome_by};
 use crate::met::Met;
 use crate::probes::{is_patient, keeps_probe};
@@ -169,7 +170,7 @@ fn try_turn<'a, P: Program, R: RankRun<Of = P>, S: StartRanks<P, R>>(
         return Ok(false);
     }
     note(setting, bounds, met, course, turns, turn)?;
-    *course = after_turns(setting, turns)?;
+    take_back(setting, course)?;
     Ok(true)
 }
 

@@ -67,7 +67,7 @@ returns-then-not-is_last_answered g c =
     let runs = c.args.course.now.runs.items in
     let run = c.index_mut.result.now in
     record {
-      course = λ made. c.in_ok-course.ensures;
+      course = λ made. c.in_ok-make_anew.ensures;
       along = λ made. not_both made;
       went = went_not next output n root c.args.met.now c.requires.met;
       followed = λ made. not_both made;

@@ -5,6 +5,7 @@ use Rattle.explore.specs.Explored.{made_by}
 use Rattle.explore.specs.RaceFlags.{races_of}
 use Rattle.explore.proofs.Begun.{asked_call, course_asked, none_is, stands_at}
 use Rattle.explore.proofs.QuietLooked.{reckoned_more}
+use Rattle.explore.proofs.RaceLaws.{next_reckoned}
 use Rattle.explore.proofs.quiet.race_of_next.Goals as goal
 
 pub loop-rank-preserved : goal.loop-rank-preserved
@@ -23,5 +24,5 @@ loop-rank-preserved g c =
     record {
       course = course_asked g.R.RankRun.standing program n before machine runs rank run c.call_of.new.run is c.loop-rank-test.true c.index_mut.ensures.value c.in_ok-next.ensures.run;
       reckoned = reckoned_more next n (races_of c.args.races.now) before rank c.in_ok-next.next called
-          (c.race_next-race.ensures (none_is c.race_next-race.result (sym c.is_some.ensures ∙ c.if-is_some.false))) c.loop-rank.invariant.reckoned;
+          (next_reckoned c.args.races.now rank c.in_ok-next.next (sym c.race_next-race.ensures ∙ none_is c.race_next-race.result (sym c.is_some.ensures ∙ c.if-is_some.false))) c.loop-rank.invariant.reckoned;
     }

@@ -3,6 +3,7 @@ use Rattle.run_model.specs.declared.event.Event.{Event}
 use Rattle.run_model.specs.Views.{Next}
 use Rattle.run_states.specs.Outcomes.{Output}
 use Rattle.explore.specs.Explored.{made_by}
+use Rattle.explore.proofs.Again.{ahead_by}
 use Rattle.explore.proofs.Begun.{answered_there, asked_call, asked_there, course_asked, course_held, held_there, stands_at}
 use Rattle.explore.proofs.Noting.{went_not}
 use Rattle.explore.proofs.Tried.{unanswered_ended, unanswered_held}
@@ -84,3 +85,22 @@ note-requires-clause-made g c =
       answered = answered_there g.P.Program.next g.R.RankRun.standing program n before c.args.course.now.machine c.args.course.now.runs.items c.answer.new.machine.events rank c.in-Some.call c.args.turn.pick
           c.requires.course (when_true _ _ c.if-not-branch.false c.in_ok-answer.ensures.answered);
     }
+
+pub returns-clause-course : goal.returns-clause-course
+returns-clause-course g c =
+    let next : Next = g.P.Program.next c.args.setting.now.program.now in
+    let output : Output = g.P.Program.output c.args.setting.now.program.now in
+    let n : ℕ = c.args.setting.now.ranks in
+    let root : List Event = made_by next n c.args.setting.now.under.now in
+    let program = c.args.setting.now.program.now in
+    let before : List Event = made_by next n c.args.turns.now in
+    let rank : ℕ = c.args.turn.rank in
+    let run = c.index_mut.result.now in
+    let stands = stands_at g.R.RankRun.standing program n before c.args.course.now.machine c.args.course.now.runs.items rank run c.requires.course c.requires.rank c.index_mut.ensures.value in
+    let called = asked_call g.P.Program.next program n rank before (g.R.RankRun.standing run) c.in_ok-call.field-0 stands c.in_ok-call.ensures.call in
+    let course = course_asked g.R.RankRun.standing program n before c.args.course.now.machine c.args.course.now.runs.items rank run c.call_of.new.run c.requires.course c.requires.rank c.index_mut.ensures.value c.in_ok-call.ensures.run in
+    let machine = c.args.course.now.machine in
+    c.in_ok-take_back.ensures before
+    (ahead_by next g.R.RankRun.standing program n before machine c.answer.new.machine _ rank c.in-Some.call c.args.turn.pick course c.in_ok-answer.ensures.program c.in_ok-answer.ensures.ranks
+    (answered_there g.P.Program.next g.R.RankRun.standing program n before machine c.args.course.now.runs.items c.answer.new.machine.events rank c.in-Some.call c.args.turn.pick
+    c.requires.course (when_true _ _ c.if-not-branch.false c.in_ok-answer.ensures.answered)))
