@@ -31,7 +31,7 @@ PARTS = [
     ("the headline for any program: a run with this log, and what is shown of it in every order", CORE),
     ("what a C program does and prints", ["c_program.Program.next_of", "c_program.Program.output_of"]),
     ("which texts are programs, and which program a text is", ["c_types.Checks.IsProgramOf"]),
-    ("which texts are logs", ["wiz_cli.Commands.IsLogOf"]),
+    ("which texts are logs", ["wiz_logs.Logs.IsLogOf"]),
     ("which arguments ask for what", ["wiz_words.Words.AskFor"]),
 ]
 

@@ -13,9 +13,9 @@ use srr_log2::read_either::read_either;
 use srr_replay::serial::replay_serial;
 use std::alloc::{AllocError, Global};
 use wiz_base::Bytes;
-use wiz_cli::ranks::start_group;
 use wiz_cli::top::wiz_serial;
 use wiz_io::{MemorySink, MemoryStore};
+use wiz_task::ranks::start_group;
 use wiz_trace::trace::trace_text;
 
 /// What stands before and after the statements of each program.

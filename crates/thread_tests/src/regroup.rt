@@ -17,7 +17,7 @@ use srr_replay::serial::replay_serial;
 use srr_text::write_log::write_log;
 use std::alloc::{AllocError, Global};
 use wiz_base::bytes::Bytes;
-use wiz_cli::ranks::{start_all, start_group};
+use wiz_task::ranks::{start_all, start_group};
 
 /// Ranks 0 and 1 send to rank 2, which receives from any.
 const PROGRAM: &[u8] = b"int main(void) {

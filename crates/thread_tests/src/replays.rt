@@ -5,7 +5,7 @@ use srr_replay::serial::replay_serial;
 use std::alloc::Global;
 use std::sync::Wait;
 use std::thread::Threads;
-use wiz_cli::ranks::start_group;
+use wiz_task::ranks::start_group;
 use wiz_trace::trace::trace_text;
 
 /// Rank 0 sends a 7, which rank 1 receives and prints.

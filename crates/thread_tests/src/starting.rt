@@ -15,7 +15,7 @@ use std::alloc::{AllocError, Global};
 use std::sync::Wait;
 use std::thread::Threads;
 use wiz_base::bytes::Bytes;
-use wiz_cli::ranks::{start_all, start_group};
+use wiz_task::ranks::{start_all, start_group};
 
 /// The program of this text.
 pub fn program_of(alloc: Global, text: &[u8]) -> Option<CProgram> {

@@ -12,10 +12,11 @@ use Rattle.wiz_tool.specs.Environment.{Environment, between}
 use Rattle.wiz_tool.specs.Inputs.{Refused}
 use Rattle.wiz_tool.specs.Outcomes.{Outcome}
 use Rattle.wiz_tool.specs.inside.Told.{IsFailureBy}
-use Rattle.wiz_cli.specs.Commands.{AskForSerially, IsDoneFor}
+use Rattle.wiz_cli.specs.Commands.{AskForSerially, task_of}
+use Rattle.wiz_task.specs.Tasks.{IsDoneFor}
 use Rattle.wiz_cli.specs.inside.Ends.{EndsWords, IsRefusedForWords, refused_words}
-use Rattle.wiz_cli.proofs.EndLemmas.{failed}
-use Rattle.wiz_cli.proofs.InputLemmas.{weaken}
+use Rattle.wiz_task.proofs.EndLemmas.{failed}
+use Rattle.wiz_task.proofs.InputLemmas.{weaken}
 
 is_some-texts : (order : Option (Bor Text)) → is_some (option_map (λ (text : Bor Text). text.now) order) ≡ is_some order
 is_some-texts None = refl
@@ -58,7 +59,7 @@ pub refused_serially : (words : List Text) (command : Command Text) (before : En
     → is_threaded command ≡ true → IsFailureBy (λ refused. refused ≡ refused_words) failure → EndsWords AskForSerially words (between before before) (Err failure)
 refused_serially words command before failure one asks threaded is =
     failed (IsRefusedForWords AskForSerially words before before)
-    (λ (outcome : Outcome). (other : Command Text) × AskForSerially words other × IsDoneFor other before outcome) before before failure
+    (λ (outcome : Outcome). (other : Command Text) × AskForSerially words other × IsDoneFor (task_of other) before outcome) before before failure
     (record { files = refl; out = refl })
     (weaken (λ (refused : Refused). refused ≡ refused_words) (IsRefusedForWords AskForSerially words before before)
     (λ refused same. inl (λ other too. none_serially words command one asks threaded other too, same)) failure is)

@@ -11,7 +11,7 @@ use Rattle.other_picks.specs.declared.other.TheConstants.{MOST_OTHER_PICKS}
 use Rattle.srr_text.specs.declared.limits.TheConstants.{GREATEST_NUMBER, MOST_ENTRIES, MOST_PROGRAM_BYTES}
 use Rattle.wiz_words.specs.Limits.{fewest_polls, fewest_ranks, fewest_rounds, fewest_states, greatest_call, greatest_rank, greatest_seed, greatest_start, most_polls, most_ranks, most_rounds, most_states, usual_polls, usual_states}
 use Rattle.wiz_tool.specs.Inputs.{order_limit, text_limit}
-use Rattle.wiz_cli.specs.declared.commands.picture.TheConstants.{MOST_DRAWN}
+use Rattle.wiz_runs.specs.declared.commands.picture.TheConstants.{MOST_DRAWN}
 
 pub record AreTheLimits : Type 0 where
   -- an input file: the most bytes of a program or a plan

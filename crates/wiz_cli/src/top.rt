@@ -1,39 +1,20 @@
 //! The top call.
 ghost use Rattle.std.specs.Prelude.{◌≡◌, false};
 ghost use Rattle.srr_replay.specs.Rounds.{IsReplayable};
-ghost use Rattle.wiz_cli.specs.Commands.{AskForSerially, IsReport};
+ghost use Rattle.wiz_cli.specs.Commands.{AskForSerially, IsReport, task_of};
 ghost use Rattle.wiz_cli.specs.Promises.{IsComplete, NeverDiverges, ShowsEveryRun};
-ghost use Rattle.wiz_cli.specs.declared.viewing.ask.View.TheVariants.{Changes, Places};
-ghost use Rattle.wiz_cli.specs.inside.Ends.{AllowsBlocks, Ends, EndsWords, refused_words};
-ghost use Rattle.wiz_cli.specs.inside.Recording.{CanRun};
+ghost use Rattle.wiz_logs.specs.declared.viewing.ask.View.TheVariants.{Changes, Places};
+ghost use Rattle.wiz_cli.specs.inside.Ends.{AllowsBlocks, EndsWords, refused_words};
+ghost use Rattle.wiz_task.specs.inside.Ends.{Ends};
+ghost use Rattle.wiz_task.specs.inside.Recording.{CanRun};
 ghost use Rattle.wiz_tool.specs.inside.Told.{IsFailureBy};
 ghost use Rattle.wiz_tool.specs.Environment.{around};
 ghost use Rattle.wiz_words.specs.Texts.{texts, with_texts};
 ghost use Rattle.wiz_words.specs.Words.{AskFor, is_threaded};
 
-use crate::commands::advise::advise;
-use crate::commands::check::check;
-use crate::commands::convert::convert;
-use crate::commands::demo::demo;
-use crate::commands::diff::diff;
-use crate::commands::explore_runs::explore;
-use crate::commands::join::join;
-use crate::commands::picture::picture;
-use crate::commands::races::races;
-use crate::commands::record::record;
-use crate::commands::refine::refine;
-use crate::commands::replay::replay;
-use crate::commands::show::show;
-use crate::commands::stats::stats;
-use crate::commands::view::view;
-use crate::commands::waits::waits;
 use crate::limits::limits_are;
-use crate::recording::make::record_on_threads;
-use crate::recording::ready::Ready;
-use crate::replaying::make::replay_on_threads;
-use crate::runner::{Runner, Serial};
+use crate::serial::Serial;
 use crate::threaded::Threaded;
-use crate::viewing::ask::View;
 use c_program::CProgram;
 use c_types::one_program;
 use explore::course::Bounds;
@@ -49,6 +30,27 @@ use std::alloc::{AllocError, Global};
 use std::sync::Wait;
 use std::thread::Threads;
 use wiz_io::{Sink, Store};
+use wiz_logs::commands::convert::convert;
+use wiz_logs::commands::diff::diff;
+use wiz_logs::commands::join::join;
+use wiz_logs::commands::refine::refine;
+use wiz_logs::commands::replay::replay;
+use wiz_logs::commands::show::show;
+use wiz_logs::commands::stats::stats;
+use wiz_logs::commands::view::view;
+use wiz_logs::replaying::make::replay_on_threads;
+use wiz_logs::viewing::ask::View;
+use wiz_runs::commands::advise::advise;
+use wiz_runs::commands::check::check;
+use wiz_runs::commands::demo::demo;
+use wiz_runs::commands::explore_runs::explore;
+use wiz_runs::commands::picture::picture;
+use wiz_runs::commands::races::races;
+use wiz_runs::commands::record::record;
+use wiz_runs::commands::waits::waits;
+use wiz_runs::recording::make::record_on_threads;
+use wiz_task::ready::Ready;
+use wiz_task::runner::Runner;
 use wiz_tool::failure::Failure;
 use wiz_tool::refusal::Refusal;
 use wiz_tool::report::{Report, settle};
@@ -197,7 +199,7 @@ fn answer_serially<'a, S: Store, K: Sink, W: Watcher>(
     requires serial { is_threaded (with_texts command) ≡ false }
     requires blocks { AllowsBlocks (with_texts command) }
     ensures serial { is_threaded (with_texts command.entry) ≡ false }
-    ensures ends { Ends (with_texts command.entry) (around S.told K.told store out) result }
+    ensures ends { Ends (task_of (with_texts command.entry)) (around S.told K.told store out) result }
 {
     answer(alloc, command, store, out, &Serial, watcher)
 }
@@ -214,7 +216,7 @@ fn answer<'a, S: Store, K: Sink, R: Runner, W: Watcher>(
     requires blocks { AllowsBlocks (with_texts command) }
     requires threads { R.is_threaded ≡ is_threaded (with_texts command) }
     requires runs { R.runs runner.now }
-    ensures { Ends (with_texts command.entry) (around S.told K.told store out) result }
+    ensures { Ends (task_of (with_texts command.entry)) (around S.told K.told store out) result }
 {
     match command {
         Command::Record { run, prefix } => record(alloc, &run, prefix, store, out, runner),

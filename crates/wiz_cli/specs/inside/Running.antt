@@ -8,9 +8,9 @@ use Rattle.replay_model.specs.Replays.{Breakpoint}
 use Rattle.srr_entry.specs.declared.log.Log.{Log}
 use Rattle.srr_record.specs.declared.recording.Recording.{Recording}
 use Rattle.srr_replay.specs.Rounds.{IsReplayable}
-use Rattle.wiz_cli.specs.declared.recording.ready.Ready.{Ready}
-use Rattle.wiz_cli.specs.inside.Recording.{CanRun, IsMade}
-use Rattle.wiz_cli.specs.inside.Replaying.{IsReplayBy}
+use Rattle.wiz_task.specs.declared.ready.Ready.{Ready}
+use Rattle.wiz_task.specs.inside.Recording.{CanRun, IsMade}
+use Rattle.wiz_task.specs.inside.Replaying.{IsReplayBy}
 
 -- what such calls may be made with
 abbrev pub TakesReady : Type 1

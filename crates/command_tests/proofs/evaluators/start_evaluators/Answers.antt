@@ -1,6 +1,6 @@
 use Rattle.std.proofs.Common.{◌+◌, [], ◌∷◌, arith, length-append, slice_index}
 use Rattle.run_model.specs.Program.{IsAfter}
-use Rattle.wiz_cli.proofs.RunLemmas.{each_more, started}
+use Rattle.wiz_task.proofs.RunLemmas.{each_more, started}
 use Rattle.srr_replay.proofs.LogLemmas.{below_at}
 use Rattle.srr_replay.proofs.RoundsLemmas.{member_of}
 use Rattle.command_tests.proofs.evaluators.start_evaluators.Goals as goal

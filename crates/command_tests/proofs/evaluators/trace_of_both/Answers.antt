@@ -1,4 +1,4 @@
-use Rattle.wiz_cli.proofs.LogLemmas.{IsReplayable-text}
+use Rattle.wiz_task.proofs.LogLemmas.{IsReplayable-text}
 use Rattle.command_tests.proofs.evaluators.trace_of_both.Goals as goal
 
 pub replay_suspended-requires : goal.replay_suspended-requires

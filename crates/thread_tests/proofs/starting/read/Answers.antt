@@ -1,5 +1,5 @@
 use Rattle.std.proofs.Common.{inl}
-use Rattle.wiz_cli.proofs.LogLemmas.{IsReplayable-text}
+use Rattle.wiz_task.proofs.LogLemmas.{IsReplayable-text}
 use Rattle.thread_tests.proofs.starting.read.Goals as goal
 
 pub returns-in-Ok : goal.returns-in-Ok

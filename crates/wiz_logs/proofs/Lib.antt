@@ -1,0 +1,10 @@
+pub mod BesideRuns
+pub mod ConvertLemmas
+pub mod DiffLemmas
+pub mod LogInputs
+pub mod PartFiles
+pub mod RegroupLemmas
+pub mod RegroupTold
+pub mod ReplayLemmas
+pub mod SubjectLemmas
+pub mod ViewLemmas

@@ -1,0 +1,14 @@
+pub mod CheckLemmas
+pub mod CommandLemmas
+pub mod DemoLemmas
+pub mod LogFiles
+pub mod OrderNames
+pub mod PictureLemmas
+pub mod RaceFiles
+pub mod RaceLemmas
+pub mod ReadableLogs
+pub mod RecordLemmas
+pub mod RecordingLemmas
+pub mod RunInputs
+pub mod SearchFiles
+pub mod SearchLemmas

@@ -1,0 +1,8 @@
+pub mod Demos
+pub mod Explorations
+pub mod Pictures
+pub mod RaceOrders
+pub mod RecordFiles
+pub mod Runs
+pub mod StuckRuns
+pub mod inside

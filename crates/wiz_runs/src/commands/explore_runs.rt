@@ -1,0 +1,96 @@
+//! `explore PROGRAM PLAN PREFIX [--most N] [--polls K] [--under FILE]`: every outcome that the runs of a program have is listed, with an order
+//! that makes it again.
+ghost use Rattle.std.specs.Prelude.{◌≡◌};
+ghost use Rattle.std.specs.List.{list_any};
+ghost use Rattle.explore.specs.declared.found.Found.{Found};
+ghost use Rattle.wiz_runs.specs.Explorations.{is_complete, is_halted, of_search, search_outcome};
+ghost use Rattle.wiz_task.specs.inside.Ends.{Ends};
+ghost use Rattle.wiz_tool.specs.inside.Told.{IsToldBy};
+ghost use Rattle.wiz_tool.specs.Environment.{around};
+ghost use Rattle.wiz_words.specs.Texts.{run_with_texts};
+ghost use Rattle.wiz_runs.specs.Runs.{search_task};
+
+use crate::commands::explore_files::write_orders;
+use crate::exploring::make::{Searched, search};
+use crate::recording::ready::read_run;
+use explore::course::Bounds;
+use explore::found::{Explored, Found};
+use explore::watch::Watcher;
+use explore_text::text::explore_text;
+use replay_model::replayed::Replays;
+use run_model::ending::Ending;
+use std::alloc::{AllocError, Global};
+use wiz_io::{Sink, Store};
+use wiz_tool::failure::Failure;
+use wiz_tool::finish::finish;
+use wiz_tool::report::{Report, text_of_replays};
+use wiz_tool::status::Status;
+use wiz_words::command::RunWords;
+
+/// Searches the runs of what the arguments name, within these bounds, and lists what they come to. `watcher` is told on the way how far the
+/// search is.
+pub fn explore<'a, S: Store, K: Sink, W: Watcher>(
+    alloc: Global,
+    run: &RunWords<&'a str>,
+    prefix: &str,
+    bounds: Bounds,
+    store: &mut S,
+    out: &mut K,
+    watcher: &mut W,
+) -> Result<Report, Failure<'a>>
+    ensures { Ends (search_task (run_with_texts run.now) prefix.now bounds.most bounds.polls) (around S.told K.told store out) result }
+{
+    let ready = read_run(alloc, run, store)?;
+    let searched = search(alloc, &ready, bounds, watcher)?;
+    let report = write(alloc, prefix, bounds, &searched, store, out)?;
+    Ok(report)
+}
+
+/// Writes the files of a search and tells it.
+fn write<S: Store, K: Sink>(
+    alloc: Global,
+    prefix: &str,
+    bounds: Bounds,
+    searched: &Searched,
+    store: &mut S,
+    out: &mut K,
+) -> Result<Report, AllocError>
+    ensures told { IsToldBy (search_outcome prefix.now bounds.most bounds.polls searched.now.explored searched.now.waits) (around S.told K.told store out) result }
+    ensures reads { (S.told store.new).reads ≡ (S.told store.old).reads }
+{
+    let text = explore_text(alloc, bounds, &searched.explored, searched.waits.as_slice())?;
+    let status = of_search(&searched.explored);
+    let written = write_orders(alloc, prefix, &searched.explored, store);
+    let done = text_of_replays(text, status, Replays::new(alloc));
+    finish(alloc, written, done, out)
+}
+
+/// The status of a search.
+fn of_search(explored: &Explored) -> Status
+    ensures { result ≡ of_search explored.now }
+{
+    if has_halted(explored.found.as_slice()) {
+        Status::Halted
+    } else if is_complete(explored) {
+        Status::Done
+    } else {
+        Status::Incomplete
+    }
+}
+
+/// Whether some outcome was halted.
+fn has_halted(listed: &[Found]) -> bool
+    ensures { result ≡ list_any (λ (found : Found). is_halted found.outcome.ending) listed.now }
+{
+    listed.iter().any(|found| matches!(found.outcome.ending(), Ending::Halted(_)))
+}
+
+/// Whether no state is left and no rank was held back.
+fn is_complete(explored: &Explored) -> bool
+    ensures { result ≡ is_complete explored.now.left explored.now.polled }
+{
+    match explored.left.as_slice() {
+        [] => !explored.polled,
+        [_, ..] => false,
+    }
+}

@@ -1,0 +1,12 @@
+//! The commands, a file for each: what it reads, what it does, and what it tells.
+pub mod advise;
+pub mod check;
+pub mod demo;
+pub mod explore_files;
+pub mod explore_runs;
+pub mod picture;
+pub mod race_orders;
+pub mod races;
+pub mod record;
+pub mod record_files;
+pub mod waits;

@@ -1,0 +1,6 @@
+pub mod Apart
+pub mod EndLemmas
+pub mod InputLemmas
+pub mod LogLemmas
+pub mod RunLemmas
+pub mod ShowLemmas
