@@ -1,11 +1,11 @@
 use Rattle.std.proofs.Common.{◌≡◌, ◌≢◌, ℕ, ℤ, zero, suc, ◌<◌, ◌≤◌, true, false, List, Option, Some, None, Ok, Err, refl, ◌∙◌, ap, arith}
 use Rattle.mpi_call.specs.declared.call.Fault.{Fault}
 use Rattle.mpi_call.specs.declared.reply.Reply.{Reply}
-use Rattle.c_program.specs.declared.expr.Expr.{Expr}
 use Rattle.c_program.specs.Courses.{after, trapped}
 use Rattle.c_program.specs.Meaning.{Exits, Meaning, Passing, loop, step, test, turn_exits, turns}
 use Rattle.c_program.specs.Performing.{Onward}
 use Rattle.c_program.specs.State.{State}
+use Rattle.c_program.specs.Tree.{Expr}
 use Rattle.c_eval.specs.declared.flow.Flow.{Flow}
 use Rattle.c_eval.specs.declared.flow.Flow.TheVariants.{Next, Broke, Back}
 use Rattle.c_eval.specs.declared.outcome.Stop.{Stop}

@@ -6,14 +6,13 @@ use Rattle.run_model.specs.declared.program.Want.{Want}
 use Rattle.run_model.specs.declared.program.Want.TheVariants.{Ask, Ended}
 use Rattle.run_model.specs.Program.{MayGive, Says}
 use Rattle.c_program.specs.declared.effect.Rank.{Rank}
-use Rattle.c_program.specs.declared.program.CProgram.{CProgram}
-use Rattle.c_program.specs.declared.program.Function.{Function}
 use Rattle.c_program.specs.declared.state.Passed.{Passed}
 use Rattle.c_program.specs.Courses.{Course, after, call_in, listed_of, state_in, variables_in}
 use Rattle.c_program.specs.Meaning.{call_at, course_of}
 use Rattle.c_program.specs.Performing.{Onward}
 use Rattle.c_program.specs.Program.{next_of, output_of, variables_of}
 use Rattle.c_program.specs.State.{State}
+use Rattle.c_program.specs.Tree.{Function, Program}
 use Rattle.c_run_replies.proofs.MoreReplies.{live-variables, shaped-more}
 use Rattle.c_eval.specs.Ranks.{IsRankAt, Wants}
 
@@ -27,15 +26,15 @@ pub wants-says : (course : Course) (want : Want) (s : State) → Wants course wa
 wants-says course (Ask call) s w = ap call_in w.is
 wants-says course Ended s w = ap call_in w
 
-pub rank-wants : (program : CProgram) (rank : Rank) (replies : List Reply) (asked : Bool) (s t : State) (want : Want) → IsRankAt program rank replies asked s
+pub rank-wants : (program : Program) (rank : Rank) (replies : List Reply) (asked : Bool) (s t : State) (want : Want) → IsRankAt program rank replies asked s
     → Wants (after (course_of program rank) replies) want t → IsRankAt program rank replies true t
 rank-wants program rank replies asked s t want is w = record { member = is.member; few = is.few; shaped = is.shaped; stands = λ a. wants-state _ want t w }
 
-pub rank-says : (program : CProgram) (rank : Rank) (replies : List Reply) (asked : Bool) (s t : State) (want : Want) → IsRankAt program rank replies asked s
+pub rank-says : (program : Program) (rank : Rank) (replies : List Reply) (asked : Bool) (s t : State) (want : Want) → IsRankAt program rank replies asked s
     → Wants (after (course_of program rank) replies) want t → Says want (next_of program rank.ranks rank.number replies)
 rank-says program rank replies asked s t want is w = rw is.shaped (wants-says _ want t w)
 
-pub rank-gives : (program : CProgram) (rank : Rank) (replies : List Reply) (reply : Reply) (asked : Bool) (s t : State) → IsRankAt program rank replies asked s
+pub rank-gives : (program : Program) (rank : Rank) (replies : List Reply) (reply : Reply) (asked : Bool) (s t : State) → IsRankAt program rank replies asked s
     → MayGive (next_of program) rank.ranks rank.number replies reply → IsRankAt program rank (replies ++ reply ∷ []) false t
 rank-gives program rank replies reply asked s t is may =
     record {
@@ -45,11 +44,11 @@ rank-gives program rank replies reply asked s t is may =
       stands = λ asked. absurd (cc);
     }
 
-pub rank-printed : (program : CProgram) (rank : Rank) (replies : List Reply) (asked : Bool) (s : State) → IsRankAt program rank replies asked s → asked ≡ true
+pub rank-printed : (program : Program) (rank : Rank) (replies : List Reply) (asked : Bool) (s : State) → IsRankAt program rank replies asked s → asked ≡ true
     → s.printed ≡ output_of program rank.ranks rank.number replies
 rank-printed program rank replies asked s is a = sym (ap (λ c. (state_in c).printed) is.shaped ∙ ap (λ (u : State). u.printed) (is.stands a))
 
-pub rank-variables : (program : CProgram) (rank : Rank) (replies : List Reply) (asked : Bool) (s : State) (call : Call) → IsRankAt program rank replies asked s → asked ≡ true
+pub rank-variables : (program : Program) (rank : Rank) (replies : List Reply) (asked : Bool) (s : State) (call : Call) → IsRankAt program rank replies asked s → asked ≡ true
     → next_of program rank.ranks rank.number replies ≡ Some call → listed_of s s.slots ≡ variables_of program rank.ranks rank.number replies
 rank-variables program rank replies asked s call is a live =
     sym (ap variables_in is.shaped ∙ live-variables (after (course_of program rank) replies) call (ap call_in (sym is.shaped) ∙ live) ∙ ap (λ (u : State). listed_of u u.slots) (is.stands a))

@@ -1,14 +1,13 @@
 -- Parts of what programs mean that have functions of their own.
-use Rattle.std.specs.Prelude.{ℤ, pos, Option, Some, None}
+use Rattle.std.specs.Prelude.{ℤ, pos, Option, Some, None, map}
 use Rattle.c_program.specs.declared.effect.Rank.{Rank}
-use Rattle.c_program.specs.declared.expr.Expr.{Expr}
-use Rattle.c_program.specs.declared.statement.ForStart.{ForStart}
-use Rattle.c_program.specs.declared.statement.Simple.{Simple}
 use Rattle.c_program.specs.Courses.{Course}
 use Rattle.c_program.specs.Meaning as m
 use Rattle.c_program.specs.Meaning.{Exits, Meaning, Passing, call_at, choose, for_start, for_update, has_room, item_cells, leaving, length_or_one, loop, opened, parameter_cells, step, trying, turn_exits, with_parameters, with_slot}
 use Rattle.c_program.specs.Performing.{Onward}
 use Rattle.c_program.specs.State.{State, stack_mark}
+use Rattle.c_program.specs.Tree.{Expr, ForStart, Simple}
+use Rattle.c_program.specs.View.{pure_function}
 use Rattle.c_eval.specs.declared.calls.Calls.{Calls}
 use Rattle.c_eval.specs.declared.flow.Flow.{Flow}
 use Rattle.c_eval.specs.declared.flow.Flow.TheVariants.{Back}
@@ -16,7 +15,7 @@ use Rattle.c_eval.specs.Leaving.{exit}
 
 -- what calls of functions of the text do
 abbrev pub calls_of : Calls → m.Calls
-calls_of calls = call_at calls.rank calls.functions.now calls.depth
+calls_of calls = call_at calls.rank (map pure_function calls.functions.now) calls.depth
 
 -- what a function gives back
 abbrev pub value_in : Flow → ℤ

@@ -2,11 +2,8 @@
 use Rattle.std.specs.Prelude.{Option, Some, None}
 use Rattle.c_names.specs.declared.operator.Operator.{Operator}
 use Rattle.c_program.specs.declared.effect.Rank.{Rank}
-use Rattle.c_program.specs.declared.expr.Expr.{Expr}
-use Rattle.c_program.specs.declared.expr.Place.{Place}
-use Rattle.c_program.specs.declared.expr.Right.{Right}
-use Rattle.c_program.specs.declared.statement.Stmt.{Stmt}
 use Rattle.c_program.specs.Meaning.{Calls, Meaning, Passing, act, choose, right, started, test, trying}
+use Rattle.c_program.specs.Tree.{Expr, Place, Right, Stmt}
 use Rattle.c_program.specs.Values.{cell_of}
 use Rattle.c_run_cells.specs.Parts.{assigned}
 

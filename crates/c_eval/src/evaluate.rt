@@ -1,6 +1,7 @@
 //! The evaluation of statements.
-ghost use Rattle.std.specs.Prelude.{◌≡◌, ◌≤◌, ◌<◌, OnOk, option_copied};
-ghost use Rattle.c_program.specs.Meaning.{act, act_list, act_part, call_at, declare, declare_all, for_start, for_update, invoke, loop, loop_after, return, right, simple, started};
+ghost use Rattle.std.specs.Prelude.{◌≡◌, ◌≤◌, ◌<◌, OnOk, map, option_copied, option_map};
+ghost use Rattle.c_program.specs.Meaning.{act, act_parts, act_part, call_at, declare, declare_all, for_start, for_update, invoke, loop, loop_after, return, right, simple, started};
+ghost use Rattle.c_program.specs.View.{pure_call, pure_expr, pure_item, pure_part, pure_parts, pure_place, pure_right, pure_simple, pure_start, pure_stmt};
 ghost use Rattle.c_eval.specs.Evaluated.{Evaluated, Gives, Passes};
 ghost use Rattle.c_eval.specs.Leaving.{Leaves};
 ghost use Rattle.c_eval.specs.Parts.{blocked, calls_of, for_of, turn, value_in, way};
@@ -32,7 +33,7 @@ fn invoke<'p>(
     replies: &mut Replies,
 ) -> Result<i32, Stop>
     requires { calls.now.rank.ranks ≤ MOST_RANKS }
-    ensures { Gives (invoke (calls_of calls.now) call.now) state.old replies.old result state.new replies.new }
+    ensures { Gives (invoke (calls_of calls.now) (pure_call call.now)) state.old replies.old result state.new replies.new }
 {
     take_step(state)?;
     let arguments = arguments_of(calls.alloc, &call.arguments, state)?;
@@ -89,7 +90,7 @@ fn value_of<'p>(
     replies: &mut Replies,
 ) -> Result<i32, Stop>
     requires { calls.now.rank.ranks ≤ MOST_RANKS }
-    ensures { Gives (right (calls_of calls.now) one.now) state.old replies.old result state.new replies.new }
+    ensures { Gives (right (calls_of calls.now) (pure_right one.now)) state.old replies.old result state.new replies.new }
 {
     match one {
         Right::Value(expression) => Ok(state.value(expression)?),
@@ -108,7 +109,7 @@ fn assign<'p>(
     replies: &mut Replies,
 ) -> Result<(), Stop>
     requires { calls.now.rank.ranks ≤ MOST_RANKS }
-    ensures { Passes (assigns (calls_of calls.now) place.now operator right.now) state.old replies.old result state.new replies.new }
+    ensures { Passes (assigns (calls_of calls.now) (pure_place place.now) operator (pure_right right.now)) state.old replies.old result state.new replies.new }
 {
     let cell = state.cell_of(place)?;
     let value = value_of(calls, right, state, replies)?;
@@ -124,7 +125,7 @@ fn run_simple<'p>(
     replies: &mut Replies,
 ) -> Result<(), Stop>
     requires { calls.now.rank.ranks ≤ MOST_RANKS }
-    ensures { Passes (simple calls.now.rank (calls_of calls.now) one.now) state.old replies.old result state.new replies.new }
+    ensures { Passes (simple calls.now.rank (calls_of calls.now) (pure_simple one.now)) state.old replies.old result state.new replies.new }
 {
     match one {
         Simple::Set { place, right } => assign(calls, place, None, right, state, replies),
@@ -152,7 +153,7 @@ fn declare<'p>(
     replies: &mut Replies,
 ) -> Result<(), Stop>
     requires { calls.now.rank.ranks ≤ MOST_RANKS }
-    ensures { Passes (declare (calls_of calls.now) item.now) state.old replies.old result state.new replies.new }
+    ensures { Passes (declare (calls_of calls.now) (pure_item item.now)) state.old replies.old result state.new replies.new }
 {
     let cell = add(item, state)?;
     match &item.initial {
@@ -175,7 +176,7 @@ fn declare_all<'p>(
     replies: &mut Replies,
 ) -> Result<(), Stop>
     requires { calls.now.rank.ranks ≤ MOST_RANKS }
-    ensures { Passes (declare_all (calls_of calls.now) items.now) state.old replies.old result state.new replies.new }
+    ensures { Passes (declare_all (calls_of calls.now) (map pure_item items.now)) state.old replies.old result state.new replies.new }
 {
     for item in items {
         declare(calls, item, state, replies)?;
@@ -194,7 +195,7 @@ fn start_for<'p>(
     replies: &mut Replies,
 ) -> Result<(), Stop>
     requires { calls.now.rank.ranks ≤ MOST_RANKS }
-    ensures { Passes (for_start calls.now.rank (calls_of calls.now) start.now) state.old replies.old result state.new replies.new }
+    ensures { Passes (for_start calls.now.rank (calls_of calls.now) (pure_start start.now)) state.old replies.old result state.new replies.new }
 {
     match start {
         ForStart::Nothing => Ok(()),
@@ -215,7 +216,7 @@ fn run_update<'p>(
     replies: &mut Replies,
 ) -> Result<(), Stop>
     requires { calls.now.rank.ranks ≤ MOST_RANKS }
-    ensures { Passes (for_update calls.now.rank (calls_of calls.now) (option_copied update.entry)) state.old replies.old result state.new replies.new }
+    ensures { Passes (for_update calls.now.rank (calls_of calls.now) (option_map pure_simple (option_copied update.entry))) state.old replies.old result state.new replies.new }
 {
     match update {
         None => Ok(()),
@@ -233,7 +234,7 @@ fn take_turn<'p>(
     replies: &mut Replies,
 ) -> Result<Option<Flow>, Stop>
     requires { calls.now.rank.ranks ≤ MOST_RANKS }
-    ensures evaluated { Evaluated way (turn (for_update calls.now.rank (calls_of calls.now) (option_copied update.entry)) (started (act calls.now.rank (calls_of calls.now) body.now))) state.old replies.old result state.new replies.new }
+    ensures evaluated { Evaluated way (turn (for_update calls.now.rank (calls_of calls.now) (option_map pure_simple (option_copied update.entry))) (started (act calls.now.rank (calls_of calls.now) (pure_stmt body.now)))) state.old replies.old result state.new replies.new }
     ensures fewer { OnOk result (state.new.left < state.old.left) }
 {
     take_step(state)?;
@@ -257,7 +258,7 @@ fn repeat<'p>(
     replies: &mut Replies,
 ) -> Result<Flow, Stop>
     requires { calls.now.rank.ranks ≤ MOST_RANKS }
-    ensures { Leaves (loop (option_copied test.entry) (for_update calls.now.rank (calls_of calls.now) (option_copied update.entry)) (started (act calls.now.rank (calls_of calls.now) body.now))) state.old replies.old result state.new replies.new }
+    ensures { Leaves (loop (option_map pure_expr (option_copied test.entry)) (for_update calls.now.rank (calls_of calls.now) (option_map pure_simple (option_copied update.entry))) (started (act calls.now.rank (calls_of calls.now) (pure_stmt body.now)))) state.old replies.old result state.new replies.new }
 {
     loop {
         if !state.test(test)? {
@@ -280,7 +281,7 @@ fn repeat_after<'p>(
     replies: &mut Replies,
 ) -> Result<Flow, Stop>
     requires { calls.now.rank.ranks ≤ MOST_RANKS }
-    ensures { Leaves (loop_after test.now (started (act calls.now.rank (calls_of calls.now) body.now))) state.old replies.old result state.new replies.new }
+    ensures { Leaves (loop_after (pure_expr test.now) (started (act calls.now.rank (calls_of calls.now) (pure_stmt body.now)))) state.old replies.old result state.new replies.new }
 {
     match take_turn(calls, None, body, state, replies)? {
         Some(flow) => Ok(flow),
@@ -300,7 +301,7 @@ fn run_for<'p>(
     replies: &mut Replies,
 ) -> Result<Flow, Stop>
     requires { calls.now.rank.ranks ≤ MOST_RANKS }
-    ensures { Leaves (for_of calls.now.rank (calls_of calls.now) start.now (option_copied test.entry) (option_copied update.entry) (started (act calls.now.rank (calls_of calls.now) body.now))) state.old replies.old result state.new replies.new }
+    ensures { Leaves (for_of calls.now.rank (calls_of calls.now) (pure_start start.now) (option_map pure_expr (option_copied test.entry)) (option_map pure_simple (option_copied update.entry)) (started (act calls.now.rank (calls_of calls.now) (pure_stmt body.now)))) state.old replies.old result state.new replies.new }
 {
     let mark = state.mark();
     start_for(calls, start, state, replies)?;
@@ -320,7 +321,7 @@ fn run<'p>(
     replies: &mut Replies,
 ) -> Result<Flow, Stop>
     requires { calls.now.rank.ranks ≤ MOST_RANKS }
-    ensures { Leaves (started (act calls.now.rank (calls_of calls.now) stmt.now)) state.old replies.old result state.new replies.new }
+    ensures { Leaves (started (act calls.now.rank (calls_of calls.now) (pure_stmt stmt.now))) state.old replies.old result state.new replies.new }
 {
     take_step(state)?;
     act(calls, stmt, state, replies)
@@ -328,6 +329,7 @@ fn run<'p>(
 
 /// A statement whose step is taken.
 #[cycle(statements)]
+#[tactic(auto, using(c_program::proofs::StmtViewed::stmt_views))]
 fn act<'p>(
     calls: &Calls<'p>,
     stmt: &'p Stmt,
@@ -335,7 +337,7 @@ fn act<'p>(
     replies: &mut Replies,
 ) -> Result<Flow, Stop>
     requires { calls.now.rank.ranks ≤ MOST_RANKS }
-    ensures { Leaves (act calls.now.rank (calls_of calls.now) stmt.now) state.old replies.old result state.new replies.new }
+    ensures { Leaves (act calls.now.rank (calls_of calls.now) (pure_stmt stmt.now)) state.old replies.old result state.new replies.new }
 {
     match stmt {
         Stmt::Block(parts) => run_block(calls, parts, state, replies),
@@ -381,7 +383,7 @@ fn run_if<'p>(
     replies: &mut Replies,
 ) -> Result<Flow, Stop>
     requires { calls.now.rank.ranks ≤ MOST_RANKS }
-    ensures { Leaves (chosen test.now (started (act calls.now.rank (calls_of calls.now) then.now)) (otherwise calls.now.rank (calls_of calls.now) (option_copied other.entry))) state.old replies.old result state.new replies.new }
+    ensures { Leaves (chosen (pure_expr test.now) (started (act calls.now.rank (calls_of calls.now) (pure_stmt then.now))) (otherwise calls.now.rank (calls_of calls.now) (option_map pure_stmt (option_copied other.entry)))) state.old replies.old result state.new replies.new }
 {
     if state.test(Some(test))? {
         return run(calls, then, state, replies);
@@ -401,7 +403,7 @@ fn run_return<'p>(
     replies: &mut Replies,
 ) -> Result<Flow, Stop>
     requires { calls.now.rank.ranks ≤ MOST_RANKS }
-    ensures { Leaves (return (calls_of calls.now) value.now) state.old replies.old result state.new replies.new }
+    ensures { Leaves (return (calls_of calls.now) (option_map pure_right value.now)) state.old replies.old result state.new replies.new }
 {
     match value {
         None => Ok(Flow::Back(0)),
@@ -414,6 +416,7 @@ fn run_return<'p>(
 
 /// What stands in a block, which takes a step.
 #[cycle(statements)]
+#[tactic(auto, using(c_program::proofs::StmtViewed::stmt_views))]
 fn run_part<'p>(
     calls: &Calls<'p>,
     part: &'p Part,
@@ -421,7 +424,7 @@ fn run_part<'p>(
     replies: &mut Replies,
 ) -> Result<Flow, Stop>
     requires { calls.now.rank.ranks ≤ MOST_RANKS }
-    ensures { Leaves (started (act_part calls.now.rank (calls_of calls.now) part.now)) state.old replies.old result state.new replies.new }
+    ensures { Leaves (started (act_part calls.now.rank (calls_of calls.now) (pure_part part.now))) state.old replies.old result state.new replies.new }
 {
     take_step(state)?;
     match part {
@@ -442,7 +445,7 @@ fn run_list<'p>(
     replies: &mut Replies,
 ) -> Result<Flow, Stop>
     requires { calls.now.rank.ranks ≤ MOST_RANKS }
-    ensures { Leaves (act_list calls.now.rank (calls_of calls.now) parts.now) state.old replies.old result state.new replies.new }
+    ensures { Leaves (act_parts calls.now.rank (calls_of calls.now) (pure_parts parts.now)) state.old replies.old result state.new replies.new }
 {
     for part in parts {
         match run_part(calls, part, state, replies)? {
@@ -462,7 +465,7 @@ fn run_block<'p>(
     replies: &mut Replies,
 ) -> Result<Flow, Stop>
     requires { calls.now.rank.ranks ≤ MOST_RANKS }
-    ensures { Leaves (blocked (act_list calls.now.rank (calls_of calls.now) parts.now)) state.old replies.old result state.new replies.new }
+    ensures { Leaves (blocked (act_parts calls.now.rank (calls_of calls.now) (pure_parts parts.now))) state.old replies.old result state.new replies.new }
 {
     let mark = state.mark();
     let flow = run_list(calls, parts, state, replies)?;

@@ -1,6 +1,7 @@
 //! MPI calls over the replies that are left.
 ghost use Rattle.std.specs.Prelude.{◌≡◌, ◌<◌, ◌≤◌, OnOk, length};
 ghost use Rattle.c_program.specs.Performing.{Onward, perform};
+ghost use Rattle.c_program.specs.View.{pure_mpi};
 ghost use Rattle.c_run_cells.specs.Parts.{mpi};
 ghost use Rattle.c_run_replies.specs.Questions.{asks, reached};
 ghost use Rattle.c_eval.specs.Evaluated.{Evaluated, Passes};
@@ -26,7 +27,7 @@ pub fn call_mpi(
     replies: &mut Replies,
 ) -> Result<(), Stop>
     requires { rank.ranks ≤ MOST_RANKS }
-    ensures { Passes (mpi rank call.now) state.old replies.old result state.new replies.new }
+    ensures { Passes (mpi rank (pure_mpi call.now)) state.old replies.old result state.new replies.new }
 {
     match effect_of(rank, call, state) {
         Ok(effect) => perform(alloc, rank, effect, state, replies),

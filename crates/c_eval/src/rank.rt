@@ -39,6 +39,7 @@ pub struct EvalRank<'p> {
 impl<'p> Model for EvalRank<'p> {
     ghost use Rattle.run_model.specs.Program.{Standing};
     ghost use Rattle.c_program.specs.declared.program.CProgram.{CProgram};
+    ghost use Rattle.c_program.specs.View.{pure_program};
     ghost use Rattle.c_eval.specs.Parts.{calls_of};
     ghost use Rattle.c_eval.specs.Ranks.{IsRankAt};
     ghost use Rattle.c_program.specs.contracts.statement.Part as part;
@@ -50,7 +51,7 @@ impl<'p> Model for EvalRank<'p> {
 
     ghost view = { λ r. record { program = r.program.now; ranks = r.rank.ranks; rank = r.rank.number; replies = r.replies.items; asked = r.asked } };
 
-    ghost invariant = { λ r. IsRankAt r.program.now r.rank r.replies.items r.asked r.state };
+    ghost invariant = { λ r. IsRankAt (pure_program r.program.now) r.rank r.replies.items r.asked r.state };
 }
 
 impl<'p> EvalRank<'p> {

@@ -28,23 +28,8 @@ use Rattle.c_program.specs.declared.effect.Message.{Message}
 use Rattle.c_program.specs.declared.effect.Rank.{Rank}
 use Rattle.c_program.specs.declared.effect.Receive.{Receive}
 use Rattle.c_program.specs.declared.effect.Start.TheVariants.{Send as StartSend, Receive as StartReceive}
-use Rattle.c_program.specs.declared.expr.Expr.{Expr}
-use Rattle.c_program.specs.declared.expr.Reference.{Reference}
-use Rattle.c_program.specs.declared.mpi.CollectiveCall.{CollectiveCall}
-use Rattle.c_program.specs.declared.mpi.CollectiveCall.TheVariants as collectives
-use Rattle.c_program.specs.declared.mpi.CommunicatorCall.{CommunicatorCall}
-use Rattle.c_program.specs.declared.mpi.CommunicatorCall.TheVariants as communicators
-use Rattle.c_program.specs.declared.mpi.CompletionCall.{CompletionCall}
-use Rattle.c_program.specs.declared.mpi.CompletionCall.TheVariants as completions
-use Rattle.c_program.specs.declared.mpi.MessageCall.{MessageCall}
-use Rattle.c_program.specs.declared.mpi.MessageCall.TheVariants as messages
-use Rattle.c_program.specs.declared.mpi.MpiCall.{MpiCall}
-use Rattle.c_program.specs.declared.mpi.MpiCall.TheVariants as c
-use Rattle.c_program.specs.declared.mpi.Outgoing.{Outgoing}
-use Rattle.c_program.specs.declared.mpi.ProbeCall.{ProbeCall}
-use Rattle.c_program.specs.declared.mpi.ProbeCall.TheVariants as probes
-use Rattle.c_program.specs.declared.mpi.Reduction.{Reduction}
-use Rattle.c_program.specs.declared.mpi.SomeRequests.{SomeRequests}
+use Rattle.c_program.specs.Tree as t
+use Rattle.c_program.specs.Tree.{CollectiveCall, CommunicatorCall, CompletionCall, Expr, MessageCall, MpiCall, Outgoing, ProbeCall, Reduction, Reference, SomeRequests}
 use Rattle.c_program.specs.Cells.{Cells}
 use Rattle.c_program.specs.State.{State, any_source, cell_at, members_of, no_cells, null, undefined}
 use Rattle.c_program.specs.Values.{given, or_fault, range, value}
@@ -238,9 +223,9 @@ isend_effect rank outgoing comm request sync s =
 
 -- sends and receives (MPI 3.1, 3.2, 3.4, 3.7.2 and 3.10)
 abbrev pub message_effect : Rank → MessageCall → State → Result Effect Fault
-message_effect rank (messages.Send outgoing comm) s = send_effect rank outgoing comm false s
-message_effect rank (messages.Ssend outgoing comm) s = send_effect rank outgoing comm true s
-message_effect rank (messages.Recv incoming comm kept) s =
+message_effect rank (t.send outgoing comm) s = send_effect rank outgoing comm false s
+message_effect rank (t.ssend outgoing comm) s = send_effect rank outgoing comm true s
+message_effect rank (t.recv incoming comm kept) s =
     given (range incoming.buffer.cells s) (λ buffer_cells. given (value incoming.buffer.count s) (λ buffer_count. given (value incoming.source s) (λ source. given (value incoming.tag s) (λ tag. given (value comm s) (λ comm. given (status kept s) (λ kept.
     given (communicator_of rank s comm) (λ comm.
     given (count_of buffer_count) (λ buffer_count.
@@ -249,9 +234,9 @@ message_effect rank (messages.Recv incoming comm kept) s =
     given (first buffer_count buffer_cells) (λ buffer_cells.
     given (optional cell kept) (λ kept.
     Ok (Receives (receive comm source tag buffer_cells) None kept)))))))))))))
-message_effect rank (messages.Isend outgoing comm request) s = isend_effect rank outgoing comm request false s
-message_effect rank (messages.Issend outgoing comm request) s = isend_effect rank outgoing comm request true s
-message_effect rank (messages.Irecv incoming comm request) s =
+message_effect rank (t.isend outgoing comm request) s = isend_effect rank outgoing comm request false s
+message_effect rank (t.issend outgoing comm request) s = isend_effect rank outgoing comm request true s
+message_effect rank (t.irecv incoming comm request) s =
     given (range incoming.buffer.cells s) (λ buffer_cells. given (value incoming.buffer.count s) (λ buffer_count. given (value incoming.source s) (λ source. given (value incoming.tag s) (λ tag. given (value comm s) (λ comm. given (range request s) (λ request.
     given (communicator_of rank s comm) (λ comm.
     given (count_of buffer_count) (λ buffer_count.
@@ -260,7 +245,7 @@ message_effect rank (messages.Irecv incoming comm request) s =
     given (first buffer_count buffer_cells) (λ buffer_cells.
     given (cell request) (λ request.
     Ok (Starts (StartReceive (receive comm source tag buffer_cells)) (Some request))))))))))))))
-message_effect rank (messages.Sendrecv outgoing incoming comm kept) s =
+message_effect rank (t.sendrecv outgoing incoming comm kept) s =
     given (range outgoing.buffer.cells s) (λ out_cells. given (value outgoing.buffer.count s) (λ out_count. given (value outgoing.dest s) (λ dest. given (value outgoing.tag s) (λ send_tag. given (range incoming.buffer.cells s) (λ buffer_cells. given (value incoming.buffer.count s) (λ buffer_count. given (value incoming.source s) (λ source. given (value incoming.tag s) (λ tag. given (value comm s) (λ comm. given (status kept s) (λ kept.
     given (communicator_of rank s comm) (λ comm.
     given (count_of out_count) (λ out_count.
@@ -287,25 +272,25 @@ completes_some mode several s =
 
 -- the completion of requests (MPI 3.1, 3.7.3 and 3.7.5)
 abbrev pub completion_effect : CompletionCall → State → Result Effect Fault
-completion_effect (completions.Wait requests kept) s =
+completion_effect (t.wait requests kept) s =
     given (range requests s) (λ requests. given (status kept s) (λ kept.
     given (first 1 requests) (λ requests.
     given (optional (first 1) kept) (λ kept.
     completes requests All (record answers { statuses = kept })))))
-completion_effect (completions.Test requests flag kept) s =
+completion_effect (t.test requests flag kept) s =
     given (range requests s) (λ requests. given (range flag s) (λ flag. given (status kept s) (λ kept.
     given (first 1 requests) (λ requests.
     given (cell flag) (λ flag.
     given (optional (first 1) kept) (λ kept.
     completes requests TestAll (record answers { flag = Some flag; statuses = kept })))))))
-completion_effect (completions.Waitany count requests index kept) s =
+completion_effect (t.waitany count requests index kept) s =
     given (value count s) (λ count. given (range requests s) (λ requests. given (range index s) (λ index. given (status kept s) (λ kept.
     given (handles_of count) (λ count.
     given (first count requests) (λ requests.
     given (cell index) (λ index.
     given (optional (first 1) kept) (λ kept.
     completes requests AnyOne (record answers { index = Some index; statuses = kept })))))))))
-completion_effect (completions.Testany count requests index flag kept) s =
+completion_effect (t.testany count requests index flag kept) s =
     given (value count s) (λ count. given (range requests s) (λ requests. given (range index s) (λ index. given (range flag s) (λ flag. given (status kept s) (λ kept.
     given (handles_of count) (λ count.
     given (first count requests) (λ requests.
@@ -313,32 +298,32 @@ completion_effect (completions.Testany count requests index flag kept) s =
     given (cell flag) (λ flag.
     given (optional (first 1) kept) (λ kept.
     completes requests TestAny (record answers { flag = Some flag; index = Some index; statuses = kept })))))))))))
-completion_effect (completions.Waitall count requests kept) s =
+completion_effect (t.waitall count requests kept) s =
     given (value count s) (λ count. given (range requests s) (λ requests. given (status kept s) (λ kept.
     given (handles_of count) (λ count.
     given (first count requests) (λ requests.
     given (optional (first count) kept) (λ kept.
     completes requests All (record answers { statuses = kept })))))))
-completion_effect (completions.Testall count requests flag kept) s =
+completion_effect (t.testall count requests flag kept) s =
     given (value count s) (λ count. given (range requests s) (λ requests. given (range flag s) (λ flag. given (status kept s) (λ kept.
     given (handles_of count) (λ count.
     given (first count requests) (λ requests.
     given (cell flag) (λ flag.
     given (optional (first count) kept) (λ kept.
     completes requests TestAll (record answers { flag = Some flag; statuses = kept })))))))))
-completion_effect (completions.Waitsome several) s = completes_some Several several s
-completion_effect (completions.Testsome several) s = completes_some TestSeveral several s
+completion_effect (t.waitsome several) s = completes_some Several several s
+completion_effect (t.testsome several) s = completes_some TestSeveral several s
 
 -- probes, and what a status tells (MPI 3.1, 3.8.1 and 3.2.5)
 abbrev pub probe_effect : Rank → ProbeCall → State → Result Effect Fault
-probe_effect rank (probes.Probe source tag comm kept) s =
+probe_effect rank (t.probe source tag comm kept) s =
     given (value source s) (λ source. given (value tag s) (λ tag. given (value comm s) (λ comm. given (status kept s) (λ kept.
     given (communicator_of rank s comm) (λ comm.
     given (source_of comm source) (λ source.
     given (wanted_tag tag) (λ tag.
     given (optional cell kept) (λ kept.
     Ok (Probes comm.number source tag true None kept)))))))))
-probe_effect rank (probes.Iprobe source tag comm flag kept) s =
+probe_effect rank (t.iprobe source tag comm flag kept) s =
     given (value source s) (λ source. given (value tag s) (λ tag. given (value comm s) (λ comm. given (range flag s) (λ flag. given (status kept s) (λ kept.
     given (communicator_of rank s comm) (λ comm.
     given (source_of comm source) (λ source.
@@ -346,7 +331,7 @@ probe_effect rank (probes.Iprobe source tag comm flag kept) s =
     given (cell flag) (λ flag.
     given (optional cell kept) (λ kept.
     Ok (Probes comm.number source tag false (Some flag) kept)))))))))))
-probe_effect rank (probes.GetCount kept into) s =
+probe_effect rank (t.get_count kept into) s =
     given (status kept s) (λ kept. given (range into s) (λ into.
     given (optional cell kept) (λ kept.
     given (cell into) (λ into.
@@ -364,18 +349,18 @@ reduces_for_all rank kind reduction comm s =
 
 -- collectives (MPI 3.1, 5.3 to 5.9 and 5.11)
 abbrev pub collective_effect : Rank → CollectiveCall → State → Result Effect Fault
-collective_effect rank (collectives.Barrier comm) s =
+collective_effect rank (t.barrier comm) s =
     given (value comm s) (λ comm.
     given (communicator_of rank s comm) (λ comm.
     joins comm Barrier None None 0 EntersNothing Nowhere))
-collective_effect rank (collectives.Bcast buffer root comm) s =
+collective_effect rank (t.bcast buffer root comm) s =
     given (range buffer.cells s) (λ buffer_cells. given (value buffer.count s) (λ buffer_count. given (value root s) (λ root. given (value comm s) (λ comm.
     given (communicator_of rank s comm) (λ comm.
     given (count_of buffer_count) (λ buffer_count.
     given (member comm root) (λ root.
     given (first buffer_count buffer_cells) (λ buffer_cells.
     joins comm Bcast (Some root) None buffer_count (if is_me rank root then EntersCells buffer_cells else EntersNothing) (IntoCells buffer_cells)))))))))
-collective_effect rank (collectives.Gather out buffer root comm) s =
+collective_effect rank (t.gather out buffer root comm) s =
     given (range out.cells s) (λ out_cells. given (value out.count s) (λ out_count. given (range buffer.cells s) (λ buffer_cells. given (value buffer.count s) (λ buffer_count. given (value root s) (λ root. given (value comm s) (λ comm.
     given (communicator_of rank s comm) (λ comm.
     given (count_of out_count) (λ out_count.
@@ -384,7 +369,7 @@ collective_effect rank (collectives.Gather out buffer root comm) s =
     given (enters count out_cells) (λ entered.
     given (at_root (is_me rank root) Nowhere (gets (pieces comm count) buffer_cells)) (λ into.
     joins comm Gather (Some root) None count entered into))))))))))))
-collective_effect rank (collectives.Scatter out buffer root comm) s =
+collective_effect rank (t.scatter out buffer root comm) s =
     given (range out.cells s) (λ out_cells. given (value out.count s) (λ out_count. given (range buffer.cells s) (λ buffer_cells. given (value buffer.count s) (λ buffer_count. given (value root s) (λ root. given (value comm s) (λ comm.
     given (communicator_of rank s comm) (λ comm.
     given (count_of buffer_count) (λ buffer_count.
@@ -393,7 +378,7 @@ collective_effect rank (collectives.Scatter out buffer root comm) s =
     given (at_root (is_me rank root) EntersNothing (enters (pieces comm count) out_cells)) (λ entered.
     given (gets count buffer_cells) (λ into.
     joins comm Scatter (Some root) None count entered into))))))))))))
-collective_effect rank (collectives.Allgather out buffer comm) s =
+collective_effect rank (t.allgather out buffer comm) s =
     given (range out.cells s) (λ out_cells. given (value out.count s) (λ out_count. given (range buffer.cells s) (λ buffer_cells. given (value buffer.count s) (λ buffer_count. given (value comm s) (λ comm.
     given (communicator_of rank s comm) (λ comm.
     given (count_of out_count) (λ out_count.
@@ -401,7 +386,7 @@ collective_effect rank (collectives.Allgather out buffer comm) s =
     given (enters count out_cells) (λ entered.
     given (gets (pieces comm count) buffer_cells) (λ into.
     joins comm Allgather None None count entered into))))))))))
-collective_effect rank (collectives.Alltoall out buffer comm) s =
+collective_effect rank (t.alltoall out buffer comm) s =
     given (range out.cells s) (λ out_cells. given (value out.count s) (λ out_count. given (range buffer.cells s) (λ buffer_cells. given (value buffer.count s) (λ buffer_count. given (value comm s) (λ comm.
     given (communicator_of rank s comm) (λ comm.
     given (count_of out_count) (λ out_count.
@@ -409,7 +394,7 @@ collective_effect rank (collectives.Alltoall out buffer comm) s =
     given (enters (pieces comm count) out_cells) (λ entered.
     given (gets (pieces comm count) buffer_cells) (λ into.
     joins comm Alltoall None None count entered into))))))))))
-collective_effect rank (collectives.Reduce reduction root comm) s =
+collective_effect rank (t.reduce reduction root comm) s =
     given (range reduction.send s) (λ out. given (range reduction.receive s) (λ buffer. given (value reduction.count s) (λ count. given (value root s) (λ root. given (value comm s) (λ comm.
     given (communicator_of rank s comm) (λ comm.
     given (count_of count) (λ count.
@@ -417,47 +402,47 @@ collective_effect rank (collectives.Reduce reduction root comm) s =
     given (enters count out) (λ entered.
     given (at_root (is_me rank root) Nowhere (gets count buffer)) (λ into.
     joins comm Reduce (Some root) (Some reduction.op) count entered into))))))))))
-collective_effect rank (collectives.Allreduce reduction comm) s = reduces_for_all rank Allreduce reduction comm s
-collective_effect rank (collectives.Scan reduction comm) s = reduces_for_all rank Scan reduction comm s
+collective_effect rank (t.allreduce reduction comm) s = reduces_for_all rank Allreduce reduction comm s
+collective_effect rank (t.scan reduction comm) s = reduces_for_all rank Scan reduction comm s
 
 -- communicators (MPI 3.1, 6.4)
 abbrev pub communicator_effect : Rank → CommunicatorCall → State → Result Effect Fault
-communicator_effect rank (communicators.Size comm into) s =
+communicator_effect rank (t.comm_size comm into) s =
     given (value comm s) (λ comm. given (range into s) (λ into.
     given (communicator_of rank s comm) (λ comm.
     given (cell into) (λ into.
     Ok (Sets into (pos (length comm.members)))))))
-communicator_effect rank (communicators.Rank comm into) s =
+communicator_effect rank (t.comm_rank comm into) s =
     given (value comm s) (λ comm. given (range into s) (λ into.
     given (communicator_of rank s comm) (λ comm.
     given (cell into) (λ into.
     Ok (Sets into (rank_in comm.members rank.number))))))
-communicator_effect rank (communicators.Dup comm into) s =
+communicator_effect rank (t.comm_dup comm into) s =
     given (value comm s) (λ comm. given (range into s) (λ into.
     given (communicator_of rank s comm) (λ comm.
     given (cell into) (λ into.
     joins comm Dup None None 0 EntersNothing (Handle into)))))
-communicator_effect rank (communicators.Split comm color key into) s =
+communicator_effect rank (t.comm_split comm color key into) s =
     given (value comm s) (λ comm. given (value color s) (λ color. given (value key s) (λ key. given (range into s) (λ into.
     given (communicator_of rank s comm) (λ comm.
     given (colour color) (λ color.
     given (cell into) (λ into.
     joins comm Split None None 0 (Pair color key) (Handle into))))))))
-communicator_effect rank (communicators.Free into) s =
+communicator_effect rank (t.comm_free into) s =
     given (range into s) (λ into.
     given (cell into) (λ into.
     Ok (Sets into null)))
 
 -- all, with `MPI_Init`, `MPI_Finalize` and `MPI_Abort` (MPI 3.1, 8.7)
 abbrev pub effect_of : Rank → MpiCall → State → Result Effect Fault
-effect_of rank c.Init s = Ok Nothing
-effect_of rank c.Finalize s = Ok Nothing
-effect_of rank (c.Abort comm code) s =
+effect_of rank t.init s = Ok Nothing
+effect_of rank t.finalize s = Ok Nothing
+effect_of rank (t.abort comm code) s =
     given (value comm s) (λ comm. given (value code s) (λ code.
     given (communicator_of rank s comm) (λ comm.
     Ok (Aborts code))))
-effect_of rank (c.Message call) s = message_effect rank call s
-effect_of rank (c.Completion call) s = completion_effect call s
-effect_of rank (c.Probe call) s = probe_effect rank call s
-effect_of rank (c.Collective call) s = collective_effect rank call s
-effect_of rank (c.Communicator call) s = communicator_effect rank call s
+effect_of rank (t.message call) s = message_effect rank call s
+effect_of rank (t.completion call) s = completion_effect call s
+effect_of rank (t.probing call) s = probe_effect rank call s
+effect_of rank (t.collective call) s = collective_effect rank call s
+effect_of rank (t.communicator call) s = communicator_effect rank call s

@@ -1,4 +1,6 @@
 pub mod Cells
+pub mod Tree
+pub mod View
 pub mod State
 pub mod Values
 pub mod Prints

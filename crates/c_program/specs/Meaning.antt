@@ -5,29 +5,13 @@ use Rattle.mpi_call.specs.declared.call.Fault.{Fault}
 use Rattle.mpi_call.specs.declared.call.Fault.TheVariants.{Budget, OutputFull, Depth, Cells as CellsFault}
 use Rattle.c_program.specs.declared.constants.TheConstants.{MOST_CALLS, MOST_CELLS, MOST_PRINTED, MOST_STEPS}
 use Rattle.c_program.specs.declared.effect.Rank.{Rank}
-use Rattle.c_program.specs.declared.expr.Argument.{Argument}
-use Rattle.c_program.specs.declared.expr.Argument.TheVariants.{Value as ValueArgument, Reference as ReferenceArgument}
-use Rattle.c_program.specs.declared.expr.FunctionCall.{FunctionCall}
-use Rattle.c_program.specs.declared.expr.Expr.{Expr}
-use Rattle.c_program.specs.declared.expr.Right.{Right}
-use Rattle.c_program.specs.declared.expr.Right.TheVariants.{Value as ValueRight, Call as CallRight}
-use Rattle.c_program.specs.declared.program.CProgram.{CProgram}
-use Rattle.c_program.specs.declared.program.Function.{Function}
 use Rattle.c_program.specs.declared.program.Parameter.{Parameter}
 use Rattle.c_program.specs.declared.program.ParameterKind.{ParameterKind}
 use Rattle.c_program.specs.declared.program.ParameterKind.TheVariants.{Array as ArrayParameter, Texts as TextsParameter}
-use Rattle.c_program.specs.declared.statement.Declaration.{Declaration}
-use Rattle.c_program.specs.declared.statement.ForStart.{ForStart}
-use Rattle.c_program.specs.declared.statement.ForStart.TheVariants.{Nothing as NoStart, Declaration as DeclaredStart, Simple as SimpleStart}
-use Rattle.c_program.specs.declared.statement.Initializer.{Initializer}
-use Rattle.c_program.specs.declared.statement.Initializer.TheVariants.{Nothing as NoInitial, Right as RightInitial, Values}
-use Rattle.c_program.specs.declared.statement.InitDeclarator.{InitDeclarator}
-use Rattle.c_program.specs.declared.statement.Simple.{Simple}
-use Rattle.c_program.specs.declared.statement.Simple.TheVariants.{Set, Update, Call as CallSimple, Mpi, Print, Flush}
-use Rattle.c_program.specs.declared.statement.Stmt.{Stmt, Block', Empty, Simple as SimpleStmt, Break, Continue, Return, If', IfElse', While', Do', For', Row_of-Part, end_of-Part, more_of-Part}
-use Rattle.c_program.specs.declared.statement.Part.{Part, Declaration as DeclarationPart, Stmt as StmtPart}
 use Rattle.c_program.specs.declared.state.Passed.{Passed}
 use Rattle.c_program.specs.declared.state.Passed.TheVariants.{Number, Cells as Lent}
+use Rattle.c_program.specs.Tree as t
+use Rattle.c_program.specs.Tree.{Argument, Expr, ForStart, Function, FunctionCall, InitDeclarator, Initializer, Part, Parts, Program, Right, Simple, Stmt}
 use Rattle.c_program.specs.Courses.{Course, ended, trapped}
 use Rattle.c_program.specs.Effects.{effect_of}
 use Rattle.c_program.specs.Performing.{Onward, perform}
@@ -92,8 +76,8 @@ started m s k = step s (λ s. m s k)
 
 -- what an argument passes: an int, or the cells of a reference
 abbrev pub passed : Argument → State → Result Passed Fault
-passed (ValueArgument e) s = given (value e s) (λ v. Ok (Number v))
-passed (ReferenceArgument reference) s = given (range reference s) (λ cells. Ok (Lent cells))
+passed (t.by_value e) s = given (value e s) (λ v. Ok (Number v))
+passed (t.by_reference reference) s = given (range reference s) (λ cells. Ok (Lent cells))
 
 -- what arguments pass, from left to right
 abbrev pub passed_all : List Argument → State → Result (List Passed) Fault
@@ -106,12 +90,12 @@ Calls = ℕ → List Passed → State → (ℤ → Onward) → Course
 
 -- a call of a function of the text takes a step, and then evaluates its arguments
 abbrev pub invoke : Calls → FunctionCall → State → (ℤ → Onward) → Course
-invoke calls call s go = step s (λ s. trying (passed_all call.arguments.items s) s (λ arguments. calls call.function arguments s go))
+invoke calls call s go = step s (λ s. trying (passed_all call.arguments s) s (λ arguments. calls call.function arguments s go))
 
 -- what a right side gives: a value, or what a call gives back
 abbrev pub right : Calls → Right → State → (ℤ → Onward) → Course
-right calls (ValueRight e) s go = trying (value e s) s (λ v. go v s)
-right calls (CallRight call) s go = invoke calls call s go
+right calls (t.value e) s go = trying (value e s) s (λ v. go v s)
+right calls (t.called call) s go = invoke calls call s go
 
 -- ---- what stands before a `;`
 
@@ -122,16 +106,16 @@ print text s go =
 
 -- assignments, calls and prints
 abbrev pub simple : Rank → Calls → Simple → Passing
-simple rank calls (Set place given_right) s go =
+simple rank calls (t.set place given_right) s go =
     trying (cell_of place s) s (λ cell. right calls given_right s (λ v s. go (put cell v s)))
-simple rank calls (Update place operator given_right) s go =
+simple rank calls (t.update place operator given_right) s go =
     trying (cell_of place s) s (λ cell. right calls given_right s (λ v s.
     trying (operated operator (cell_at s cell) v) s (λ v. go (put cell v s))))
-simple rank calls (CallSimple call) s go = invoke calls call s (λ v s. go s)
-simple rank calls (Mpi call) s go = trying (effect_of rank call.value s) s (λ effect. perform rank effect s go)
-simple rank calls (Print format arguments) s go =
-    trying (values arguments.items s) s (λ vs. print (text_of format.items vs) s go)
-simple rank calls Flush s go = go s
+simple rank calls (t.call call) s go = invoke calls call s (λ v s. go s)
+simple rank calls (t.mpi call) s go = trying (effect_of rank call s) s (λ effect. perform rank effect s go)
+simple rank calls (t.print format arguments) s go =
+    trying (values arguments s) s (λ vs. print (text_of format vs) s go)
+simple rank calls t.flush s go = go s
 
 -- ---- declarations
 
@@ -172,9 +156,9 @@ put_values (e ∷ es) cell s go = trying (value e s) s (λ v. put_values es (cel
 
 -- an initializer, for a variable whose first cell is this
 abbrev pub begin : Calls → Initializer → ℕ → Passing
-begin calls NoInitial cell s go = go s
-begin calls (RightInitial given_right) cell s go = right calls given_right s (λ v s. go (put cell v s))
-begin calls (Values es) cell s go = put_values es.items cell s go
+begin calls t.no_initial cell s go = go s
+begin calls (t.right given_right) cell s go = right calls given_right s (λ v s. go (put cell v s))
+begin calls (t.values es) cell s go = put_values es cell s go
 
 -- a variable is declared, if its cells have room, and then initialized
 abbrev pub declare : Calls → InitDeclarator → Passing
@@ -187,10 +171,6 @@ declare calls item s go =
 abbrev pub declare_all : Calls → List InitDeclarator → Passing
 declare_all calls [] s go = go s
 declare_all calls (item ∷ items) s go = declare calls item s (λ s. declare_all calls items s go)
-
--- a declaration
-abbrev pub declaration : Calls → Declaration → Passing
-declaration calls d s go = declare_all calls d.items.items s go
 
 -- ---- loops
 
@@ -232,9 +212,9 @@ loop_after e body s k = step s (λ s. body s (turn_exits no_update (λ s. loop (
 
 -- what stands first in the head of a `for`
 abbrev pub for_start : Rank → Calls → ForStart → Passing
-for_start rank calls NoStart s go = go s
-for_start rank calls (DeclaredStart d) s go = step s (λ s. declaration calls d s go)
-for_start rank calls (SimpleStart one) s go = simple rank calls one s go
+for_start rank calls t.no_start s go = go s
+for_start rank calls (t.declared_start items) s go = step s (λ s. declare_all calls items s go)
+for_start rank calls (t.simple_start one) s go = simple rank calls one s go
 
 -- what stands last in the head of a `for`
 abbrev pub for_update : Rank → Calls → Option Simple → Passing
@@ -249,34 +229,30 @@ return calls (Some given_right) s k = right calls given_right s (λ v s. k.back 
 abbrev mutual
   -- what a statement does once its step is taken
   pub act : Rank → Calls → Stmt → Meaning
-  act rank calls (Block' shape row) s k = act_row rank calls row s (leaving (stack_mark s) k)
-  act rank calls Empty s k = k.next s
-  act rank calls (SimpleStmt one) s k = simple rank calls one s k.next
-  act rank calls Break s k = k.broke s
-  act rank calls Continue s k = k.again s
-  act rank calls (Return given_right) s k = return calls given_right s k
-  act rank calls (If' e p taken) s k = trying (test (Some e) s) s (λ holds. choose holds (started (act rank calls taken) s k) (k.next s))
-  act rank calls (IfElse' e p taken q spared) s k =
+  act rank calls (t.block parts) s k = act_parts rank calls parts s (leaving (stack_mark s) k)
+  act rank calls t.empty s k = k.next s
+  act rank calls (t.simple one) s k = simple rank calls one s k.next
+  act rank calls t.break s k = k.broke s
+  act rank calls t.continue s k = k.again s
+  act rank calls (t.return given_right) s k = return calls given_right s k
+  act rank calls (t.if_only e taken) s k = trying (test (Some e) s) s (λ holds. choose holds (started (act rank calls taken) s k) (k.next s))
+  act rank calls (t.if_else e taken spared) s k =
       trying (test (Some e) s) s (λ holds. choose holds (started (act rank calls taken) s k) (started (act rank calls spared) s k))
-  act rank calls (While' e p body) s k = loop (Some e) no_update (started (act rank calls body)) s k
-  act rank calls (Do' p body e) s k = loop_after e (started (act rank calls body)) s k
-  act rank calls (For' start e update p body) s k =
+  act rank calls (t.while e body) s k = loop (Some e) no_update (started (act rank calls body)) s k
+  act rank calls (t.do_while body e) s k = loop_after e (started (act rank calls body)) s k
+  act rank calls (t.for start e update body) s k =
       for_start rank calls start s (λ t. loop e (for_update rank calls update) (started (act rank calls body)) t (leaving (stack_mark s) k))
 
   -- what stands in a block
   pub act_part : Rank → Calls → Part → Meaning
-  act_part rank calls (DeclarationPart d) s k = declaration calls d s k.next
-  act_part rank calls (StmtPart one) s k = act rank calls one s k
+  act_part rank calls (t.declare items) s k = declare_all calls items s k.next
+  act_part rank calls (t.stmt one) s k = act rank calls one s k
 
-  pub act_row : Rank → Calls → {m : _} → Row_of-Part m → Meaning
-  act_row rank calls end_of-Part s k = k.next s
-  act_row rank calls (more_of-Part part parts) s k =
-      started (act_part rank calls part) s (record k { next = λ s. act_row rank calls parts s k })
-
--- the same of a list
-abbrev pub act_list : Rank → Calls → List Part → Meaning
-act_list rank calls [] s k = k.next s
-act_list rank calls (part ∷ parts) s k = started (act_part rank calls part) s (record k { next = λ s. act_list rank calls parts s k })
+  -- the parts of a block in order, each with its step
+  pub act_parts : Rank → Calls → Parts → Meaning
+  act_parts rank calls t.no_part s k = k.next s
+  act_parts rank calls (t.part part parts) s k =
+      started (act_part rank calls part) s (record k { next = λ s. act_parts rank calls parts s k })
 
 -- ---- functions
 
@@ -335,8 +311,8 @@ exits_to mark go = record {
 abbrev pub run_function : Rank → Calls → Option Function → List Passed → State → (ℤ → Onward) → Course
 run_function rank calls None arguments s go = trapped Depth s
 run_function rank calls (Some f) arguments s go =
-    choose (has_room (parameter_cells f.parameters.items) s)
-    (act_list rank calls f.body.items (with_parameters f.parameters.items arguments (opened s)) (exits_to (stack_mark s) go))
+    choose (has_room (parameter_cells f.parameters) s)
+    (act_parts rank calls f.body (with_parameters f.parameters arguments (opened s)) (exits_to (stack_mark s) go))
     (trapped CellsFault s)
 
 -- a call, where at most so many more may be open
@@ -351,5 +327,5 @@ abbrev pub start : State
 start = record { cells = []; slots = []; base = 0; opens = 0; printed = []; left = MOST_STEPS; starts = []; made = [] }
 
 -- a rank's course: main, whose first argument is 1; at most 100 calls are open
-abbrev pub course_of : CProgram → Rank → Course
-course_of program rank = call_at rank program.functions.items MOST_CALLS program.main (Number (pos 1) ∷ []) start (λ v s. ended s)
+abbrev pub course_of : Program → Rank → Course
+course_of program rank = call_at rank program.functions MOST_CALLS program.main (Number (pos 1) ∷ []) start (λ v s. ended s)

@@ -6,12 +6,10 @@ use Rattle.mpi_call.specs.declared.call.Fault.TheVariants.{DivideByZero, OutOfBo
 use Rattle.c_names.specs.Operators.{applied, unary_applied}
 use Rattle.c_names.specs.declared.operator.Operator.{Operator}
 use Rattle.c_names.specs.declared.operator.Operator.TheVariants.{LogicalAnd, LogicalOr}
-use Rattle.c_program.specs.declared.expr.Expr.{Expr, Number, Read, Field as ReadField, Signed', Chain', Choice', Row_of-Link, end_of-Link, more_of-Link}
 use Rattle.c_program.specs.declared.expr.Field.{Field}
 use Rattle.c_program.specs.declared.expr.Field.TheVariants.{Source, Tag}
-use Rattle.c_program.specs.declared.expr.Place.{Place, Whole, Element'}
-use Rattle.c_program.specs.declared.expr.Reference.{Reference}
-use Rattle.c_program.specs.declared.expr.Reference.TheVariants.{Nothing, Whole as WholeReference, From}
+use Rattle.c_program.specs.Tree as t
+use Rattle.c_program.specs.Tree.{Expr, Links, Place, Reference}
 use Rattle.c_program.specs.Cells.{Cells}
 use Rattle.c_program.specs.State.{Slot, State, cell_at, no_cells}
 
@@ -64,24 +62,24 @@ operated operator left right = or_fault DivideByZero (applied operator left righ
 -- from left to right
 abbrev mutual
   pub value : Expr → State → Result ℤ Fault
-  value (Number n) s = Ok n
-  value (Read place) s = given (cell_of place s) (λ cell. Ok (cell_at s cell))
-  value (ReadField status field) s = given (cell_of status s) (λ cell. Ok (cell_at s (cell + field_place field)))
-  value (Signed' sign p operand) s = given (value operand s) (λ v. Ok (unary_applied sign v))
-  value (Chain' p first shape links) s = given (value first s) (λ v. chained links v s)
-  value (Choice' p test q taken r spared) s = given (value test s) (λ v. if is_set v then value taken s else value spared s)
+  value (t.number n) s = Ok n
+  value (t.read place) s = given (cell_of place s) (λ cell. Ok (cell_at s cell))
+  value (t.field status field) s = given (cell_of status s) (λ cell. Ok (cell_at s (cell + field_place field)))
+  value (t.signed sign operand) s = given (value operand s) (λ v. Ok (unary_applied sign v))
+  value (t.chain first links) s = given (value first s) (λ v. chained links v s)
+  value (t.choice test taken spared) s = given (value test s) (λ v. if is_set v then value taken s else value spared s)
 
   -- the links after an operand with this value
-  pub chained : {m : _} → Row_of-Link m → ℤ → State → Result ℤ Fault
-  chained end_of-Link v s = Ok v
-  chained (more_of-Link operator operand links) v s =
+  pub chained : Links → ℤ → State → Result ℤ Fault
+  chained t.no_link v s = Ok v
+  chained (t.link operator operand links) v s =
       given (if is_decided operator v then Ok (int_of (is_set v)) else given (value operand s) (λ w. operated operator v w))
       (λ v. chained links v s)
 
   -- the cell of a place
   pub cell_of : Place → State → Result ℕ Fault
-  cell_of (Whole variable) s = given (cells_of variable s) (λ cells. Ok cells.from)
-  cell_of (Element' variable p index) s = given (value index s) (λ i. given (cells_of variable s) (λ cells. element cells i))
+  cell_of (t.whole variable) s = given (cells_of variable s) (λ cells. Ok cells.from)
+  cell_of (t.element variable index) s = given (value index s) (λ i. given (cells_of variable s) (λ cells. element cells i))
 
 -- the values of expressions, from left to right
 abbrev pub values : List Expr → State → Result (List ℤ) Fault
@@ -92,6 +90,6 @@ values (e ∷ es) s = given (value e s) (λ v. given (values es s) (λ vs. Ok (v
 
 -- the cells that a reference means
 abbrev pub range : Reference → State → Result Cells Fault
-range Nothing s = Ok no_cells
-range (WholeReference variable) s = cells_of variable s
-range (From variable index) s = given (value index s) (λ i. given (cells_of variable s) (λ cells. elements_from cells i))
+range t.nothing s = Ok no_cells
+range (t.all_of variable) s = cells_of variable s
+range (t.from variable index) s = given (value index s) (λ i. given (cells_of variable s) (λ cells. elements_from cells i))

@@ -37,19 +37,20 @@ pub struct CProgram {
 
 impl Program for CProgram {
     ghost use Rattle.c_program.specs.Program.{next_of, output_of, variables_of};
+    ghost use Rattle.c_program.specs.View.{pure_program};
     ghost use Rattle.c_program.specs.laws.ProgramLaws.{ends_exactly, prints_on, asks_in_bounds, enters_in_form};
 
-    ghost next = { next_of };
+    ghost next = { λ program. next_of (pure_program program) };
 
-    ghost output = { output_of };
+    ghost output = { λ program. output_of (pure_program program) };
 
-    ghost variables = { variables_of };
+    ghost variables = { λ program. variables_of (pure_program program) };
 
-    ghost ends_exactly = { ends_exactly };
+    ghost ends_exactly = { λ program. ends_exactly (pure_program program) };
 
-    ghost prints_on = { prints_on };
+    ghost prints_on = { λ program. prints_on (pure_program program) };
 
-    ghost asks_in_bounds = { asks_in_bounds };
+    ghost asks_in_bounds = { λ program. asks_in_bounds (pure_program program) };
 
-    ghost enters_in_form = { enters_in_form };
+    ghost enters_in_form = { λ program. enters_in_form (pure_program program) };
 }

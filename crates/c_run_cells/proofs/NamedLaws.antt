@@ -1,5 +1,5 @@
 -- The innermost variable of a name has the last cells with this name.
-use Rattle.std.proofs.Common.{◌≡◌, ◌∙◌, ◌*◌, ℕ, ℤ, List, [], ◌∷◌, Option, Some, None, ap, inl, inr, nat_eq, refl, sym}
+use Rattle.std.proofs.Common.{◌≡◌, ◌∙◌, ◌*◌, ℕ, ℤ, List, [], ◌∷◌, Option, Some, None, ap, inl, inr, nat_eq, refl}
 use Rattle.std.specs.Prelude.{option_map}
 use lib.Pointwise.{pointwise}
 use Rattle.c_program.specs.Cells.{Cells}

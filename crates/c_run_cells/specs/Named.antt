@@ -1,5 +1,5 @@
 -- The innermost variable of a name, by its cells.
-use Rattle.std.specs.Prelude.{ℕ, List, [], ◌∷◌, Option, Some, None, ◌&&◌, if◌then◌else◌, nat_eq}
+use Rattle.std.specs.Prelude.{ℕ, List, [], ◌∷◌, Option, Some, ◌&&◌, if◌then◌else◌, nat_eq}
 use lib.Pointwise.{pointwise}
 use Rattle.c_program.specs.Cells.{Cells}
 use Rattle.c_program.specs.State.{Slot}

@@ -1,10 +1,11 @@
 //! Parts of evaluation in which no function of the text is called and nothing is asked.
-ghost use Rattle.std.specs.Prelude.{◌≡◌, ◌≤◌, ◌<◌, List, IfSome, IfNone, OnOk, slice_get, true};
+ghost use Rattle.std.specs.Prelude.{◌≡◌, ◌≤◌, ◌<◌, List, IfSome, IfNone, OnOk, map, slice_get, true};
 ghost use Rattle.c_program.specs.declared.state.Passed.{Passed};
 ghost use Rattle.c_program.specs.Meaning.{has_room, length_or_one, parameter_cells, passed_all, print as print_of, put_values, step, trying, with_parameters};
 ghost use Rattle.c_program.specs.Performing.{Onward};
 ghost use Rattle.c_program.specs.Prints.{text_of};
 ghost use Rattle.c_program.specs.Values.{values};
+ghost use Rattle.c_program.specs.View.{pure_argument, pure_expr, pure_function, pure_item};
 ghost use Rattle.c_run_cells.specs.Comes.{Comes, Does, Gives};
 ghost use Rattle.c_run_cells.specs.Parts.{added, assigned, entered};
 
@@ -42,7 +43,7 @@ pub fn print(
     arguments: &[Expr],
     state: &mut RankState,
 ) -> Result<(), Fail>
-    ensures { Does (λ s go. trying (values arguments.now s) s (λ vs. print_of (text_of format.now vs) s go)) state.old result state.new }
+    ensures { Does (λ s go. trying (values (map pure_expr arguments.now) s) s (λ vs. print_of (text_of format.now vs) s go)) state.old result state.new }
 {
     let ints = values_of(alloc, arguments, state)?;
     let text = text_of(alloc, format, ints.as_slice())?;
@@ -56,7 +57,7 @@ pub fn print(
 
 /// The values of expressions, in order.
 fn values_of(alloc: Global, expressions: &[Expr], state: &RankState) -> Result<Ints, Fail>
-    ensures { Gives (λ s go. trying (values expressions.now s) s (λ vs. go vs s)) state.now result state.now }
+    ensures { Gives (λ s go. trying (values (map pure_expr expressions.now) s) s (λ vs. go vs s)) state.now result state.now }
 {
     let mut ints = Ints::new(alloc);
     for expression in expressions {
@@ -72,7 +73,7 @@ pub fn arguments_of(
     arguments: &[Argument],
     state: &RankState,
 ) -> Result<Vec<Passed>, Fail>
-    ensures { Comes (λ (go : List Passed → Onward) passed. go passed.items) (λ s go. trying (passed_all arguments.now s) s (λ passed. go passed s)) state.now result state.now }
+    ensures { Comes (λ (go : List Passed → Onward) passed. go passed.items) (λ s go. trying (passed_all (map pure_argument arguments.now) s) s (λ passed. go passed s)) state.now result state.now }
 {
     let mut passed = Vec::new(alloc);
     for argument in arguments {
@@ -84,7 +85,7 @@ pub fn arguments_of(
 
 /// Puts the values of expressions from a cell on. Out of memory also where a cell's number would be 2^32.
 pub fn put_values_of(expressions: &[Expr], first: u32, state: &mut RankState) -> Result<(), Fail>
-    ensures { Does (put_values expressions.now first) state.old result state.new }
+    ensures { Does (put_values (map pure_expr expressions.now) first) state.old result state.new }
 {
     let mut cell = first;
     for expression in expressions {
@@ -123,7 +124,7 @@ pub fn put_assigned(
 /// The variable of an item, not yet begun; gives its first cell.
 #[tactic(auto, using(crate::proofs::StateLaws::cells_counted))]
 pub fn add<'p>(item: &'p InitDeclarator, state: &mut RankState<'p>) -> Result<u32, Fail>
-    ensures { Gives (added item.now) state.old result state.new }
+    ensures { Gives (added (pure_item item.now)) state.old result state.new }
 {
     let elements = elements_of(item);
     let cell = state.height() as u32;
@@ -158,7 +159,7 @@ pub fn enter<'p>(
     arguments: &[Passed],
     state: &mut RankState<'p>,
 ) -> Result<(), Fail>
-    ensures { Does (entered function.now arguments.now) state.old result state.new }
+    ensures { Does (entered (pure_function function.now) arguments.now) state.old result state.new }
 {
     if !state.has_room(cells_for(&function.parameters)) {
         return Err(Fail::Trapped(Fault::Cells));

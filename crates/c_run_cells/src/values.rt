@@ -1,9 +1,10 @@
 //! The values of expressions, places and references.
-ghost use Rattle.std.specs.Prelude.{◌≡◌, ◌≤◌, IfOk, option_copied};
+ghost use Rattle.std.specs.Prelude.{◌≡◌, ◌≤◌, IfOk, option_copied, option_map};
 ghost use Rattle.mpi_call.specs.Operations.{int_of, is_set};
-ghost use Rattle.c_program.specs.laws.Equations.{chained_list, linked};
 ghost use Rattle.c_program.specs.Meaning.{passed, test};
-ghost use Rattle.c_program.specs.Values.{cell_of, field_place, is_decided, operated, range, value};
+ghost use Rattle.c_program.specs.Values.{cell_of, chained, field_place, is_decided, operated, range, value};
+ghost use Rattle.c_program.specs.View.{pure_argument, pure_expr, pure_links, pure_place, pure_reference};
+ghost use Rattle.c_run_cells.specs.Parts.{linked};
 
 use crate::state::RankState;
 use c_names::operator::{Operator, apply, apply_unary};
@@ -16,8 +17,9 @@ use mpi_call::call::Fault;
 impl<'p> RankState<'p> {
     /// The value of an expression, or its fault. Takes no memory.
     #[cycle(value)]
+    #[tactic(auto, using(c_program::proofs::Viewed::views))]
     pub fn value(&self, expr: &Expr) -> Result<i32, Fault>
-        ensures { result ≡ value expr.now self.now }
+        ensures { result ≡ value (pure_expr expr.now) self.now }
     {
         match expr {
             Expr::Number(n) => Ok(*n),
@@ -51,7 +53,7 @@ impl<'p> RankState<'p> {
     /// What links make of the value before them.
     #[cycle(value)]
     fn chained(&self, links: &[Link], first: i32) -> Result<i32, Fault>
-        ensures { result ≡ chained_list links.now first self.now }
+        ensures { result ≡ chained (pure_links links.now) first self.now }
     {
         let mut v = first;
         for link in links {
@@ -62,7 +64,7 @@ impl<'p> RankState<'p> {
 
     #[cycle(value)]
     fn linked(&self, operator: Operator, operand: &Expr, v: i32) -> Result<i32, Fault>
-        ensures { result ≡ linked operator operand.now v self.now }
+        ensures { result ≡ linked operator (pure_expr operand.now) v self.now }
     {
         if is_decided(operator, v) {
             return Ok(truth(is_set(v)));
@@ -73,8 +75,9 @@ impl<'p> RankState<'p> {
 
     /// The cell of a place.
     #[cycle(value)]
+    #[tactic(auto, using(c_program::proofs::Viewed::views))]
     pub fn cell_of(&self, place: &Place) -> Result<u32, Fault>
-        ensures value { result ≡ cell_of place.now self.now }
+        ensures value { result ≡ cell_of (pure_place place.now) self.now }
         ensures bound { IfOk result (λ cell. cell ≤ MOST_CELLS) }
     {
         match place {
@@ -92,7 +95,7 @@ impl<'p> RankState<'p> {
 
     /// Whether an expression is other than 0; `None` is always so.
     pub fn test(&self, condition: Option<&Expr>) -> Result<bool, Fault>
-        ensures { result ≡ test (option_copied condition.entry) self.now }
+        ensures { result ≡ test (option_map pure_expr (option_copied condition.entry)) self.now }
     {
         match condition {
             None => Ok(true),
@@ -105,7 +108,7 @@ impl<'p> RankState<'p> {
 
     /// The cells that a reference means.
     pub fn range(&self, reference: &Reference) -> Result<Range, Fault>
-        ensures { result ≡ range reference.now self.now }
+        ensures { result ≡ range (pure_reference reference.now) self.now }
     {
         match reference {
             Reference::Nothing => Ok(Range::nothing()),
@@ -119,7 +122,7 @@ impl<'p> RankState<'p> {
     }
 
     pub fn passed(&self, argument: &Argument) -> Result<Passed, Fault>
-        ensures { result ≡ passed argument.now self.now }
+        ensures { result ≡ passed (pure_argument argument.now) self.now }
     {
         match argument {
             Argument::Value(e) => {

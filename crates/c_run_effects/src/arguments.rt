@@ -1,6 +1,7 @@
 //! Arguments that several MPI calls have, evaluated together. They are not checked yet.
 ghost use Rattle.std.specs.Prelude.{◌≡◌, IfErr, IfOk, Err, Ok};
 ghost use Rattle.c_program.specs.Values.{range, value};
+ghost use Rattle.c_program.specs.View.{pure_expr, pure_reference};
 ghost use Rattle.c_run_effects.specs.Faults.{HasFault};
 
 use c_program::expr::Expr;
@@ -42,9 +43,9 @@ pub struct Envelope {
 }
 
 pub fn ints_of(buffer: &Buffer, state: &RankState) -> Result<Ints, Fault>
-    ensures cells { IfOk result (λ ints. range buffer.now.cells state.now ≡ Ok ints.cells) }
-    ensures count { IfOk result (λ ints. value buffer.now.count state.now ≡ Ok ints.count) }
-    ensures fault { IfErr result (λ fault. HasFault fault (range buffer.now.cells state.now) (λ _. value buffer.now.count state.now ≡ Err fault)) }
+    ensures cells { IfOk result (λ ints. range (pure_reference buffer.now.cells) state.now ≡ Ok ints.cells) }
+    ensures count { IfOk result (λ ints. value (pure_expr buffer.now.count) state.now ≡ Ok ints.count) }
+    ensures fault { IfErr result (λ fault. HasFault fault (range (pure_reference buffer.now.cells) state.now) (λ _. value (pure_expr buffer.now.count) state.now ≡ Err fault)) }
 {
     let cells = state.range(&buffer.cells)?;
     let count = state.value(&buffer.count)?;
@@ -52,15 +53,15 @@ pub fn ints_of(buffer: &Buffer, state: &RankState) -> Result<Ints, Fault>
 }
 
 pub fn buffers_of(out: &Buffer, buffer: &Buffer, state: &RankState) -> Result<Buffers, Fault>
-    ensures out_cells { IfOk result (λ all. range out.now.cells state.now ≡ Ok all.out_cells) }
-    ensures out_count { IfOk result (λ all. value out.now.count state.now ≡ Ok all.out_count) }
-    ensures cells { IfOk result (λ all. range buffer.now.cells state.now ≡ Ok all.cells) }
-    ensures count { IfOk result (λ all. value buffer.now.count state.now ≡ Ok all.count) }
+    ensures out_cells { IfOk result (λ all. range (pure_reference out.now.cells) state.now ≡ Ok all.out_cells) }
+    ensures out_count { IfOk result (λ all. value (pure_expr out.now.count) state.now ≡ Ok all.out_count) }
+    ensures cells { IfOk result (λ all. range (pure_reference buffer.now.cells) state.now ≡ Ok all.cells) }
+    ensures count { IfOk result (λ all. value (pure_expr buffer.now.count) state.now ≡ Ok all.count) }
     ensures fault { IfErr result (λ fault.
-        HasFault fault (range out.now.cells state.now) (λ _.
-        HasFault fault (value out.now.count state.now) (λ _.
-        HasFault fault (range buffer.now.cells state.now) (λ _.
-        value buffer.now.count state.now ≡ Err fault)))) }
+        HasFault fault (range (pure_reference out.now.cells) state.now) (λ _.
+        HasFault fault (value (pure_expr out.now.count) state.now) (λ _.
+        HasFault fault (range (pure_reference buffer.now.cells) state.now) (λ _.
+        value (pure_expr buffer.now.count) state.now ≡ Err fault)))) }
 {
     let out = ints_of(out, state)?;
     let buffer = ints_of(buffer, state)?;
@@ -73,13 +74,13 @@ pub fn buffers_of(out: &Buffer, buffer: &Buffer, state: &RankState) -> Result<Bu
 }
 
 pub fn operands_of(reduction: &Reduction, state: &RankState) -> Result<Operands, Fault>
-    ensures send { IfOk result (λ all. range reduction.now.send state.now ≡ Ok all.send) }
-    ensures receive { IfOk result (λ all. range reduction.now.receive state.now ≡ Ok all.receive) }
-    ensures count { IfOk result (λ all. value reduction.now.count state.now ≡ Ok all.count) }
+    ensures send { IfOk result (λ all. range (pure_reference reduction.now.send) state.now ≡ Ok all.send) }
+    ensures receive { IfOk result (λ all. range (pure_reference reduction.now.receive) state.now ≡ Ok all.receive) }
+    ensures count { IfOk result (λ all. value (pure_expr reduction.now.count) state.now ≡ Ok all.count) }
     ensures fault { IfErr result (λ fault.
-        HasFault fault (range reduction.now.send state.now) (λ _.
-        HasFault fault (range reduction.now.receive state.now) (λ _.
-        value reduction.now.count state.now ≡ Err fault))) }
+        HasFault fault (range (pure_reference reduction.now.send) state.now) (λ _.
+        HasFault fault (range (pure_reference reduction.now.receive) state.now) (λ _.
+        value (pure_expr reduction.now.count) state.now ≡ Err fault))) }
 {
     let send = state.range(&reduction.send)?;
     let receive = state.range(&reduction.receive)?;
@@ -97,13 +98,13 @@ pub fn envelope_of(
     comm: &Expr,
     state: &RankState,
 ) -> Result<Envelope, Fault>
-    ensures rank { IfOk result (λ envelope. value rank.now state.now ≡ Ok envelope.rank) }
-    ensures tag { IfOk result (λ envelope. value tag.now state.now ≡ Ok envelope.tag) }
-    ensures comm { IfOk result (λ envelope. value comm.now state.now ≡ Ok envelope.comm) }
+    ensures rank { IfOk result (λ envelope. value (pure_expr rank.now) state.now ≡ Ok envelope.rank) }
+    ensures tag { IfOk result (λ envelope. value (pure_expr tag.now) state.now ≡ Ok envelope.tag) }
+    ensures comm { IfOk result (λ envelope. value (pure_expr comm.now) state.now ≡ Ok envelope.comm) }
     ensures fault { IfErr result (λ fault.
-        HasFault fault (value rank.now state.now) (λ _.
-        HasFault fault (value tag.now state.now) (λ _.
-        value comm.now state.now ≡ Err fault))) }
+        HasFault fault (value (pure_expr rank.now) state.now) (λ _.
+        HasFault fault (value (pure_expr tag.now) state.now) (λ _.
+        value (pure_expr comm.now) state.now ≡ Err fault))) }
 {
     let rank = state.value(rank)?;
     let tag = state.value(tag)?;

@@ -1,6 +1,7 @@
 //! The checks of an MPI call's counts, colours, tags and elements.
-ghost use Rattle.std.specs.Prelude.{◌≡◌, ◌≤◌, IfOk, IfSome};
+ghost use Rattle.std.specs.Prelude.{◌≡◌, ◌≤◌, IfOk, IfSome, option_map};
 ghost use Rattle.c_program.specs.Effects.{cell, colour, count_in, count_of, enters, first, gets, handles_of, optional, same_count, status, tag_of, wanted_tag};
+ghost use Rattle.c_program.specs.View.{pure_reference};
 
 use c_program::constants::{MOST_CELLS, NULL};
 use c_program::effect::{Entered, Into};
@@ -111,7 +112,7 @@ pub fn cell(cells: Range) -> Result<u32, Fault>
 
 /// The cells of statuses; `None` where they are ignored.
 pub fn status(given: &Option<Reference>, state: &RankState) -> Result<Option<Range>, Fault>
-    ensures { result ≡ status given.now state.now }
+    ensures { result ≡ status (option_map pure_reference given.now) state.now }
 {
     match given {
         Some(reference) => Ok(Some(state.range(reference)?)),

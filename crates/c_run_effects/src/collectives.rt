@@ -2,9 +2,10 @@
 ghost use Rattle.std.specs.Prelude.{◌≡◌, ◌≤◌, ℤ, IfErr, IfOk, Err, None, Ok};
 ghost use Rattle.c_program.specs.declared.effect.Entered.TheVariants.{Nothing as EntersNothing};
 ghost use Rattle.c_program.specs.declared.effect.Into.TheVariants.{Nowhere};
-ghost use Rattle.c_program.specs.declared.mpi.CollectiveCall.TheVariants as calls;
+ghost use Rattle.c_program.specs.Tree as t;
 ghost use Rattle.c_program.specs.Effects.{at_root, collective_effect, communicator_of, count_of, enters, gets, reduces_for_all, same_count};
 ghost use Rattle.c_program.specs.Values.{value};
+ghost use Rattle.c_program.specs.View.{pure_buffer, pure_collective, pure_expr, pure_reduction};
 ghost use Rattle.c_run_effects.specs.Faults.{HasFault};
 
 use crate::arguments::{buffers_of, ints_of, operands_of};
@@ -42,8 +43,8 @@ pub fn joined(
 /// The communicator of an expression.
 fn comm_of<'a>(rank: Rank, comm: &Expr, state: &'a RankState) -> Result<Communicator<'a>, Fault>
     requires { rank.ranks ≤ MOST_RANKS }
-    ensures comm { IfOk result (λ found. (number : ℤ) × (value comm.now state.now ≡ Ok number) × (communicator_of rank state.now number ≡ Ok found)) }
-    ensures fault { IfErr result (λ fault. HasFault fault (value comm.now state.now) (λ number. communicator_of rank state.now number ≡ Err fault)) }
+    ensures comm { IfOk result (λ found. (number : ℤ) × (value (pure_expr comm.now) state.now ≡ Ok number) × (communicator_of rank state.now number ≡ Ok found)) }
+    ensures fault { IfErr result (λ fault. HasFault fault (value (pure_expr comm.now) state.now) (λ number. communicator_of rank state.now number ≡ Err fault)) }
 {
     let number = state.value(comm)?;
     communicator_of(rank, state, number)
@@ -90,7 +91,7 @@ fn gets_at_root(is_root: bool, n: usize, cells: Range) -> Result<Into, Fault>
 /// `MPI_Barrier`.
 fn barrier(rank: Rank, comm: &Expr, state: &RankState) -> Result<Effect, Fault>
     requires { rank.ranks ≤ MOST_RANKS }
-    ensures { result ≡ collective_effect rank (calls.Barrier comm.now) state.now }
+    ensures { result ≡ collective_effect rank (t.barrier (pure_expr comm.now)) state.now }
 {
     let comm = comm_of(rank, comm, state)?;
     Ok(Effect::Joins(joined(&comm, Kind::Barrier, 0, Entered::Nothing, Into::Nowhere)))
@@ -105,7 +106,7 @@ fn bcast(
     state: &RankState,
 ) -> Result<Effect, Fault>
     requires { rank.ranks ≤ MOST_RANKS }
-    ensures { result ≡ collective_effect rank (calls.Bcast buffer.now root.now comm.now) state.now }
+    ensures { result ≡ collective_effect rank (t.bcast (pure_buffer buffer.now) (pure_expr root.now) (pure_expr comm.now)) state.now }
 {
     let ints = ints_of(buffer, state)?;
     let root = state.value(root)?;
@@ -134,7 +135,7 @@ fn gather(
     state: &RankState,
 ) -> Result<Effect, Fault>
     requires { rank.ranks ≤ MOST_RANKS }
-    ensures { result ≡ collective_effect rank (calls.Gather out.now buffer.now root.now comm.now) state.now }
+    ensures { result ≡ collective_effect rank (t.gather (pure_buffer out.now) (pure_buffer buffer.now) (pure_expr root.now) (pure_expr comm.now)) state.now }
 {
     let buffers = buffers_of(out, buffer, state)?;
     let root = state.value(root)?;
@@ -159,7 +160,7 @@ fn scatter(
     state: &RankState,
 ) -> Result<Effect, Fault>
     requires { rank.ranks ≤ MOST_RANKS }
-    ensures { result ≡ collective_effect rank (calls.Scatter out.now buffer.now root.now comm.now) state.now }
+    ensures { result ≡ collective_effect rank (t.scatter (pure_buffer out.now) (pure_buffer buffer.now) (pure_expr root.now) (pure_expr comm.now)) state.now }
 {
     let buffers = buffers_of(out, buffer, state)?;
     let root = state.value(root)?;
@@ -183,7 +184,7 @@ fn allgather(
     state: &RankState,
 ) -> Result<Effect, Fault>
     requires { rank.ranks ≤ MOST_RANKS }
-    ensures { result ≡ collective_effect rank (calls.Allgather out.now buffer.now comm.now) state.now }
+    ensures { result ≡ collective_effect rank (t.allgather (pure_buffer out.now) (pure_buffer buffer.now) (pure_expr comm.now)) state.now }
 {
     let buffers = buffers_of(out, buffer, state)?;
     let comm = comm_of(rank, comm, state)?;
@@ -202,7 +203,7 @@ fn alltoall(
     state: &RankState,
 ) -> Result<Effect, Fault>
     requires { rank.ranks ≤ MOST_RANKS }
-    ensures { result ≡ collective_effect rank (calls.Alltoall out.now buffer.now comm.now) state.now }
+    ensures { result ≡ collective_effect rank (t.alltoall (pure_buffer out.now) (pure_buffer buffer.now) (pure_expr comm.now)) state.now }
 {
     let buffers = buffers_of(out, buffer, state)?;
     let comm = comm_of(rank, comm, state)?;
@@ -221,7 +222,7 @@ fn reduce(
     state: &RankState,
 ) -> Result<Effect, Fault>
     requires { rank.ranks ≤ MOST_RANKS }
-    ensures { result ≡ collective_effect rank (calls.Reduce reduction.now root.now comm.now) state.now }
+    ensures { result ≡ collective_effect rank (t.reduce (pure_reduction reduction.now) (pure_expr root.now) (pure_expr comm.now)) state.now }
 {
     let operands = operands_of(reduction, state)?;
     let root = state.value(root)?;
@@ -246,7 +247,7 @@ fn reduces_for_all(
     state: &RankState,
 ) -> Result<Effect, Fault>
     requires { rank.ranks ≤ MOST_RANKS }
-    ensures { result ≡ reduces_for_all rank kind reduction.now comm.now state.now }
+    ensures { result ≡ reduces_for_all rank kind (pure_reduction reduction.now) (pure_expr comm.now) state.now }
 {
     let operands = operands_of(reduction, state)?;
     let comm = comm_of(rank, comm, state)?;
@@ -266,7 +267,7 @@ pub fn collective_effect(
     state: &RankState,
 ) -> Result<Effect, Fault>
     requires { rank.ranks ≤ MOST_RANKS }
-    ensures { result ≡ collective_effect rank call.now state.now }
+    ensures { result ≡ collective_effect rank (pure_collective call.now) state.now }
 {
     match call {
         CollectiveCall::Barrier { comm } => barrier(rank, comm, state),

@@ -1,8 +1,9 @@
 //! Communicators: their members, and what makes and frees them.
 ghost use Rattle.std.specs.Prelude.{◌≡◌, ◌≤◌};
 ghost use Rattle.c_program.specs.declared.effect.Rank as effect;
-ghost use Rattle.c_program.specs.declared.mpi.CommunicatorCall.TheVariants as calls;
+ghost use Rattle.c_program.specs.Tree as t;
 ghost use Rattle.c_program.specs.Effects.{communicator_effect};
+ghost use Rattle.c_program.specs.View.{pure_communicator, pure_expr, pure_reference};
 
 use crate::checks::{cell, colour};
 use crate::collectives::joined;
@@ -18,7 +19,7 @@ use mpi_call::limits::MOST_RANKS;
 /// `MPI_Comm_size`.
 fn comm_size(rank: Rank, comm: &Expr, into: &Reference, state: &RankState) -> Result<Effect, Fault>
     requires { rank.ranks ≤ MOST_RANKS }
-    ensures { result ≡ communicator_effect rank (calls.Size comm.now into.now) state.now }
+    ensures { result ≡ communicator_effect rank (t.comm_size (pure_expr comm.now) (pure_reference into.now)) state.now }
 {
     let comm = state.value(comm)?;
     let into = state.range(into)?;
@@ -33,7 +34,7 @@ fn comm_size(rank: Rank, comm: &Expr, into: &Reference, state: &RankState) -> Re
 /// `MPI_Comm_rank`.
 fn comm_rank(rank: Rank, comm: &Expr, into: &Reference, state: &RankState) -> Result<Effect, Fault>
     requires { rank.ranks ≤ MOST_RANKS }
-    ensures { result ≡ communicator_effect rank (calls.Rank comm.now into.now) state.now }
+    ensures { result ≡ communicator_effect rank (t.comm_rank (pure_expr comm.now) (pure_reference into.now)) state.now }
 {
     let comm = state.value(comm)?;
     let into = state.range(into)?;
@@ -48,7 +49,7 @@ fn comm_rank(rank: Rank, comm: &Expr, into: &Reference, state: &RankState) -> Re
 /// `MPI_Comm_dup`.
 fn comm_dup(rank: Rank, comm: &Expr, into: &Reference, state: &RankState) -> Result<Effect, Fault>
     requires { rank.ranks ≤ MOST_RANKS }
-    ensures { result ≡ communicator_effect rank (calls.Dup comm.now into.now) state.now }
+    ensures { result ≡ communicator_effect rank (t.comm_dup (pure_expr comm.now) (pure_reference into.now)) state.now }
 {
     let comm = state.value(comm)?;
     let into = state.range(into)?;
@@ -67,7 +68,7 @@ fn comm_split(
     state: &RankState,
 ) -> Result<Effect, Fault>
     requires { rank.ranks ≤ MOST_RANKS }
-    ensures { result ≡ communicator_effect rank (calls.Split comm.now color.now key.now into.now) state.now }
+    ensures { result ≡ communicator_effect rank (t.comm_split (pure_expr comm.now) (pure_expr color.now) (pure_expr key.now) (pure_reference into.now)) state.now }
 {
     let comm = state.value(comm)?;
     let color = state.value(color)?;
@@ -87,7 +88,7 @@ fn comm_split(
 
 /// `MPI_Comm_free`: the handle is null afterwards.
 fn comm_free(into: &Reference, state: &RankState) -> Result<Effect, Fault>
-    ensures { (rank : effect.Rank) → result ≡ communicator_effect rank (calls.Free into.now) state.now }
+    ensures { (rank : effect.Rank) → result ≡ communicator_effect rank (t.comm_free (pure_reference into.now)) state.now }
 {
     let into = state.range(into)?;
     let into = cell(into)?;
@@ -104,7 +105,7 @@ pub fn communicator_effect(
     state: &RankState,
 ) -> Result<Effect, Fault>
     requires { rank.ranks ≤ MOST_RANKS }
-    ensures { result ≡ communicator_effect rank call.now state.now }
+    ensures { result ≡ communicator_effect rank (pure_communicator call.now) state.now }
 {
     match call {
         CommunicatorCall::Size { comm, size } => comm_size(rank, comm, size, state),

@@ -1,7 +1,8 @@
 //! The completion of requests.
-ghost use Rattle.std.specs.Prelude.{◌≡◌};
-ghost use Rattle.c_program.specs.declared.mpi.CompletionCall.TheVariants as calls;
+ghost use Rattle.std.specs.Prelude.{◌≡◌, option_map};
+ghost use Rattle.c_program.specs.Tree as t;
 ghost use Rattle.c_program.specs.Effects.{answers, completes_some, completion_effect};
+ghost use Rattle.c_program.specs.View.{pure_completion, pure_expr, pure_reference, pure_several};
 
 use crate::checks::{cell, handles_of, optional_first, status};
 use c_program::effect::{Answer, Effect};
@@ -26,7 +27,7 @@ fn answers(statuses: Option<Range>) -> Answer
 
 /// `MPI_Wait`.
 fn wait(requests: &Reference, kept: &Option<Reference>, state: &RankState) -> Result<Effect, Fault>
-    ensures { result ≡ completion_effect (calls.Wait requests.now kept.now) state.now }
+    ensures { result ≡ completion_effect (t.wait (pure_reference requests.now) (option_map pure_reference kept.now)) state.now }
 {
     let requests = state.range(requests)?;
     let kept = status(kept, state)?;
@@ -46,7 +47,7 @@ fn test(
     kept: &Option<Reference>,
     state: &RankState,
 ) -> Result<Effect, Fault>
-    ensures { result ≡ completion_effect (calls.Test requests.now flag.now kept.now) state.now }
+    ensures { result ≡ completion_effect (t.test (pure_reference requests.now) (pure_reference flag.now) (option_map pure_reference kept.now)) state.now }
 {
     let requests = state.range(requests)?;
     let flag = state.range(flag)?;
@@ -72,7 +73,7 @@ fn waitany(
     kept: &Option<Reference>,
     state: &RankState,
 ) -> Result<Effect, Fault>
-    ensures { result ≡ completion_effect (calls.Waitany count.now requests.now index.now kept.now) state.now }
+    ensures { result ≡ completion_effect (t.waitany (pure_expr count.now) (pure_reference requests.now) (pure_reference index.now) (option_map pure_reference kept.now)) state.now }
 {
     let count = state.value(count)?;
     let requests = state.range(requests)?;
@@ -101,7 +102,7 @@ fn testany(
     kept: &Option<Reference>,
     state: &RankState,
 ) -> Result<Effect, Fault>
-    ensures { result ≡ completion_effect (calls.Testany count.now requests.now index.now flag.now kept.now) state.now }
+    ensures { result ≡ completion_effect (t.testany (pure_expr count.now) (pure_reference requests.now) (pure_reference index.now) (pure_reference flag.now) (option_map pure_reference kept.now)) state.now }
 {
     let count = state.value(count)?;
     let requests = state.range(requests)?;
@@ -131,7 +132,7 @@ fn waitall(
     kept: &Option<Reference>,
     state: &RankState,
 ) -> Result<Effect, Fault>
-    ensures { result ≡ completion_effect (calls.Waitall count.now requests.now kept.now) state.now }
+    ensures { result ≡ completion_effect (t.waitall (pure_expr count.now) (pure_reference requests.now) (option_map pure_reference kept.now)) state.now }
 {
     let count = state.value(count)?;
     let requests = state.range(requests)?;
@@ -154,7 +155,7 @@ fn testall(
     kept: &Option<Reference>,
     state: &RankState,
 ) -> Result<Effect, Fault>
-    ensures { result ≡ completion_effect (calls.Testall count.now requests.now flag.now kept.now) state.now }
+    ensures { result ≡ completion_effect (t.testall (pure_expr count.now) (pure_reference requests.now) (pure_reference flag.now) (option_map pure_reference kept.now)) state.now }
 {
     let count = state.value(count)?;
     let requests = state.range(requests)?;
@@ -180,7 +181,7 @@ fn completes_some(
     several: &SomeRequests,
     state: &RankState,
 ) -> Result<Effect, Fault>
-    ensures { result ≡ completes_some mode several.now state.now }
+    ensures { result ≡ completes_some mode (pure_several several.now) state.now }
 {
     let count = state.value(&several.count)?;
     let requests = state.range(&several.requests)?;
@@ -205,7 +206,7 @@ fn completes_some(
 
 /// The effect of a completion of requests, or its fault.
 pub fn completion_effect(call: &CompletionCall, state: &RankState) -> Result<Effect, Fault>
-    ensures { result ≡ completion_effect call.now state.now }
+    ensures { result ≡ completion_effect (pure_completion call.now) state.now }
 {
     match call {
         CompletionCall::Wait { request, status } => wait(request, status, state),

@@ -1,7 +1,8 @@
 //! What the call of an MPI function does, once its arguments are evaluated and checked.
 ghost use Rattle.std.specs.Prelude.{◌≡◌, ◌≤◌};
-ghost use Rattle.c_program.specs.declared.mpi.MpiCall.TheVariants as calls;
+ghost use Rattle.c_program.specs.Tree as t;
 ghost use Rattle.c_program.specs.Effects.{effect_of};
+ghost use Rattle.c_program.specs.View.{pure_expr, pure_mpi};
 
 use crate::collectives::collective_effect;
 use crate::comm::communicator_of;
@@ -19,7 +20,7 @@ use mpi_call::limits::MOST_RANKS;
 /// `MPI_Abort`.
 fn abort(rank: Rank, comm: &Expr, code: &Expr, state: &RankState) -> Result<Effect, Fault>
     requires { rank.ranks ≤ MOST_RANKS }
-    ensures { result ≡ effect_of rank (calls.Abort comm.now code.now) state.now }
+    ensures { result ≡ effect_of rank (t.abort (pure_expr comm.now) (pure_expr code.now)) state.now }
 {
     let comm = state.value(comm)?;
     let code = state.value(code)?;
@@ -30,7 +31,7 @@ fn abort(rank: Rank, comm: &Expr, code: &Expr, state: &RankState) -> Result<Effe
 /// The effect of a call, or its fault. Takes no memory.
 pub fn effect_of(rank: Rank, call: &MpiCall, state: &RankState) -> Result<Effect, Fault>
     requires { rank.ranks ≤ MOST_RANKS }
-    ensures { result ≡ effect_of rank call.now state.now }
+    ensures { result ≡ effect_of rank (pure_mpi call.now) state.now }
 {
     match call {
         MpiCall::Init => Ok(Effect::Nothing),

@@ -1,7 +1,8 @@
 //! Sends and receives.
-ghost use Rattle.std.specs.Prelude.{◌≡◌, ◌≤◌};
-ghost use Rattle.c_program.specs.declared.mpi.MessageCall.TheVariants as calls;
+ghost use Rattle.std.specs.Prelude.{◌≡◌, ◌≤◌, option_map};
+ghost use Rattle.c_program.specs.Tree as t;
 ghost use Rattle.c_program.specs.Effects.{isend_effect, message, message_effect, receive, send_after, send_effect, sends, sends_from};
+ghost use Rattle.c_program.specs.View.{pure_expr, pure_incoming, pure_message, pure_outgoing, pure_reference};
 
 use crate::arguments::{envelope_of, ints_of};
 use crate::checks::{cell, count_of, optional_cell, status, tag_of, wanted_tag};
@@ -90,7 +91,7 @@ fn send(
     state: &RankState,
 ) -> Result<Effect, Fault>
     requires { rank.ranks ≤ MOST_RANKS }
-    ensures { result ≡ send_effect rank outgoing.now comm.now sync state.now }
+    ensures { result ≡ send_effect rank (pure_outgoing outgoing.now) (pure_expr comm.now) sync state.now }
 {
     let ints = ints_of(&outgoing.buffer, state)?;
     let envelope = envelope_of(&outgoing.dest, &outgoing.tag, comm, state)?;
@@ -111,7 +112,7 @@ fn recv(
     state: &RankState,
 ) -> Result<Effect, Fault>
     requires { rank.ranks ≤ MOST_RANKS }
-    ensures { result ≡ message_effect rank (calls.Recv incoming.now comm.now kept.now) state.now }
+    ensures { result ≡ message_effect rank (t.recv (pure_incoming incoming.now) (pure_expr comm.now) (option_map pure_reference kept.now)) state.now }
 {
     let ints = ints_of(&incoming.buffer, state)?;
     let envelope = envelope_of(&incoming.source, &incoming.tag, comm, state)?;
@@ -139,7 +140,7 @@ fn isend(
     state: &RankState,
 ) -> Result<Effect, Fault>
     requires { rank.ranks ≤ MOST_RANKS }
-    ensures { result ≡ isend_effect rank outgoing.now comm.now request.now sync state.now }
+    ensures { result ≡ isend_effect rank (pure_outgoing outgoing.now) (pure_expr comm.now) (pure_reference request.now) sync state.now }
 {
     let ints = ints_of(&outgoing.buffer, state)?;
     let envelope = envelope_of(&outgoing.dest, &outgoing.tag, comm, state)?;
@@ -162,7 +163,7 @@ fn irecv(
     state: &RankState,
 ) -> Result<Effect, Fault>
     requires { rank.ranks ≤ MOST_RANKS }
-    ensures { result ≡ message_effect rank (calls.Irecv incoming.now comm.now request.now) state.now }
+    ensures { result ≡ message_effect rank (t.irecv (pure_incoming incoming.now) (pure_expr comm.now) (pure_reference request.now)) state.now }
 {
     let ints = ints_of(&incoming.buffer, state)?;
     let envelope = envelope_of(&incoming.source, &incoming.tag, comm, state)?;
@@ -189,7 +190,7 @@ fn sendrecv(
     state: &RankState,
 ) -> Result<Effect, Fault>
     requires { rank.ranks ≤ MOST_RANKS }
-    ensures { result ≡ message_effect rank (calls.Sendrecv outgoing.now incoming.now comm.now kept.now) state.now }
+    ensures { result ≡ message_effect rank (t.sendrecv (pure_outgoing outgoing.now) (pure_incoming incoming.now) (pure_expr comm.now) (option_map pure_reference kept.now)) state.now }
 {
     let out = ints_of(&outgoing.buffer, state)?;
     let dest = state.value(&outgoing.dest)?;
@@ -217,7 +218,7 @@ fn sendrecv(
 /// The effect of a send or a receive, or its fault.
 pub fn message_effect(rank: Rank, call: &MessageCall, state: &RankState) -> Result<Effect, Fault>
     requires { rank.ranks ≤ MOST_RANKS }
-    ensures { result ≡ message_effect rank call.now state.now }
+    ensures { result ≡ message_effect rank (pure_message call.now) state.now }
 {
     match call {
         MessageCall::Send {

@@ -1,8 +1,9 @@
 //! Probes, and what a status tells.
-ghost use Rattle.std.specs.Prelude.{◌≡◌, ◌≤◌};
+ghost use Rattle.std.specs.Prelude.{◌≡◌, ◌≤◌, option_map};
 ghost use Rattle.c_program.specs.declared.effect.Rank as effect;
-ghost use Rattle.c_program.specs.declared.mpi.ProbeCall.TheVariants as calls;
+ghost use Rattle.c_program.specs.Tree as t;
 ghost use Rattle.c_program.specs.Effects.{probe_effect};
+ghost use Rattle.c_program.specs.View.{pure_expr, pure_probe, pure_reference};
 
 use crate::arguments::envelope_of;
 use crate::checks::{cell, count_in, optional_cell, status, wanted_tag};
@@ -30,7 +31,7 @@ fn probe(
     state: &RankState,
 ) -> Result<Effect, Fault>
     requires { rank.ranks ≤ MOST_RANKS }
-    ensures { result ≡ probe_effect rank (calls.Probe wanted.now.source.now wanted.now.tag.now wanted.now.comm.now kept.now) state.now }
+    ensures { result ≡ probe_effect rank (t.probe (pure_expr wanted.now.source.now) (pure_expr wanted.now.tag.now) (pure_expr wanted.now.comm.now) (option_map pure_reference kept.now)) state.now }
 {
     let envelope = envelope_of(wanted.source, wanted.tag, wanted.comm, state)?;
     let kept = status(kept, state)?;
@@ -57,7 +58,7 @@ fn iprobe(
     state: &RankState,
 ) -> Result<Effect, Fault>
     requires { rank.ranks ≤ MOST_RANKS }
-    ensures { result ≡ probe_effect rank (calls.Iprobe wanted.now.source.now wanted.now.tag.now wanted.now.comm.now flag.now kept.now) state.now }
+    ensures { result ≡ probe_effect rank (t.iprobe (pure_expr wanted.now.source.now) (pure_expr wanted.now.tag.now) (pure_expr wanted.now.comm.now) (pure_reference flag.now) (option_map pure_reference kept.now)) state.now }
 {
     let envelope = envelope_of(wanted.source, wanted.tag, wanted.comm, state)?;
     let flag = state.range(flag)?;
@@ -79,7 +80,7 @@ fn iprobe(
 
 /// `MPI_Get_count`.
 fn get_count(kept: &Option<Reference>, into: &Reference, state: &RankState) -> Result<Effect, Fault>
-    ensures { (rank : effect.Rank) → result ≡ probe_effect rank (calls.GetCount kept.now into.now) state.now }
+    ensures { (rank : effect.Rank) → result ≡ probe_effect rank (t.get_count (option_map pure_reference kept.now) (pure_reference into.now)) state.now }
 {
     let kept = status(kept, state)?;
     let into = state.range(into)?;
@@ -94,7 +95,7 @@ fn get_count(kept: &Option<Reference>, into: &Reference, state: &RankState) -> R
 /// The effect of a probe or of a look into a status, or its fault.
 pub fn probe_effect(rank: Rank, call: &ProbeCall, state: &RankState) -> Result<Effect, Fault>
     requires { rank.ranks ≤ MOST_RANKS }
-    ensures { result ≡ probe_effect rank call.now state.now }
+    ensures { result ≡ probe_effect rank (pure_probe call.now) state.now }
 {
     match call {
         ProbeCall::Probe {

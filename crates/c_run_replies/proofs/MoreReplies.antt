@@ -7,12 +7,12 @@ use Rattle.run_model.specs.Program.{IsSeen, IsViewOf, MayGive}
 use Rattle.run_model.specs.Views.{replies_in}
 use Rattle.run_model.proofs.Along.{Along-snoc}
 use Rattle.c_program.specs.declared.effect.Rank.{Rank}
-use Rattle.c_program.specs.declared.program.CProgram.{CProgram}
 use Rattle.c_program.specs.Courses.{Course, Asks, Over, after, behind, call_in, listed_of, state_in, variables_in}
 use Rattle.c_program.specs.Meaning.{course_of}
 use Rattle.c_program.specs.Program.{course_after, next_of, rank_of}
 use Rattle.c_program.specs.laws.ProgramLaws.{after_in_shape}
 use Rattle.c_program.specs.State.{State}
+use Rattle.c_program.specs.Tree.{Program}
 
 -- a rank that has ended
 pub after-over : (course : Course) (s : State) (rest : List Reply) → course ≡ Over s → after course rest ≡ Over s
@@ -20,7 +20,7 @@ after-over course s [] e = e
 after-over course s (reply ∷ rest) e = after-over (behind course reply) s rest (ap (λ c. behind c reply) e)
 
 -- a reply that may be given need not be tested again
-pub shaped-more : (program : CProgram) (rank : Rank) (replies : List Reply) (reply : Reply) → MayGive (next_of program) rank.ranks rank.number replies reply
+pub shaped-more : (program : Program) (rank : Rank) (replies : List Reply) (reply : Reply) → MayGive (next_of program) rank.ranks rank.number replies reply
     → course_after program rank.ranks rank.number (replies ++ reply ∷ []) ≡ after (course_of program rank) (replies ++ reply ∷ [])
 shaped-more program rank replies reply may =
     let n : ℕ = rank.ranks in

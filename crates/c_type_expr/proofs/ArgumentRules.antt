@@ -5,6 +5,7 @@ use Rattle.std.proofs.lemmas.Option.{slice_get-map}
 use Rattle.c_grammar.specs.Tree as t
 use Rattle.c_names.specs.declared.function.ArgumentKind.{ArgumentKind}
 use Rattle.c_program.specs.declared.expr.Argument.{Argument}
+use Rattle.c_program.specs.View.{pure_argument}
 use Rattle.c_check_expr.proofs.Lists.{drop_got, drop_past}
 use Rattle.c_check.specs.Calls.{argument_faults, arguments_faults, arguments_of, call_faults, signature_takes}
 use Rattle.c_check_expr.specs.Scopes.{Env, Signature, meaning}
@@ -36,22 +37,22 @@ more_faults env kinds given i kind one k a h =
 
 pub arguments_more : (env : Env) (kinds : List ArgumentKind) (given : List t.Argument) (i : ℕ) (kind : ArgumentKind) (one : t.Argument)
     (before after : List Argument) (typed : Argument) → after ≡ before ++ typed ∷ [] → slice_get kinds i ≡ Some kind → slice_get given i ≡ Some one
-    → IsArgument env kind one typed
-    → ((more : List Argument) → AreArguments env (drop i kinds) (drop i given) more → AreArguments env kinds given (before ++ more))
-    → (more : List Argument) → AreArguments env (drop (i + 1) kinds) (drop (i + 1) given) more → AreArguments env kinds given (after ++ more)
+    → IsArgument env kind one (pure_argument typed)
+    → ((more : List Argument) → AreArguments env (drop i kinds) (drop i given) (map pure_argument more) → AreArguments env kinds given (map pure_argument (before ++ more)))
+    → (more : List Argument) → AreArguments env (drop (i + 1) kinds) (drop (i + 1) given) (map pure_argument more) → AreArguments env kinds given (map pure_argument (after ++ more))
 arguments_more env kinds given i kind one before after typed e k a is inv more rest =
-    let P : List Argument → Type 0 = λ all. AreArguments env kinds given all in
-    let Q : List ArgumentKind → Type 0 = λ left. AreArguments env left (one ∷ drop (i + 1) given) (typed ∷ more) in
-    let R : List t.Argument → Type 0 = λ left. AreArguments env (drop i kinds) left (typed ∷ more) in
+    let P : List Argument → Type 0 = λ all. AreArguments env kinds given (map pure_argument all) in
+    let Q : List ArgumentKind → Type 0 = λ left. AreArguments env left (one ∷ drop (i + 1) given) (map pure_argument (typed ∷ more)) in
+    let R : List t.Argument → Type 0 = λ left. AreArguments env (drop i kinds) left (map pure_argument (typed ∷ more)) in
     let joined : before ++ typed ∷ more ≡ after ++ more = sym (append_assoc before (typed ∷ []) more) ∙ ap (λ all. all ++ more) (sym e) in
     subst P joined (inv (typed ∷ more) (subst R (sym (drop_got given i one a)) (subst Q (sym (drop_got kinds i kind k)) (y.argument is rest))))
 
 pub arguments_end : (env : Env) (kinds : List ArgumentKind) (given : List t.Argument) (i : ℕ) (typed : List Argument)
     → length given ≡ length kinds → length given ≤ i
-    → ((more : List Argument) → AreArguments env (drop i kinds) (drop i given) more → AreArguments env kinds given (typed ++ more))
-    → AreArguments env kinds given typed
+    → ((more : List Argument) → AreArguments env (drop i kinds) (drop i given) (map pure_argument more) → AreArguments env kinds given (map pure_argument (typed ++ more)))
+    → AreArguments env kinds given (map pure_argument typed)
 arguments_end env kinds given i typed n past inv =
-    let P : List Argument → Type 0 = λ all. AreArguments env kinds given all in
+    let P : List Argument → Type 0 = λ all. AreArguments env kinds given (map pure_argument all) in
     let Q : List ArgumentKind → Type 0 = λ left. AreArguments env left [] [] in
     let R : List t.Argument → Type 0 = λ left. AreArguments env (drop i kinds) left [] in
     let k : length kinds ≤ i = omega arith in
@@ -70,9 +71,9 @@ none_given env (one ∷ more) h = absurd (omega arith)
 -- a function that is none of the text takes nothing
 pub no_arguments : (env : Env) (call : t.Call) (number : ℕ) (typed : List Argument) → None ≡ slice_get env.functions number
     → meaning env call.name ≡ m.Declared (d.Function number) → call_faults env call ≡ [] → typed ≡ []
-    → AreArguments env (signature_takes (slice_get env.functions number)) (arguments_of call) typed
+    → AreArguments env (signature_takes (slice_get env.functions number)) (arguments_of call) (map pure_argument typed)
 no_arguments env call number typed n e h v =
-    let P : Option Signature → Type 0 = λ found. AreArguments env (signature_takes found) (arguments_of call) typed in
+    let P : Option Signature → Type 0 = λ found. AreArguments env (signature_takes found) (arguments_of call) (map pure_argument typed) in
     let Q : Option Signature → Type 0 = λ found. length (arguments_of call) ≡ length (signature_takes found) in
     let count : length (arguments_of call) ≡ 0 = subst Q (sym n) (text_fits env call number e h).count in
     subst P n (rw v (none_given env (arguments_of call) count))

@@ -16,8 +16,8 @@ use Rattle.c_grammar.specs.View.{place_view, view}
 use Rattle.c_grammar.proofs.Viewed.{view-whole, view-cell}
 use Rattle.c_names.specs.declared.predefined.Predefined.{Predefined}
 use Rattle.c_names.specs.declared.predefined.Predefined.TheVariants as p
-use Rattle.c_program.specs.declared.expr.Expr.{Expr}
-use Rattle.c_program.specs.declared.expr.Reference.TheVariants as r
+use Rattle.c_program.specs.Tree as pure
+use Rattle.c_program.specs.Tree.{Expr}
 use Rattle.c_check.specs.Calls.{array_sum, is_plus, name_alone, sum_base, predefined_of}
 use Rattle.c_check_expr.specs.Scopes.{Env}
 use Rattle.c_check_expr.specs.Variables.{variable}
@@ -27,12 +27,12 @@ use Rattle.c_type_expr.specs.Exprs.{IsExpr}
 use Rattle.c_type_expr.specs.Shapes.{is_reference, is_reference_by}
 
 pub address_rule : (env : Env) (mark : Span) (place : source_place.Place) (name : Span) (number : ℕ) → place ≡ tp.Whole name → number ≡ variable env name
-    → IsReference env (t.address mark (place_view place)) (r.Whole number)
+    → IsReference env (t.address mark (place_view place)) (pure.all_of number)
 address_rule env mark place name number s n = rw (s, view-whole, n) y.address
 
 pub address_from_rule : (env : Env) (mark : Span) (place : source_place.Place) (name opening : Span) (index : Box source.Expr Global) (closing : Span) (number : ℕ) (typed : Expr)
     → place ≡ tp.Cell name opening index closing → number ≡ variable env name → IsExpr env (view index.value) typed
-    → IsReference env (t.address mark (place_view place)) (r.From number typed)
+    → IsReference env (t.address mark (place_view place)) (pure.from number typed)
 address_from_rule env mark place name opening index closing number typed s n h = rw (s, view-cell, n) (y.address_from h)
 
 -- what is a name alone
@@ -47,9 +47,9 @@ name_tells (t.chain level first links) name h = cc
 name_tells (t.choice test question taken colon spared) name h = cc
 
 pub array_rule : (env : Env) (e : t.Expr) (name : Span) (number : ℕ) → Some name ≡ name_alone e → number ≡ variable env name → predefined_of env (t.value e) ≡ None
-    → IsReference env (t.value e) (r.Whole number)
+    → IsReference env (t.value e) (pure.all_of number)
 array_rule env e name number h n w =
-    let P : t.Expr → Type 0 = λ one. predefined_of env (t.value one) ≡ None → IsReference env (t.value one) (r.Whole number) in
+    let P : t.Expr → Type 0 = λ one. predefined_of env (t.value one) ≡ None → IsReference env (t.value one) (pure.all_of number) in
     let is : t.read (t.whole name) ≡ e = sym (name_tells e name (sym h)) in
     subst P is (λ word. rw n (y.array word)) w
 
@@ -69,7 +69,7 @@ null_by (Some p.Printf) argument h k = cc
 null_by (Some p.Fflush) argument h k = cc
 
 pub null_rule : (env : Env) (argument : t.Argument) (word : Option Predefined) → word ≡ predefined_of env argument → is_reference env argument ≡ true
-    → is_some word ≡ true → IsReference env argument r.Nothing
+    → is_some word ≡ true → IsReference env argument pure.nothing
 null_rule env argument word e h k =
     let P : Option Predefined → Type 0 = λ one. is_some one ≡ true in
     y.null (null_by (predefined_of env argument) argument h (subst P e k))
@@ -109,11 +109,11 @@ base_tells (Some n) (t.link operator at o t.no_link) name operand h = elim (case
 ]
 
 pub sum_rule : (env : Env) (e : t.Expr) (name : Span) (operand : t.Expr) (number : ℕ) (typed : Expr) → Some (name, operand) ≡ array_sum e
-    → number ≡ variable env name → IsExpr env operand typed → IsReference env (t.value e) (r.From number typed)
+    → number ≡ variable env name → IsExpr env operand typed → IsReference env (t.value e) (pure.from number typed)
 sum_rule env (t.chain level first links) name operand number typed h n k =
     let s = base_tells (name_alone first) links name operand (sym h) in
-    let P : t.Expr → Type 0 = λ one. IsReference env (t.value (t.chain level one links)) (r.From number typed) in
-    let Q : t.Links → Type 0 = λ one. IsReference env (t.value (t.chain level (t.read (t.whole name)) one)) (r.From number typed) in
+    let P : t.Expr → Type 0 = λ one. IsReference env (t.value (t.chain level one links)) (pure.from number typed) in
+    let Q : t.Links → Type 0 = λ one. IsReference env (t.value (t.chain level (t.read (t.whole name)) one)) (pure.from number typed) in
     subst P (sym (name_tells first name s.name_is)) (subst Q (sym s.links_are) (rw n (y.sum s.plus k)))
 sum_rule env (t.number at) name operand number typed h n k = absurd (let z : ⊥ = cc in z)
 sum_rule env (t.read place) name operand number typed h n k = absurd (let z : ⊥ = cc in z)

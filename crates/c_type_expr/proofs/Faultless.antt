@@ -19,7 +19,6 @@ use Rattle.c_check_expr.specs.Expressions.{expr_faults}
 use Rattle.c_check_expr.specs.Kinds.{first_token}
 use Rattle.c_check_expr.specs.Least.{fault}
 use Rattle.c_check_expr.specs.Scopes.{Env, meaning, name_faults}
-use Rattle.c_check_expr.specs.declared.fault.TypingFault.{TypingFault}
 use Rattle.c_check_expr.specs.declared.meaning.ExprKind.{ExprKind}
 use Rattle.c_check_expr.specs.declared.meaning.ExprKind.TheVariants.{Of}
 use Rattle.c_check_expr.specs.declared.meaning.Meaning.{Meaning}

@@ -2,5 +2,4 @@ pub mod ExprRules
 pub mod CallRules
 pub mod Faultless
 pub mod ArgumentRules
-pub mod Longer
 pub mod Total

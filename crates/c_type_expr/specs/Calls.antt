@@ -1,5 +1,5 @@
 -- Which typed calls are those of the tree.
-use Rattle.std.specs.Prelude.{◌≡◌, ℕ, Bool, true, List, [], ◌∷◌, Option, Some, None}
+use Rattle.std.specs.Prelude.{◌≡◌, ℕ, true, List, [], ◌∷◌, Some, None}
 use Rattle.c_grammar.specs.declared.terminal.Span.{Span}
 use Rattle.c_grammar.specs.declared.terminal.Symbol.{Symbol}
 use Rattle.c_grammar.specs.Tree as t
@@ -11,14 +11,8 @@ use Rattle.c_check_expr.specs.Scopes.{Env, meaning}
 use Rattle.c_check_expr.specs.declared.meaning.Meaning.TheVariants as m
 use Rattle.c_check_expr.specs.declared.meaning.Entity.TheVariants as d
 use Rattle.std.specs.Prelude.{slice_get}
-use Rattle.c_program.specs.declared.expr.Argument.{Argument}
-use Rattle.c_program.specs.declared.expr.Argument.TheVariants as a
-use Rattle.c_program.specs.declared.expr.FunctionCall.{FunctionCall}
-use Rattle.c_program.specs.declared.expr.Expr.{Expr}
-use Rattle.c_program.specs.declared.expr.Reference.{Reference}
-use Rattle.c_program.specs.declared.expr.Reference.TheVariants as r
-use Rattle.c_program.specs.declared.expr.Right.{Right}
-use Rattle.c_program.specs.declared.expr.Right.TheVariants as g
+use Rattle.c_program.specs.Tree as pure
+use Rattle.c_program.specs.Tree.{Argument, Expr, FunctionCall, Reference, Right}
 use Rattle.c_type_expr.specs.Exprs.{IsExpr}
 use Rattle.c_check_expr.specs.Variables.{variable}
 
@@ -26,20 +20,20 @@ pub data IsValue (env : Env) : t.Argument → Expr → Type 0 where
   value : {e : t.Expr} {typed : Expr} → IsExpr env e typed → IsValue env (t.value e) typed
 
 pub data IsReference (env : Env) : t.Argument → Reference → Type 0 where
-  null : {argument : t.Argument} → predefined_of env argument ≡ Some p.NoReference → IsReference env argument r.Nothing
-  address : {mark name : Span} → IsReference env (t.address mark (t.whole name)) (r.Whole (variable env name))
+  null : {argument : t.Argument} → predefined_of env argument ≡ Some p.NoReference → IsReference env argument pure.nothing
+  address : {mark name : Span} → IsReference env (t.address mark (t.whole name)) (pure.all_of (variable env name))
   address_from : {mark name opening closing : Span} {index : t.Expr} {typed : Expr} → IsExpr env index typed
-      → IsReference env (t.address mark (t.cell name opening index closing)) (r.From (variable env name) typed)
+      → IsReference env (t.address mark (t.cell name opening index closing)) (pure.from (variable env name) typed)
   array : {name : Span} → predefined_of env (t.value (t.read (t.whole name))) ≡ None
-      → IsReference env (t.value (t.read (t.whole name))) (r.Whole (variable env name))
+      → IsReference env (t.value (t.read (t.whole name))) (pure.all_of (variable env name))
   sum : {level : ℕ} {name at : Span} {operator : Symbol} {operand : t.Expr} {typed : Expr} → is_plus operator ≡ true → IsExpr env operand typed
-      → IsReference env (t.value (t.chain level (t.read (t.whole name)) (t.link operator at operand t.no_link))) (r.From (variable env name) typed)
+      → IsReference env (t.value (t.chain level (t.read (t.whole name)) (t.link operator at operand t.no_link))) (pure.from (variable env name) typed)
 
 -- an argument of a function of the text, by what it takes
 pub data IsArgument (env : Env) : ArgumentKind → t.Argument → Argument → Type 0 where
-  number : {given : t.Argument} {typed : Expr} → IsValue env given typed → IsArgument env k.Number given (a.Value typed)
-  communicator : {given : t.Argument} {typed : Expr} → IsValue env given typed → IsArgument env k.Communicator given (a.Value typed)
-  ints : {given : t.Argument} {typed : Reference} → IsReference env given typed → IsArgument env k.Buffer given (a.Reference typed)
+  number : {given : t.Argument} {typed : Expr} → IsValue env given typed → IsArgument env k.Number given (pure.by_value typed)
+  communicator : {given : t.Argument} {typed : Expr} → IsValue env given typed → IsArgument env k.Communicator given (pure.by_value typed)
+  ints : {given : t.Argument} {typed : Reference} → IsReference env given typed → IsArgument env k.Buffer given (pure.by_reference typed)
 
 pub data AreArguments (env : Env) : List ArgumentKind → List t.Argument → List Argument → Type 0 where
   no_argument : AreArguments env [] [] []
@@ -48,8 +42,8 @@ pub data AreArguments (env : Env) : List ArgumentKind → List t.Argument → Li
 
 pub record IsCall (env : Env) (call : t.Call) (typed : FunctionCall) : Type 0 where
   pub function : meaning env call.name ≡ m.Declared (d.Function typed.function)
-  pub arguments : AreArguments env (signature_takes (slice_get env.functions typed.function)) (arguments_of call) typed.arguments.items
+  pub arguments : AreArguments env (signature_takes (slice_get env.functions typed.function)) (arguments_of call) typed.arguments
 
 pub data IsRight (env : Env) : t.Right → Right → Type 0 where
-  value : {e : t.Expr} {typed : Expr} → IsExpr env e typed → IsRight env (t.valued e) (g.Value typed)
-  call : {call : t.Call} {typed : FunctionCall} → IsCall env call typed → IsRight env (t.called call) (g.Call typed)
+  value : {e : t.Expr} {typed : Expr} → IsExpr env e typed → IsRight env (t.valued e) (pure.value typed)
+  call : {call : t.Call} {typed : FunctionCall} → IsCall env call typed → IsRight env (t.called call) (pure.called typed)

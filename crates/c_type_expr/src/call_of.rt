@@ -1,11 +1,12 @@
 //! Typed calls of functions of the text, and right sides.
 
-ghost use Rattle.std.specs.Prelude.{◌≡◌, ℕ, IfOk, List, [], None, length, true};
+ghost use Rattle.std.specs.Prelude.{◌≡◌, ℕ, IfOk, List, [], None, length, map, true};
 ghost use Rattle.std.specs.Option.{is_some};
 ghost use Rattle.c_grammar.specs.declared.terminal.Span.{Span};
 ghost use Rattle.c_grammar.specs.StmtView.{argument_view, call_view, head_view, parameter_view, right_view};
 ghost use Rattle.c_grammar.specs.Tree as t;
 ghost use Rattle.c_grammar.specs.View.{place_view, view};
+ghost use Rattle.c_program.specs.View.{pure_argument, pure_call, pure_expr, pure_reference, pure_right};
 ghost use Rattle.c_check.specs.Calls.{argument_faults, arguments_faults, arguments_of, array_sum, call_faults, right_faults, predefined_of};
 ghost use Rattle.c_check_expr.specs.Scopes.{meaning};
 ghost use Rattle.c_check_expr.specs.Signatures.{parameter_takes, signature_of};
@@ -28,7 +29,7 @@ use std::alloc::{AllocError, Global};
 /// What is added to the name of an array.
 fn sum_of(alloc: Global, scope: &Scope, e: &tree::Expr) -> Result<Reference, AllocError>
     requires { is_some (array_sum (view e.now)) ≡ true }
-    ensures { IfOk result (λ typed. IsReference scope.now (t.value (view e.now)) typed) }
+    ensures { IfOk result (λ typed. IsReference scope.now (t.value (view e.now)) (pure_reference typed)) }
 {
     match array_sum(e) {
         Some((name, operand)) => {
@@ -46,7 +47,7 @@ fn sum_of(alloc: Global, scope: &Scope, e: &tree::Expr) -> Result<Reference, All
 fn array_of(alloc: Global, scope: &Scope, e: &tree::Expr) -> Result<Reference, AllocError>
     requires shape { is_array (view e.now) ≡ true }
     requires word { predefined_of scope.now (t.value (view e.now)) ≡ None }
-    ensures { IfOk result (λ typed. IsReference scope.now (t.value (view e.now)) typed) }
+    ensures { IfOk result (λ typed. IsReference scope.now (t.value (view e.now)) (pure_reference typed)) }
 {
     match name_alone(e) {
         Some(name) => Ok(Reference::Whole(scope.variable(name))),
@@ -59,7 +60,7 @@ fn array_of(alloc: Global, scope: &Scope, e: &tree::Expr) -> Result<Reference, A
 
 /// A place after an `&`.
 fn address_of(alloc: Global, scope: &Scope, place: &tree::Place) -> Result<Reference, AllocError>
-    ensures { IfOk result (λ typed. (mark : Span) → IsReference scope.now (t.address mark (place_view place.now)) typed) }
+    ensures { IfOk result (λ typed. (mark : Span) → IsReference scope.now (t.address mark (place_view place.now)) (pure_reference typed)) }
 {
     match place {
         tree::Place::Whole(name) => Ok(Reference::Whole(scope.variable(*name))),
@@ -80,7 +81,7 @@ pub fn reference_of(
     argument: &statement::Argument,
 ) -> Result<Reference, AllocError>
     requires { is_reference scope.now (argument_view argument.now) ≡ true }
-    ensures { IfOk result (λ typed. IsReference scope.now (argument_view argument.now) typed) }
+    ensures { IfOk result (λ typed. IsReference scope.now (argument_view argument.now) (pure_reference typed)) }
 {
     if predefined_of(scope, argument).is_some() {
         return Ok(Reference::Nothing);
@@ -105,7 +106,7 @@ pub fn value_of(
     argument: &statement::Argument,
 ) -> Result<Expr, AllocError>
     requires { is_value (argument_view argument.now) ≡ true }
-    ensures { IfOk result (λ typed. IsValue scope.now (argument_view argument.now) typed) }
+    ensures { IfOk result (λ typed. IsValue scope.now (argument_view argument.now) (pure_expr typed)) }
 {
     match argument {
         statement::Argument::Value(e) => {
@@ -125,7 +126,7 @@ fn argument_of(
     argument: &statement::Argument,
 ) -> Result<Argument, AllocError>
     requires { argument_faults scope.now (parameter_takes (parameter_view parameter.now)) (argument_view argument.now) ≡ [] }
-    ensures { IfOk result (λ typed. IsArgument scope.now (parameter_takes (parameter_view parameter.now)) (argument_view argument.now) typed) }
+    ensures { IfOk result (λ typed. IsArgument scope.now (parameter_takes (parameter_view parameter.now)) (argument_view argument.now) (pure_argument typed)) }
 {
     match parameter {
         statement::Parameter::Int { .. } | statement::Parameter::Communicator { .. } => {
@@ -151,7 +152,7 @@ fn arguments_of(
 ) -> Result<Vec<Argument>, AllocError>
     requires count { length (arguments_of (call_view call.now)) ≡ length (signature_of (head_view head.now)).takes }
     requires faults { arguments_faults scope.now (signature_of (head_view head.now)).takes (arguments_of (call_view call.now)) ≡ [] }
-    ensures { IfOk result (λ typed. AreArguments scope.now (signature_of (head_view head.now)).takes (arguments_of (call_view call.now)) typed.items) }
+    ensures { IfOk result (λ typed. AreArguments scope.now (signature_of (head_view head.now)).takes (arguments_of (call_view call.now)) (map pure_argument typed.items)) }
 {
     let mut typed = Vec::new(alloc);
     for place in 0..argument_count(call) {
@@ -176,7 +177,7 @@ pub fn call_of(
 ) -> Result<FunctionCall, AllocError>
     requires function { meaning scope.now call.now.name ≡ m.Declared (d.Function number) }
     requires faults { call_faults scope.now (call_view call.now) ≡ [] }
-    ensures { IfOk result (λ typed. IsCall scope.now (call_view call.now) typed) }
+    ensures { IfOk result (λ typed. IsCall scope.now (call_view call.now) (pure_call typed)) }
 {
     match scope.head(number) {
         Some(head) => {
@@ -207,7 +208,7 @@ fn function_at(scope: &Scope, name: Span) -> usize
 /// The typed right side of a right side without faults.
 pub fn right_of(alloc: Global, scope: &Scope, right: &statement::Right) -> Result<Right, AllocError>
     requires { (wanted : ExprKind) × (right_faults scope.now wanted (right_view right.now) ≡ []) }
-    ensures { IfOk result (λ typed. IsRight scope.now (right_view right.now) typed) }
+    ensures { IfOk result (λ typed. IsRight scope.now (right_view right.now) (pure_right typed)) }
 {
     match right {
         statement::Right::Value(e) => {

@@ -2,6 +2,7 @@
 
 ghost use Rattle.std.specs.Prelude.{◌≡◌, IfOk, map};
 ghost use Rattle.c_grammar.specs.View.{links_from, piece, place_view, view};
+ghost use Rattle.c_program.specs.View.{pure_expr, pure_links, pure_place};
 ghost use Rattle.c_check_expr.specs.Variables.{value_meant};
 ghost use Rattle.c_type_expr.specs.Exprs.{AreLinks, IsExpr, IsPlace, field_of, value_of_place};
 
@@ -50,7 +51,7 @@ fn field_of(name: &[u8]) -> Field
 /// The typed expression of an expression without faults.
 #[cycle(typing)]
 pub fn expr_of(alloc: Global, scope: &Scope, e: &tree::Expr) -> Result<Expr, AllocError>
-    ensures { IfOk result (λ typed. IsExpr scope.now (view e.now) typed) }
+    ensures { IfOk result (λ typed. IsExpr scope.now (view e.now) (pure_expr typed)) }
 {
     match e {
         tree::Expr::Number(at) => Ok(Expr::Number(number_at(scope.text(), *at).cast_signed())),
@@ -89,7 +90,7 @@ pub fn expr_of(alloc: Global, scope: &Scope, e: &tree::Expr) -> Result<Expr, All
 
 #[cycle(typing)]
 fn boxed_of(alloc: Global, scope: &Scope, e: &tree::Expr) -> Result<Box<Expr>, AllocError>
-    ensures { IfOk result (λ typed. IsExpr scope.now (view e.now) typed.value) }
+    ensures { IfOk result (λ typed. IsExpr scope.now (view e.now) (pure_expr typed.value)) }
 {
     let typed = expr_of(alloc, scope, e)?;
     boxed(alloc, typed)
@@ -98,7 +99,7 @@ fn boxed_of(alloc: Global, scope: &Scope, e: &tree::Expr) -> Result<Box<Expr>, A
 /// The typed place of a place without faults.
 #[cycle(typing)]
 pub fn place_of(alloc: Global, scope: &Scope, place: &tree::Place) -> Result<Place, AllocError>
-    ensures { IfOk result (λ typed. IsPlace scope.now (place_view place.now) typed) }
+    ensures { IfOk result (λ typed. IsPlace scope.now (place_view place.now) (pure_place typed)) }
 {
     match place {
         tree::Place::Whole(name) => Ok(Place::Whole(scope.variable(*name))),
@@ -111,7 +112,7 @@ pub fn place_of(alloc: Global, scope: &Scope, place: &tree::Place) -> Result<Pla
 
 #[cycle(typing)]
 fn links_of(alloc: Global, scope: &Scope, links: &[tree::Link]) -> Result<Vec<Link>, AllocError>
-    ensures { IfOk result (λ typed. AreLinks scope.now (links_from (map piece links.now)) typed.items) }
+    ensures { IfOk result (λ typed. AreLinks scope.now (links_from (map piece links.now)) (pure_links typed.items)) }
 {
     let mut typed = Vec::new(alloc);
     for link in links {

@@ -6,7 +6,7 @@ use Rattle.c_names.specs.Functions.{arguments}
 use Rattle.c_names.specs.declared.function.MpiFunction.{MpiFunction}
 use Rattle.c_names.specs.declared.predefined.Predefined.{Predefined}
 use Rattle.c_names.specs.declared.predefined.Predefined.TheVariants as p
-use Rattle.c_program.specs.declared.mpi.MpiCall.{MpiCall}
+use Rattle.c_program.specs.Tree.{MpiCall}
 use Rattle.c_check.specs.Calls.{predefined_of}
 use Rattle.c_check_expr.specs.Scopes.{Env}
 use Rattle.c_type_expr.specs.MpiArguments.{Fits, argument, is_status, is_status_by}

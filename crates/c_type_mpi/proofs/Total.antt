@@ -1,32 +1,18 @@
 -- Each call of an MPI function whose arguments fit has a typed call.
-use Rattle.std.proofs.Common.{◌≡◌, ℕ, zero, suc, true, List, [], ◌∷◌, Option, Some, None, refl, sym, arith}
+use Rattle.std.proofs.Common.{◌≡◌, ℕ, true, List, Option, Some, None, refl, sym}
 use Rattle.mpi_call.specs.declared.call.Op.{Op}
-use Rattle.c_grammar.specs.StmtGrammar.{AreAll, spell_argument}
 use Rattle.c_grammar.specs.Tree as t
 use Rattle.c_names.specs.declared.function.MpiFunction.{MpiFunction}
 use Rattle.c_names.specs.declared.function.MpiFunction.TheVariants as f
 use Rattle.c_names.specs.declared.predefined.Predefined.{Predefined}
 use Rattle.c_names.specs.declared.predefined.Predefined.TheVariants as p
-use Rattle.c_program.specs.declared.expr.Expr.{Expr}
-use Rattle.c_program.specs.declared.expr.Reference.{Reference}
-use Rattle.c_program.specs.declared.mpi.Buffer.{Buffer}
-use Rattle.c_program.specs.declared.mpi.CollectiveCall.TheVariants as collectives
-use Rattle.c_program.specs.declared.mpi.CommunicatorCall.TheVariants as communicators
-use Rattle.c_program.specs.declared.mpi.CompletionCall.TheVariants as completions
-use Rattle.c_program.specs.declared.mpi.Incoming.{Incoming}
-use Rattle.c_program.specs.declared.mpi.MessageCall.TheVariants as messages
-use Rattle.c_program.specs.declared.mpi.MpiCall.{MpiCall}
-use Rattle.c_program.specs.declared.mpi.MpiCall.TheVariants as c
-use Rattle.c_program.specs.declared.mpi.Outgoing.{Outgoing}
-use Rattle.c_program.specs.declared.mpi.ProbeCall.TheVariants as probes
-use Rattle.c_program.specs.declared.mpi.Reduction.{Reduction}
-use Rattle.c_program.specs.declared.mpi.SomeRequests.{SomeRequests}
+use Rattle.c_program.specs.Tree as pure
+use Rattle.c_program.specs.Tree.{Buffer, Expr, Incoming, MpiCall, Outgoing, Reduction, Reference, SomeRequests}
 use Rattle.c_check.specs.Calls.{predefined_of}
 use Rattle.c_check_expr.specs.Scopes.{Env}
 use Rattle.c_type_expr.specs.Calls.{IsReference, IsValue}
 use Rattle.c_type_expr.specs.MpiArguments.{Fits, argument, is_operation, is_status}
 use Rattle.c_type_expr.specs.Shapes.{has_cells, is_reference, is_value}
-use Rattle.c_type_expr.proofs.Longer.{IsShort}
 use Rattle.c_type_expr.proofs.Total.{cells_total, reference_total, value_total}
 use Rattle.c_type_mpi.specs.MpiCalls as y
 use Rattle.c_type_mpi.specs.MpiCalls.{IsBuffer, IsIncoming, IsMpiCall, IsOperation, IsOutgoing, IsReduction, IsSeveral, IsStatus}
@@ -49,27 +35,22 @@ operation_by (Some (p.Mpi function)) h = absurd (let z : ⊥ = cc in z)
 operation_by (Some p.Printf) h = absurd (let z : ⊥ = cc in z)
 operation_by (Some p.Fflush) h = absurd (let z : ⊥ = cc in z)
 
-short_found : (given : List t.Argument) → AreAll (IsShort spell_argument) given → (place : ℕ) → IsShort spell_argument (argument given place)
-short_found [] s place = ([], omega arith)
-short_found (one ∷ more) s zero = s.0
-short_found (one ∷ more) s (suc place) = short_found more s.1 place
-
 -- ---- the arguments of a call, by their places
 
-module _ (env : Env) (given : List t.Argument) (short : AreAll (IsShort spell_argument) given) where
+module _ (env : Env) (given : List t.Argument) where
   value : (place : ℕ) → is_value (argument given place) ≡ true → (typed : Expr) × IsValue env (argument given place) typed
-  value place h = value_total env (argument given place) (short_found given short place) h
+  value place h = value_total env (argument given place) h
 
   reference : (place : ℕ) → is_reference env (argument given place) ≡ true → (typed : Reference) × IsReference env (argument given place) typed
-  reference place h = reference_total env (argument given place) (short_found given short place) h
+  reference place h = reference_total env (argument given place) h
 
-  status_by : (one : t.Argument) (word : Option Predefined) → predefined_of env one ≡ word → IsShort spell_argument one → is_status env one ≡ true
+  status_by : (one : t.Argument) (word : Option Predefined) → predefined_of env one ≡ word → is_status env one ≡ true
       → (typed : Option Reference) × IsStatus env one typed
-  status_by one (Some known) e s h = (None, ignored_rule env one (Some known) (sym e) h refl)
-  status_by one None e s h = let cells : has_cells one ≡ true = rw e at h in let r = cells_total env one s cells e in (Some r.0, y.kept r.1)
+  status_by one (Some known) e h = (None, ignored_rule env one (Some known) (sym e) h refl)
+  status_by one None e h = let cells : has_cells one ≡ true = rw e at h in let r = cells_total env one cells e in (Some r.0, y.kept r.1)
 
   status : (place : ℕ) → is_status env (argument given place) ≡ true → (typed : Option Reference) × IsStatus env (argument given place) typed
-  status place h = status_by (argument given place) (predefined_of env (argument given place)) refl (short_found given short place) h
+  status place h = status_by (argument given place) (predefined_of env (argument given place)) refl h
 
   operation : (place : ℕ) → is_operation (predefined_of env (argument given place)) ≡ true → (op : Op) × IsOperation env (argument given place) op
   operation place h = operation_by (predefined_of env (argument given place)) h
@@ -111,104 +92,104 @@ module _ (env : Env) (given : List t.Argument) (short : AreAll (IsShort spell_ar
   -- ---- the calls
 
   pub mpi_total : (function : MpiFunction) → Fits env function given → (typed : MpiCall) × IsMpiCall env function given typed
-  mpi_total f.Init fit = (c.Init, by_places _ _ _ _ fit y.init)
-  mpi_total f.Finalize fit = (c.Finalize, by_places _ _ _ _ fit y.finalize)
+  mpi_total f.Init fit = (pure.init, by_places _ _ _ _ fit y.init)
+  mpi_total f.Finalize fit = (pure.finalize, by_places _ _ _ _ fit y.finalize)
   mpi_total f.Abort fit =
       let s = fit.shapes in let one = value 0 s.0 in let two = value 1 s.1.0 in
-      (c.Abort one.0 two.0, by_places _ _ _ _ fit (y.abort one.1 two.1))
+      (pure.abort one.0 two.0, by_places _ _ _ _ fit (y.abort one.1 two.1))
   mpi_total f.Send fit =
       let s = fit.shapes in let one = outgoing s.0 s.1.0 s.1.1.1.0 s.1.1.1.1.0 in let two = value 5 s.1.1.1.1.1.0 in
-      (c.Message (messages.Send one.0 two.0), by_places _ _ _ _ fit (y.send one.1 two.1))
+      (pure.message (pure.send one.0 two.0), by_places _ _ _ _ fit (y.send one.1 two.1))
   mpi_total f.Ssend fit =
       let s = fit.shapes in let one = outgoing s.0 s.1.0 s.1.1.1.0 s.1.1.1.1.0 in let two = value 5 s.1.1.1.1.1.0 in
-      (c.Message (messages.Ssend one.0 two.0), by_places _ _ _ _ fit (y.ssend one.1 two.1))
+      (pure.message (pure.ssend one.0 two.0), by_places _ _ _ _ fit (y.ssend one.1 two.1))
   mpi_total f.Recv fit =
       let s = fit.shapes in let one = incoming 0 1 3 4 s.0 s.1.0 s.1.1.1.0 s.1.1.1.1.0 in let two = value 5 s.1.1.1.1.1.0 in let three = status 6 s.1.1.1.1.1.1.0 in
-      (c.Message (messages.Recv one.0 two.0 three.0), by_places _ _ _ _ fit (y.recv one.1 two.1 three.1))
+      (pure.message (pure.recv one.0 two.0 three.0), by_places _ _ _ _ fit (y.recv one.1 two.1 three.1))
   mpi_total f.Isend fit =
       let s = fit.shapes in let one = outgoing s.0 s.1.0 s.1.1.1.0 s.1.1.1.1.0 in let two = value 5 s.1.1.1.1.1.0 in let three = reference 6 s.1.1.1.1.1.1.0 in
-      (c.Message (messages.Isend one.0 two.0 three.0), by_places _ _ _ _ fit (y.isend one.1 two.1 three.1))
+      (pure.message (pure.isend one.0 two.0 three.0), by_places _ _ _ _ fit (y.isend one.1 two.1 three.1))
   mpi_total f.Issend fit =
       let s = fit.shapes in let one = outgoing s.0 s.1.0 s.1.1.1.0 s.1.1.1.1.0 in let two = value 5 s.1.1.1.1.1.0 in let three = reference 6 s.1.1.1.1.1.1.0 in
-      (c.Message (messages.Issend one.0 two.0 three.0), by_places _ _ _ _ fit (y.issend one.1 two.1 three.1))
+      (pure.message (pure.issend one.0 two.0 three.0), by_places _ _ _ _ fit (y.issend one.1 two.1 three.1))
   mpi_total f.Irecv fit =
       let s = fit.shapes in let one = incoming 0 1 3 4 s.0 s.1.0 s.1.1.1.0 s.1.1.1.1.0 in let two = value 5 s.1.1.1.1.1.0 in let three = reference 6 s.1.1.1.1.1.1.0 in
-      (c.Message (messages.Irecv one.0 two.0 three.0), by_places _ _ _ _ fit (y.irecv one.1 two.1 three.1))
+      (pure.message (pure.irecv one.0 two.0 three.0), by_places _ _ _ _ fit (y.irecv one.1 two.1 three.1))
   mpi_total f.Sendrecv fit =
       let s = fit.shapes in let one = outgoing s.0 s.1.0 s.1.1.1.0 s.1.1.1.1.0 in let two = incoming 5 6 8 9 s.1.1.1.1.1.0 s.1.1.1.1.1.1.0 s.1.1.1.1.1.1.1.1.0 s.1.1.1.1.1.1.1.1.1.0 in let three = value 10 s.1.1.1.1.1.1.1.1.1.1.0 in let four = status 11 s.1.1.1.1.1.1.1.1.1.1.1.0 in
-      (c.Message (messages.Sendrecv one.0 two.0 three.0 four.0), by_places _ _ _ _ fit (y.sendrecv one.1 two.1 three.1 four.1))
+      (pure.message (pure.sendrecv one.0 two.0 three.0 four.0), by_places _ _ _ _ fit (y.sendrecv one.1 two.1 three.1 four.1))
   mpi_total f.Wait fit =
       let s = fit.shapes in let one = reference 0 s.0 in let two = status 1 s.1.0 in
-      (c.Completion (completions.Wait one.0 two.0), by_places _ _ _ _ fit (y.wait one.1 two.1))
+      (pure.completion (pure.wait one.0 two.0), by_places _ _ _ _ fit (y.wait one.1 two.1))
   mpi_total f.Test fit =
       let s = fit.shapes in let one = reference 0 s.0 in let two = reference 1 s.1.0 in let three = status 2 s.1.1.0 in
-      (c.Completion (completions.Test one.0 two.0 three.0), by_places _ _ _ _ fit (y.test one.1 two.1 three.1))
+      (pure.completion (pure.test one.0 two.0 three.0), by_places _ _ _ _ fit (y.test one.1 two.1 three.1))
   mpi_total f.Waitany fit =
       let s = fit.shapes in let one = value 0 s.0 in let two = reference 1 s.1.0 in let three = reference 2 s.1.1.0 in let four = status 3 s.1.1.1.0 in
-      (c.Completion (completions.Waitany one.0 two.0 three.0 four.0), by_places _ _ _ _ fit (y.waitany one.1 two.1 three.1 four.1))
+      (pure.completion (pure.waitany one.0 two.0 three.0 four.0), by_places _ _ _ _ fit (y.waitany one.1 two.1 three.1 four.1))
   mpi_total f.Testany fit =
       let s = fit.shapes in let one = value 0 s.0 in let two = reference 1 s.1.0 in let three = reference 2 s.1.1.0 in let four = reference 3 s.1.1.1.0 in let five = status 4 s.1.1.1.1.0 in
-      (c.Completion (completions.Testany one.0 two.0 three.0 four.0 five.0), by_places _ _ _ _ fit (y.testany one.1 two.1 three.1 four.1 five.1))
+      (pure.completion (pure.testany one.0 two.0 three.0 four.0 five.0), by_places _ _ _ _ fit (y.testany one.1 two.1 three.1 four.1 five.1))
   mpi_total f.Waitall fit =
       let s = fit.shapes in let one = value 0 s.0 in let two = reference 1 s.1.0 in let three = status 2 s.1.1.0 in
-      (c.Completion (completions.Waitall one.0 two.0 three.0), by_places _ _ _ _ fit (y.waitall one.1 two.1 three.1))
+      (pure.completion (pure.waitall one.0 two.0 three.0), by_places _ _ _ _ fit (y.waitall one.1 two.1 three.1))
   mpi_total f.Testall fit =
       let s = fit.shapes in let one = value 0 s.0 in let two = reference 1 s.1.0 in let three = reference 2 s.1.1.0 in let four = status 3 s.1.1.1.0 in
-      (c.Completion (completions.Testall one.0 two.0 three.0 four.0), by_places _ _ _ _ fit (y.testall one.1 two.1 three.1 four.1))
+      (pure.completion (pure.testall one.0 two.0 three.0 four.0), by_places _ _ _ _ fit (y.testall one.1 two.1 three.1 four.1))
   mpi_total f.Waitsome fit =
       let s = fit.shapes in let one = several s.0 s.1.0 s.1.1.0 s.1.1.1.0 s.1.1.1.1.0 in
-      (c.Completion (completions.Waitsome one.0), by_places _ _ _ _ fit (y.waitsome one.1))
+      (pure.completion (pure.waitsome one.0), by_places _ _ _ _ fit (y.waitsome one.1))
   mpi_total f.Testsome fit =
       let s = fit.shapes in let one = several s.0 s.1.0 s.1.1.0 s.1.1.1.0 s.1.1.1.1.0 in
-      (c.Completion (completions.Testsome one.0), by_places _ _ _ _ fit (y.testsome one.1))
+      (pure.completion (pure.testsome one.0), by_places _ _ _ _ fit (y.testsome one.1))
   mpi_total f.Probe fit =
       let s = fit.shapes in let one = value 0 s.0 in let two = value 1 s.1.0 in let three = value 2 s.1.1.0 in let four = status 3 s.1.1.1.0 in
-      (c.Probe (probes.Probe one.0 two.0 three.0 four.0), by_places _ _ _ _ fit (y.probe one.1 two.1 three.1 four.1))
+      (pure.probing (pure.probe one.0 two.0 three.0 four.0), by_places _ _ _ _ fit (y.probe one.1 two.1 three.1 four.1))
   mpi_total f.Iprobe fit =
       let s = fit.shapes in let one = value 0 s.0 in let two = value 1 s.1.0 in let three = value 2 s.1.1.0 in let four = reference 3 s.1.1.1.0 in let five = status 4 s.1.1.1.1.0 in
-      (c.Probe (probes.Iprobe one.0 two.0 three.0 four.0 five.0), by_places _ _ _ _ fit (y.iprobe one.1 two.1 three.1 four.1 five.1))
+      (pure.probing (pure.iprobe one.0 two.0 three.0 four.0 five.0), by_places _ _ _ _ fit (y.iprobe one.1 two.1 three.1 four.1 five.1))
   mpi_total f.GetCount fit =
       let s = fit.shapes in let one = status 0 s.0 in let two = reference 2 s.1.1.0 in
-      (c.Probe (probes.GetCount one.0 two.0), by_places _ _ _ _ fit (y.get_count one.1 two.1))
+      (pure.probing (pure.get_count one.0 two.0), by_places _ _ _ _ fit (y.get_count one.1 two.1))
   mpi_total f.Barrier fit =
       let s = fit.shapes in let one = value 0 s.0 in
-      (c.Collective (collectives.Barrier one.0), by_places _ _ _ _ fit (y.barrier one.1))
+      (pure.collective (pure.barrier one.0), by_places _ _ _ _ fit (y.barrier one.1))
   mpi_total f.Bcast fit =
       let s = fit.shapes in let one = buffer 0 1 s.0 s.1.0 in let two = value 3 s.1.1.1.0 in let three = value 4 s.1.1.1.1.0 in
-      (c.Collective (collectives.Bcast one.0 two.0 three.0), by_places _ _ _ _ fit (y.bcast one.1 two.1 three.1))
+      (pure.collective (pure.bcast one.0 two.0 three.0), by_places _ _ _ _ fit (y.bcast one.1 two.1 three.1))
   mpi_total f.Gather fit =
       let s = fit.shapes in let one = buffer 0 1 s.0 s.1.0 in let two = buffer 3 4 s.1.1.1.0 s.1.1.1.1.0 in let three = value 6 s.1.1.1.1.1.1.0 in let four = value 7 s.1.1.1.1.1.1.1.0 in
-      (c.Collective (collectives.Gather one.0 two.0 three.0 four.0), by_places _ _ _ _ fit (y.gather one.1 two.1 three.1 four.1))
+      (pure.collective (pure.gather one.0 two.0 three.0 four.0), by_places _ _ _ _ fit (y.gather one.1 two.1 three.1 four.1))
   mpi_total f.Scatter fit =
       let s = fit.shapes in let one = buffer 0 1 s.0 s.1.0 in let two = buffer 3 4 s.1.1.1.0 s.1.1.1.1.0 in let three = value 6 s.1.1.1.1.1.1.0 in let four = value 7 s.1.1.1.1.1.1.1.0 in
-      (c.Collective (collectives.Scatter one.0 two.0 three.0 four.0), by_places _ _ _ _ fit (y.scatter one.1 two.1 three.1 four.1))
+      (pure.collective (pure.scatter one.0 two.0 three.0 four.0), by_places _ _ _ _ fit (y.scatter one.1 two.1 three.1 four.1))
   mpi_total f.Allgather fit =
       let s = fit.shapes in let one = buffer 0 1 s.0 s.1.0 in let two = buffer 3 4 s.1.1.1.0 s.1.1.1.1.0 in let three = value 6 s.1.1.1.1.1.1.0 in
-      (c.Collective (collectives.Allgather one.0 two.0 three.0), by_places _ _ _ _ fit (y.allgather one.1 two.1 three.1))
+      (pure.collective (pure.allgather one.0 two.0 three.0), by_places _ _ _ _ fit (y.allgather one.1 two.1 three.1))
   mpi_total f.Alltoall fit =
       let s = fit.shapes in let one = buffer 0 1 s.0 s.1.0 in let two = buffer 3 4 s.1.1.1.0 s.1.1.1.1.0 in let three = value 6 s.1.1.1.1.1.1.0 in
-      (c.Collective (collectives.Alltoall one.0 two.0 three.0), by_places _ _ _ _ fit (y.alltoall one.1 two.1 three.1))
+      (pure.collective (pure.alltoall one.0 two.0 three.0), by_places _ _ _ _ fit (y.alltoall one.1 two.1 three.1))
   mpi_total f.Reduce fit =
       let s = fit.shapes in let one = reduction s.0 s.1.0 s.1.1.0 s.1.1.1.1.0 in let two = value 5 s.1.1.1.1.1.0 in let three = value 6 s.1.1.1.1.1.1.0 in
-      (c.Collective (collectives.Reduce one.0 two.0 three.0), by_places _ _ _ _ fit (y.reduce one.1 two.1 three.1))
+      (pure.collective (pure.reduce one.0 two.0 three.0), by_places _ _ _ _ fit (y.reduce one.1 two.1 three.1))
   mpi_total f.Allreduce fit =
       let s = fit.shapes in let one = reduction s.0 s.1.0 s.1.1.0 s.1.1.1.1.0 in let two = value 5 s.1.1.1.1.1.0 in
-      (c.Collective (collectives.Allreduce one.0 two.0), by_places _ _ _ _ fit (y.allreduce one.1 two.1))
+      (pure.collective (pure.allreduce one.0 two.0), by_places _ _ _ _ fit (y.allreduce one.1 two.1))
   mpi_total f.Scan fit =
       let s = fit.shapes in let one = reduction s.0 s.1.0 s.1.1.0 s.1.1.1.1.0 in let two = value 5 s.1.1.1.1.1.0 in
-      (c.Collective (collectives.Scan one.0 two.0), by_places _ _ _ _ fit (y.scan one.1 two.1))
+      (pure.collective (pure.scan one.0 two.0), by_places _ _ _ _ fit (y.scan one.1 two.1))
   mpi_total f.CommSize fit =
       let s = fit.shapes in let one = value 0 s.0 in let two = reference 1 s.1.0 in
-      (c.Communicator (communicators.Size one.0 two.0), by_places _ _ _ _ fit (y.comm_size one.1 two.1))
+      (pure.communicator (pure.comm_size one.0 two.0), by_places _ _ _ _ fit (y.comm_size one.1 two.1))
   mpi_total f.CommRank fit =
       let s = fit.shapes in let one = value 0 s.0 in let two = reference 1 s.1.0 in
-      (c.Communicator (communicators.Rank one.0 two.0), by_places _ _ _ _ fit (y.comm_rank one.1 two.1))
+      (pure.communicator (pure.comm_rank one.0 two.0), by_places _ _ _ _ fit (y.comm_rank one.1 two.1))
   mpi_total f.CommDup fit =
       let s = fit.shapes in let one = value 0 s.0 in let two = reference 1 s.1.0 in
-      (c.Communicator (communicators.Dup one.0 two.0), by_places _ _ _ _ fit (y.comm_dup one.1 two.1))
+      (pure.communicator (pure.comm_dup one.0 two.0), by_places _ _ _ _ fit (y.comm_dup one.1 two.1))
   mpi_total f.CommSplit fit =
       let s = fit.shapes in let one = value 0 s.0 in let two = value 1 s.1.0 in let three = value 2 s.1.1.0 in let four = reference 3 s.1.1.1.0 in
-      (c.Communicator (communicators.Split one.0 two.0 three.0 four.0), by_places _ _ _ _ fit (y.comm_split one.1 two.1 three.1 four.1))
+      (pure.communicator (pure.comm_split one.0 two.0 three.0 four.0), by_places _ _ _ _ fit (y.comm_split one.1 two.1 three.1 four.1))
   mpi_total f.CommFree fit =
       let s = fit.shapes in let one = reference 0 s.0 in
-      (c.Communicator (communicators.Free one.0), by_places _ _ _ _ fit (y.comm_free one.1))
+      (pure.communicator (pure.comm_free one.0), by_places _ _ _ _ fit (y.comm_free one.1))

@@ -5,20 +5,8 @@ use Rattle.c_grammar.specs.Tree as t
 use Rattle.c_names.specs.declared.function.MpiFunction.{MpiFunction}
 use Rattle.c_names.specs.declared.function.MpiFunction.TheVariants as f
 use Rattle.c_names.specs.declared.predefined.Predefined.TheVariants as p
-use Rattle.c_program.specs.declared.expr.Expr.{Expr}
-use Rattle.c_program.specs.declared.expr.Reference.{Reference}
-use Rattle.c_program.specs.declared.mpi.Buffer.{Buffer}
-use Rattle.c_program.specs.declared.mpi.CollectiveCall.TheVariants as collectives
-use Rattle.c_program.specs.declared.mpi.CommunicatorCall.TheVariants as communicators
-use Rattle.c_program.specs.declared.mpi.CompletionCall.TheVariants as completions
-use Rattle.c_program.specs.declared.mpi.Incoming.{Incoming}
-use Rattle.c_program.specs.declared.mpi.MessageCall.TheVariants as messages
-use Rattle.c_program.specs.declared.mpi.MpiCall.{MpiCall}
-use Rattle.c_program.specs.declared.mpi.MpiCall.TheVariants as c
-use Rattle.c_program.specs.declared.mpi.Outgoing.{Outgoing}
-use Rattle.c_program.specs.declared.mpi.ProbeCall.TheVariants as probes
-use Rattle.c_program.specs.declared.mpi.Reduction.{Reduction}
-use Rattle.c_program.specs.declared.mpi.SomeRequests.{SomeRequests}
+use Rattle.c_program.specs.Tree as pure
+use Rattle.c_program.specs.Tree.{Buffer, Expr, Incoming, MpiCall, Outgoing, Reduction, Reference, SomeRequests}
 use Rattle.c_check.specs.Calls.{predefined_of}
 use Rattle.c_check_expr.specs.Scopes.{Env}
 use Rattle.c_type_expr.specs.Calls.{IsReference, IsValue}
@@ -60,103 +48,103 @@ pub record IsReduction (env : Env) (send receive count op : t.Argument) (typed :
   pub op_is : IsOperation env op typed.op
 
 pub data IsMpiCall (env : Env) : MpiFunction → List t.Argument → MpiCall → Type 0 where
-  init : {a0 a1 : t.Argument} → IsMpiCall env f.Init (a0 ∷ a1 ∷ []) c.Init
-  finalize : IsMpiCall env f.Finalize ([]) c.Finalize
+  init : {a0 a1 : t.Argument} → IsMpiCall env f.Init (a0 ∷ a1 ∷ []) pure.init
+  finalize : IsMpiCall env f.Finalize ([]) pure.finalize
   abort : {a0 a1 : t.Argument} {comm code : Expr}
       → IsValue env a0 comm → IsValue env a1 code
-      → IsMpiCall env f.Abort (a0 ∷ a1 ∷ []) (c.Abort comm code)
+      → IsMpiCall env f.Abort (a0 ∷ a1 ∷ []) (pure.abort comm code)
   -- sends and receives
   send : {a0 a1 a2 a3 a4 a5 : t.Argument} {message : Outgoing} {comm : Expr}
       → IsOutgoing env a0 a1 a3 a4 message → IsValue env a5 comm
-      → IsMpiCall env f.Send (a0 ∷ a1 ∷ a2 ∷ a3 ∷ a4 ∷ a5 ∷ []) (c.Message (messages.Send message comm))
+      → IsMpiCall env f.Send (a0 ∷ a1 ∷ a2 ∷ a3 ∷ a4 ∷ a5 ∷ []) (pure.message (pure.send message comm))
   ssend : {a0 a1 a2 a3 a4 a5 : t.Argument} {message : Outgoing} {comm : Expr}
       → IsOutgoing env a0 a1 a3 a4 message → IsValue env a5 comm
-      → IsMpiCall env f.Ssend (a0 ∷ a1 ∷ a2 ∷ a3 ∷ a4 ∷ a5 ∷ []) (c.Message (messages.Ssend message comm))
+      → IsMpiCall env f.Ssend (a0 ∷ a1 ∷ a2 ∷ a3 ∷ a4 ∷ a5 ∷ []) (pure.message (pure.ssend message comm))
   recv : {a0 a1 a2 a3 a4 a5 a6 : t.Argument} {message : Incoming} {comm : Expr} {status : Option Reference}
       → IsIncoming env a0 a1 a3 a4 message → IsValue env a5 comm → IsStatus env a6 status
-      → IsMpiCall env f.Recv (a0 ∷ a1 ∷ a2 ∷ a3 ∷ a4 ∷ a5 ∷ a6 ∷ []) (c.Message (messages.Recv message comm status))
+      → IsMpiCall env f.Recv (a0 ∷ a1 ∷ a2 ∷ a3 ∷ a4 ∷ a5 ∷ a6 ∷ []) (pure.message (pure.recv message comm status))
   isend : {a0 a1 a2 a3 a4 a5 a6 : t.Argument} {message : Outgoing} {comm : Expr} {request : Reference}
       → IsOutgoing env a0 a1 a3 a4 message → IsValue env a5 comm → IsReference env a6 request
-      → IsMpiCall env f.Isend (a0 ∷ a1 ∷ a2 ∷ a3 ∷ a4 ∷ a5 ∷ a6 ∷ []) (c.Message (messages.Isend message comm request))
+      → IsMpiCall env f.Isend (a0 ∷ a1 ∷ a2 ∷ a3 ∷ a4 ∷ a5 ∷ a6 ∷ []) (pure.message (pure.isend message comm request))
   issend : {a0 a1 a2 a3 a4 a5 a6 : t.Argument} {message : Outgoing} {comm : Expr} {request : Reference}
       → IsOutgoing env a0 a1 a3 a4 message → IsValue env a5 comm → IsReference env a6 request
-      → IsMpiCall env f.Issend (a0 ∷ a1 ∷ a2 ∷ a3 ∷ a4 ∷ a5 ∷ a6 ∷ []) (c.Message (messages.Issend message comm request))
+      → IsMpiCall env f.Issend (a0 ∷ a1 ∷ a2 ∷ a3 ∷ a4 ∷ a5 ∷ a6 ∷ []) (pure.message (pure.issend message comm request))
   irecv : {a0 a1 a2 a3 a4 a5 a6 : t.Argument} {message : Incoming} {comm : Expr} {request : Reference}
       → IsIncoming env a0 a1 a3 a4 message → IsValue env a5 comm → IsReference env a6 request
-      → IsMpiCall env f.Irecv (a0 ∷ a1 ∷ a2 ∷ a3 ∷ a4 ∷ a5 ∷ a6 ∷ []) (c.Message (messages.Irecv message comm request))
+      → IsMpiCall env f.Irecv (a0 ∷ a1 ∷ a2 ∷ a3 ∷ a4 ∷ a5 ∷ a6 ∷ []) (pure.message (pure.irecv message comm request))
   sendrecv : {a0 a1 a2 a3 a4 a5 a6 a7 a8 a9 a10 a11 : t.Argument} {send : Outgoing} {receive : Incoming} {comm : Expr} {status : Option Reference}
       → IsOutgoing env a0 a1 a3 a4 send → IsIncoming env a5 a6 a8 a9 receive → IsValue env a10 comm → IsStatus env a11 status
-      → IsMpiCall env f.Sendrecv (a0 ∷ a1 ∷ a2 ∷ a3 ∷ a4 ∷ a5 ∷ a6 ∷ a7 ∷ a8 ∷ a9 ∷ a10 ∷ a11 ∷ []) (c.Message (messages.Sendrecv send receive comm status))
+      → IsMpiCall env f.Sendrecv (a0 ∷ a1 ∷ a2 ∷ a3 ∷ a4 ∷ a5 ∷ a6 ∷ a7 ∷ a8 ∷ a9 ∷ a10 ∷ a11 ∷ []) (pure.message (pure.sendrecv send receive comm status))
   -- completions
   wait : {a0 a1 : t.Argument} {request : Reference} {status : Option Reference}
       → IsReference env a0 request → IsStatus env a1 status
-      → IsMpiCall env f.Wait (a0 ∷ a1 ∷ []) (c.Completion (completions.Wait request status))
+      → IsMpiCall env f.Wait (a0 ∷ a1 ∷ []) (pure.completion (pure.wait request status))
   test : {a0 a1 a2 : t.Argument} {request flag : Reference} {status : Option Reference}
       → IsReference env a0 request → IsReference env a1 flag → IsStatus env a2 status
-      → IsMpiCall env f.Test (a0 ∷ a1 ∷ a2 ∷ []) (c.Completion (completions.Test request flag status))
+      → IsMpiCall env f.Test (a0 ∷ a1 ∷ a2 ∷ []) (pure.completion (pure.test request flag status))
   waitany : {a0 a1 a2 a3 : t.Argument} {count : Expr} {requests index : Reference} {status : Option Reference}
       → IsValue env a0 count → IsReference env a1 requests → IsReference env a2 index → IsStatus env a3 status
-      → IsMpiCall env f.Waitany (a0 ∷ a1 ∷ a2 ∷ a3 ∷ []) (c.Completion (completions.Waitany count requests index status))
+      → IsMpiCall env f.Waitany (a0 ∷ a1 ∷ a2 ∷ a3 ∷ []) (pure.completion (pure.waitany count requests index status))
   testany : {a0 a1 a2 a3 a4 : t.Argument} {count : Expr} {requests index flag : Reference} {status : Option Reference}
       → IsValue env a0 count → IsReference env a1 requests → IsReference env a2 index → IsReference env a3 flag → IsStatus env a4 status
-      → IsMpiCall env f.Testany (a0 ∷ a1 ∷ a2 ∷ a3 ∷ a4 ∷ []) (c.Completion (completions.Testany count requests index flag status))
+      → IsMpiCall env f.Testany (a0 ∷ a1 ∷ a2 ∷ a3 ∷ a4 ∷ []) (pure.completion (pure.testany count requests index flag status))
   waitall : {a0 a1 a2 : t.Argument} {count : Expr} {requests : Reference} {statuses : Option Reference}
       → IsValue env a0 count → IsReference env a1 requests → IsStatus env a2 statuses
-      → IsMpiCall env f.Waitall (a0 ∷ a1 ∷ a2 ∷ []) (c.Completion (completions.Waitall count requests statuses))
+      → IsMpiCall env f.Waitall (a0 ∷ a1 ∷ a2 ∷ []) (pure.completion (pure.waitall count requests statuses))
   testall : {a0 a1 a2 a3 : t.Argument} {count : Expr} {requests flag : Reference} {statuses : Option Reference}
       → IsValue env a0 count → IsReference env a1 requests → IsReference env a2 flag → IsStatus env a3 statuses
-      → IsMpiCall env f.Testall (a0 ∷ a1 ∷ a2 ∷ a3 ∷ []) (c.Completion (completions.Testall count requests flag statuses))
+      → IsMpiCall env f.Testall (a0 ∷ a1 ∷ a2 ∷ a3 ∷ []) (pure.completion (pure.testall count requests flag statuses))
   waitsome : {a0 a1 a2 a3 a4 : t.Argument} {several : SomeRequests}
-      → IsSeveral env a0 a1 a2 a3 a4 several → IsMpiCall env f.Waitsome (a0 ∷ a1 ∷ a2 ∷ a3 ∷ a4 ∷ []) (c.Completion (completions.Waitsome several))
+      → IsSeveral env a0 a1 a2 a3 a4 several → IsMpiCall env f.Waitsome (a0 ∷ a1 ∷ a2 ∷ a3 ∷ a4 ∷ []) (pure.completion (pure.waitsome several))
   testsome : {a0 a1 a2 a3 a4 : t.Argument} {several : SomeRequests}
-      → IsSeveral env a0 a1 a2 a3 a4 several → IsMpiCall env f.Testsome (a0 ∷ a1 ∷ a2 ∷ a3 ∷ a4 ∷ []) (c.Completion (completions.Testsome several))
+      → IsSeveral env a0 a1 a2 a3 a4 several → IsMpiCall env f.Testsome (a0 ∷ a1 ∷ a2 ∷ a3 ∷ a4 ∷ []) (pure.completion (pure.testsome several))
   -- probes, and what a status tells
   probe : {a0 a1 a2 a3 : t.Argument} {source tag comm : Expr} {status : Option Reference}
       → IsValue env a0 source → IsValue env a1 tag → IsValue env a2 comm → IsStatus env a3 status
-      → IsMpiCall env f.Probe (a0 ∷ a1 ∷ a2 ∷ a3 ∷ []) (c.Probe (probes.Probe source tag comm status))
+      → IsMpiCall env f.Probe (a0 ∷ a1 ∷ a2 ∷ a3 ∷ []) (pure.probing (pure.probe source tag comm status))
   iprobe : {a0 a1 a2 a3 a4 : t.Argument} {source tag comm : Expr} {flag : Reference} {status : Option Reference}
       → IsValue env a0 source → IsValue env a1 tag → IsValue env a2 comm → IsReference env a3 flag → IsStatus env a4 status
-      → IsMpiCall env f.Iprobe (a0 ∷ a1 ∷ a2 ∷ a3 ∷ a4 ∷ []) (c.Probe (probes.Iprobe source tag comm flag status))
+      → IsMpiCall env f.Iprobe (a0 ∷ a1 ∷ a2 ∷ a3 ∷ a4 ∷ []) (pure.probing (pure.iprobe source tag comm flag status))
   get_count : {a0 a1 a2 : t.Argument} {status : Option Reference} {count : Reference}
       → IsStatus env a0 status → IsReference env a2 count
-      → IsMpiCall env f.GetCount (a0 ∷ a1 ∷ a2 ∷ []) (c.Probe (probes.GetCount status count))
+      → IsMpiCall env f.GetCount (a0 ∷ a1 ∷ a2 ∷ []) (pure.probing (pure.get_count status count))
   -- collectives
-  barrier : {a0 : t.Argument} {comm : Expr} → IsValue env a0 comm → IsMpiCall env f.Barrier (a0 ∷ []) (c.Collective (collectives.Barrier comm))
+  barrier : {a0 : t.Argument} {comm : Expr} → IsValue env a0 comm → IsMpiCall env f.Barrier (a0 ∷ []) (pure.collective (pure.barrier comm))
   bcast : {a0 a1 a2 a3 a4 : t.Argument} {buffer : Buffer} {root comm : Expr}
       → IsBuffer env a0 a1 buffer → IsValue env a3 root → IsValue env a4 comm
-      → IsMpiCall env f.Bcast (a0 ∷ a1 ∷ a2 ∷ a3 ∷ a4 ∷ []) (c.Collective (collectives.Bcast buffer root comm))
+      → IsMpiCall env f.Bcast (a0 ∷ a1 ∷ a2 ∷ a3 ∷ a4 ∷ []) (pure.collective (pure.bcast buffer root comm))
   gather : {a0 a1 a2 a3 a4 a5 a6 a7 : t.Argument} {send receive : Buffer} {root comm : Expr}
       → IsBuffer env a0 a1 send → IsBuffer env a3 a4 receive → IsValue env a6 root → IsValue env a7 comm
-      → IsMpiCall env f.Gather (a0 ∷ a1 ∷ a2 ∷ a3 ∷ a4 ∷ a5 ∷ a6 ∷ a7 ∷ []) (c.Collective (collectives.Gather send receive root comm))
+      → IsMpiCall env f.Gather (a0 ∷ a1 ∷ a2 ∷ a3 ∷ a4 ∷ a5 ∷ a6 ∷ a7 ∷ []) (pure.collective (pure.gather send receive root comm))
   scatter : {a0 a1 a2 a3 a4 a5 a6 a7 : t.Argument} {send receive : Buffer} {root comm : Expr}
       → IsBuffer env a0 a1 send → IsBuffer env a3 a4 receive → IsValue env a6 root → IsValue env a7 comm
-      → IsMpiCall env f.Scatter (a0 ∷ a1 ∷ a2 ∷ a3 ∷ a4 ∷ a5 ∷ a6 ∷ a7 ∷ []) (c.Collective (collectives.Scatter send receive root comm))
+      → IsMpiCall env f.Scatter (a0 ∷ a1 ∷ a2 ∷ a3 ∷ a4 ∷ a5 ∷ a6 ∷ a7 ∷ []) (pure.collective (pure.scatter send receive root comm))
   allgather : {a0 a1 a2 a3 a4 a5 a6 : t.Argument} {send receive : Buffer} {comm : Expr}
       → IsBuffer env a0 a1 send → IsBuffer env a3 a4 receive → IsValue env a6 comm
-      → IsMpiCall env f.Allgather (a0 ∷ a1 ∷ a2 ∷ a3 ∷ a4 ∷ a5 ∷ a6 ∷ []) (c.Collective (collectives.Allgather send receive comm))
+      → IsMpiCall env f.Allgather (a0 ∷ a1 ∷ a2 ∷ a3 ∷ a4 ∷ a5 ∷ a6 ∷ []) (pure.collective (pure.allgather send receive comm))
   alltoall : {a0 a1 a2 a3 a4 a5 a6 : t.Argument} {send receive : Buffer} {comm : Expr}
       → IsBuffer env a0 a1 send → IsBuffer env a3 a4 receive → IsValue env a6 comm
-      → IsMpiCall env f.Alltoall (a0 ∷ a1 ∷ a2 ∷ a3 ∷ a4 ∷ a5 ∷ a6 ∷ []) (c.Collective (collectives.Alltoall send receive comm))
+      → IsMpiCall env f.Alltoall (a0 ∷ a1 ∷ a2 ∷ a3 ∷ a4 ∷ a5 ∷ a6 ∷ []) (pure.collective (pure.alltoall send receive comm))
   reduce : {a0 a1 a2 a3 a4 a5 a6 : t.Argument} {reduction : Reduction} {root comm : Expr}
       → IsReduction env a0 a1 a2 a4 reduction → IsValue env a5 root → IsValue env a6 comm
-      → IsMpiCall env f.Reduce (a0 ∷ a1 ∷ a2 ∷ a3 ∷ a4 ∷ a5 ∷ a6 ∷ []) (c.Collective (collectives.Reduce reduction root comm))
+      → IsMpiCall env f.Reduce (a0 ∷ a1 ∷ a2 ∷ a3 ∷ a4 ∷ a5 ∷ a6 ∷ []) (pure.collective (pure.reduce reduction root comm))
   allreduce : {a0 a1 a2 a3 a4 a5 : t.Argument} {reduction : Reduction} {comm : Expr}
       → IsReduction env a0 a1 a2 a4 reduction → IsValue env a5 comm
-      → IsMpiCall env f.Allreduce (a0 ∷ a1 ∷ a2 ∷ a3 ∷ a4 ∷ a5 ∷ []) (c.Collective (collectives.Allreduce reduction comm))
+      → IsMpiCall env f.Allreduce (a0 ∷ a1 ∷ a2 ∷ a3 ∷ a4 ∷ a5 ∷ []) (pure.collective (pure.allreduce reduction comm))
   scan : {a0 a1 a2 a3 a4 a5 : t.Argument} {reduction : Reduction} {comm : Expr}
       → IsReduction env a0 a1 a2 a4 reduction → IsValue env a5 comm
-      → IsMpiCall env f.Scan (a0 ∷ a1 ∷ a2 ∷ a3 ∷ a4 ∷ a5 ∷ []) (c.Collective (collectives.Scan reduction comm))
+      → IsMpiCall env f.Scan (a0 ∷ a1 ∷ a2 ∷ a3 ∷ a4 ∷ a5 ∷ []) (pure.collective (pure.scan reduction comm))
   -- communicators
   comm_size : {a0 a1 : t.Argument} {comm : Expr} {size : Reference}
       → IsValue env a0 comm → IsReference env a1 size
-      → IsMpiCall env f.CommSize (a0 ∷ a1 ∷ []) (c.Communicator (communicators.Size comm size))
+      → IsMpiCall env f.CommSize (a0 ∷ a1 ∷ []) (pure.communicator (pure.comm_size comm size))
   comm_rank : {a0 a1 : t.Argument} {comm : Expr} {rank : Reference}
       → IsValue env a0 comm → IsReference env a1 rank
-      → IsMpiCall env f.CommRank (a0 ∷ a1 ∷ []) (c.Communicator (communicators.Rank comm rank))
+      → IsMpiCall env f.CommRank (a0 ∷ a1 ∷ []) (pure.communicator (pure.comm_rank comm rank))
   comm_dup : {a0 a1 : t.Argument} {comm : Expr} {made : Reference}
       → IsValue env a0 comm → IsReference env a1 made
-      → IsMpiCall env f.CommDup (a0 ∷ a1 ∷ []) (c.Communicator (communicators.Dup comm made))
+      → IsMpiCall env f.CommDup (a0 ∷ a1 ∷ []) (pure.communicator (pure.comm_dup comm made))
   comm_split : {a0 a1 a2 a3 : t.Argument} {comm color key : Expr} {made : Reference}
       → IsValue env a0 comm → IsValue env a1 color → IsValue env a2 key → IsReference env a3 made
-      → IsMpiCall env f.CommSplit (a0 ∷ a1 ∷ a2 ∷ a3 ∷ []) (c.Communicator (communicators.Split comm color key made))
-  comm_free : {a0 : t.Argument} {comm : Reference} → IsReference env a0 comm → IsMpiCall env f.CommFree (a0 ∷ []) (c.Communicator (communicators.Free comm))
+      → IsMpiCall env f.CommSplit (a0 ∷ a1 ∷ a2 ∷ a3 ∷ []) (pure.communicator (pure.comm_split comm color key made))
+  comm_free : {a0 : t.Argument} {comm : Reference} → IsReference env a0 comm → IsMpiCall env f.CommFree (a0 ∷ []) (pure.communicator (pure.comm_free comm))

@@ -1,7 +1,8 @@
 //! The arguments of a call of an MPI function, by their places.
 
-ghost use Rattle.std.specs.Prelude.{◌≡◌, ◌≤◌, ◌+◌, IfOk, true};
+ghost use Rattle.std.specs.Prelude.{◌≡◌, ◌≤◌, ◌+◌, IfOk, true, option_map};
 ghost use Rattle.c_grammar.specs.StmtView.{argument_view};
+ghost use Rattle.c_program.specs.View.{pure_buffer, pure_expr, pure_incoming, pure_outgoing, pure_reduction, pure_reference, pure_several};
 ghost use Rattle.c_check.specs.Calls.{predefined_of};
 ghost use Rattle.c_type_expr.specs.Calls.{IsReference, IsValue};
 ghost use Rattle.c_type_expr.specs.MpiArguments.{argument, given_of, is_operation, is_status};
@@ -27,7 +28,7 @@ fn status_of(
     argument: &Argument,
 ) -> Result<Option<Reference>, AllocError>
     requires { is_status scope.now (argument_view argument.now) ≡ true }
-    ensures { IfOk result (λ typed. IsStatus scope.now (argument_view argument.now) typed) }
+    ensures { IfOk result (λ typed. IsStatus scope.now (argument_view argument.now) (option_map pure_reference typed)) }
 {
     if predefined_of(scope, argument).is_some() {
         return Ok(None);
@@ -58,7 +59,7 @@ pub(crate) struct Arguments<'a> {
 impl<'a> Arguments<'a> {
     pub(crate) fn value(&self, place: usize) -> Result<Expr, AllocError>
         requires { is_value (argument (given_of self.now.call.now) place) ≡ true }
-        ensures { IfOk result (λ typed. IsValue self.now.scope.now (argument (given_of self.now.call.now) place) typed) }
+        ensures { IfOk result (λ typed. IsValue self.now.scope.now (argument (given_of self.now.call.now) place) (pure_expr typed)) }
     {
         match argument_at(self.call, place) {
             Some(argument) => value_of(self.alloc, self.scope, argument),
@@ -68,7 +69,7 @@ impl<'a> Arguments<'a> {
 
     pub(crate) fn reference(&self, place: usize) -> Result<Reference, AllocError>
         requires { is_reference self.now.scope.now (argument (given_of self.now.call.now) place) ≡ true }
-        ensures { IfOk result (λ typed. IsReference self.now.scope.now (argument (given_of self.now.call.now) place) typed) }
+        ensures { IfOk result (λ typed. IsReference self.now.scope.now (argument (given_of self.now.call.now) place) (pure_reference typed)) }
     {
         match argument_at(self.call, place) {
             Some(argument) => reference_of(self.alloc, self.scope, argument),
@@ -80,7 +81,7 @@ impl<'a> Arguments<'a> {
     pub(crate) fn buffer(&self, cells: usize, count: usize) -> Result<Buffer, AllocError>
         requires cells { is_reference self.now.scope.now (argument (given_of self.now.call.now) cells) ≡ true }
         requires count { is_value (argument (given_of self.now.call.now) count) ≡ true }
-        ensures { IfOk result (λ typed. IsBuffer self.now.scope.now (argument (given_of self.now.call.now) cells) (argument (given_of self.now.call.now) count) typed) }
+        ensures { IfOk result (λ typed. IsBuffer self.now.scope.now (argument (given_of self.now.call.now) cells) (argument (given_of self.now.call.now) count) (pure_buffer typed)) }
     {
         let (cells, count) = zip(self.reference(cells), self.value(count))?;
         Ok(Buffer { cells, count })
@@ -89,7 +90,7 @@ impl<'a> Arguments<'a> {
     /// `None` where a status is ignored.
     pub(crate) fn status(&self, place: usize) -> Result<Option<Reference>, AllocError>
         requires { is_status self.now.scope.now (argument (given_of self.now.call.now) place) ≡ true }
-        ensures { IfOk result (λ typed. IsStatus self.now.scope.now (argument (given_of self.now.call.now) place) typed) }
+        ensures { IfOk result (λ typed. IsStatus self.now.scope.now (argument (given_of self.now.call.now) place) (option_map pure_reference typed)) }
     {
         match argument_at(self.call, place) {
             Some(argument) => status_of(self.alloc, self.scope, argument),
@@ -113,7 +114,7 @@ impl<'a> Arguments<'a> {
         requires count { is_value (argument (given_of self.now.call.now) 1) ≡ true }
         requires dest { is_value (argument (given_of self.now.call.now) 3) ≡ true }
         requires tag { is_value (argument (given_of self.now.call.now) 4) ≡ true }
-        ensures { IfOk result (λ typed. IsOutgoing self.now.scope.now (argument (given_of self.now.call.now) 0) (argument (given_of self.now.call.now) 1) (argument (given_of self.now.call.now) 3) (argument (given_of self.now.call.now) 4) typed) }
+        ensures { IfOk result (λ typed. IsOutgoing self.now.scope.now (argument (given_of self.now.call.now) 0) (argument (given_of self.now.call.now) 1) (argument (given_of self.now.call.now) 3) (argument (given_of self.now.call.now) 4) (pure_outgoing typed)) }
     {
         let (buffer, dest, tag) = zip3(self.buffer(0, 1), self.value(3), self.value(4))?;
         Ok(Outgoing { buffer, dest, tag })
@@ -126,7 +127,7 @@ impl<'a> Arguments<'a> {
         requires count { is_value (argument (given_of self.now.call.now) (from + 1)) ≡ true }
         requires source { is_value (argument (given_of self.now.call.now) (from + 3)) ≡ true }
         requires tag { is_value (argument (given_of self.now.call.now) (from + 4)) ≡ true }
-        ensures { IfOk result (λ typed. IsIncoming self.now.scope.now (argument (given_of self.now.call.now) from) (argument (given_of self.now.call.now) (from + 1)) (argument (given_of self.now.call.now) (from + 3)) (argument (given_of self.now.call.now) (from + 4)) typed) }
+        ensures { IfOk result (λ typed. IsIncoming self.now.scope.now (argument (given_of self.now.call.now) from) (argument (given_of self.now.call.now) (from + 1)) (argument (given_of self.now.call.now) (from + 3)) (argument (given_of self.now.call.now) (from + 4)) (pure_incoming typed)) }
     {
         let (buffer, source, tag) = zip3(
             self.buffer(from, from + 1),
@@ -147,7 +148,7 @@ impl<'a> Arguments<'a> {
         requires outcount { is_reference self.now.scope.now (argument (given_of self.now.call.now) 2) ≡ true }
         requires indices { is_reference self.now.scope.now (argument (given_of self.now.call.now) 3) ≡ true }
         requires statuses { is_status self.now.scope.now (argument (given_of self.now.call.now) 4) ≡ true }
-        ensures { IfOk result (λ typed. IsSeveral self.now.scope.now (argument (given_of self.now.call.now) 0) (argument (given_of self.now.call.now) 1) (argument (given_of self.now.call.now) 2) (argument (given_of self.now.call.now) 3) (argument (given_of self.now.call.now) 4) typed) }
+        ensures { IfOk result (λ typed. IsSeveral self.now.scope.now (argument (given_of self.now.call.now) 0) (argument (given_of self.now.call.now) 1) (argument (given_of self.now.call.now) 2) (argument (given_of self.now.call.now) 3) (argument (given_of self.now.call.now) 4) (pure_several typed)) }
     {
         let (count, requests, outcount, indices, statuses) = zip5(
             self.value(0),
@@ -171,7 +172,7 @@ impl<'a> Arguments<'a> {
         requires receive { is_reference self.now.scope.now (argument (given_of self.now.call.now) 1) ≡ true }
         requires count { is_value (argument (given_of self.now.call.now) 2) ≡ true }
         requires op { is_operation (predefined_of self.now.scope.now (argument (given_of self.now.call.now) 4)) ≡ true }
-        ensures { IfOk result (λ typed. IsReduction self.now.scope.now (argument (given_of self.now.call.now) 0) (argument (given_of self.now.call.now) 1) (argument (given_of self.now.call.now) 2) (argument (given_of self.now.call.now) 4) typed) }
+        ensures { IfOk result (λ typed. IsReduction self.now.scope.now (argument (given_of self.now.call.now) 0) (argument (given_of self.now.call.now) 1) (argument (given_of self.now.call.now) 2) (argument (given_of self.now.call.now) 4) (pure_reduction typed)) }
     {
         let op = self.operation(4);
         let (send, receive, count) = zip3(self.reference(0), self.reference(1), self.value(2))?;

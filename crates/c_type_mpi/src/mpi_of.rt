@@ -4,6 +4,7 @@ ghost use Rattle.std.specs.Prelude.{◌≡◌, IfOk, []};
 ghost use Rattle.c_grammar.specs.StmtView.{call_view};
 ghost use Rattle.c_names.specs.declared.function.MpiFunction.TheVariants as f;
 ghost use Rattle.c_names.specs.declared.predefined.Predefined.TheVariants as p;
+ghost use Rattle.c_program.specs.View.{pure_mpi};
 ghost use Rattle.c_check.specs.Calls.{arguments_of, call_faults};
 ghost use Rattle.c_check_expr.specs.Scopes.{meaning};
 ghost use Rattle.c_check_expr.specs.declared.meaning.Meaning.TheVariants as m;
@@ -21,7 +22,7 @@ use std::alloc::{AllocError, Global};
 impl<'a> Arguments<'a> {
     fn abort(&self) -> Result<MpiCall, AllocError>
         requires { Fits self.now.scope.now f.Abort (given_of self.now.call.now) }
-        ensures { IfOk result (λ typed. IsMpiCall self.now.scope.now f.Abort (given_of self.now.call.now) typed) }
+        ensures { IfOk result (λ typed. IsMpiCall self.now.scope.now f.Abort (given_of self.now.call.now) (pure_mpi typed)) }
     {
         let (comm, code) = zip(self.value(0), self.value(1))?;
         Ok(MpiCall::Abort { comm, code })
@@ -30,7 +31,7 @@ impl<'a> Arguments<'a> {
     /// The call, by its function.
     fn typed(&self, function: MpiFunction) -> Result<MpiCall, AllocError>
         requires { Fits self.now.scope.now function (given_of self.now.call.now) }
-        ensures { IfOk result (λ typed. IsMpiCall self.now.scope.now function (given_of self.now.call.now) typed) }
+        ensures { IfOk result (λ typed. IsMpiCall self.now.scope.now function (given_of self.now.call.now) (pure_mpi typed)) }
     {
         match function {
             MpiFunction::Init => Ok(MpiCall::Init),
@@ -81,7 +82,7 @@ pub fn mpi_call_of(
 ) -> Result<MpiCall, AllocError>
     requires function { meaning scope.now call.now.name ≡ m.Known (p.Mpi function) }
     requires faults { call_faults scope.now (call_view call.now) ≡ [] }
-    ensures { IfOk result (λ typed. IsMpiCall scope.now function (arguments_of (call_view call.now)) typed) }
+    ensures { IfOk result (λ typed. IsMpiCall scope.now function (arguments_of (call_view call.now)) (pure_mpi typed)) }
 {
     let arguments = Arguments { alloc, scope, call };
     arguments.typed(function)

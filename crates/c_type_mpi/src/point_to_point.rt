@@ -2,6 +2,7 @@
 
 ghost use Rattle.std.specs.Prelude.{IfOk};
 ghost use Rattle.c_names.specs.declared.function.MpiFunction.TheVariants as f;
+ghost use Rattle.c_program.specs.View.{pure_mpi};
 ghost use Rattle.c_type_expr.specs.MpiArguments.{Fits, given_of};
 ghost use Rattle.c_type_mpi.specs.MpiCalls.{IsMpiCall};
 
@@ -13,7 +14,7 @@ use std::alloc::AllocError;
 impl<'a> Arguments<'a> {
     pub(crate) fn send(&self) -> Result<MpiCall, AllocError>
         requires { Fits self.now.scope.now f.Send (given_of self.now.call.now) }
-        ensures { IfOk result (λ typed. IsMpiCall self.now.scope.now f.Send (given_of self.now.call.now) typed) }
+        ensures { IfOk result (λ typed. IsMpiCall self.now.scope.now f.Send (given_of self.now.call.now) (pure_mpi typed)) }
     {
         let (message, comm) = zip(self.outgoing(), self.value(5))?;
         Ok(MpiCall::Message(MessageCall::Send { message, comm }))
@@ -21,7 +22,7 @@ impl<'a> Arguments<'a> {
 
     pub(crate) fn ssend(&self) -> Result<MpiCall, AllocError>
         requires { Fits self.now.scope.now f.Ssend (given_of self.now.call.now) }
-        ensures { IfOk result (λ typed. IsMpiCall self.now.scope.now f.Ssend (given_of self.now.call.now) typed) }
+        ensures { IfOk result (λ typed. IsMpiCall self.now.scope.now f.Ssend (given_of self.now.call.now) (pure_mpi typed)) }
     {
         let (message, comm) = zip(self.outgoing(), self.value(5))?;
         Ok(MpiCall::Message(MessageCall::Ssend { message, comm }))
@@ -29,7 +30,7 @@ impl<'a> Arguments<'a> {
 
     pub(crate) fn recv(&self) -> Result<MpiCall, AllocError>
         requires { Fits self.now.scope.now f.Recv (given_of self.now.call.now) }
-        ensures { IfOk result (λ typed. IsMpiCall self.now.scope.now f.Recv (given_of self.now.call.now) typed) }
+        ensures { IfOk result (λ typed. IsMpiCall self.now.scope.now f.Recv (given_of self.now.call.now) (pure_mpi typed)) }
     {
         let (message, comm, status) = zip3(self.incoming(0), self.value(5), self.status(6))?;
         Ok(MpiCall::Message(MessageCall::Recv {
@@ -41,7 +42,7 @@ impl<'a> Arguments<'a> {
 
     pub(crate) fn isend(&self) -> Result<MpiCall, AllocError>
         requires { Fits self.now.scope.now f.Isend (given_of self.now.call.now) }
-        ensures { IfOk result (λ typed. IsMpiCall self.now.scope.now f.Isend (given_of self.now.call.now) typed) }
+        ensures { IfOk result (λ typed. IsMpiCall self.now.scope.now f.Isend (given_of self.now.call.now) (pure_mpi typed)) }
     {
         let (message, comm, request) = zip3(self.outgoing(), self.value(5), self.reference(6))?;
         Ok(MpiCall::Message(MessageCall::Isend {
@@ -53,7 +54,7 @@ impl<'a> Arguments<'a> {
 
     pub(crate) fn issend(&self) -> Result<MpiCall, AllocError>
         requires { Fits self.now.scope.now f.Issend (given_of self.now.call.now) }
-        ensures { IfOk result (λ typed. IsMpiCall self.now.scope.now f.Issend (given_of self.now.call.now) typed) }
+        ensures { IfOk result (λ typed. IsMpiCall self.now.scope.now f.Issend (given_of self.now.call.now) (pure_mpi typed)) }
     {
         let (message, comm, request) = zip3(self.outgoing(), self.value(5), self.reference(6))?;
         Ok(MpiCall::Message(MessageCall::Issend {
@@ -65,7 +66,7 @@ impl<'a> Arguments<'a> {
 
     pub(crate) fn irecv(&self) -> Result<MpiCall, AllocError>
         requires { Fits self.now.scope.now f.Irecv (given_of self.now.call.now) }
-        ensures { IfOk result (λ typed. IsMpiCall self.now.scope.now f.Irecv (given_of self.now.call.now) typed) }
+        ensures { IfOk result (λ typed. IsMpiCall self.now.scope.now f.Irecv (given_of self.now.call.now) (pure_mpi typed)) }
     {
         let (message, comm, request) = zip3(self.incoming(0), self.value(5), self.reference(6))?;
         Ok(MpiCall::Message(MessageCall::Irecv {
@@ -77,7 +78,7 @@ impl<'a> Arguments<'a> {
 
     pub(crate) fn sendrecv(&self) -> Result<MpiCall, AllocError>
         requires { Fits self.now.scope.now f.Sendrecv (given_of self.now.call.now) }
-        ensures { IfOk result (λ typed. IsMpiCall self.now.scope.now f.Sendrecv (given_of self.now.call.now) typed) }
+        ensures { IfOk result (λ typed. IsMpiCall self.now.scope.now f.Sendrecv (given_of self.now.call.now) (pure_mpi typed)) }
     {
         let (send, receive, comm, status) = zip4(
             self.outgoing(),
@@ -95,7 +96,7 @@ impl<'a> Arguments<'a> {
 
     pub(crate) fn wait(&self) -> Result<MpiCall, AllocError>
         requires { Fits self.now.scope.now f.Wait (given_of self.now.call.now) }
-        ensures { IfOk result (λ typed. IsMpiCall self.now.scope.now f.Wait (given_of self.now.call.now) typed) }
+        ensures { IfOk result (λ typed. IsMpiCall self.now.scope.now f.Wait (given_of self.now.call.now) (pure_mpi typed)) }
     {
         let (request, status) = zip(self.reference(0), self.status(1))?;
         Ok(MpiCall::Completion(CompletionCall::Wait { request, status }))
@@ -103,7 +104,7 @@ impl<'a> Arguments<'a> {
 
     pub(crate) fn test(&self) -> Result<MpiCall, AllocError>
         requires { Fits self.now.scope.now f.Test (given_of self.now.call.now) }
-        ensures { IfOk result (λ typed. IsMpiCall self.now.scope.now f.Test (given_of self.now.call.now) typed) }
+        ensures { IfOk result (λ typed. IsMpiCall self.now.scope.now f.Test (given_of self.now.call.now) (pure_mpi typed)) }
     {
         let (request, flag, status) = zip3(self.reference(0), self.reference(1), self.status(2))?;
         Ok(MpiCall::Completion(CompletionCall::Test {
@@ -115,7 +116,7 @@ impl<'a> Arguments<'a> {
 
     pub(crate) fn waitany(&self) -> Result<MpiCall, AllocError>
         requires { Fits self.now.scope.now f.Waitany (given_of self.now.call.now) }
-        ensures { IfOk result (λ typed. IsMpiCall self.now.scope.now f.Waitany (given_of self.now.call.now) typed) }
+        ensures { IfOk result (λ typed. IsMpiCall self.now.scope.now f.Waitany (given_of self.now.call.now) (pure_mpi typed)) }
     {
         let (count, requests, index, status) = zip4(
             self.value(0),
@@ -133,7 +134,7 @@ impl<'a> Arguments<'a> {
 
     pub(crate) fn testany(&self) -> Result<MpiCall, AllocError>
         requires { Fits self.now.scope.now f.Testany (given_of self.now.call.now) }
-        ensures { IfOk result (λ typed. IsMpiCall self.now.scope.now f.Testany (given_of self.now.call.now) typed) }
+        ensures { IfOk result (λ typed. IsMpiCall self.now.scope.now f.Testany (given_of self.now.call.now) (pure_mpi typed)) }
     {
         let (count, requests, index, flag, status) = zip5(
             self.value(0),
@@ -153,7 +154,7 @@ impl<'a> Arguments<'a> {
 
     pub(crate) fn waitall(&self) -> Result<MpiCall, AllocError>
         requires { Fits self.now.scope.now f.Waitall (given_of self.now.call.now) }
-        ensures { IfOk result (λ typed. IsMpiCall self.now.scope.now f.Waitall (given_of self.now.call.now) typed) }
+        ensures { IfOk result (λ typed. IsMpiCall self.now.scope.now f.Waitall (given_of self.now.call.now) (pure_mpi typed)) }
     {
         let (count, requests, statuses) = zip3(self.value(0), self.reference(1), self.status(2))?;
         Ok(MpiCall::Completion(CompletionCall::Waitall {
@@ -165,7 +166,7 @@ impl<'a> Arguments<'a> {
 
     pub(crate) fn testall(&self) -> Result<MpiCall, AllocError>
         requires { Fits self.now.scope.now f.Testall (given_of self.now.call.now) }
-        ensures { IfOk result (λ typed. IsMpiCall self.now.scope.now f.Testall (given_of self.now.call.now) typed) }
+        ensures { IfOk result (λ typed. IsMpiCall self.now.scope.now f.Testall (given_of self.now.call.now) (pure_mpi typed)) }
     {
         let (count, requests, flag, statuses) = zip4(
             self.value(0),
@@ -183,7 +184,7 @@ impl<'a> Arguments<'a> {
 
     pub(crate) fn waitsome(&self) -> Result<MpiCall, AllocError>
         requires { Fits self.now.scope.now f.Waitsome (given_of self.now.call.now) }
-        ensures { IfOk result (λ typed. IsMpiCall self.now.scope.now f.Waitsome (given_of self.now.call.now) typed) }
+        ensures { IfOk result (λ typed. IsMpiCall self.now.scope.now f.Waitsome (given_of self.now.call.now) (pure_mpi typed)) }
     {
         let several = self.several()?;
         Ok(MpiCall::Completion(CompletionCall::Waitsome(several)))
@@ -191,7 +192,7 @@ impl<'a> Arguments<'a> {
 
     pub(crate) fn testsome(&self) -> Result<MpiCall, AllocError>
         requires { Fits self.now.scope.now f.Testsome (given_of self.now.call.now) }
-        ensures { IfOk result (λ typed. IsMpiCall self.now.scope.now f.Testsome (given_of self.now.call.now) typed) }
+        ensures { IfOk result (λ typed. IsMpiCall self.now.scope.now f.Testsome (given_of self.now.call.now) (pure_mpi typed)) }
     {
         let several = self.several()?;
         Ok(MpiCall::Completion(CompletionCall::Testsome(several)))
@@ -199,7 +200,7 @@ impl<'a> Arguments<'a> {
 
     pub(crate) fn probe(&self) -> Result<MpiCall, AllocError>
         requires { Fits self.now.scope.now f.Probe (given_of self.now.call.now) }
-        ensures { IfOk result (λ typed. IsMpiCall self.now.scope.now f.Probe (given_of self.now.call.now) typed) }
+        ensures { IfOk result (λ typed. IsMpiCall self.now.scope.now f.Probe (given_of self.now.call.now) (pure_mpi typed)) }
     {
         let (source, tag, comm, status) = zip4(
             self.value(0),
@@ -217,7 +218,7 @@ impl<'a> Arguments<'a> {
 
     pub(crate) fn iprobe(&self) -> Result<MpiCall, AllocError>
         requires { Fits self.now.scope.now f.Iprobe (given_of self.now.call.now) }
-        ensures { IfOk result (λ typed. IsMpiCall self.now.scope.now f.Iprobe (given_of self.now.call.now) typed) }
+        ensures { IfOk result (λ typed. IsMpiCall self.now.scope.now f.Iprobe (given_of self.now.call.now) (pure_mpi typed)) }
     {
         let (source, tag, comm, flag, status) = zip5(
             self.value(0),
@@ -237,7 +238,7 @@ impl<'a> Arguments<'a> {
 
     pub(crate) fn get_count(&self) -> Result<MpiCall, AllocError>
         requires { Fits self.now.scope.now f.GetCount (given_of self.now.call.now) }
-        ensures { IfOk result (λ typed. IsMpiCall self.now.scope.now f.GetCount (given_of self.now.call.now) typed) }
+        ensures { IfOk result (λ typed. IsMpiCall self.now.scope.now f.GetCount (given_of self.now.call.now) (pure_mpi typed)) }
     {
         let (status, count) = zip(self.status(0), self.reference(2))?;
         Ok(MpiCall::Probe(ProbeCall::GetCount { status, count }))

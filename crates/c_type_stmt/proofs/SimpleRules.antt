@@ -1,9 +1,7 @@
 -- Each rule of typed assignments and calls at the variants of the tree, and what having no faults tells of them.
-use Rattle.std.proofs.Common.{◌≡◌, ◌++◌, ◌+◌, ◌≤◌, ℕ, if◌then◌else◌, Bool, true, false, List, [], ◌∷◌, length, drop, slice_get, Option, Some, None, refl, sym, subst, ◌∙◌}
+use Rattle.std.proofs.Common.{◌≡◌, ◌++◌, ◌+◌, ◌≤◌, ℕ, if◌then◌else◌, Bool, true, false, List, [], ◌∷◌, length, drop, map, pos, slice_get, Option, Some, None, refl, sym, subst, ◌∙◌}
 use Rattle.std.specs.Option.{is_some, option_map}
 use Rattle.c_lex.specs.declared.fault.Why.TheVariants.{BadFormat, WrongType}
-use Rattle.std.specs.declared.alloc.Global.{Global}
-use Rattle.std.specs.declared.vec.Vec.{Vec}
 use Rattle.c_grammar.specs.declared.terminal.Span.{Span}
 use Rattle.c_grammar.specs.declared.terminal.Symbol.{Symbol}
 use Rattle.c_grammar.specs.Tree as t
@@ -14,8 +12,11 @@ use Rattle.c_names.specs.declared.operator.Operator.{Operator}
 use Rattle.c_names.specs.declared.predefined.Predefined.TheVariants as p
 use Rattle.c_names.specs.declared.kind.VariableKind.TheVariants.{Int}
 use Rattle.c_program.specs.declared.expr.Expr.{Expr}
+use Rattle.c_program.specs.declared.expr.Expr.TheVariants as v
 use Rattle.c_program.specs.declared.expr.Place.{Place}
-use Rattle.c_program.specs.declared.statement.Simple.TheVariants as l
+use Rattle.c_program.specs.Tree as pure
+use Rattle.c_program.specs.View.{pure_expr, pure_place}
+use Rattle.c_program.proofs.Viewed.{pure-number}
 use Rattle.c_check.specs.Calls.{arguments_of, call_faults, format_faults, inside, is_format, numbers_faults, print_faults, right_faults, value_faults}
 use Rattle.c_check_expr.specs.Expressions.{place_faults}
 use Rattle.c_check_expr.specs.Kinds.{place_first_token}
@@ -30,19 +31,19 @@ use Rattle.c_type_expr.specs.Calls.{IsValue}
 use Rattle.c_type_expr.specs.Exprs.{IsPlace}
 use Rattle.c_type_expr.specs.Shapes.{is_value}
 use Rattle.c_type_stmt.specs.Statements as x
-use Rattle.c_type_stmt.specs.Statements.{AreValues, IsSimple, one, update_of}
+use Rattle.c_type_stmt.specs.Statements.{AreValues, IsSimple, update_of}
 use Rattle.c_type_expr.proofs.Faultless.{misfit_never, none_before, none_behind, value_shape}
 use Rattle.c_type_stmt.proofs.Growing.{ended, grown}
 
 -- ---- `++` and `--`
 
-pub after_rule : (env : Env) (place : t.Place) (operator : Symbol) (meant : Operator) (goal : Place) → meant ≡ update_of operator → IsPlace env place goal
-    → (at : Span) → IsSimple env (t.after place operator at) (l.Update goal meant one)
-after_rule env place operator meant goal e h at = rw e (x.after h)
+pub after_rule : (env : Env) (place : t.Place) (operator : Symbol) (meant : Operator) (goal : Place) → meant ≡ update_of operator → IsPlace env place (pure_place goal)
+    → (at : Span) → IsSimple env (t.after place operator at) (pure.update (pure_place goal) meant (pure.value (pure_expr (v.Number (pos 1)))))
+after_rule env place operator meant goal e h at = rw (e, pure-number) (x.after h)
 
-pub before_rule : (env : Env) (place : t.Place) (operator : Symbol) (meant : Operator) (goal : Place) → meant ≡ update_of operator → IsPlace env place goal
-    → (at : Span) → IsSimple env (t.before operator at place) (l.Update goal meant one)
-before_rule env place operator meant goal e h at = rw e (x.before h)
+pub before_rule : (env : Env) (place : t.Place) (operator : Symbol) (meant : Operator) (goal : Place) → meant ≡ update_of operator → IsPlace env place (pure_place goal)
+    → (at : Span) → IsSimple env (t.before operator at place) (pure.update (pure_place goal) meant (pure.value (pure_expr (v.Number (pos 1)))))
+before_rule env place operator meant goal e h at = rw (e, pure-number) (x.before h)
 
 -- ---- `printf`
 
@@ -81,10 +82,10 @@ format_tells env given at h first =
     let one : h.at ≡ at = cc in
     subst (λ z. is_some (pieces_of (inside (token_bytes env.text z))) ≡ true) one h.format
 
-pub print_rule : (env : Env) (call : t.Call) (at : Span) (format : Vec FormatPiece Global) (typed : Vec Expr Global)
+pub print_rule : (env : Env) (call : t.Call) (at : Span) (format : List FormatPiece) (typed : List pure.Expr)
     → meaning env call.name ≡ m.Known p.Printf → slice_get (arguments_of call) 0 ≡ Some (t.text at)
-    → pieces_of (inside (token_bytes env.text at)) ≡ Some format.items → AreValues env (drop 1 (arguments_of call)) typed.items
-    → IsSimple env (t.invoke call) (l.Print format typed)
+    → pieces_of (inside (token_bytes env.text at)) ≡ Some format → AreValues env (drop 1 (arguments_of call)) typed
+    → IsSimple env (t.invoke call) (pure.print format typed)
 print_rule env call at format typed h first f v = x.print h (drop_got (arguments_of call) 0 (t.text at) first) f v
 
 pub numbers_rest : (env : Env) (given : List t.Argument) (i : ℕ) (argument : t.Argument) → slice_get given i ≡ Some argument → numbers_faults env (drop i given) ≡ []
@@ -100,18 +101,18 @@ number_shape env given i argument g e =
     value_shape env (Of Int) argument (none_before _ _ all)
 
 pub numbers_more : (env : Env) (given : List t.Argument) (i : ℕ) (argument : t.Argument) (before after : List Expr) (typed : Expr)
-    → after ≡ before ++ typed ∷ [] → slice_get given i ≡ Some argument → IsValue env argument typed
-    → ((more : List Expr) → AreValues env (drop i given) more → AreValues env (drop 1 given) (before ++ more))
-    → (more : List Expr) → AreValues env (drop (i + 1) given) more → AreValues env (drop 1 given) (after ++ more)
+    → after ≡ before ++ typed ∷ [] → slice_get given i ≡ Some argument → IsValue env argument (pure_expr typed)
+    → ((more : List Expr) → AreValues env (drop i given) (map pure_expr more) → AreValues env (drop 1 given) (map pure_expr (before ++ more)))
+    → (more : List Expr) → AreValues env (drop (i + 1) given) (map pure_expr more) → AreValues env (drop 1 given) (map pure_expr (after ++ more))
 numbers_more env given i argument before after typed e g h =
-    let P : List t.Argument → List Expr → Type 0 = λ left all. AreValues env left all in
+    let P : List t.Argument → List Expr → Type 0 = λ left all. AreValues env left (map pure_expr all) in
     grown (P (drop i given)) (P (drop (i + 1) given)) (P (drop 1 given)) before after typed e
     (λ more rest. subst (λ left. P left (typed ∷ more)) (sym (drop_got given i argument g)) (x.value h rest))
 
 pub numbers_end : (env : Env) (given : List t.Argument) (i : ℕ) (typed : List Expr) → length given ≤ i
-    → ((more : List Expr) → AreValues env (drop i given) more → AreValues env (drop 1 given) (typed ++ more)) → AreValues env (drop 1 given) typed
+    → ((more : List Expr) → AreValues env (drop i given) (map pure_expr more) → AreValues env (drop 1 given) (map pure_expr (typed ++ more))) → AreValues env (drop 1 given) (map pure_expr typed)
 numbers_end env given i typed past so_far =
-    let P : List t.Argument → List Expr → Type 0 = λ left all. AreValues env left all in
+    let P : List t.Argument → List Expr → Type 0 = λ left all. AreValues env left (map pure_expr all) in
     ended (P (drop i given)) (P (drop 1 given)) typed (subst (λ left. P left []) (sym (drop_past given i past)) x.no_value) so_far
 
 -- ---- assignments

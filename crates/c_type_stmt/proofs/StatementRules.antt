@@ -1,5 +1,5 @@
 -- Each rule of typed declarations and statements at the variants of the tree, and what having no faults tells of their parts.
-use Rattle.std.proofs.Common.{◌≡◌, ◌++◌, ◌+◌, ◌≤◌, ◌<◌, ℕ, Bool, true, false, List, [], ◌∷◌, length, drop, get_or, Option, Some, None, option_map, Result, Ok, Err, IfOk, OnOk, refl, sym, subst, ap, ◌∙◌}
+use Rattle.std.proofs.Common.{◌≡◌, ◌++◌, ◌+◌, ◌≤◌, ◌<◌, ℕ, Bool, true, false, List, [], ◌∷◌, length, drop, get_or, map, Option, Some, option_map, Result, Ok, Err, IfOk, OnOk, sym, subst, ap, ◌∙◌}
 use Rattle.std.specs.declared.alloc.Global.{Global}
 use Rattle.std.specs.declared.boxed.Box.{Box}
 use Rattle.std.specs.declared.vec.Vec.{Vec}
@@ -23,7 +23,7 @@ use Rattle.c_check.specs.Calls.{right_faults}
 use Rattle.c_check_expr.specs.Expressions.{int_faults}
 use Rattle.c_check_expr.specs.Kinds.{place_first_token}
 use Rattle.c_check_expr.specs.Least.{unless}
-use Rattle.c_check_expr.specs.Scopes.{Env, token_bytes, opened, twice_faults}
+use Rattle.c_check_expr.specs.Scopes.{Env, opened, twice_faults}
 use Rattle.c_check.specs.Statements.{after_item, after_items, after_part, after_parts, after_start, begins_with, begun_takes, can_begin, declaration_faults, declared_entity, initial_faults, item_faults, items_faults, part_faults, parts_faults, place_length_faults, return_faults, simple_faults, start_faults, step_faults, stmt_faults, test_faults}
 use Rattle.c_check_expr.specs.declared.meaning.ExprKind.{ExprKind}
 use Rattle.c_check_expr.specs.declared.meaning.ExprKind.TheVariants.{Of, Nothing}
@@ -44,6 +44,8 @@ use Rattle.c_program.specs.declared.statement.Part.TheVariants as q
 use Rattle.c_program.specs.declared.statement.Simple.{Simple}
 use Rattle.c_program.specs.declared.statement.Stmt.{Stmt}
 use Rattle.c_program.specs.declared.statement.Stmt.TheVariants as s
+use Rattle.c_program.specs.View.{pure_declaration, pure_expr, pure_item, pure_part, pure_parts, pure_right, pure_simple, pure_start, pure_stmt}
+use Rattle.c_program.proofs.StmtViewed.{pure-block, pure-break, pure-continue, pure-declare, pure-do_while, pure-empty, pure-for, pure-if_else, pure-if_only, pure-return, pure-simple, pure-stmt, pure-while}
 use Rattle.c_type_expr.specs.Exprs.{IsExpr}
 use Rattle.c_type_stmt.specs.Statements as x
 use Rattle.c_type_stmt.specs.Statements.{AreExprs, AreItems, AreParts, IsDeclaration, IsItem, IsPart, IsReturn, IsSimple, IsStart, IsStep, IsStmt, IsTest}
@@ -53,24 +55,24 @@ use Rattle.c_type_stmt.proofs.Growing.{ended, grown}
 -- ---- values in braces
 
 pub exprs_more : (env : Env) (values : List (AfterComma source_expr.Expr)) (i : ℕ) (value : AfterComma source_expr.Expr) (whole : List t.Expr) (before after : List Expr) (typed : Expr)
-    → after ≡ before ++ typed ∷ [] → i < length values → value ≡ get_or values i value → IsExpr env (view value.item) typed
-    → ((more : List Expr) → AreExprs env (after_comma_viewed view (drop i values)) more → AreExprs env whole (before ++ more))
-    → (more : List Expr) → AreExprs env (after_comma_viewed view (drop (i + 1) values)) more → AreExprs env whole (after ++ more)
+    → after ≡ before ++ typed ∷ [] → i < length values → value ≡ get_or values i value → IsExpr env (view value.item) (pure_expr typed)
+    → ((more : List Expr) → AreExprs env (after_comma_viewed view (drop i values)) (map pure_expr more) → AreExprs env whole (map pure_expr (before ++ more)))
+    → (more : List Expr) → AreExprs env (after_comma_viewed view (drop (i + 1) values)) (map pure_expr more) → AreExprs env whole (map pure_expr (after ++ more))
 exprs_more env values i value whole before after typed e less is h =
-    let P : List (AfterComma source_expr.Expr) → List Expr → Type 0 = λ left all. AreExprs env (after_comma_viewed view left) all in
-    grown (P (drop i values)) (P (drop (i + 1) values)) (λ all. AreExprs env whole all) before after typed e
+    let P : List (AfterComma source_expr.Expr) → List Expr → Type 0 = λ left all. AreExprs env (after_comma_viewed view left) (map pure_expr all) in
+    grown (P (drop i values)) (P (drop (i + 1) values)) (λ all. AreExprs env whole (map pure_expr all)) before after typed e
     (λ more rest. subst (λ left. P left (typed ∷ more)) (sym (drop_at values i value less is)) (x.expr h rest))
 
 pub exprs_begin : (env : Env) (first : t.Expr) (values all : List (AfterComma source_expr.Expr)) (after : List Expr) (typed : Expr)
-    → values ≡ all → IsExpr env first typed → after ≡ typed ∷ []
-    → (more : List Expr) → AreExprs env (after_comma_viewed view values) more → AreExprs env (first ∷ after_comma_viewed view all) (after ++ more)
+    → values ≡ all → IsExpr env first (pure_expr typed) → after ≡ typed ∷ []
+    → (more : List Expr) → AreExprs env (after_comma_viewed view values) (map pure_expr more) → AreExprs env (first ∷ after_comma_viewed view all) (map pure_expr (after ++ more))
 exprs_begin env first values all after typed v h e more rest = rw e (x.expr h (rw v at rest))
 
 pub exprs_end : (env : Env) (values : List (AfterComma source_expr.Expr)) (i : ℕ) (whole : List t.Expr) (typed : List Expr) → length values ≤ i
-    → ((more : List Expr) → AreExprs env (after_comma_viewed view (drop i values)) more → AreExprs env whole (typed ++ more)) → AreExprs env whole typed
+    → ((more : List Expr) → AreExprs env (after_comma_viewed view (drop i values)) (map pure_expr more) → AreExprs env whole (map pure_expr (typed ++ more))) → AreExprs env whole (map pure_expr typed)
 exprs_end env values i whole typed past so_far =
-    let P : List (AfterComma source_expr.Expr) → List Expr → Type 0 = λ left all. AreExprs env (after_comma_viewed view left) all in
-    ended (P (drop i values)) (λ all. AreExprs env whole all) typed (subst (λ left. P left []) (sym (drop_past values i past)) x.no_expr) so_far
+    let P : List (AfterComma source_expr.Expr) → List Expr → Type 0 = λ left all. AreExprs env (after_comma_viewed view left) (map pure_expr all) in
+    ended (P (drop i values)) (λ all. AreExprs env whole (map pure_expr all)) typed (subst (λ left. P left []) (sym (drop_past values i past)) x.no_expr) so_far
 
 -- ---- declarations
 
@@ -110,26 +112,26 @@ items_after env now last kind items i item less is n e = rw n (sym (after_items_
 
 pub items_more : (env start now : Env) (kind : VariableKind) (items : List (AfterComma source_item.InitDeclarator)) (i : ℕ) (item : AfterComma source_item.InitDeclarator) (whole : List t.InitDeclarator)
     (before after : List InitDeclarator) (typed : InitDeclarator) → after ≡ before ++ typed ∷ [] → i < length items → item ≡ get_or items i item
-    → IsItem env kind (item_view item.item) typed → now ≡ after_item env kind (item_view item.item)
-    → ((more : List InitDeclarator) → AreItems kind env (after_comma_viewed item_view (drop i items)) more → AreItems kind start whole (before ++ more))
-    → (more : List InitDeclarator) → AreItems kind now (after_comma_viewed item_view (drop (i + 1) items)) more → AreItems kind start whole (after ++ more)
+    → IsItem env kind (item_view item.item) (pure_item typed) → now ≡ after_item env kind (item_view item.item)
+    → ((more : List InitDeclarator) → AreItems kind env (after_comma_viewed item_view (drop i items)) (map pure_item more) → AreItems kind start whole (map pure_item (before ++ more)))
+    → (more : List InitDeclarator) → AreItems kind now (after_comma_viewed item_view (drop (i + 1) items)) (map pure_item more) → AreItems kind start whole (map pure_item (after ++ more))
 items_more env start now kind items i item whole before after typed e less is h n =
-    let P : Env → List (AfterComma source_item.InitDeclarator) → List InitDeclarator → Type 0 = λ here left all. AreItems kind here (after_comma_viewed item_view left) all in
-    grown (P env (drop i items)) (P now (drop (i + 1) items)) (λ all. AreItems kind start whole all) before after typed e
+    let P : Env → List (AfterComma source_item.InitDeclarator) → List InitDeclarator → Type 0 = λ here left all. AreItems kind here (after_comma_viewed item_view left) (map pure_item all) in
+    grown (P env (drop i items)) (P now (drop (i + 1) items)) (λ all. AreItems kind start whole (map pure_item all)) before after typed e
     (λ more rest. subst (λ left. P env left (typed ∷ more)) (sym (drop_at items i item less is))
     (x.item h (subst (λ here. P here (drop (i + 1) items) more) n rest)))
 
 pub items_begin : (env now : Env) (kind : VariableKind) (first : t.InitDeclarator) (items all : List (AfterComma source_item.InitDeclarator)) (after : List InitDeclarator) (typed : InitDeclarator)
-    → items ≡ all → IsItem env kind first typed → now ≡ after_item env kind first → after ≡ typed ∷ []
-    → (more : List InitDeclarator) → AreItems kind now (after_comma_viewed item_view items) more → AreItems kind env (first ∷ after_comma_viewed item_view all) (after ++ more)
+    → items ≡ all → IsItem env kind first (pure_item typed) → now ≡ after_item env kind first → after ≡ typed ∷ []
+    → (more : List InitDeclarator) → AreItems kind now (after_comma_viewed item_view items) (map pure_item more) → AreItems kind env (first ∷ after_comma_viewed item_view all) (map pure_item (after ++ more))
 items_begin env now kind first items all after typed v h n e more rest = rw e (x.item h (rw (v, n) at rest))
 
 pub items_end : (env start : Env) (kind meant : VariableKind) (items : List (AfterComma source_item.InitDeclarator)) (i : ℕ) (whole : List t.InitDeclarator) (typed : List InitDeclarator) → kind ≡ meant → length items ≤ i
-    → ((more : List InitDeclarator) → AreItems kind env (after_comma_viewed item_view (drop i items)) more → AreItems kind start whole (typed ++ more)) → AreItems meant start whole typed
+    → ((more : List InitDeclarator) → AreItems kind env (after_comma_viewed item_view (drop i items)) (map pure_item more) → AreItems kind start whole (map pure_item (typed ++ more))) → AreItems meant start whole (map pure_item typed)
 items_end env start kind meant items i whole typed k past so_far =
-    let P : List (AfterComma source_item.InitDeclarator) → List InitDeclarator → Type 0 = λ left all. AreItems kind env (after_comma_viewed item_view left) all in
-    subst (λ (one : VariableKind). AreItems one start whole typed) k
-    (ended (P (drop i items)) (λ all. AreItems kind start whole all) typed (subst (λ left. P left []) (sym (drop_past items i past)) x.no_item) so_far)
+    let P : List (AfterComma source_item.InitDeclarator) → List InitDeclarator → Type 0 = λ left all. AreItems kind env (after_comma_viewed item_view left) (map pure_item all) in
+    subst (λ (one : VariableKind). AreItems one start whole (map pure_item typed)) k
+    (ended (P (drop i items)) (λ all. AreItems kind start whole (map pure_item all)) typed (subst (λ left. P left []) (sym (drop_past items i past)) x.no_item) so_far)
 
 -- ---- what a function gives back
 
@@ -155,11 +157,11 @@ block_parts env stmt opening parts closing is f =
     let g : IsFaultless env (t.block opening (parts_view parts.items) closing) = rw (is, view-block) at f in g
 
 pub block_rule : (env : Env) (stmt : source.Stmt) (opening : Span) (parts : Vec source_part.Part Global) (closing : Span) (typed : Vec Part Global)
-    → stmt ≡ ts.Block opening parts closing → AreParts (opened env) (parts_view parts.items) typed.items → IsStmt env (stmt_view stmt) (s.Block typed)
-block_rule env stmt opening parts closing typed is h = rw (is, view-block) (x.block typed h)
+    → stmt ≡ ts.Block opening parts closing → AreParts (opened env) (parts_view parts.items) (pure_parts typed.items) → IsStmt env (stmt_view stmt) (pure_stmt (s.Block typed))
+block_rule env stmt opening parts closing typed is h = rw (is, view-block, pure-block) (x.block h)
 
-pub empty_rule : (env : Env) (stmt : source.Stmt) (at : Span) → stmt ≡ ts.Empty at → IsStmt env (stmt_view stmt) s.Empty
-empty_rule env stmt at is = rw (is, view-empty) x.empty
+pub empty_rule : (env : Env) (stmt : source.Stmt) (at : Span) → stmt ≡ ts.Empty at → IsStmt env (stmt_view stmt) (pure_stmt s.Empty)
+empty_rule env stmt at is = rw (is, view-empty, pure-empty) x.empty
 
 pub simple_faultless : (env : Env) (stmt : source.Stmt) (simple : source_simple.Simple) (end : Span) → stmt ≡ ts.Simple simple end
     → IsFaultless env (stmt_view stmt) → simple_faults env (simple_view simple) ≡ []
@@ -167,14 +169,14 @@ simple_faultless env stmt simple end is f =
     let g : IsFaultless env (t.simple (simple_view simple) end) = rw (is, view-simple) at f in g.2
 
 pub simple_rule : (env : Env) (stmt : source.Stmt) (simple : source_simple.Simple) (end : Span) (typed : Simple) → stmt ≡ ts.Simple simple end
-    → IsSimple env (simple_view simple) typed → IsStmt env (stmt_view stmt) (s.Simple typed)
-simple_rule env stmt simple end typed is h = rw (is, view-simple) (x.simple h)
+    → IsSimple env (simple_view simple) (pure_simple typed) → IsStmt env (stmt_view stmt) (pure_stmt (s.Simple typed))
+simple_rule env stmt simple end typed is h = rw (is, view-simple, pure-simple) (x.simple h)
 
-pub break_rule : (env : Env) (stmt : source.Stmt) (keyword end : Span) → stmt ≡ ts.Break keyword end → IsStmt env (stmt_view stmt) s.Break
-break_rule env stmt keyword end is = rw (is, view-break) x.break
+pub break_rule : (env : Env) (stmt : source.Stmt) (keyword end : Span) → stmt ≡ ts.Break keyword end → IsStmt env (stmt_view stmt) (pure_stmt s.Break)
+break_rule env stmt keyword end is = rw (is, view-break, pure-break) x.break
 
-pub continue_rule : (env : Env) (stmt : source.Stmt) (keyword end : Span) → stmt ≡ ts.Continue keyword end → IsStmt env (stmt_view stmt) s.Continue
-continue_rule env stmt keyword end is = rw (is, view-continue) x.continue
+pub continue_rule : (env : Env) (stmt : source.Stmt) (keyword end : Span) → stmt ≡ ts.Continue keyword end → IsStmt env (stmt_view stmt) (pure_stmt s.Continue)
+continue_rule env stmt keyword end is = rw (is, view-continue, pure-continue) x.continue
 
 pub return_faultless : (env : Env) (stmt : source.Stmt) (keyword : Span) (value : Option source_right.Right) (end : Span) → stmt ≡ ts.Return keyword value end
     → IsFaultless env (stmt_view stmt) → (gives : Bool) × (return_faults env gives (option_map right_view value) ≡ [])
@@ -182,8 +184,8 @@ return_faultless env stmt keyword value end is f =
     let g : IsFaultless env (t.return keyword (option_map right_view value) end) = rw (is, view-return) at f in (g.0, g.2)
 
 pub return_rule : (env : Env) (stmt : source.Stmt) (keyword : Span) (value : Option source_right.Right) (end : Span) (typed : Option Right) → stmt ≡ ts.Return keyword value end
-    → IsReturn env (option_map right_view value) typed → IsStmt env (stmt_view stmt) (s.Return typed)
-return_rule env stmt keyword value end typed is h = rw (is, view-return) (x.return h)
+    → IsReturn env (option_map right_view value) (option_map pure_right typed) → IsStmt env (stmt_view stmt) (pure_stmt (s.Return typed))
+return_rule env stmt keyword value end typed is h = rw (is, view-return, pure-return) (x.return h)
 
 pub if_taken : (env : Env) (stmt : source.Stmt) (keyword opening : Span) (test : source_expr.Expr) (closing : Span) (then : Box source.Stmt Global)
     → stmt ≡ ts.If keyword opening test closing then → IsFaultless env (stmt_view stmt) → IsFaultless env (stmt_view then.value)
@@ -192,8 +194,8 @@ if_taken env stmt keyword opening test closing then is f =
     (g.0, g.1, none_behind (int_faults env (view test)) _ g.2)
 
 pub if_rule : (env : Env) (stmt : source.Stmt) (keyword opening : Span) (test : source_expr.Expr) (closing : Span) (then : Box source.Stmt Global) (e : Expr) (a : Box Stmt Global)
-    → stmt ≡ ts.If keyword opening test closing then → IsExpr env (view test) e → IsStmt env (stmt_view then.value) a.value → IsStmt env (stmt_view stmt) (s.If e a)
-if_rule env stmt keyword opening test closing then e a is h k = rw (is, view-if_only) (x.if_only h k)
+    → stmt ≡ ts.If keyword opening test closing then → IsExpr env (view test) (pure_expr e) → IsStmt env (stmt_view then.value) (pure_stmt a.value) → IsStmt env (stmt_view stmt) (pure_stmt (s.If e a))
+if_rule env stmt keyword opening test closing then e a is h k = rw (is, view-if_only, pure-if_only) (x.if_only h k)
 
 -- an `if` with an `else` and its parts
 module _ (env : Env) (stmt : source.Stmt) (keyword opening : Span) (test : source_expr.Expr) (closing : Span) (then : Box source.Stmt Global) (else_keyword : Span)
@@ -212,8 +214,9 @@ module _ (env : Env) (stmt : source.Stmt) (keyword opening : Span) (test : sourc
       rw n (g.0, g.1, none_behind (int_faults env (view test) ++ stmt_faults env g.0 g.1 (stmt_view then.value)) _ g.2)
 
   pub if_else_rule : (now : Env) (typed : Stmt) (e : Expr) (a b : Box Stmt Global) → now ≡ env → typed ≡ s.IfElse e a b
-      → IsExpr env (view test) e → IsStmt env (stmt_view then.value) a.value → IsStmt now (stmt_view other.value) b.value → IsStmt env (stmt_view stmt) typed
-  if_else_rule now typed e a b n same h k l = rw (same, is, view-if_else) (x.if_else h k (rw n at l))
+      → IsExpr env (view test) (pure_expr e) → IsStmt env (stmt_view then.value) (pure_stmt a.value) → IsStmt now (stmt_view other.value) (pure_stmt b.value)
+      → IsStmt env (stmt_view stmt) (pure_stmt typed)
+  if_else_rule now typed e a b n same h k l = rw (same, is, view-if_else, pure-if_else) (x.if_else h k (rw n at l))
 
 pub while_body : (env : Env) (stmt : source.Stmt) (keyword opening : Span) (test : source_expr.Expr) (closing : Span) (body : Box source.Stmt Global)
     → stmt ≡ ts.While keyword opening test closing body → IsFaultless env (stmt_view stmt) → IsFaultless env (stmt_view body.value)
@@ -222,8 +225,8 @@ while_body env stmt keyword opening test closing body is f =
     (g.0, true, none_behind (int_faults env (view test)) _ g.2)
 
 pub while_rule : (env : Env) (stmt : source.Stmt) (keyword opening : Span) (test : source_expr.Expr) (closing : Span) (body : Box source.Stmt Global) (e : Expr) (a : Box Stmt Global)
-    → stmt ≡ ts.While keyword opening test closing body → IsExpr env (view test) e → IsStmt env (stmt_view body.value) a.value → IsStmt env (stmt_view stmt) (s.While e a)
-while_rule env stmt keyword opening test closing body e a is h k = rw (is, view-while) (x.while h k)
+    → stmt ≡ ts.While keyword opening test closing body → IsExpr env (view test) (pure_expr e) → IsStmt env (stmt_view body.value) (pure_stmt a.value) → IsStmt env (stmt_view stmt) (pure_stmt (s.While e a))
+while_rule env stmt keyword opening test closing body e a is h k = rw (is, view-while, pure-while) (x.while h k)
 
 pub do_body : (env : Env) (stmt : source.Stmt) (keyword : Span) (body : Box source.Stmt Global) (while_keyword opening : Span) (test : source_expr.Expr) (closing end : Span)
     → stmt ≡ ts.Do keyword body while_keyword opening test closing end → IsFaultless env (stmt_view stmt) → IsFaultless env (stmt_view body.value)
@@ -232,9 +235,9 @@ do_body env stmt keyword body while_keyword opening test closing end is f =
     (g.0, true, none_before _ _ g.2)
 
 pub do_rule : (env : Env) (stmt : source.Stmt) (keyword : Span) (body : Box source.Stmt Global) (while_keyword opening : Span) (test : source_expr.Expr) (closing end : Span) (e : Expr) (a : Box Stmt Global)
-    → stmt ≡ ts.Do keyword body while_keyword opening test closing end → IsStmt env (stmt_view body.value) a.value → IsExpr env (view test) e
-    → IsStmt env (stmt_view stmt) (s.Do a e)
-do_rule env stmt keyword body while_keyword opening test closing end e a is h k = rw (is, view-do_while) (x.do_while h k)
+    → stmt ≡ ts.Do keyword body while_keyword opening test closing end → IsStmt env (stmt_view body.value) (pure_stmt a.value) → IsExpr env (view test) (pure_expr e)
+    → IsStmt env (stmt_view stmt) (pure_stmt (s.Do a e))
+do_rule env stmt keyword body while_keyword opening test closing end e a is h k = rw (is, view-do_while, pure-do_while) (x.do_while h k)
 
 -- a `for` and its parts
 module _ (env : Env) (stmt : source.Stmt) (keyword opening : Span) (start : source_start.ForStart) (start_end : Span) (test : Option source_expr.Expr) (test_end : Span)
@@ -258,7 +261,7 @@ module _ (env : Env) (stmt : source.Stmt) (keyword opening : Span) (start : sour
       let g : IsFaultless env whole = rw (is, view-for) at f in
       (g.0, true, none_behind ((start_faults (opened env) (start_view start) ++ test_faults inside (option_map view test)) ++ step_faults inside (option_map simple_view step)) _ g.2)
 
-  pub for_rule : (typed : Stmt) → IsStmt env whole typed → IsStmt env (stmt_view stmt) typed
+  pub for_rule : (typed : Stmt) → IsStmt env whole (pure_stmt typed) → IsStmt env (stmt_view stmt) (pure_stmt typed)
   for_rule typed h = rw (is, view-for) h
 
 -- what follows from what is said of an Ok
@@ -277,12 +280,12 @@ on_ok {A} {B} P e h = let Q : Result A B → Type 0 = λ one. OnOk one P in subs
 pub for_typed : (env first now : Env) (start : source_start.ForStart) (test : Option source_expr.Expr) (step : Option source_simple.Simple) (body : source.Stmt)
     (typed_start : ForStart) (typed_test : Option Expr) (typed_step : Option Simple) (a : Box Stmt Global)
     → first ≡ opened env → now ≡ after_start first (start_view start)
-    → IsStart first (start_view start) typed_start → IsTest now (option_map view test) typed_test → IsStep now (option_map simple_view step) typed_step
-    → IsStmt now (stmt_view body) a.value → (keyword opening start_end test_end closing : Span)
-    → IsStmt env (t.for keyword opening (start_view start) start_end (option_map view test) test_end (option_map simple_view step) closing (stmt_view body)) (s.For typed_start typed_test typed_step a)
+    → IsStart first (start_view start) (pure_start typed_start) → IsTest now (option_map view test) (option_map pure_expr typed_test)
+    → IsStep now (option_map simple_view step) (option_map pure_simple typed_step) → IsStmt now (stmt_view body) (pure_stmt a.value) → (keyword opening start_end test_end closing : Span)
+    → IsStmt env (t.for keyword opening (start_view start) start_end (option_map view test) test_end (option_map simple_view step) closing (stmt_view body)) (pure_stmt (s.For typed_start typed_test typed_step a))
 for_typed env first now start test step body typed_start typed_test typed_step a o n b d k h keyword opening start_end test_end closing =
     let m : now ≡ after_start (opened env) (start_view start) = n ∙ ap (λ one. after_start one (start_view start)) o in
-    x.for (rw o at b) (rw m at d) (rw m at k) (rw m at h)
+    rw pure-for (x.for (rw o at b) (rw m at d) (rw m at k) (rw m at h))
 
 -- ---- parts
 
@@ -292,16 +295,16 @@ declare_faultless env part declaration end is f =
     let g : IsFaultlessPart env (t.declare (declaration_view declaration) end) = rw (is, view-declare) at f in g.2
 
 pub declare_rule : (env : Env) (part : source_part.Part) (declaration : source_declaration.Declaration) (end : Span) (typed : Declaration) → part ≡ tp.Declaration declaration end
-    → IsDeclaration env (declaration_view declaration) typed → IsPart env (part_view part) (q.Declaration typed)
-declare_rule env part declaration end typed is h = rw (is, view-declare) (x.declare h)
+    → IsDeclaration env (declaration_view declaration) (pure_declaration typed) → IsPart env (part_view part) (pure_part (q.Declaration typed))
+declare_rule env part declaration end typed is h = rw (is, view-declare, pure-declare) (x.declare h)
 
 pub stmt_faultless : (env : Env) (part : source_part.Part) (inner : source.Stmt) → part ≡ tp.Stmt inner → IsFaultlessPart env (part_view part) → IsFaultless env (stmt_view inner)
 stmt_faultless env part inner is f =
     let g : IsFaultlessPart env (t.stmt (stmt_view inner)) = rw (is, view-stmt) at f in (g.0, g.1, g.2)
 
 pub stmt_rule : (env : Env) (part : source_part.Part) (inner : source.Stmt) (typed : Stmt) → part ≡ tp.Stmt inner
-    → IsStmt env (stmt_view inner) typed → IsPart env (part_view part) (q.Stmt typed)
-stmt_rule env part inner typed is h = rw (is, view-stmt) (x.stmt h)
+    → IsStmt env (stmt_view inner) (pure_stmt typed) → IsPart env (part_view part) (pure_part (q.Stmt typed))
+stmt_rule env part inner typed is h = rw (is, view-stmt, pure-stmt) (x.stmt h)
 
 pub part_next : (env : Env) (parts : List source_part.Part) (i : ℕ) (part : source_part.Part) → i < length parts → part ≡ get_or parts i part
     → AreFaultless env (parts_view (drop i parts)) → IsFaultlessPart env (part_view part)
@@ -320,17 +323,17 @@ pub parts_after : (env now last : Env) (parts : List source_part.Part) (i : ℕ)
 parts_after env now last parts i part less is n e = rw n (sym (after_parts_next env parts i part less is) ∙ e)
 
 pub parts_more : (env start now : Env) (parts : List source_part.Part) (i : ℕ) (part : source_part.Part) (before after : List Part) (typed : Part)
-    → after ≡ before ++ typed ∷ [] → i < length parts → part ≡ get_or parts i part → IsPart env (part_view part) typed → now ≡ after_part env (part_view part)
-    → ((more : List Part) → AreParts env (parts_view (drop i parts)) more → AreParts start (parts_view parts) (before ++ more))
-    → (more : List Part) → AreParts now (parts_view (drop (i + 1) parts)) more → AreParts start (parts_view parts) (after ++ more)
+    → after ≡ before ++ typed ∷ [] → i < length parts → part ≡ get_or parts i part → IsPart env (part_view part) (pure_part typed) → now ≡ after_part env (part_view part)
+    → ((more : List Part) → AreParts env (parts_view (drop i parts)) (pure_parts more) → AreParts start (parts_view parts) (pure_parts (before ++ more)))
+    → (more : List Part) → AreParts now (parts_view (drop (i + 1) parts)) (pure_parts more) → AreParts start (parts_view parts) (pure_parts (after ++ more))
 parts_more env start now parts i part before after typed e less is h n =
-    let P : Env → List source_part.Part → List Part → Type 0 = λ here left all. AreParts here (parts_view left) all in
+    let P : Env → List source_part.Part → List Part → Type 0 = λ here left all. AreParts here (parts_view left) (pure_parts all) in
     grown (P env (drop i parts)) (P now (drop (i + 1) parts)) (P start parts) before after typed e
     (λ more rest. subst (λ left. P env left (typed ∷ more)) (sym (drop_at parts i part less is))
     (x.part h (subst (λ here. P here (drop (i + 1) parts) more) n rest)))
 
 pub parts_end : (env start : Env) (parts : List source_part.Part) (i : ℕ) (typed : List Part) → length parts ≤ i
-    → ((more : List Part) → AreParts env (parts_view (drop i parts)) more → AreParts start (parts_view parts) (typed ++ more)) → AreParts start (parts_view parts) typed
+    → ((more : List Part) → AreParts env (parts_view (drop i parts)) (pure_parts more) → AreParts start (parts_view parts) (pure_parts (typed ++ more))) → AreParts start (parts_view parts) (pure_parts typed)
 parts_end env start parts i typed past so_far =
-    let P : Env → List source_part.Part → List Part → Type 0 = λ here left all. AreParts here (parts_view left) all in
+    let P : Env → List source_part.Part → List Part → Type 0 = λ here left all. AreParts here (parts_view left) (pure_parts all) in
     ended (P env (drop i parts)) (P start parts) typed (subst (λ left. P env left []) (sym (drop_past parts i past)) x.no_part) so_far

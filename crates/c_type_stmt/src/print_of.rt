@@ -1,11 +1,12 @@
 //! Typed calls of `printf`.
-ghost use Rattle.std.specs.Prelude.{◌≡◌, IfOk, Some, [], drop, slice_get, true};
+ghost use Rattle.std.specs.Prelude.{◌≡◌, IfOk, Some, [], drop, map, slice_get, true};
 ghost use Rattle.std.specs.Option.{is_some};
 ghost use Rattle.c_grammar.specs.declared.terminal.Span.{Span};
 ghost use Rattle.c_grammar.specs.StmtView.{argument_view, call_view};
 ghost use Rattle.c_grammar.specs.Tree as t;
 ghost use Rattle.c_names.specs.FormatReading.{pieces_of};
 ghost use Rattle.c_names.specs.declared.predefined.Predefined.TheVariants as p;
+ghost use Rattle.c_program.specs.View.{pure_expr, pure_simple};
 ghost use Rattle.c_check.specs.Calls.{arguments_of, call_faults, numbers_faults};
 ghost use Rattle.c_check.specs.Calls as checked;
 ghost use Rattle.c_check_expr.specs.Scopes.{meaning};
@@ -60,7 +61,7 @@ fn format_of(alloc: Global, scope: &Scope, at: Span) -> Result<Vec<FormatPiece>,
 /// The ints after a format.
 fn numbers_of(alloc: Global, scope: &Scope, call: &statement::Call) -> Result<Vec<Expr>, AllocError>
     requires { numbers_faults scope.now (drop 1 (arguments_of (call_view call.now))) ≡ [] }
-    ensures { IfOk result (λ typed. AreValues scope.now (drop 1 (arguments_of (call_view call.now))) typed.items) }
+    ensures { IfOk result (λ typed. AreValues scope.now (drop 1 (arguments_of (call_view call.now))) (map pure_expr typed.items)) }
 {
     let mut typed = Vec::new(alloc);
     for place in 1..argument_count(call) {
@@ -76,7 +77,7 @@ fn numbers_of(alloc: Global, scope: &Scope, call: &statement::Call) -> Result<Ve
 pub fn print_of(alloc: Global, scope: &Scope, call: &statement::Call) -> Result<Simple, AllocError>
     requires meaning { meaning scope.now call.now.name ≡ m.Known p.Printf }
     requires faults { call_faults scope.now (call_view call.now) ≡ [] }
-    ensures { IfOk result (λ typed. IsSimple scope.now (t.invoke (call_view call.now)) typed) }
+    ensures { IfOk result (λ typed. IsSimple scope.now (t.invoke (call_view call.now)) (pure_simple typed)) }
 {
     let format = format_of(alloc, scope, first_text(call))?;
     let arguments = numbers_of(alloc, scope, call)?;

@@ -1,5 +1,5 @@
 //! Typed statements and declarations.
-ghost use Rattle.std.specs.Prelude.{◌≡◌, ◌++◌, ◌∷◌, Bool, [], IfOk, Ok, OnOk, Some, option_map};
+ghost use Rattle.std.specs.Prelude.{◌≡◌, ◌++◌, ◌∷◌, Bool, [], IfOk, Ok, OnOk, Some, map, option_map};
 ghost use Rattle.std.specs.declared.alloc.Global.{Global};
 ghost use Rattle.std.specs.declared.boxed.Box.{Box};
 ghost use Rattle.c_grammar.specs.declared.terminal.Span.{Span};
@@ -13,6 +13,7 @@ ghost use Rattle.c_check.specs.Statements.{after_declaration, after_item, after_
 ghost use Rattle.c_check_expr.specs.declared.meaning.Entity.{Entity};
 ghost use Rattle.c_program.specs.declared.statement.Stmt as typed;
 ghost use Rattle.c_program.specs.declared.statement.Stmt.TheVariants as v;
+ghost use Rattle.c_program.specs.View.{pure_declaration, pure_expr, pure_initial, pure_item, pure_part, pure_parts, pure_right, pure_simple, pure_start, pure_stmt};
 ghost use Rattle.c_type_expr.specs.Exprs.{IsExpr};
 ghost use Rattle.c_type_stmt.specs.Statements.{AreExprs, AreParts, IsDeclaration, IsInitializer, IsItem, IsPart, IsReturn, IsSimple, IsStart, IsStep, IsStmt, IsTest, length_in, update_of};
 
@@ -63,8 +64,8 @@ fn step_of(
     place: &tree::Place,
     operator: Symbol,
 ) -> Result<Simple, AllocError>
-    ensures after { IfOk result (λ typed. (at : Span) → IsSimple scope.now (t.after (place_view place.now) operator at) typed) }
-    ensures before { IfOk result (λ typed. (at : Span) → IsSimple scope.now (t.before operator at (place_view place.now)) typed) }
+    ensures after { IfOk result (λ typed. (at : Span) → IsSimple scope.now (t.after (place_view place.now) operator at) (pure_simple typed)) }
+    ensures before { IfOk result (λ typed. (at : Span) → IsSimple scope.now (t.before operator at (place_view place.now)) (pure_simple typed)) }
 {
     Ok(Simple::Update {
         place: place_of(alloc, scope, place)?,
@@ -80,7 +81,7 @@ fn call_statement(
     call: &statement::Call,
 ) -> Result<Simple, AllocError>
     requires { call_faults scope.now (call_view call.now) ≡ [] }
-    ensures { IfOk result (λ typed. IsSimple scope.now (t.invoke (call_view call.now)) typed) }
+    ensures { IfOk result (λ typed. IsSimple scope.now (t.invoke (call_view call.now)) (pure_simple typed)) }
 {
     match scope.meaning(call.name) {
         Meaning::Declared(Entity::Function(number)) => {
@@ -99,7 +100,7 @@ fn call_statement(
 /// The typed assignment or call of one without faults.
 fn simple_of(alloc: Global, scope: &Scope, simple: &statement::Simple) -> Result<Simple, AllocError>
     requires { simple_faults scope.now (simple_view simple.now) ≡ [] }
-    ensures { IfOk result (λ typed. IsSimple scope.now (simple_view simple.now) typed) }
+    ensures { IfOk result (λ typed. IsSimple scope.now (simple_view simple.now) (pure_simple typed)) }
 {
     match simple {
         statement::Simple::Assign {
@@ -139,7 +140,7 @@ fn values_of(
     scope: &Scope,
     values: &statement::CommaList<tree::Expr>,
 ) -> Result<Vec<Expr>, AllocError>
-    ensures { IfOk result (λ typed. AreExprs scope.now (listed (comma_list_view view values.now)) typed.items) }
+    ensures { IfOk result (λ typed. AreExprs scope.now (listed (comma_list_view view values.now)) (map pure_expr typed.items)) }
 {
     let mut typed = Vec::new(alloc);
     typed.push(expr_of(alloc, scope, &values.first)?)?;
@@ -155,7 +156,7 @@ fn begun_of(
     initial: &statement::Initializer,
 ) -> Result<Initializer, AllocError>
     requires { (name : Span) × (entity : Entity) × (initial_faults scope.now name entity (Some (initial_view initial.now)) ≡ []) }
-    ensures { IfOk result (λ typed. IsInitializer scope.now (Some (initial_view initial.now)) typed) }
+    ensures { IfOk result (λ typed. IsInitializer scope.now (Some (initial_view initial.now)) (pure_initial typed)) }
 {
     match initial {
         statement::Initializer::Right { right, .. } => {
@@ -173,7 +174,7 @@ fn initial_of(
     initial: &Option<statement::Initializer>,
 ) -> Result<Initializer, AllocError>
     requires { (name : Span) × (entity : Entity) × (initial_faults scope.now name entity (option_map initial_view initial.now) ≡ []) }
-    ensures { IfOk result (λ typed. IsInitializer scope.now (option_map initial_view initial.now) typed) }
+    ensures { IfOk result (λ typed. IsInitializer scope.now (option_map initial_view initial.now) (pure_initial typed)) }
 {
     match initial {
         None => Ok(Initializer::Nothing),
@@ -202,7 +203,7 @@ fn item_of(
     item: &statement::InitDeclarator,
 ) -> Result<InitDeclarator, AllocError>
     requires { item_faults scope.old kind (item_view item.now) ≡ [] }
-    ensures typed { IfOk result (λ typed. IsItem scope.old kind (item_view item.now) typed) }
+    ensures typed { IfOk result (λ typed. IsItem scope.old kind (item_view item.now) (pure_item typed)) }
     ensures scope { OnOk result (scope.new ≡ after_item scope.old kind (item_view item.now)) }
 {
     let span = place_first_token(&item.place);
@@ -225,7 +226,7 @@ fn declaration_of(
     declaration: &statement::Declaration,
 ) -> Result<Declaration, AllocError>
     requires { declaration_faults scope.old (declaration_view declaration.now) ≡ [] }
-    ensures typed { IfOk result (λ typed. IsDeclaration scope.old (declaration_view declaration.now) typed) }
+    ensures typed { IfOk result (λ typed. IsDeclaration scope.old (declaration_view declaration.now) (pure_declaration typed)) }
     ensures scope { OnOk result (scope.new ≡ after_declaration scope.old (declaration_view declaration.now)) }
 {
     let kind = kind_of_symbol(declaration.kind);
@@ -243,7 +244,7 @@ fn start_of(
     start: &statement::ForStart,
 ) -> Result<ForStart, AllocError>
     requires { start_faults scope.old (start_view start.now) ≡ [] }
-    ensures typed { IfOk result (λ typed. IsStart scope.old (start_view start.now) typed) }
+    ensures typed { IfOk result (λ typed. IsStart scope.old (start_view start.now) (pure_start typed)) }
     ensures scope { OnOk result (scope.new ≡ after_start scope.old (start_view start.now)) }
 {
     match start {
@@ -266,7 +267,7 @@ fn returned_of(
     value: &Option<statement::Right>,
 ) -> Result<Option<Right>, AllocError>
     requires { (gives : Bool) × (return_faults scope.now gives (option_map right_view value.now) ≡ []) }
-    ensures { IfOk result (λ typed. IsReturn scope.now (option_map right_view value.now) typed) }
+    ensures { IfOk result (λ typed. IsReturn scope.now (option_map right_view value.now) (option_map pure_right typed)) }
 {
     match value {
         Some(right) => Ok(Some(right_of(alloc, scope, right)?)),
@@ -279,7 +280,7 @@ fn test_of(
     scope: &Scope,
     test: &Option<tree::Expr>,
 ) -> Result<Option<Expr>, AllocError>
-    ensures { IfOk result (λ typed. IsTest scope.now (option_map view test.now) typed) }
+    ensures { IfOk result (λ typed. IsTest scope.now (option_map view test.now) (option_map pure_expr typed)) }
 {
     match test {
         Some(e) => Ok(Some(expr_of(alloc, scope, e)?)),
@@ -293,7 +294,7 @@ fn turn_of(
     step: &Option<statement::Simple>,
 ) -> Result<Option<Simple>, AllocError>
     requires { step_faults scope.now (option_map simple_view step.now) ≡ [] }
-    ensures { IfOk result (λ typed. IsStep scope.now (option_map simple_view step.now) typed) }
+    ensures { IfOk result (λ typed. IsStep scope.now (option_map simple_view step.now) (option_map pure_simple typed)) }
 {
     match step {
         Some(simple) => Ok(Some(simple_of(alloc, scope, simple)?)),
@@ -323,7 +324,7 @@ fn if_else(
 #[cycle(statements)]
 fn stmt_of(alloc: Global, scope: &mut Scope, stmt: &statement::Stmt) -> Result<Stmt, AllocError>
     requires { (gives : Bool) × (loops : Bool) × (stmt_faults scope.old gives loops (stmt_view stmt.now) ≡ []) }
-    ensures typed { IfOk result (λ typed. IsStmt scope.old (stmt_view stmt.now) typed) }
+    ensures typed { IfOk result (λ typed. IsStmt scope.old (stmt_view stmt.now) (pure_stmt typed)) }
     ensures scope { OnOk result (scope.new ≡ scope.old) }
 {
     match stmt {
@@ -376,7 +377,7 @@ fn block_of(
     parts: &[statement::Part],
 ) -> Result<Vec<Part>, AllocError>
     requires { (gives : Bool) × (loops : Bool) × (parts_faults (opened scope.old) gives loops (parts_view parts.now) ≡ []) }
-    ensures typed { IfOk result (λ typed. AreParts (opened scope.old) (parts_view parts.now) typed.items) }
+    ensures typed { IfOk result (λ typed. AreParts (opened scope.old) (parts_view parts.now) (pure_parts typed.items)) }
     ensures scope { OnOk result (scope.new ≡ scope.old) }
 {
     scope.open()?;
@@ -398,7 +399,7 @@ fn for_of(
     requires start { start_faults (opened scope.old) (start_view start.now) ≡ [] }
     requires step { step_faults (after_start (opened scope.old) (start_view start.now)) (option_map simple_view step.now) ≡ [] }
     requires body { (gives : Bool) × (loops : Bool) × (stmt_faults (after_start (opened scope.old) (start_view start.now)) gives loops (stmt_view body.now) ≡ []) }
-    ensures typed { IfOk result (λ typed. (keyword opening start_end test_end closing : Span) → IsStmt scope.old (t.for keyword opening (start_view start.now) start_end (option_map view test.now) test_end (option_map simple_view step.now) closing (stmt_view body.now)) typed) }
+    ensures typed { IfOk result (λ typed. (keyword opening start_end test_end closing : Span) → IsStmt scope.old (t.for keyword opening (start_view start.now) start_end (option_map view test.now) test_end (option_map simple_view step.now) closing (stmt_view body.now)) (pure_stmt typed)) }
     ensures scope { OnOk result (scope.new ≡ scope.old) }
 {
     scope.open()?;
@@ -423,7 +424,7 @@ fn boxed_of(
     stmt: &statement::Stmt,
 ) -> Result<Box<Stmt>, AllocError>
     requires { (gives : Bool) × (loops : Bool) × (stmt_faults scope.old gives loops (stmt_view stmt.now) ≡ []) }
-    ensures typed { IfOk result (λ typed. IsStmt scope.old (stmt_view stmt.now) typed.value) }
+    ensures typed { IfOk result (λ typed. IsStmt scope.old (stmt_view stmt.now) (pure_stmt typed.value)) }
     ensures scope { OnOk result (scope.new ≡ scope.old) }
 {
     let typed = stmt_of(alloc, scope, stmt)?;
@@ -439,8 +440,8 @@ fn tested_of(
     test: &tree::Expr,
 ) -> Result<(Box<Stmt>, Expr), AllocError>
     requires { (gives : Bool) × (loops : Bool) × (stmt_faults scope.old gives loops (stmt_view stmt.now) ≡ []) }
-    ensures stmt { IfOk result (λ all. IsStmt scope.old (stmt_view stmt.now) all.0.value) }
-    ensures test { IfOk result (λ all. IsExpr scope.old (view test.now) all.1) }
+    ensures stmt { IfOk result (λ all. IsStmt scope.old (stmt_view stmt.now) (pure_stmt all.0.value)) }
+    ensures test { IfOk result (λ all. IsExpr scope.old (view test.now) (pure_expr all.1)) }
     ensures scope { OnOk result (scope.new ≡ scope.old) }
 {
     let test = expr_of(alloc, scope, test);
@@ -451,7 +452,7 @@ fn tested_of(
 #[cycle(statements)]
 fn part_of(alloc: Global, scope: &mut Scope, part: &statement::Part) -> Result<Part, AllocError>
     requires { (gives : Bool) × (loops : Bool) × (part_faults scope.old gives loops (part_view part.now) ≡ []) }
-    ensures typed { IfOk result (λ typed. IsPart scope.old (part_view part.now) typed) }
+    ensures typed { IfOk result (λ typed. IsPart scope.old (part_view part.now) (pure_part typed)) }
     ensures scope { OnOk result (scope.new ≡ after_part scope.old (part_view part.now)) }
 {
     match part {
@@ -471,7 +472,7 @@ pub fn parts_of(
     parts: &[statement::Part],
 ) -> Result<Vec<Part>, AllocError>
     requires { (gives : Bool) × (loops : Bool) × (parts_faults scope.old gives loops (parts_view parts.now) ≡ []) }
-    ensures typed { IfOk result (λ typed. AreParts scope.old (parts_view parts.now) typed.items) }
+    ensures typed { IfOk result (λ typed. AreParts scope.old (parts_view parts.now) (pure_parts typed.items)) }
     ensures scope { OnOk result (scope.new ≡ after_parts scope.old (parts_view parts.now)) }
 {
     let mut typed = Vec::new(alloc);

@@ -14,7 +14,7 @@ use Rattle.c_parse.specs.Parsing as parsed
 use Rattle.c_parse.specs.Parsing.{IsTree, terminals_of}
 use Rattle.c_parse.proofs.OneReading as parsing
 use Rattle.c_parse.proofs.Parsed.{one_refusal}
-use Rattle.c_program.specs.declared.program.CProgram.{CProgram}
+use Rattle.c_program.specs.Tree.{Program}
 use Rattle.c_check.specs.Programs.{faults}
 use Rattle.c_check_expr.proofs.Least.{first_in_none, first_one}
 use Rattle.c_check_expr.specs.declared.fault.TypingFault.{TypingFault}
@@ -63,14 +63,14 @@ fault_one text fault other (x.of_types list tree l t a) (x.of_types list' tree' 
     let same : tree ≡ tree' = tree_one text list list' tree tree' (lists_one text list list' l l') t t' in
     one_first text (faults text tree') fault other (subst (λ one. IsFirstIn text (faults text one) fault) same a) b
 
-pub never_both : (text : List ℕ) (program : CProgram) (fault : SourceFault) → IsProgramOf text program → IsFaultOf text fault → ⊥
+pub never_both : (text : List ℕ) (program : Program) (fault : SourceFault) → IsProgramOf text program → IsFaultOf text fault → ⊥
 never_both text program fault p (x.of_tokens a) = list_no_fault text p.tokens fault p.lexed a
 never_both text program fault p (x.of_tree list l a) = tree_never text p.tokens list p.tree fault (lists_one text p.tokens list p.lexed l) p.parsed a
 never_both text program fault p (x.of_types list tree l t a) =
     let same : tree ≡ p.tree = tree_one text list p.tokens tree p.tree (lists_one text list p.tokens l p.lexed) t p.parsed in
     first_is_one text (faults text tree) fault a (ap (faults text) same ∙ p.faultless)
 
-pub refusal_only : (text : List ℕ) (fault : SourceFault) → (fault ≡ no_memory) ⊎ IsFaultOf text fault → (program : CProgram) → IsProgramOf text program → fault ≡ no_memory
+pub refusal_only : (text : List ℕ) (fault : SourceFault) → (fault ≡ no_memory) ⊎ IsFaultOf text fault → (program : Program) → IsProgramOf text program → fault ≡ no_memory
 refusal_only text fault (inl e) program p = e
 refusal_only text fault (inr f) program p = absurd (never_both text program fault p f)
 

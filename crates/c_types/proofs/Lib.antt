@@ -1,11 +1,5 @@
 pub mod CheckRules
 pub mod ProgramRules
-pub mod SameValues
-pub mod SameEffects
-pub mod SameSimples
-pub mod SameStatements
-pub mod SamePrograms
-pub mod Longer
+pub mod OneTyping
 pub mod Total
-pub mod FewTokens
 pub mod Always

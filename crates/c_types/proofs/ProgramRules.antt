@@ -1,5 +1,5 @@
 -- Parameters, functions and main, one more at a time.
-use Rattle.std.proofs.Common.{◌≡◌, ◌++◌, ◌+◌, ◌≤◌, ◌<◌, ℕ, zero, suc, cond, if◌then◌else◌, ◌||◌, Bool, true, false, List, [], ◌∷◌, length, map, drop, get_or, slice_get, Option, Some, None, refl, sym, subst, ap, ◌∙◌, append_assoc, arith}
+use Rattle.std.proofs.Common.{◌≡◌, ◌++◌, ◌+◌, ◌≤◌, ◌<◌, ℕ, zero, suc, cond, if◌then◌else◌, ◌||◌, Bool, true, false, List, [], ◌∷◌, length, map, drop, get_or, slice_get, Option, Some, None, option_map, refl, sym, subst, ap, ◌∙◌, append_assoc, arith}
 use Rattle.std.specs.List.{list_any, position_from}
 use Rattle.std.specs.Option.{is_some, option_to_list}
 use Rattle.c_grammar.specs.declared.terminal.Span.{Span}
@@ -14,6 +14,7 @@ use Rattle.c_check_expr.specs.declared.meaning.Entity.{Entity}
 use Rattle.c_lex.specs.declared.fault.Why.TheVariants.{NoMain}
 use Rattle.c_program.specs.declared.program.Function.{Function}
 use Rattle.c_program.specs.declared.program.Parameter.{Parameter}
+use Rattle.c_program.specs.View.{pure_function, pure_parts}
 use Rattle.c_check.proofs.Parameters.{after_parameters_next}
 use Rattle.c_check_expr.specs.Signatures.{is_int, parameters_listed}
 use Rattle.c_check.specs.Statements.{parts_faults}
@@ -100,7 +101,7 @@ body_faultless env first now main head parts o m n e =
 
 pub function_rule : (env first now : Env) (main : Bool) (head : t.Head) (parts : t.Parts) (typed : Function) → first ≡ opened env → main ≡ is_main env.text head
     → now ≡ after_parameters first main (parameters_listed head.listed)
-    → AreParameters first.text (parameters_listed head.listed) typed.parameters.items → AreParts now parts typed.body.items → IsFunction env head parts typed
+    → AreParameters first.text (parameters_listed head.listed) typed.parameters.items → AreParts now parts (pure_parts typed.body.items) → IsFunction env head parts (pure_function typed)
 function_rule env first now main head parts typed o m n parameters body = record {
   parameters = rw o at parameters;
   body = rw (n, o, m) at body;
@@ -133,26 +134,31 @@ externals_faultless env now externals i one less is n f =
     let e : externals_faults env f.0 (external_view one ∷ map external_view (drop (i + 1) externals)) ≡ [] = rw (drop_at externals i one less is) at f.1 in
     rw n (_, none_behind (external_faults env f.0 (external_view one)) _ e)
 
+listed_more : (typed : Option Function) (more : List Function) → map pure_function (option_to_list typed ++ more) ≡ option_to_list (option_map pure_function typed) ++ map pure_function more
+listed_more None more = refl
+listed_more (Some one) more = refl
+
 pub functions_more : (env start now : Env) (externals : List source_external.ExternalDeclaration) (i : ℕ) (one : source_external.ExternalDeclaration) (before after : List Function) (typed : Option Function)
     → after ≡ before ++ option_to_list typed → i < length externals → one ≡ get_or externals i one
-    → IsFunctionOf env (external_view one) typed → now ≡ after_external env (external_view one)
-    → ((more : List Function) → AreFunctions env (map external_view (drop i externals)) more → AreFunctions start (map external_view externals) (before ++ more))
-    → (more : List Function) → AreFunctions now (map external_view (drop (i + 1) externals)) more → AreFunctions start (map external_view externals) (after ++ more)
+    → IsFunctionOf env (external_view one) (option_map pure_function typed) → now ≡ after_external env (external_view one)
+    → ((more : List Function) → AreFunctions env (map external_view (drop i externals)) (map pure_function more) → AreFunctions start (map external_view externals) (map pure_function (before ++ more)))
+    → (more : List Function) → AreFunctions now (map external_view (drop (i + 1) externals)) (map pure_function more) → AreFunctions start (map external_view externals) (map pure_function (after ++ more))
 functions_more env start now externals i one before after typed e less is h n so_far more rest =
-    let P : Env → List source_external.ExternalDeclaration → List Function → Type 0 = λ here left all. AreFunctions here (map external_view left) all in
+    let P : Env → List source_external.ExternalDeclaration → List Function → Type 0 = λ here left all. AreFunctions here (map external_view left) (map pure_function all) in
     let joined : before ++ (option_to_list typed ++ more) ≡ after ++ more =
     sym (append_assoc before (option_to_list typed) more) ∙ ap (λ all. all ++ more) (sym e) in
     subst (P start externals) joined
     (so_far (option_to_list typed ++ more)
     (subst (λ left. P env left (option_to_list typed ++ more)) (sym (drop_at externals i one less is))
-    (x.external h (subst (λ here. P here (drop (i + 1) externals) more) n rest))))
+    (subst (λ all. AreFunctions env (external_view one ∷ map external_view (drop (i + 1) externals)) all) (sym (listed_more typed more))
+    (x.external h (subst (λ here. P here (drop (i + 1) externals) more) n rest)))))
 
 pub functions_end : (env start : Env) (externals : List source_external.ExternalDeclaration) (i : ℕ) (typed : List Function) → length externals ≤ i
-    → ((more : List Function) → AreFunctions env (map external_view (drop i externals)) more → AreFunctions start (map external_view externals) (typed ++ more))
-    → AreFunctions start (map external_view externals) typed
+    → ((more : List Function) → AreFunctions env (map external_view (drop i externals)) (map pure_function more) → AreFunctions start (map external_view externals) (map pure_function (typed ++ more)))
+    → AreFunctions start (map external_view externals) (map pure_function typed)
 functions_end env start externals i typed past so_far =
-    let P : List source_external.ExternalDeclaration → List Function → Type 0 = λ left all. AreFunctions env (map external_view left) all in
-    ended (P (drop i externals)) (λ all. AreFunctions start (map external_view externals) all) typed (subst (λ left. P left []) (sym (drop_past externals i past)) x.no_external) so_far
+    let P : List source_external.ExternalDeclaration → List Function → Type 0 = λ left all. AreFunctions env (map external_view left) (map pure_function all) in
+    ended (P (drop i externals)) (λ all. AreFunctions start (map external_view externals) (map pure_function all)) typed (subst (λ left. P left []) (sym (drop_past externals i past)) x.no_external) so_far
 
 -- ---- main
 

@@ -8,7 +8,7 @@ use Rattle.c_lex.specs.declared.token.Token.{Token}
 use Rattle.c_grammar.specs.Tree as t
 use Rattle.c_parse.specs.Parsing as parsed
 use Rattle.c_parse.specs.Parsing.{IsTree}
-use Rattle.c_program.specs.declared.program.CProgram.{CProgram}
+use Rattle.c_program.specs.Tree.{Program}
 use Rattle.c_types.specs.Programs.{IsProgram}
 use Rattle.c_check.specs.Programs.{faults}
 use Rattle.c_check_expr.specs.Least.{IsFirst}
@@ -22,7 +22,7 @@ pub record IsFirstIn (text : List ℕ) (faults : List TypingFault) (found : Sour
   pub why : found.why ≡ fault.why
 
 -- a text's tree has no faults, and this is its typed program
-pub record IsProgramOf (text : List ℕ) (program : CProgram) : Type 0 where
+pub record IsProgramOf (text : List ℕ) (program : Program) : Type 0 where
   pub tokens : List Token
   pub tree : t.Tree
   pub lexed : AreTokens text tokens

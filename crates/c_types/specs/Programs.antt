@@ -4,11 +4,10 @@ use Rattle.std.specs.List.{position}
 use Rattle.std.specs.Option.{option_to_list}
 use Rattle.c_grammar.specs.declared.terminal.Span.{Span}
 use Rattle.c_grammar.specs.Tree as t
-use Rattle.c_program.specs.declared.program.CProgram.{CProgram}
-use Rattle.c_program.specs.declared.program.Function.{Function}
 use Rattle.c_program.specs.declared.program.Parameter.{Parameter}
 use Rattle.c_program.specs.declared.program.ParameterKind.{ParameterKind}
 use Rattle.c_program.specs.declared.program.ParameterKind.TheVariants as k
+use Rattle.c_program.specs.Tree.{Function, Program}
 use Rattle.c_check.specs.Programs.{after_parameters, after_external, heads_of, is_main, parameter_name, text_env}
 use Rattle.c_check_expr.specs.Scopes.{Env, token_bytes, opened}
 use Rattle.c_check_expr.specs.Signatures.{parameters_listed}
@@ -35,8 +34,8 @@ pub data AreParameters (text : List ℕ) : List t.Parameter → List Parameter �
 
 -- parameters share the scope of the function's block
 pub record IsFunction (env : Env) (head : t.Head) (parts : t.Parts) (typed : Function) : Type 0 where
-  pub parameters : AreParameters env.text (parameters_listed head.listed) typed.parameters.items
-  pub body : AreParts (after_parameters (opened env) (is_main env.text head) (parameters_listed head.listed)) parts typed.body.items
+  pub parameters : AreParameters env.text (parameters_listed head.listed) typed.parameters
+  pub body : AreParts (after_parameters (opened env) (is_main env.text head) (parameters_listed head.listed)) parts typed.body
 
 -- the function that stands at a place of the text, or nothing
 pub data IsFunctionOf (env : Env) : t.ExternalDeclaration → Option Function → Type 0 where
@@ -52,6 +51,6 @@ pub data AreFunctions : Env → List t.ExternalDeclaration → List Function →
       → IsFunctionOf env external typed → AreFunctions (after_external env external) externals others → AreFunctions env (external ∷ externals) (option_to_list typed ++ others)
 
 -- the typed program of a tree
-pub record IsProgram (text : List ℕ) (tree : t.Tree) (program : CProgram) : Type 0 where
-  pub functions : AreFunctions (text_env text tree) tree program.functions.items
+pub record IsProgram (text : List ℕ) (tree : t.Tree) (program : Program) : Type 0 where
+  pub functions : AreFunctions (text_env text tree) tree program.functions
   pub main : position (is_main text) (heads_of tree) ≡ Some program.main

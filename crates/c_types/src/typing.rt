@@ -1,5 +1,5 @@
 //! Checking a tree, and reading a program.
-ghost use Rattle.std.specs.Prelude.{◌≡◌, ◌≤◌, ◌⊎◌, ◌++◌, ℕ, List, IfErr, IfOk, MatchResult, OnOk, Some, [], length, map, min, true};
+ghost use Rattle.std.specs.Prelude.{◌≡◌, ◌≤◌, ◌⊎◌, ◌++◌, ℕ, List, IfErr, IfOk, MatchResult, OnOk, Some, [], length, map, min, option_map, true};
 ghost use Rattle.std.specs.List.{list_any, position};
 ghost use Rattle.std.specs.Option.{is_some, option_to_list};
 ghost use Rattle.c_grammar.specs.StmtGrammar.{AreExternals, IsExternal, is_named};
@@ -8,7 +8,8 @@ ghost use Rattle.c_lex.specs.NoMemory.{no_memory};
 ghost use Rattle.c_lex.specs.Places.{IsPlaceOf};
 ghost use Rattle.c_lex.specs.declared.fault.SourceFault.{SourceFault};
 ghost use Rattle.c_lex.specs.declared.limits.TheConstants.{MOST_BYTES};
-ghost use Rattle.c_program.specs.declared.program.CProgram.{CProgram};
+ghost use Rattle.c_program.specs.Tree as pure;
+ghost use Rattle.c_program.specs.View.{pure_function, pure_program};
 ghost use Rattle.c_check.specs.Programs.{after_parameter, after_parameters, after_external, faults, function_faults, heads_of, is_main, parameter_name, external_faults, externals_faults, with_head};
 ghost use Rattle.c_check_expr.specs.Signatures.{parameters_listed};
 ghost use Rattle.c_types.specs.Checks.{IsFaultOf, IsFirstIn, IsProgramOf};
@@ -96,7 +97,7 @@ fn function_of(
 ) -> Result<Function, AllocError>
     requires named { is_named (parameters_view head.now.parameters) ≡ true }
     requires faults { function_faults scope.old (head_view head.now) (parts_view parts.now) ≡ [] }
-    ensures typed { IfOk result (λ typed. IsFunction scope.old (head_view head.now) (parts_view parts.now) typed) }
+    ensures typed { IfOk result (λ typed. IsFunction scope.old (head_view head.now) (parts_view parts.now) (pure_function typed)) }
     ensures scope { OnOk result (scope.new ≡ scope.old) }
 {
     let main = is_main(scope.text(), head);
@@ -115,7 +116,7 @@ fn external_of(
 ) -> Result<Option<Function>, AllocError>
     requires external { IsExternal (external_view external.now) }
     requires faults { (seen : List (List ℕ)) × (external_faults scope.old seen (external_view external.now) ≡ []) }
-    ensures typed { IfOk result (λ typed. IsFunctionOf scope.old (external_view external.now) typed) }
+    ensures typed { IfOk result (λ typed. IsFunctionOf scope.old (external_view external.now) (option_map pure_function typed)) }
     ensures scope { OnOk result (scope.new ≡ after_external scope.old (external_view external.now)) }
 {
     match external {
@@ -151,7 +152,7 @@ fn functions_of(
 ) -> Result<Vec<Function>, AllocError>
     requires externals { AreExternals (map external_view externals.now) }
     requires faults { externals_faults scope.old [] (map external_view externals.now) ≡ [] }
-    ensures { IfOk result (λ typed. AreFunctions scope.old (map external_view externals.now) typed.items) }
+    ensures { IfOk result (λ typed. AreFunctions scope.old (map external_view externals.now) (map pure_function typed.items)) }
 {
     let mut functions = Vec::new(alloc);
     for external in externals {
@@ -192,7 +193,7 @@ fn main_of(text: &[u8], externals: &[ExternalDeclaration]) -> usize
 fn program_of(alloc: Global, text: &[u8], tree: &Tree) -> Result<CProgram, AllocError>
     requires externals { AreExternals (tree_view tree.now) }
     requires faults { faults text.now (tree_view tree.now) ≡ [] }
-    ensures { IfOk result (λ program. IsProgram text.now (tree_view tree.now) program) }
+    ensures { IfOk result (λ program. IsProgram text.now (tree_view tree.now) (pure_program program)) }
 {
     let main = main_of(text, &tree.externals);
     let mut scope = text_scope(alloc, text, tree)?;
@@ -214,7 +215,7 @@ fn refused(text: &[u8], fault: TypingFault) -> SourceFault
 pub fn check(alloc: Global, text: &[u8], tree: Tree) -> Result<CProgram, SourceFault>
     requires fits { length text.now ≤ MOST_BYTES }
     requires externals { AreExternals (tree_view tree) }
-    ensures program { IfOk result (λ program. IsProgram text.now (tree_view tree) program) }
+    ensures program { IfOk result (λ program. IsProgram text.now (tree_view tree) (pure_program program)) }
     ensures none { IfOk result (λ program. faults text.now (tree_view tree) ≡ []) }
     ensures fault { IfErr result (λ found. (found ≡ no_memory) ⊎ IsFirstIn text.now (faults text.now (tree_view tree)) found) }
     ensures only { faults text.now (tree_view tree) ≡ [] → IfErr result (λ fault. fault ≡ no_memory) }
@@ -234,9 +235,9 @@ pub fn check(alloc: Global, text: &[u8], tree: Tree) -> Result<CProgram, SourceF
 /// The program of a text: its tokens, its tree and its types, in this order.
 pub fn read_program(alloc: Global, text: &[u8]) -> Result<CProgram, SourceFault>
     requires { length text.now ≤ MOST_BYTES }
-    ensures program { IfOk result (λ program. IsProgramOf text.now program) }
+    ensures program { IfOk result (λ program. IsProgramOf text.now (pure_program program)) }
     ensures fault { IfErr result (λ fault. (fault ≡ no_memory) ⊎ IsFaultOf text.now fault) }
-    ensures only { (program : CProgram) → IsProgramOf text.now program → IfErr result (λ fault. fault ≡ no_memory) }
+    ensures only { (program : pure.Program) → IsProgramOf text.now program → IfErr result (λ fault. fault ≡ no_memory) }
     ensures only_fault { (first : SourceFault) → IsFaultOf text.now first
         → MatchResult result (λ _. ⊥) (λ fault. (fault ≡ no_memory) ⊎ (fault ≡ first)) }
 {
@@ -246,12 +247,14 @@ pub fn read_program(alloc: Global, text: &[u8]) -> Result<CProgram, SourceFault>
     Ok(program)
 }
 
-/// Each text of at most 65,536 bytes has a program or one first fault, always one of them and never both.
+/// Each text has one program or one first fault, always one of them and never both.
 pub fn one_program()
     ensures one_fault { (text : List ℕ) (fault other : SourceFault)
         → IsFaultOf text fault → IsFaultOf text other → fault ≡ other }
-    ensures never_both { (text : List ℕ) (program : CProgram) (fault : SourceFault)
+    ensures one_program { (text : List ℕ) (program other : pure.Program)
+        → IsProgramOf text program → IsProgramOf text other → program ≡ other }
+    ensures never_both { (text : List ℕ) (program : pure.Program) (fault : SourceFault)
         → IsProgramOf text program → IsFaultOf text fault → ⊥ }
-    ensures always_one { (text : List ℕ) → length text ≤ MOST_BYTES
-        → ((program : CProgram) × IsProgramOf text program) ⊎ ((fault : SourceFault) × IsFaultOf text fault) }
+    ensures always_one { (text : List ℕ)
+        → ((program : pure.Program) × IsProgramOf text program) ⊎ ((fault : SourceFault) × IsFaultOf text fault) }
 {}

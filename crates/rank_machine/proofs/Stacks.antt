@@ -1,20 +1,19 @@
 -- Places that are opened and taken.
-use Rattle.std.proofs.Common.{◌≡◌, ◌≢◌, ◌∙◌, ◌+◌, ◌-◌, ◌<◌, ◌≤◌, ◌++◌, ℕ, ℤ, suc, true, false, List, [], ◌∷◌, Option, Some, None, Result, Ok, Err, refl, sym, ap, subst, arith, length, slice_get, take, drop, get_or, option_copied}
+use Rattle.std.proofs.Common.{◌≡◌, ◌≢◌, ◌∙◌, ◌+◌, ◌-◌, ◌<◌, ◌≤◌, ◌++◌, ℕ, ℤ, suc, true, List, [], ◌∷◌, Option, Some, None, Result, Ok, refl, sym, ap, subst, arith, length, slice_get, take, drop, get_or, map, option_copied, option_map}
 use Rattle.std.proofs.lemmas.List.{length-drop}
-use Rattle.mpi_call.specs.declared.call.Fault.{Fault}
-use Rattle.mpi_call.specs.declared.call.Fault.TheVariants.{Budget}
-use Rattle.c_program.specs.declared.expr.FunctionCall.{FunctionCall}
-use Rattle.c_program.specs.declared.expr.Expr.{Expr}
 use Rattle.c_program.specs.declared.statement.InitDeclarator.{InitDeclarator}
 use Rattle.std.specs.Borrow.{Bor}
 use Rattle.c_program.specs.declared.program.Function.{Function}
 use Rattle.c_program.specs.declared.state.StackMark.{StackMark}
 use Rattle.c_program.specs.declared.state.Passed.{Passed}
 use Rattle.c_program.specs.declared.statement.Part.{Part}
-use Rattle.c_program.specs.Courses.{Course, trapped}
-use Rattle.c_program.specs.Meaning.{Exits, Meaning, Passing, act, act_list, act_part, call_at, declare_all, exits_to, for_update, invoke, started, step, test, turn_exits, turns}
+use Rattle.c_program.specs.Courses.{Course}
+use Rattle.c_program.specs.Meaning.{Exits, Meaning, Passing, act, act_parts, act_part, call_at, declare_all, exits_to, for_update, invoke, started, step, test, turn_exits, turns}
 use Rattle.c_program.specs.Performing.{Onward}
 use Rattle.c_program.specs.State.{State, stack_mark, put}
+use Rattle.c_program.specs.Tree.{Expr, FunctionCall}
+use Rattle.c_program.specs.Tree as pure
+use Rattle.c_program.specs.View.{pure_expr, pure_function, pure_item, pure_part, pure_parts, pure_simple, pure_stmt}
 use Rattle.c_run_cells.specs.Comes.{Fails, Leads}
 use Rattle.c_run_cells.specs.Parts.{entered}
 use Rattle.c_run_cells.proofs.PartLaws.{entering}
@@ -67,12 +66,12 @@ fails-from course course' fail t e h = let P : Course → Type 0 = λ c. Fails c
 module _ (code : Code) (opens number : ℕ) (f : Function) (arguments : List Passed) (s : State) (few : opens < 100) (found : slice_get code.functions.now number ≡ Some f) where
   -- what stands behind the entry
   abbrev pub body_of : (ℤ → Onward) → Onward
-  body_of go t = act_list code.rank (call_at code.rank code.functions.now (100 - opens - 1)) f.body.items t (exits_to (stack_mark s) go)
+  body_of go t = act_parts code.rank (call_at code.rank (map pure_function code.functions.now) (100 - opens - 1)) (pure_parts f.body.items) t (exits_to (stack_mark s) go)
 
-  pub entry : (go : ℤ → Onward) → calls_in code opens number arguments s go ≡ entered f arguments s (body_of go)
+  pub entry : (go : ℤ → Onward) → calls_in code opens number arguments s go ≡ entered (pure_function f) arguments s (body_of go)
   entry go = entering code.rank code.functions.now (100 - opens) number f arguments s go (omega arith) found
 
-  pub call-opens : (xs ys : List Frame) (target : Target) (body : Bor (List Part)) (stack : Stack) → Leads {K = Onward} {A = Unit {0}} (λ go done. go) (entered f arguments) s (tt {0}) stack.state
+  pub call-opens : (xs ys : List Frame) (target : Target) (body : Bor (List Part)) (stack : Stack) → Leads {K = Onward} {A = Unit {0}} (λ go done. go) (entered (pure_function f) arguments) s (tt {0}) stack.state
       → body.now ≡ f.body.items → ys ≡ xs ++ Called (record { mark = stack_mark s; target = target }) ∷ [] → stack.frames.items ≡ ys ++ Rest body ∷ []
       → opens ≡ (within code xs).opens → stack.opens ≡ opens + 1 → IsAt (calls_in code opens number arguments s (given_to target (within code xs).exits)) code Done stack
   call-opens xs ys target body stack leads b e e' o n =
@@ -147,20 +146,20 @@ pub take-rest : {A : Type 0} (n : ℕ) (xs : List A) → take (length xs - n) (d
 take-rest n xs = rw (← length-drop n xs) (take-length (drop n xs))
 
 -- a turn that is taken
-pub repeats : (code : Code) (around next : LoopHere) (o : Open) (opens m : ℕ) (s t : State) → opens ≡ o.opens → turns_at around.turns s ≡ suc m → test (option_copied around.test) s ≡ Ok true
+pub repeats : (code : Code) (around next : LoopHere) (o : Open) (opens m : ℕ) (s t : State) → opens ≡ o.opens → turns_at around.turns s ≡ suc m → test (option_map pure_expr (option_copied around.test)) s ≡ Ok true
     → next ≡ record { test = around.test; update = around.update; body = around.body; turns = Some m } → Leads {K = Onward} {A = Unit {0}} (λ go done. go) step s (tt {0}) t
     → looping code opens around s o.exits ≡ (inside code (One around.body) (inside code (Turn around.update) (inside code (Repeat next) o))).exits.next t
 repeats code around next o opens m s t counted enough is e leads =
-    let update = for_update code.rank (calls_in code opens) (option_copied around.update) in
-    let body = started (act code.rank (calls_in code opens) around.body.now) in
-    turn-enters (turns_at around.turns s) m (option_copied around.test) update body s o.exits enough is
-    ∙ leads.at (λ (s : State). body s (turn_exits update (λ s. turns m (option_copied around.test) update body s o.exits) o.exits))
+    let update = for_update code.rank (calls_in code opens) (option_map pure_simple (option_copied around.update)) in
+    let body = started (act code.rank (calls_in code opens) (pure_stmt around.body.now)) in
+    turn-enters (turns_at around.turns s) m (option_map pure_expr (option_copied around.test)) update body s o.exits enough is
+    ∙ leads.at (λ (s : State). body s (turn_exits update (λ s. turns m (option_map pure_expr (option_copied around.test)) update body s o.exits) o.exits))
     ∙ rw (e, ← counted) refl
 
 -- a part that is taken from the innermost block
 pub rest-goes : (code : Code) (xs ys zs : List Frame) (parts rest : Bor (List Part)) (first : Part) (s : State) (opens : ℕ) (result : Result Reached Fail) (stack : Stack)
     → ys ≡ xs ++ Rest parts ∷ [] → parts.now ≡ first ∷ rest.now → zs ≡ xs ++ Rest rest ∷ [] → opens ≡ (within code ys).opens
-    → Stands (started (act_part code.rank (calls_in code opens) first) s (within code zs).exits) code result stack → Stands ((within code ys).exits.next s) code result stack
+    → Stands (started (act_part code.rank (calls_in code opens) (pure_part first)) s (within code zs).exits) code result stack → Stands ((within code ys).exits.next s) code result stack
 rest-goes code xs ys zs parts rest first s opens result stack e n e' o h =
     let p = pushed code xs ys (Rest parts) e in
     let q = pushed code xs zs (Rest rest) e' in
@@ -168,8 +167,8 @@ rest-goes code xs ys zs parts rest first s opens result stack e n e' o h =
     stands-from _ _ _ _ _ (ap (λ (o : Open). o.exits.next s) p ∙ rw n refl) (rw (q, o') at h)
 
 -- a call whose value a variable begins with
-pub item-calls : (code : Code) (xs ys zs : List Frame) (opens opens' cell : ℕ) (call : FunctionCall) (rest : Bor (List InitDeclarator)) (others : List InitDeclarator) (t : State) (result : Result Reached Fail) (stack : Stack) (course : Course)
-    → ys ≡ xs → zs ≡ ys ++ Items rest ∷ [] → opens' ≡ opens → opens ≡ (within code xs).opens → rest.now ≡ others
+pub item-calls : (code : Code) (xs ys zs : List Frame) (opens opens' cell : ℕ) (call : FunctionCall) (rest : Bor (List InitDeclarator)) (others : List pure.InitDeclarator) (t : State) (result : Result Reached Fail) (stack : Stack) (course : Course)
+    → ys ≡ xs → zs ≡ ys ++ Items rest ∷ [] → opens' ≡ opens → opens ≡ (within code xs).opens → map pure_item rest.now ≡ others
     → course ≡ invoke (calls_in code opens) call t (λ v s. declare_all (calls_in code opens) others (put cell v s) (within code xs).exits.next)
     → Stands (invoke (calls_in code opens') call t (given_to (Cell None cell) (within code zs).exits)) code result stack → Stands course code result stack
 item-calls code xs ys zs opens opens' cell call rest others t result stack course ey ez eo o er ec h =

@@ -1,20 +1,15 @@
 -- What a stack of open places stands for: how many calls are open, and where each way out of the innermost place leads.
-use Rattle.std.specs.Prelude.{◌≡◌, ◌≤◌, ◌+◌, ◌-◌, ◌*◌, ℕ, ℤ, suc, List, [], ◌∷◌, Option, Some, None, Result, Ok, Err, length, ◌<◌, option_copied}
+use Rattle.std.specs.Prelude.{◌≡◌, ◌≤◌, ◌+◌, ◌-◌, ◌*◌, ℕ, ℤ, suc, List, [], ◌∷◌, Option, Some, None, Result, Ok, Err, length, ◌<◌, map, option_copied, option_map}
 use Rattle.c_program.specs.declared.constants.TheConstants.{MOST_CALLS}
 use Rattle.c_program.specs.declared.effect.Rank.{Rank}
-use Rattle.c_program.specs.declared.expr.Expr.{Expr}
-use Rattle.c_program.specs.declared.expr.FunctionCall.{FunctionCall}
-use Rattle.c_program.specs.declared.expr.Right.TheVariants.{Value as ValueRight, Call as CallRight}
-use Rattle.c_program.specs.declared.statement.Initializer.{Initializer}
-use Rattle.c_program.specs.declared.statement.Initializer.TheVariants.{Nothing as NoInitial, Right as RightInitial, Values}
 use Rattle.c_program.specs.Values.{value}
-use Rattle.c_program.specs.declared.statement.ForStart.{ForStart}
-use Rattle.c_program.specs.declared.statement.Simple.{Simple}
-use Rattle.c_program.specs.declared.statement.Stmt.{Stmt}
 use Rattle.c_program.specs.Courses.{Course, ended}
-use Rattle.c_program.specs.Meaning.{Calls, Exits, Meaning, Passing, act, act_list, call_at, choose, declare_all, exits_to, for_start, for_update, leaving, put_values, started, test, trying, turns}
+use Rattle.c_program.specs.Meaning.{Calls, Exits, Meaning, Passing, act, act_parts, call_at, choose, declare_all, exits_to, for_start, for_update, leaving, put_values, started, test, trying, turns}
 use Rattle.c_program.specs.Performing.{Onward}
 use Rattle.c_program.specs.State.{State, leave, stack_mark, put}
+use Rattle.c_program.specs.Tree as t
+use Rattle.c_program.specs.Tree.{Expr, ForStart, FunctionCall, Initializer, Simple, Stmt}
+use Rattle.c_program.specs.View.{pure_expr, pure_function, pure_item, pure_parts, pure_simple, pure_stmt}
 use Rattle.c_run_cells.specs.Comes.{Fails}
 use Rattle.c_run_cells.specs.Parts.{assigned}
 use Rattle.c_run_cells.specs.declared.fail.Fail.{Fail}
@@ -36,7 +31,7 @@ pub record Open : Type 0 where
 
 -- what calls of functions of the text do, where so many are open; at most `MOST_CALLS` may be
 abbrev pub calls_in : Code → ℕ → Calls
-calls_in code opens = call_at code.rank code.functions.now (MOST_CALLS - opens)
+calls_in code opens = call_at code.rank (map pure_function code.functions.now) (MOST_CALLS - opens)
 
 -- a call's value goes where it is wanted
 abbrev pub given_to : Target → Exits → ℤ → Onward
@@ -56,19 +51,19 @@ turns_at (Some n) s = n
 -- a loop, by the turns that it may take
 abbrev pub looping : Code → ℕ → Loop → Meaning
 looping code opens l s k =
-    turns (turns_at l.turns s) (option_copied l.test) (for_update code.rank (calls_in code opens) (option_copied l.update)) (started (act code.rank (calls_in code opens) l.body.now)) s k
+    turns (turns_at l.turns s) (option_map pure_expr (option_copied l.test)) (for_update code.rank (calls_in code opens) (option_map pure_simple (option_copied l.update))) (started (act code.rank (calls_in code opens) (pure_stmt l.body.now))) s k
 
 -- what is open inside one more place
 abbrev pub inside : Code → Frame → Open → Open
-inside code (One stmt) o = record o { exits = record o.exits { next = λ s. started (act code.rank (calls_in code o.opens) stmt.now) s o.exits } }
-inside code (Rest parts) o = record o { exits = record o.exits { next = λ s. act_list code.rank (calls_in code o.opens) parts.now s o.exits } }
-inside code (Items items) o = record o { exits = record o.exits { next = λ s. declare_all (calls_in code o.opens) items.now s o.exits.next } }
+inside code (One stmt) o = record o { exits = record o.exits { next = λ s. started (act code.rank (calls_in code o.opens) (pure_stmt stmt.now)) s o.exits } }
+inside code (Rest parts) o = record o { exits = record o.exits { next = λ s. act_parts code.rank (calls_in code o.opens) (pure_parts parts.now) s o.exits } }
+inside code (Items items) o = record o { exits = record o.exits { next = λ s. declare_all (calls_in code o.opens) (map pure_item items.now) s o.exits.next } }
 inside code (Block mark) o = record o { exits = leaving mark o.exits }
 inside code (Repeat l) o = record o { exits = record o.exits { next = λ s. looping code o.opens l s o.exits; broke = o.exits.next } }
 inside code (Turn update) o = record o {
   exits = record o.exits {
-    next = λ s. updating code o.opens (option_copied update) s o.exits.next;
-    again = λ s. updating code o.opens (option_copied update) s o.exits.next;
+    next = λ s. updating code o.opens (option_map pure_simple (option_copied update)) s o.exits.next;
+    again = λ s. updating code o.opens (option_map pure_simple (option_copied update)) s o.exits.next;
   };
 }
 inside code (Called called) o = record { opens = suc o.opens; exits = exits_to called.mark (given_to called.target o.exits) }
@@ -121,15 +116,15 @@ Ends code old new (Some called) = Ended code old new called
 
 -- the call whose value a variable begins with
 abbrev pub call_in : Initializer → Option FunctionCall
-call_in (RightInitial (CallRight call)) = Some call
-call_in initial = None
+call_in (t.right (t.called call)) = Some call
+call_in _ = None
 
 -- how a variable begins; what a call gives comes later
 abbrev pub begun_value : Initializer → ℕ → Passing
-begun_value NoInitial cell s go = go s
-begun_value (RightInitial (ValueRight e)) cell s go = trying (value e s) s (λ v. go (put cell v s))
-begun_value (RightInitial (CallRight call)) cell s go = go s
-begun_value (Values es) cell s go = put_values es.items cell s go
+begun_value t.no_initial cell s go = go s
+begun_value (t.right (t.value e)) cell s go = trying (value e s) s (λ v. go (put cell v s))
+begun_value (t.right (t.called call)) cell s go = go s
+begun_value (t.values es) cell s go = put_values es cell s go
 
 -- an `if`, with an `else` or without
 abbrev pub chosen : Rank → Calls → Expr → Stmt → Option Stmt → Meaning

@@ -1,12 +1,13 @@
 -- What a rank that uses replies up stands for.
-use Rattle.std.specs.Prelude.{◌≡◌, ◌≢◌, ◌<◌, ◌≤◌, List, Option, Some, None, Bool, true, drop, length, take}
+use Rattle.std.specs.Prelude.{◌≡◌, ◌≢◌, ◌<◌, ◌≤◌, List, Option, Some, None, Bool, true, drop, length, map, take}
 use Rattle.mpi_call.specs.declared.limits.TheConstants.{MOST_RANKS}
 use Rattle.mpi_call.specs.declared.reply.Reply.{Reply}
-use Rattle.c_program.specs.declared.program.CProgram.{CProgram}
 use Rattle.c_program.specs.Courses.{Course, after}
 use Rattle.c_program.specs.Meaning.{course_of}
 use Rattle.c_program.specs.Program.{course_after}
 use Rattle.c_program.specs.State.{State}
+use Rattle.c_program.specs.Tree.{Program}
+use Rattle.c_program.specs.View.{pure_function}
 use Rattle.c_run_replies.specs.Questions.{call_of}
 use Rattle.c_run_replies.specs.declared.question.Reached.{Reached}
 use Rattle.c_run_replies.specs.declared.question.Reached.TheVariants.{Done, Asks, Over}
@@ -27,13 +28,13 @@ pub record HasCaughtUp (code : Code) (replies : List Reply) (old new : Going) : 
   pub ready : IsReady replies new
 
 -- it stands where the course does after the replies that are used
-pub record IsGoing (program : CProgram) (code : Code) (replies : List Reply) (going : Going) : Type 0 where
+pub record IsGoing (program : Program) (code : Code) (replies : List Reply) (going : Going) : Type 0 where
   pub used : going.used ≤ length replies
   pub at : IsAt (after (course_of program code.rank) (take going.used replies)) code going.found going.stack
 
 -- the code is the program's, the replies were in shape; once the next call was handed out, no reply is left
-pub record IsMachineAt (program : CProgram) (code : Code) (replies : List Reply) (asked : Bool) (going : Option Going) : Type 0 where
-  pub functions : code.functions.now ≡ program.functions.items
+pub record IsMachineAt (program : Program) (code : Code) (replies : List Reply) (asked : Bool) (going : Option Going) : Type 0 where
+  pub functions : map pure_function code.functions.now ≡ program.functions
   pub member : code.rank.number < code.rank.ranks
   pub few : code.rank.ranks ≤ MOST_RANKS
   pub shaped : course_after program code.rank.ranks code.rank.number replies ≡ after (course_of program code.rank) replies

@@ -1,8 +1,9 @@
 //! A rank that uses replies up.
-ghost use Rattle.std.specs.Prelude.{◌≡◌, ◌≢◌, ◌≤◌, ◌∷◌, [], IfOk, Ok, OnOk, length, pos};
+ghost use Rattle.std.specs.Prelude.{◌≡◌, ◌≢◌, ◌≤◌, ◌∷◌, [], IfOk, Ok, OnOk, length, map, pos};
 ghost use Rattle.c_program.specs.declared.state.Passed.TheVariants.{Number};
 ghost use Rattle.c_program.specs.Courses.{Course, ended};
 ghost use Rattle.c_program.specs.Meaning.{call_at, start};
+ghost use Rattle.c_program.specs.View.{pure_function};
 ghost use Rattle.c_run_replies.specs.declared.question.Reached.TheVariants.{Done};
 ghost use Rattle.rank_machine.specs.Frames.{IsAt, IsOpen, Stands};
 ghost use Rattle.rank_machine.specs.Goings.{HasCaughtUp};
@@ -28,7 +29,7 @@ pub struct Going<'p> {
 
 /// The begin of main.
 pub fn begin<'p>(code: &Code<'p>, main: usize) -> Result<Going<'p>, AllocError>
-    ensures at { IfOk result (λ going. IsAt (call_at code.now.rank code.now.functions.now 100 main (Number (pos 1) ∷ []) start (λ v s. ended s)) code.now going.found going.stack) }
+    ensures at { IfOk result (λ going. IsAt (call_at code.now.rank (map pure_function code.now.functions.now) 100 main (Number (pos 1) ∷ []) start (λ v s. ended s)) code.now going.found going.stack) }
     ensures unused { IfOk result (λ going. going.used ≡ 0) }
 {
     let mut stack = Stack {

@@ -2,6 +2,7 @@
 ghost use Rattle.std.specs.Prelude.{◌≡◌, ◌≤◌, ◌+◌, suc, OnOk};
 ghost use Rattle.c_program.specs.Meaning.{invoke, right};
 ghost use Rattle.c_program.specs.State.{leave};
+ghost use Rattle.c_program.specs.View.{pure_call, pure_mpi, pure_right};
 ghost use Rattle.c_run_cells.specs.Parts.{mpi};
 ghost use Rattle.rank_machine.specs.Frames.{Ends, IsOpen, Stands, calls_in, given_to, weight, within};
 
@@ -151,7 +152,7 @@ impl<'p> Stack<'p> {
         target: Target,
     ) -> Result<Reached, Fail>
         requires { IsOpen code.now self.old }
-        ensures stands { Stands (invoke (calls_in code.now self.old.opens) call.now self.old.state (given_to target (within code.now self.old.frames.items).exits)) code.now result self.new }
+        ensures stands { Stands (invoke (calls_in code.now self.old.opens) (pure_call call.now) self.old.state (given_to target (within code.now self.old.frames.items).exits)) code.now result self.new }
         ensures fewer { OnOk result (weight self.new + 6 ≤ weight self.old) }
     {
         take_step(&mut self.state)?;
@@ -193,7 +194,7 @@ impl<'p> Stack<'p> {
         target: Target,
     ) -> Result<Reached, Fail>
         requires { IsOpen code.now self.old }
-        ensures stands { Stands (right (calls_in code.now self.old.opens) one.now self.old.state (given_to target (within code.now self.old.frames.items).exits)) code.now result self.new }
+        ensures stands { Stands (right (calls_in code.now self.old.opens) (pure_right one.now) self.old.state (given_to target (within code.now self.old.frames.items).exits)) code.now result self.new }
         ensures fewer { OnOk result (weight self.new ≤ weight self.old) }
     {
         match one {
@@ -209,7 +210,7 @@ impl<'p> Stack<'p> {
     pub fn call_mpi(&mut self, code: &Code<'p>, call: &MpiCall) -> Result<Reached, Fail>
         requires counted { IsOpen code.now self.old }
         requires few { code.now.rank.ranks ≤ MOST_RANKS }
-        ensures stands { Stands (mpi code.now.rank call.now self.old.state (within code.now self.old.frames.items).exits.next) code.now result self.new }
+        ensures stands { Stands (mpi code.now.rank (pure_mpi call.now) self.old.state (within code.now self.old.frames.items).exits.next) code.now result self.new }
         ensures fewer { OnOk result (weight self.new ≤ weight self.old) }
     {
         let effect = effect_of(code.rank, call, &self.state)?;

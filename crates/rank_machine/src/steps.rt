@@ -1,6 +1,7 @@
 //! Statements: what each does at once, and what it opens.
-ghost use Rattle.std.specs.Prelude.{◌≡◌, ◌≢◌, ◌≤◌, ◌<◌, ◌+◌, ◌*◌, OnOk, IfOk, option_copied};
+ghost use Rattle.std.specs.Prelude.{◌≡◌, ◌≢◌, ◌≤◌, ◌<◌, ◌+◌, ◌*◌, OnOk, IfOk, map, option_copied, option_map};
 ghost use Rattle.c_program.specs.Meaning.{act, act_part, declare, declare_all, for_update, loop_after, return, simple, started, test, trying};
+ghost use Rattle.c_program.specs.View.{pure_call, pure_expr, pure_initial, pure_item, pure_part, pure_right, pure_simple, pure_start, pure_stmt};
 ghost use Rattle.c_run_replies.specs.declared.question.Reached.TheVariants.{Done};
 ghost use Rattle.c_run_cells.specs.Comes.{Does};
 ghost use Rattle.rank_machine.specs.Frames.{IsOpen, Stands, begun_value, call_in, calls_in, chosen, for_of, looping, turns_at, weight, within};
@@ -21,7 +22,7 @@ impl<'p> Stack<'p> {
     fn simple(&mut self, code: &Code<'p>, one: &'p Simple) -> Result<Reached, Fail>
         requires counted { IsOpen code.now self.old }
         requires few { code.now.rank.ranks ≤ MOST_RANKS }
-        ensures stands { Stands (simple code.now.rank (calls_in code.now self.old.opens) one.now self.old.state (within code.now self.old.frames.items).exits.next) code.now result self.new }
+        ensures stands { Stands (simple code.now.rank (calls_in code.now self.old.opens) (pure_simple one.now) self.old.state (within code.now self.old.frames.items).exits.next) code.now result self.new }
         ensures fewer { OnOk result (weight self.new ≤ weight self.old) }
     {
         match one {
@@ -65,7 +66,7 @@ impl<'p> Stack<'p> {
     fn update(&mut self, code: &Code<'p>, update: Option<&'p Simple>) -> Result<Reached, Fail>
         requires counted { IsOpen code.now self.old }
         requires few { code.now.rank.ranks ≤ MOST_RANKS }
-        ensures stands { Stands (for_update code.now.rank (calls_in code.now self.old.opens) (option_copied update.entry) self.old.state (within code.now self.old.frames.items).exits.next) code.now result self.new }
+        ensures stands { Stands (for_update code.now.rank (calls_in code.now self.old.opens) (option_map pure_simple (option_copied update.entry)) self.old.state (within code.now self.old.frames.items).exits.next) code.now result self.new }
         ensures fewer { OnOk result (weight self.new ≤ weight self.old) }
     {
         match update {
@@ -77,7 +78,7 @@ impl<'p> Stack<'p> {
     /// Variables, in order; those behind a call stay open.
     fn declare_all(&mut self, code: &Code<'p>, items: &'p [InitDeclarator]) -> Result<Reached, Fail>
         requires { IsOpen code.now self.old }
-        ensures stands { Stands (declare_all (calls_in code.now self.old.opens) items.now self.old.state (within code.now self.old.frames.items).exits.next) code.now result self.new }
+        ensures stands { Stands (declare_all (calls_in code.now self.old.opens) (map pure_item items.now) self.old.state (within code.now self.old.frames.items).exits.next) code.now result self.new }
         ensures fewer { OnOk result (weight self.new ≤ weight self.old) }
     {
         for (i, item) in items.iter().enumerate() {
@@ -101,7 +102,7 @@ impl<'p> Stack<'p> {
     /// A `return`.
     fn run_return(&mut self, code: &Code<'p>, value: &'p Option<Right>) -> Result<Reached, Fail>
         requires { IsOpen code.now self.old }
-        ensures stands { Stands (return (calls_in code.now self.old.opens) value.now self.old.state (within code.now self.old.frames.items).exits) code.now result self.new }
+        ensures stands { Stands (return (calls_in code.now self.old.opens) (option_map pure_right value.now) self.old.state (within code.now self.old.frames.items).exits) code.now result self.new }
         ensures fewer { OnOk result (weight self.new ≤ weight self.old) }
     {
         match value {
@@ -119,7 +120,7 @@ impl<'p> Stack<'p> {
         other: Option<&'p Stmt>,
     ) -> Result<Reached, Fail>
         requires { IsOpen code.now self.old }
-        ensures stands { Stands (chosen code.now.rank (calls_in code.now self.old.opens) test.now then.now (option_copied other.entry) self.old.state (within code.now self.old.frames.items).exits) code.now result self.new }
+        ensures stands { Stands (chosen code.now.rank (calls_in code.now self.old.opens) (pure_expr test.now) (pure_stmt then.now) (option_map pure_stmt (option_copied other.entry)) self.old.state (within code.now self.old.frames.items).exits) code.now result self.new }
         ensures fewer { OnOk result (weight self.new ≤ weight self.old + 1) }
     {
         if self.state.test(Some(test))? {
@@ -142,7 +143,7 @@ impl<'p> Stack<'p> {
     ) -> Result<Reached, Fail>
         requires counted { IsOpen code.now self.old }
         requires few { code.now.rank.ranks ≤ MOST_RANKS }
-        ensures stands { Stands (for_of code.now self.old.opens start.now around.entry self.old.state (within code.now self.old.frames.items).exits) code.now result self.new }
+        ensures stands { Stands (for_of code.now self.old.opens (pure_start start.now) around.entry self.old.state (within code.now self.old.frames.items).exits) code.now result self.new }
         ensures fewer { OnOk result (weight self.new ≤ weight self.old + 2) }
     {
         self.frames.push(Frame::Block(self.state.mark()))?;
@@ -160,7 +161,7 @@ impl<'p> Stack<'p> {
     /// A loop with a turn before its first test.
     fn run_do(&mut self, code: &Code<'p>, test: &'p Expr, body: &'p Stmt) -> Result<Reached, Fail>
         requires { IsOpen code.now self.old }
-        ensures stands { Stands (loop_after test.now (started (act code.now.rank (calls_in code.now self.old.opens) body.now)) self.old.state (within code.now self.old.frames.items).exits) code.now result self.new }
+        ensures stands { Stands (loop_after (pure_expr test.now) (started (act code.now.rank (calls_in code.now self.old.opens) (pure_stmt body.now))) self.old.state (within code.now self.old.frames.items).exits) code.now result self.new }
         ensures fewer { OnOk result (weight self.new ≤ weight self.old) }
     {
         take_step(&mut self.state)?;
@@ -176,10 +177,11 @@ impl<'p> Stack<'p> {
     }
 
     /// A statement whose step is taken.
+    #[tactic(auto, using(c_program::proofs::StmtViewed::stmt_views))]
     fn act(&mut self, code: &Code<'p>, stmt: &'p Stmt) -> Result<Reached, Fail>
         requires counted { IsOpen code.now self.old }
         requires few { code.now.rank.ranks ≤ MOST_RANKS }
-        ensures stands { Stands (act code.now.rank (calls_in code.now self.old.opens) stmt.now self.old.state (within code.now self.old.frames.items).exits) code.now result self.new }
+        ensures stands { Stands (act code.now.rank (calls_in code.now self.old.opens) (pure_stmt stmt.now) self.old.state (within code.now self.old.frames.items).exits) code.now result self.new }
         ensures fewer { OnOk result (weight self.new ≤ weight self.old + 2) }
     {
         match stmt {
@@ -224,10 +226,11 @@ impl<'p> Stack<'p> {
     }
 
     /// What stands in a block, which takes a step.
+    #[tactic(auto, using(c_program::proofs::StmtViewed::stmt_views))]
     fn part(&mut self, code: &Code<'p>, part: &'p Part) -> Result<Reached, Fail>
         requires counted { IsOpen code.now self.old }
         requires few { code.now.rank.ranks ≤ MOST_RANKS }
-        ensures stands { Stands (started (act_part code.now.rank (calls_in code.now self.old.opens) part.now) self.old.state (within code.now self.old.frames.items).exits) code.now result self.new }
+        ensures stands { Stands (started (act_part code.now.rank (calls_in code.now self.old.opens) (pure_part part.now)) self.old.state (within code.now self.old.frames.items).exits) code.now result self.new }
         ensures fewer { OnOk result (weight self.new + 6 ≤ weight self.old) }
     {
         take_step(&mut self.state)?;
@@ -241,7 +244,7 @@ impl<'p> Stack<'p> {
     fn statement(&mut self, code: &Code<'p>, stmt: &'p Stmt) -> Result<Reached, Fail>
         requires counted { IsOpen code.now self.old }
         requires few { code.now.rank.ranks ≤ MOST_RANKS }
-        ensures stands { Stands (started (act code.now.rank (calls_in code.now self.old.opens) stmt.now) self.old.state (within code.now self.old.frames.items).exits) code.now result self.new }
+        ensures stands { Stands (started (act code.now.rank (calls_in code.now self.old.opens) (pure_stmt stmt.now)) self.old.state (within code.now self.old.frames.items).exits) code.now result self.new }
         ensures fewer { OnOk result (weight self.new + 6 ≤ weight self.old) }
     {
         take_step(&mut self.state)?;
@@ -319,7 +322,7 @@ impl<'p> Stack<'p> {
 
 /// Begins a variable; what a call gives comes later.
 fn begin_value(initial: &Initializer, cell: u32, state: &mut RankState) -> Result<(), Fail>
-    ensures { Does (begun_value initial.now cell) state.old result state.new }
+    ensures { Does (begun_value (pure_initial initial.now) cell) state.old result state.new }
 {
     match initial {
         Initializer::Nothing | Initializer::Right(Right::Call(_)) => Ok(()),
@@ -344,7 +347,7 @@ fn turns_at(turns: Option<u64>, state: &RankState) -> u64
 
 /// The call whose value a variable begins with.
 fn call_in(initial: &Initializer) -> Option<&FunctionCall>
-    ensures { option_copied result ≡ call_in initial.now }
+    ensures { option_map pure_call (option_copied result) ≡ call_in (pure_initial initial.now) }
 {
     match initial {
         Initializer::Right(Right::Call(call)) => Some(call),

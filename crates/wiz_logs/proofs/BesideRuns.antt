@@ -2,7 +2,7 @@
 use Rattle.std.proofs.Common.{◌≡◌, ◌⊎◌, inl, inr, ap, refl, ℕ, zero, suc, List, [], ◌∷◌, Bool, true, false, not, ◌&&◌, if◌then◌else◌, All, arith}
 use Rattle.std.specs.List.{Contains, list_any}
 use Rattle.std.proofs.lemmas.List.Elements.{All-head, All-tail}
-use Rattle.c_program.specs.declared.program.CProgram.{CProgram}
+use Rattle.c_program.specs.Tree.{Program}
 use Rattle.c_program.specs.Program.{next_of}
 use Rattle.c_types.specs.Checks.{IsProgramOf}
 use Rattle.replay_model.specs.declared.replayed.Replayed.{Replayed}
@@ -76,13 +76,13 @@ two_logs_of (bytes ∷ []) first second one other are too = absurd are
 two_logs_of (bytes ∷ others ∷ more) first second one other are too = (one_log bytes first one are.0 too.0, one_log others second other are.1 too.1)
 
 -- beside a run with the log, a replay's stands are done
-pub done_beside : (text : List ℕ) (log : Log) (stop : Breakpoint) (replayed : Replayed) (program : CProgram) (run : List Event) → IsReplayOf text log stop replayed
+pub done_beside : (text : List ℕ) (log : Log) (stop : Breakpoint) (replayed : Replayed) (program : Program) (run : List Event) → IsReplayOf text log stop replayed
     → IsProgramOf text program → IsRunWith (next_of program) log run → of_stands replayed.ends ≡ Done
 done_beside text log stop replayed program run is is_program with =
     let of = (is.shows program is_program).runs run with in
     stands_are_done replayed.ends of.agrees of.starved
 
-pub replay_is_done : (stop : Breakpoint) (texts : List (List ℕ)) (held : Log) (replayed : Replayed) (log : Log) (program : CProgram) (run : List Event)
+pub replay_is_done : (stop : Breakpoint) (texts : List (List ℕ)) (held : Log) (replayed : Replayed) (log : Log) (program : Program) (run : List Event)
     → IsLogOf texts held → IsLogOf texts log → IsReplayOf (program_text texts held) held stop replayed
     → IsProgramOf (program_text texts log) program → IsRunWith (next_of program) log run → number_of (of_stands replayed.ends) ≡ number_of Done
 replay_is_done stop texts held replayed log program run is_held is_log is is_program with =

@@ -2,8 +2,9 @@
 use Rattle.std.proofs.Common.{◌≡◌, ◌∙◌, ◌<◌, ◌++◌, inl, inr, ap, refl, sym, ℕ, List, [], ◌∷◌, None, All, false, slice_get, subst, true}
 use Rattle.std.specs.List.{list_any}
 use Rattle.std.proofs.lemmas.List.Elements.{All-append, All-nil, All-push}
-use Rattle.c_program.specs.declared.program.CProgram.{CProgram}
-use Rattle.c_program.specs.Program.{SameMeaning, next_of, output_of}
+use Rattle.c_program.specs.View.{pure_program}
+use Rattle.c_program.specs.Tree.{Program}
+use Rattle.c_program.specs.Program.{next_of, output_of}
 use Rattle.c_types.specs.Checks.{IsProgramOf}
 use Rattle.causes.specs.Clocks.{AreOfRanks}
 use Rattle.explanation_text.specs.DiffTexts.{diff_text}
@@ -60,9 +61,9 @@ replay_ranks next log stop events is all =
 
 pub first_ranks : (runs : TwoRuns) (first second : Replayed) → AreReplayedRuns runs first second → AreOfRanks runs.one.ranks first.events.events
 first_ranks runs first second are =
-    replay_ranks (next_of runs.program) runs.one None first.events.events are.replayable (are.first_replay.shows runs.program are.is_program).whole.replays
+    replay_ranks (next_of (pure_program runs.program)) runs.one None first.events.events are.replayable (are.first_replay.shows (pure_program runs.program) are.is_program).whole.replays
 
-other_program : (one other : Log) (program : CProgram) → CanCompare one other → IsProgramOf one.program program → IsProgramOf other.program program
+other_program : (one other : Log) (program : Program) → CanCompare one other → IsProgramOf one.program program → IsProgramOf other.program program
 other_program one other program can is = rw can.program is
 
 -- logs that are compared can be replayed
@@ -72,8 +73,8 @@ runs_replayable (bytes ∷ []) runs is = absurd is.are_logs
 runs_replayable (bytes ∷ others ∷ more) runs is =
     (IsReplayable-text bytes runs.one is.are_logs.0, IsReplayable-text others runs.other is.are_logs.1)
 
-pub other_is_program : (texts : List (List ℕ)) (runs : TwoRuns) → AreTwoRunsOf texts runs → IsProgramOf runs.other.program runs.program
-other_is_program texts runs is = other_program runs.one runs.other runs.program is.can_compare is.is_program
+pub other_is_program : (texts : List (List ℕ)) (runs : TwoRuns) → AreTwoRunsOf texts runs → IsProgramOf runs.other.program (pure_program runs.program)
+other_is_program texts runs is = other_program runs.one runs.other (pure_program runs.program) is.can_compare is.is_program
 
 pub replayed_runs : (texts : List (List ℕ)) (runs : TwoRuns) (first second : Replayed) → AreTwoRunsOf texts runs
     → IsReplayOf runs.one.program runs.one None first → IsReplayOf runs.other.program runs.other None second → AreReplayedRuns runs first second
@@ -101,7 +102,7 @@ none_first n group one other (rank ∷ ranks) each never =
     head Follows is = refl
 
 -- whole replays of one run do not part
-one_run_does_not_part : (program : CProgram) (first second : Log) (run one other : List Event) → second.group ≡ first.group
+one_run_does_not_part : (program : Program) (first second : Log) (run one other : List Event) → second.group ≡ first.group
     → IsRunWith (next_of program) first run → IsRunWith (next_of program) second run → IsWholeReplay (next_of program) first None one
     → IsWholeReplay (next_of program) second None other → (rank number : ℕ) → PartAt first.group one other rank number → ⊥
 one_run_does_not_part program first second run one other group is too whole others rank number part =
@@ -124,23 +125,23 @@ same_status first second ranks outcome is none = rw (is, none) refl
 
 -- each log was replayed with the program of both
 pub both_replay : (runs : TwoRuns) (first second : Replayed) → AreReplayedRuns runs first second
-    → Replays (next_of runs.program) runs.one None first.events.events × Replays (next_of runs.program) runs.other None second.events.events
+    → Replays (next_of (pure_program runs.program)) runs.one None first.events.events × Replays (next_of (pure_program runs.program)) runs.other None second.events.events
 both_replay runs first second are = (
-  (are.first_replay.shows runs.program are.is_program).whole.replays,
-  (are.second_replay.shows runs.program (other_program runs.one runs.other runs.program are.can_compare are.is_program)).whole.replays,
+  (are.first_replay.shows (pure_program runs.program) are.is_program).whole.replays,
+  (are.second_replay.shows (pure_program runs.program) (other_program runs.one runs.other (pure_program runs.program) are.can_compare are.is_program)).whole.replays,
 )
 
 pub compares : (runs : TwoRuns) (first second : Replayed) (ranks : List Compared) (outcome : Outcome) → AreReplayedRuns runs first second
     → AreCompared runs.one.ranks runs.one.group first.events.events second.events.events ranks
-    → ((other : CProgram) → IsProgramOf runs.one.program other → SameMeaning runs.program other)
-    → PartsByAReply (next_of runs.program) runs.one.ranks runs.one.group first.events.events second.events.events
-    → PartsByAReplyAlone (next_of runs.program) runs.one.ranks runs.one.group first.events.events second.events.events
+    → ((other : Program) → IsProgramOf runs.one.program other → pure_program runs.program ≡ other)
+    → PartsByAReply (next_of (pure_program runs.program)) runs.one.ranks runs.one.group first.events.events second.events.events
+    → PartsByAReplyAlone (next_of (pure_program runs.program)) runs.one.ranks runs.one.group first.events.events second.events.events
     → outcome ≡ diff_outcome first second ranks → Compares runs.one runs.other outcome
 compares runs first second ranks outcome are compared same parts alone is =
     let one : Log = runs.one in
     let other : Log = runs.other in
     let can : CanCompare one other = are.can_compare in
-    let told : (program : CProgram) (run other_run : List Event) → IsProgramOf one.program program → IsRunWith (next_of program) one run
+    let told : (program : Program) (run other_run : List Event) → IsProgramOf one.program program → IsRunWith (next_of program) one run
     → IsRunWith (next_of program) other other_run → outcome ≡ compared_outcome first second ranks =
     λ program run other_run is_program with with_other.
     told_whole first second ranks outcome (((are.first_replay.shows program is_program).runs run with).ends refl)
@@ -154,11 +155,10 @@ compares runs first second ranks outcome are compared same parts alone is =
       ranks = ranks;
       compared = compared;
       is_outcome = is;
-      parts = λ program is_program.
-          let next : next_of runs.program ≡ next_of program = λ i n me replies. (same program is_program).next n me replies i in (
-            subst (λ (n : Next). PartsByAReply n one.ranks one.group first.events.events second.events.events) next parts,
-            subst (λ (n : Next). PartsByAReplyAlone n one.ranks one.group first.events.events second.events.events) next alone,
-          );
+      parts = λ program is_program. (
+        subst (λ (one_program : Program). PartsByAReply (next_of one_program) one.ranks one.group first.events.events second.events.events) (same program is_program) parts,
+        subst (λ (one_program : Program). PartsByAReplyAlone (next_of one_program) one.ranks one.group first.events.events second.events.events) (same program is_program) alone,
+      );
       outputs = λ program rank is_program same. ap (λ view. output_of program one.ranks rank (replies_in view)) same;
       of_runs = told;
       of_one_run = λ program run is_program with too.

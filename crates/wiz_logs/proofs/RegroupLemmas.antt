@@ -2,7 +2,8 @@
 use Rattle.std.proofs.Common.{◌≡◌, ◌≤◌, inl, inr, refl, subst, ℕ, suc, List, [], ◌∷◌, None, All, false, length}
 use Rattle.std.specs.List.{AllByRecursion, list_any}
 use Rattle.std.proofs.lemmas.List.Elements.{All-append, All-head, All-nil, All-tail}
-use Rattle.c_program.specs.declared.program.CProgram.{CProgram}
+use Rattle.c_program.specs.View.{pure_program}
+use Rattle.c_program.specs.Tree.{Program}
 use Rattle.c_program.specs.laws.ProgramLaws.{asks_in_bounds, ends_exactly, enters_in_form}
 use Rattle.c_program.specs.Program.{next_of}
 use Rattle.c_types.specs.Checks.{IsProgramOf}
@@ -113,7 +114,7 @@ are_short prefix inside F k (part ∷ parts) are short =
 
 -- ---- logs that can be regrouped
 
-regroupable : (bytes : List ℕ) (log : Log) (replayed : Replayed) (program : CProgram) → IsTextOfLog bytes log → IsProgramOf log.program program
+regroupable : (bytes : List ℕ) (log : Log) (replayed : Replayed) (program : Program) → IsTextOfLog bytes log → IsProgramOf log.program program
     → IsReplayOf log.program log None replayed → IsRegroupable log replayed.events.events
 regroupable bytes log replayed program is_log is_program of = record {
   in_bounds = bounds_of bytes log is_log;
@@ -130,7 +131,7 @@ pub refinement_regroupable : (texts : List (List ℕ)) (refinement : Refinement)
     → IsReplayOf refinement.log.program refinement.log None replayed → IsRegroupable refinement.log replayed.events.events
 refinement_regroupable [] refinement replayed is of = absurd is.is_log
 refinement_regroupable (bytes ∷ more) refinement replayed is of =
-    regroupable bytes refinement.log replayed refinement.program is.is_log is.is_program of
+    regroupable bytes refinement.log replayed (pure_program refinement.program) is.is_log is.is_program of
 
 pub pair_joinable : (texts : List (List ℕ)) (pair : Pair) (first second : Replayed) → ArePairOf texts pair
     → IsReplayOf pair.one.program pair.one None first → IsReplayOf pair.other.program pair.other None second
@@ -141,17 +142,17 @@ pair_joinable (bytes ∷ others ∷ more) pair first second is of too =
     let same = is.can_join.0.1 in
     record {
       can_join = is.can_join;
-      one_log = regroupable bytes pair.one first pair.program is.are_logs.0 is.is_program of;
-      other_log = regroupable others pair.other second pair.program is.are_logs.1 (rw same at is.is_program) too;
+      one_log = regroupable bytes pair.one first (pure_program pair.program) is.are_logs.0 is.is_program of;
+      other_log = regroupable others pair.other second (pure_program pair.program) is.are_logs.1 (rw same at is.is_program) too;
     }
 
 -- ---- what is done
 
-pub lawful : (program : CProgram) → Lawful (next_of program)
+pub lawful : (program : Program) → Lawful (next_of program)
 lawful program = record { ends = ends_exactly program; enters = enters_in_form program }
 
 -- the log of a run has a short text where it is within bounds
-run_log_short : (program : CProgram) (n : ℕ) (run : List Event) (text group : List ℕ) (made : Log) → IsRun (next_of program) n run
+run_log_short : (program : Program) (n : ℕ) (run : List Event) (text group : List ℕ) (made : Log) → IsRun (next_of program) n run
     → made ≡ log_of text n run group → IsInBounds made → length (log_bytes (log_of text n run group)) ≤ log_limit
 run_log_short program n run text group made is same bounds =
     let laws : InBounds (next_of program) = record { lawful = lawful program; asks = asks_in_bounds program } in
@@ -261,5 +262,5 @@ pair_replayable (bytes ∷ []) pair is = absurd is.are_logs
 pair_replayable (bytes ∷ others ∷ more) pair is =
     (IsReplayable-text bytes pair.one is.are_logs.0, IsReplayable-text others pair.other is.are_logs.1)
 
-pub other_program : (one other : Log) (program : CProgram) → CanJoin one other → IsProgramOf one.program program → IsProgramOf other.program program
+pub other_program : (one other : Log) (program : Program) → CanJoin one other → IsProgramOf one.program program → IsProgramOf other.program program
 other_program one other program can is = rw can.0.1 at is

@@ -5,6 +5,7 @@ use Rattle.srr_text.specs.Bounds.{IsInBounds}
 use Rattle.srr_log2.specs.Formats.{IsTextOfLog}
 use Rattle.wiz_trace.specs.StatsTexts.{IsCountable}
 use Rattle.wiz_trace.proofs.Countable.{countable_in_bounds}
+use Rattle.c_program.specs.View.{pure_program}
 use Rattle.c_types.specs.Checks.{IsProgramOf}
 use Rattle.wiz_logs.specs.declared.replaying.subject.Subject.{Subject}
 use Rattle.wiz_logs.specs.Logs.{IsLogOf, program_text}
@@ -34,7 +35,7 @@ used_is bytes log None = refl
 used_is bytes log (Some text) = refl
 
 pub subject_of : (bytes : List ℕ) (text : Option (List ℕ)) (subject : Subject) → IsTextOfLog bytes subject.log → subject.text ≡ text
-    → IsProgramOf (used_text subject.log subject.text) subject.program → IsSubjectOf (bytes ∷ listed text) subject
+    → IsProgramOf (used_text subject.log subject.text) (pure_program subject.program) → IsSubjectOf (bytes ∷ listed text) subject
 subject_of bytes text subject is same is_program = record {
   is_log = is;
   replayable = IsReplayable-text bytes subject.log is;

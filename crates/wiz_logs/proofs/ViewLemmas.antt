@@ -2,8 +2,8 @@
 use Rattle.std.proofs.Common.{◌≡◌, ◌∙◌, ◌++◌, ◌-◌, ◌==◌, ◌≤◌, ℕ, Bool, List, [], ◌∷◌, None, ap, append_assoc, arith, drop, flat_map, get_or, if◌then◌else◌, length, refl, slice_index, subst, sym, take, true, false}
 use Rattle.std.proofs.lemmas.Bool.{eq-eqb, or_left, or_right}
 use Rattle.std.proofs.Math.Seq.{take-length}
-use Rattle.c_program.specs.declared.program.CProgram.{CProgram}
-use Rattle.c_program.specs.Program.{SameMeaning, next_of, variables_of}
+use Rattle.c_program.specs.Tree.{Program}
+use Rattle.c_program.specs.Program.{next_of, variables_of}
 use Rattle.c_program.specs.laws.ProgramLaws.{asks_in_bounds, enters_in_form}
 use Rattle.c_types.specs.Checks.{IsProgramOf}
 use Rattle.mpi_call.specs.Members.{is_member}
@@ -137,7 +137,7 @@ snapshots_alike next variables n events others (rank ∷ group) (stand ∷ stand
     ∙ ap (λ (l : List Snapshot). snapshot_of next variables n rank (view_of others rank) stand ∷ l)
     (snapshots_alike next variables n events others group stands (later_the_same rank group (view_of events) (view_of others) same))
 
-changes_alike : (program : CProgram) (log : Log) (rank : ℕ) (name : List ℕ) (one other : ℕ → Seen) → HaveSeenTheSame log.group one other
+changes_alike : (program : Program) (log : Log) (rank : ℕ) (name : List ℕ) (one other : ℕ → Seen) → HaveSeenTheSame log.group one other
     → changes_in program log rank name (one rank) ≡ changes_in program log rank name (other rank)
 changes_alike program log rank name one other same = go (is_member log.group rank) (same rank)
   where
@@ -148,7 +148,7 @@ changes_alike program log rank name one other same = go (is_member log.group ran
     go true same = ap F (same refl)
     go false same = refl
 
-told_alike : (program : CProgram) (log : Log) (view : View (List ℕ)) (events others : List Event) (ends : List Stand)
+told_alike : (program : Program) (log : Log) (view : View (List ℕ)) (events others : List Event) (ends : List Stand)
     → HaveSeenTheSame log.group (view_of events) (view_of others) → told_text program log view events ends ≡ told_text program log view others ends
 told_alike program log (Changes rank name) events others ends same =
     ap (λ (changes : List Change). watch_text rank name changes) (changes_alike program log rank name (view_of events) (view_of others) same)
@@ -157,43 +157,17 @@ told_alike program log Snapshots events others ends same =
 told_alike program log (Places name) events others ends same =
     ap (λ (places : List Place). where_text name log.group places) (each_alike (places_in name) log.group (view_of events) (view_of others) same)
 
--- programs that mean the same are told alike
-told_by_same : (program other : CProgram) (log : Log) (view : View (List ℕ)) (events : List Event) (ends : List Stand) → SameMeaning program other
-    → told_text program log view events ends ≡ told_text other log view events ends
-told_by_same program other log view events ends same = go view
-  where
-    next : next_of program ≡ next_of other
-    next = λ i n me replies. same.next n me replies i
-
-    variables : variables_of program ≡ variables_of other
-    variables = λ i n me replies. same.variables n me replies i
-
-    changes : ℕ → List ℕ → Next → Variables → List ℕ
-    changes rank name N V =
-        watch_text rank name (if is_member log.group rank then changes_of (values_after N V log.ranks rank name) (view_of events rank) else [])
-
-    snapshots : Next → Variables → List ℕ
-    snapshots N V = at_text (snapshots_of N V log.ranks events log.group ends)
-
-    both : (F : Next → Variables → List ℕ) → F (next_of program) (variables_of program) ≡ F (next_of other) (variables_of other)
-    both F = ap (λ (N : Next). F N (variables_of program)) next ∙ ap (λ (V : Variables). F (next_of other) V) variables
-
-    go : (asked : View (List ℕ)) → told_text program log asked events ends ≡ told_text other log asked events ends
-    go (Changes rank name) = both (changes rank name)
-    go Snapshots = both snapshots
-    go (Places name) = refl
-
 -- ---- what is done
 
-pub tells : (text : List ℕ) (log : Log) (stop : Breakpoint) (view : View (List ℕ)) (program : CProgram) (replayed : Replayed) (outcome : Outcome)
-    → IsProgramOf text program → IsReplayOf text log stop replayed → ((other : CProgram) → IsProgramOf text other → SameMeaning program other)
+pub tells : (text : List ℕ) (log : Log) (stop : Breakpoint) (view : View (List ℕ)) (program : Program) (replayed : Replayed) (outcome : Outcome)
+    → IsProgramOf text program → IsReplayOf text log stop replayed → ((other : Program) → IsProgramOf text other → program ≡ other)
     → ((n : ℕ) (group : List ℕ) (V : ℕ → Seen) → IsStepBack n group V)
     → ((run : List Event) → IsRunWith (next_of program) log run → ReplaysStepBack (next_of program) log run)
     → outcome ≡ view_outcome (told_text program log view replayed.events.events replayed.ends) replayed → TellsView text log stop view outcome
 tells text log stop view program replayed outcome is_program replay means law steps is =
-    let is_outcome : (other : CProgram) → IsProgramOf text other → outcome ≡ view_outcome (told_text other log view replayed.events.events replayed.ends) replayed =
+    let is_outcome : (other : Program) → IsProgramOf text other → outcome ≡ view_outcome (told_text other log view replayed.events.events replayed.ends) replayed =
     λ other is_other.
-    is ∙ ap (λ (told : List ℕ). view_outcome told replayed) (told_by_same program other log view replayed.events.events replayed.ends (means other is_other)) in
+    is ∙ ap (λ (one : Program). view_outcome (told_text one log view replayed.events.events replayed.ends) replayed) (means other is_other) in
     record {
       replayed = replayed;
       replay = replay;
@@ -206,12 +180,11 @@ tells text log stop view program replayed outcome is_program replay means law st
           ∙ ap (λ (told : List ℕ). told_outcome told replayed) (told_alike other log view replayed.events.events run replayed.ends seen);
       back = λ run. law log.ranks log.group (view_of run);
       steps = λ other run is_other with.
-          let next : next_of program ≡ next_of other = λ i n me replies. (means other is_other).next n me replies i in
-          subst (λ (N : Next). (run : List Event) → IsRunWith N log run → ReplaysStepBack N log run) next steps run with;
+          subst (λ (one : Program). (run : List Event) → IsRunWith (next_of one) log run → ReplaysStepBack (next_of one) log run) (means other is_other) steps run with;
     }
 
 -- the ranks of a replay got replies in shape alone
-pub have_come : (text : List ℕ) (log : Log) (stop : Breakpoint) (program : CProgram) (replayed : Replayed) → IsReplayable log → IsProgramOf text program
+pub have_come : (text : List ℕ) (log : Log) (stop : Breakpoint) (program : Program) (replayed : Replayed) → IsReplayable log → IsProgramOf text program
     → IsReplayOf text log stop replayed → HaveCome (next_of program) log.ranks replayed.events.events
 have_come text log stop program replayed fine is of =
     let came = Came-Replays (next_of program) log stop replayed.events.events (record { enters = enters_in_form program; bounds = asks_in_bounds program }) fine

@@ -1,7 +1,7 @@
 -- The command that compares the logs of two runs: each is replayed, and what the ranks of their group saw is compared.
 use Rattle.std.specs.Prelude.{◌≡◌, ◌++◌, ℕ, List, [], ◌∷◌, None, if◌then◌else◌}
 use Rattle.std.specs.List.{list_any}
-use Rattle.c_program.specs.declared.program.CProgram.{CProgram}
+use Rattle.c_program.specs.Tree.{Program}
 use Rattle.c_program.specs.Program.{next_of, output_of}
 use Rattle.c_types.specs.Checks.{IsProgramOf}
 use Rattle.explanation_text.specs.DiffTexts.{diff_text}
@@ -60,12 +60,12 @@ pub record Compares (one other : Log) (outcome : Outcome) : Type 0 where
   pub ranks : List Compared
   pub compared : AreCompared one.ranks one.group first.events.events second.events.events ranks
   pub is_outcome : outcome ≡ diff_outcome first second ranks
-  pub parts : (program : CProgram) → IsProgramOf one.program program
+  pub parts : (program : Program) → IsProgramOf one.program program
       → PartsByAReply (next_of program) one.ranks one.group first.events.events second.events.events
       × PartsByAReplyAlone (next_of program) one.ranks one.group first.events.events second.events.events
-  pub outputs : (program : CProgram) (rank : ℕ) → IsProgramOf one.program program → view_of first.events.events rank ≡ view_of second.events.events rank
+  pub outputs : (program : Program) (rank : ℕ) → IsProgramOf one.program program → view_of first.events.events rank ≡ view_of second.events.events rank
       → printed_of (output_of program) one.ranks first.events.events rank ≡ printed_of (output_of program) one.ranks second.events.events rank
-  pub of_runs : (program : CProgram) (run other_run : List Event) → IsProgramOf one.program program → IsRunWith (next_of program) one run
+  pub of_runs : (program : Program) (run other_run : List Event) → IsProgramOf one.program program → IsRunWith (next_of program) one run
       → IsRunWith (next_of program) other other_run → outcome ≡ compared_outcome first second ranks
-  pub of_one_run : (program : CProgram) (run : List Event) → IsProgramOf one.program program → IsRunWith (next_of program) one run
+  pub of_one_run : (program : Program) (run : List Event) → IsProgramOf one.program program → IsRunWith (next_of program) one run
       → IsRunWith (next_of program) other run → outcome.status ≡ Done

@@ -2,7 +2,7 @@
 use Rattle.std.specs.Prelude.{◌≡◌, ◌≤◌, ◌++◌, ℕ, suc, List, [], ◌∷◌, None, if◌then◌else◌, length}
 use Rattle.std.specs.List.{AllByRecursion}
 use Rattle.clap.specs.Words.{Text}
-use Rattle.c_program.specs.declared.program.CProgram.{CProgram}
+use Rattle.c_program.specs.Tree.{Program}
 use Rattle.c_program.specs.Program.{next_of}
 use Rattle.c_types.specs.Checks.{IsProgramOf}
 use Rattle.log_bounds.specs.RunBounds.{log_limit}
@@ -105,7 +105,7 @@ pub record Refines (prefix : Text) (log : Log) (groups : Plan) (outcome : Outcom
   pub replay : IsReplayOf log.program log None replayed
   pub is_outcome : outcome ≡ refine_outcome prefix log groups replayed
   pub texts : HoldTheirLogs prefix log.group (refined log replayed.events.events) 0 groups
-  pub of_runs : (program : CProgram) (run : List Event) → IsProgramOf log.program program → IsRunWith (next_of program) log run
+  pub of_runs : (program : Program) (run : List Event) → IsProgramOf log.program program → IsRunWith (next_of program) log run
       → IsDoneWith (part_files prefix log.group (log_of log.program log.ranks run) 0 groups) outcome
 
 -- two logs are replayed, each alone, with their program, without a breakpoint, and joined. The file holds the text of the log that is
@@ -118,5 +118,5 @@ pub record Joins (file : Text) (one other : Log) (outcome : Outcome) : Type 0 wh
   pub second_replay : IsReplayOf other.program other None second
   pub is_outcome : outcome ≡ join_outcome file one first other second
   pub text : HoldLog (joined one first.events.events other second.events.events) (log_file file (joined one first.events.events other second.events.events))
-  pub of_runs : (program : CProgram) (run : List Event) → IsProgramOf one.program program → IsRunWith (next_of program) one run
+  pub of_runs : (program : Program) (run : List Event) → IsProgramOf one.program program → IsRunWith (next_of program) one run
       → IsRunWith (next_of program) other run → IsDoneWith (log_file file (log_of one.program one.ranks run (both_groups one other))) outcome

@@ -2,7 +2,7 @@
 use Rattle.std.specs.Prelude.{◌≡◌, ℕ, List, [], ◌∷◌, None, if◌then◌else◌}
 use Rattle.std.specs.Borrow.{Bor}
 use Rattle.clap.specs.Words.{Text}
-use Rattle.c_program.specs.declared.program.CProgram.{CProgram}
+use Rattle.c_program.specs.Tree.{Program}
 use Rattle.c_program.specs.Program.{next_of, variables_of}
 use Rattle.c_types.specs.Checks.{IsProgramOf}
 use Rattle.mpi_call.specs.Members.{is_member}
@@ -39,12 +39,12 @@ view_with_texts (Places name) = Places name
 -- ---- what is told
 
 -- the changes of a variable of a rank that has seen this; of a rank outside the group there are none
-abbrev pub changes_in : CProgram → Log → ℕ → Text → Seen → List Change
+abbrev pub changes_in : Program → Log → ℕ → Text → Seen → List Change
 changes_in program log rank name seen =
     if is_member log.group rank then changes_of (values_after (next_of program) (variables_of program) log.ranks rank name) seen else []
 
 -- what is asked, after some events and by the stand of each rank of the group
-abbrev pub told_text : CProgram → Log → View Text → List Event → List Stand → Text
+abbrev pub told_text : Program → Log → View Text → List Event → List Stand → Text
 told_text program log (Changes rank name) events ends = watch_text rank name (changes_in program log rank name (view_of events rank))
 told_text program log Snapshots events ends =
     at_text (snapshots_of (next_of program) (variables_of program) log.ranks events log.group ends)
@@ -70,10 +70,10 @@ view_outcome text replayed = view_outcome_by (of_stands replayed.ends) text repl
 pub record TellsView (text : Text) (log : Log) (stop : Breakpoint) (view : View Text) (outcome : Outcome) : Type 0 where
   pub replayed : Replayed
   pub replay : IsReplayOf text log stop replayed
-  pub is_outcome : (program : CProgram) → IsProgramOf text program
+  pub is_outcome : (program : Program) → IsProgramOf text program
       → outcome ≡ view_outcome (told_text program log view replayed.events.events replayed.ends) replayed
-  pub of_runs : stop ≡ None → (program : CProgram) (run : List Event) → IsProgramOf text program → IsRunWith (next_of program) log run
+  pub of_runs : stop ≡ None → (program : Program) (run : List Event) → IsProgramOf text program → IsRunWith (next_of program) log run
       → outcome ≡ told_outcome (told_text program log view run replayed.ends) replayed
   pub back : (run : List Event) → IsStepBack log.ranks log.group (view_of run)
-  pub steps : (program : CProgram) (run : List Event) → IsProgramOf text program → IsRunWith (next_of program) log run
+  pub steps : (program : Program) (run : List Event) → IsProgramOf text program → IsRunWith (next_of program) log run
       → ReplaysStepBack (next_of program) log run

@@ -2,7 +2,8 @@
 use Rattle.std.proofs.Common.{◌≡◌, Bool, ℕ, List, [], ◌∷◌, ◌++◌, ◌<◌, ◌≤◌, ◌+◌, None, refl, map, take, length, get_or}
 use Rattle.std.specs.List.{AllByRecursion, AllZip}
 use Rattle.std.proofs.lemmas.List.{take_all, take_more}
-use Rattle.c_program.specs.declared.program.CProgram.{CProgram}
+use Rattle.c_program.specs.View.{pure_program}
+use Rattle.c_program.specs.Tree.{Program}
 use Rattle.c_program.specs.Program.{next_of}
 use Rattle.c_types.specs.Checks.{IsProgramOf}
 use Rattle.replay_model.specs.Laws.{IsRunWith}
@@ -20,7 +21,7 @@ use Rattle.wiz_task.specs.inside.Recording.{CanRun, IsMade}
 use Rattle.wiz_runs.specs.inside.Recording.{IsKeptLog}
 
 -- the logs of a recording are kept
-pub kept_logs : (program : CProgram) (text : List ℕ) (n : ℕ) (events : List Event) (groups : List (List ℕ)) → IsProgramOf text program
+pub kept_logs : (program : Program) (text : List ℕ) (n : ℕ) (events : List Event) (groups : List (List ℕ)) → IsProgramOf text program
     → AllByRecursion IsReadable (map (log_of text n events) groups)
     → AllByRecursion (IsKeptLog program) (map (log_of text n events) groups)
 kept_logs program text n events [] is readable = tt
@@ -49,7 +50,7 @@ pub replays_all : (logs : List Log) (replays : List Replayed) (k : ℕ) → leng
 replays_all logs replays k over all = rw (take_all k logs over) at all
 
 -- each replay has what the run has
-pub checks_of : (program : CProgram) (text : List ℕ) (n : ℕ) (events : List Event) (groups : List (List ℕ)) (replays : List Replayed) → IsProgramOf text program
+pub checks_of : (program : Program) (text : List ℕ) (n : ℕ) (events : List Event) (groups : List (List ℕ)) (replays : List Replayed) → IsProgramOf text program
     → IsRun (next_of program) n events → AllZip (λ (log : Log). IsReplayOf log.program log None) (map (log_of text n events) groups) replays
     → AreChecksOf program events (map (log_of text n events) groups) replays
 checks_of program text n events [] [] is run all = tt
@@ -62,21 +63,21 @@ checks_of program text n events (group ∷ groups) (replayed ∷ replays) is run
     (record { replay = all.0; views = of.views refl; outputs = of.outputs refl }, checks_of program text n events groups replays is run all.1)
 
 -- what is run is a program of its text
-text_is : (ready : Ready) → CanRun ready → IsProgramOf ready.text ready.program
+text_is : (ready : Ready) → CanRun ready → IsProgramOf ready.text (pure_program ready.program)
 text_is ready can = rw can.1.text can.1.prepared.is_program
 
 pub logs_kept : (ready : Ready) (is_threaded : Bool) (recording : Recording) → CanRun ready → IsMade is_threaded ready recording
-    → AllByRecursion (IsKeptLog ready.program) recording.logs
+    → AllByRecursion (IsKeptLog (pure_program ready.program)) recording.logs
 logs_kept ready is_threaded recording can made =
     let recorded = made.is_recording.recorded in
     rw recorded.logs
-    (kept_logs ready.program ready.text (number_of_ranks ready.plan) recording.history.events ready.plan (text_is ready can)
+    (kept_logs (pure_program ready.program) ready.text (number_of_ranks ready.plan) recording.history.events ready.plan (text_is ready can)
     (rw recorded.logs at made.is_recording.readable))
 
 pub logs_checked : (ready : Ready) (is_threaded : Bool) (recording : Recording) (replays : List Replayed) → CanRun ready → IsMade is_threaded ready recording
-    → AllZip (λ (log : Log). IsReplayOf log.program log None) recording.logs replays → AreChecksOf ready.program recording.history.events recording.logs replays
+    → AllZip (λ (log : Log). IsReplayOf log.program log None) recording.logs replays → AreChecksOf (pure_program ready.program) recording.history.events recording.logs replays
 logs_checked ready is_threaded recording replays can made all =
     let recorded = made.is_recording.recorded in
     rw recorded.logs
-    (checks_of ready.program ready.text (number_of_ranks ready.plan) recording.history.events ready.plan replays (text_is ready can) recorded.picked.run
+    (checks_of (pure_program ready.program) ready.text (number_of_ranks ready.plan) recording.history.events ready.plan replays (text_is ready can) recorded.picked.run
     (rw recorded.logs at all))

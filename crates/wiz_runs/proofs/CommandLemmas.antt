@@ -1,6 +1,7 @@
 -- What each command does.
+use Rattle.c_program.specs.View.{pure_program}
 use Rattle.std.proofs.Common.{◌≡◌, refl, ℕ, List, [], Option, Bool, true, false, inr, min}
-use Rattle.c_program.specs.declared.program.CProgram.{CProgram}
+use Rattle.c_program.specs.Tree.{Program}
 use Rattle.c_program.specs.Program.{next_of}
 use Rattle.explanation_text.specs.AdviceTexts.{advice_text}
 use Rattle.explanation_text.specs.WaitsTexts.{waits_text}
@@ -45,10 +46,10 @@ use Rattle.wiz_tool.specs.Environment.{Environment}
 use Rattle.wiz_task.proofs.InputLemmas.{weaken}
 
 -- a recording of what texts hold
-records : (is_threaded : Bool) (texts : RunTexts) (ready : Ready) (recording : Recording) (Tells : CProgram → List (List ℕ) → Recording → Outcome → Type 0) (outcome : Outcome)
-    → IsReady texts ready → IsMade is_threaded ready recording → Tells ready.program ready.plan recording outcome → Records is_threaded texts Tells outcome
+records : (is_threaded : Bool) (texts : RunTexts) (ready : Ready) (recording : Recording) (Tells : Program → List (List ℕ) → Recording → Outcome → Type 0) (outcome : Outcome)
+    → IsReady texts ready → IsMade is_threaded ready recording → Tells (pure_program ready.program) ready.plan recording outcome → Records is_threaded texts Tells outcome
 records is_threaded texts ready recording Tells outcome is made tells = record {
-  program = ready.program;
+  program = (pure_program ready.program);
   groups = ready.plan;
   turns = ready.turns;
   recording = recording;
@@ -74,7 +75,7 @@ check_done run before texts ready of held is made = (
 )
 
 -- the text of an advice is told
-pub advice_told : (most n block given : ℕ) (program : CProgram) (groups : List (List ℕ)) (recording : Recording) (advice : Advice) (text : List ℕ) (status : Status) (outcome : Outcome)
+pub advice_told : (most n block given : ℕ) (program : Program) (groups : List (List ℕ)) (recording : Recording) (advice : Advice) (text : List ℕ) (status : Status) (outcome : Outcome)
     → n ≡ number_of_ranks groups → block ≡ min most n → IsAdvice n recording.history.events block advice
     → given ≡ plan_cost (number_of_ranks groups) recording.history.events groups → text ≡ advice_text advice given recording.ending
     → status ≡ of_ending recording.ending → outcome ≡ run_outcome status text recording [] → RunsHaveOneAdvice → CertificatesBound
@@ -96,7 +97,7 @@ pub races_done : (run : RunWords (List ℕ)) (orders : Option (List ℕ)) (befor
     → AreHeld before.store.files (run_inputs run) texts → IsReady (run_texts texts) ready → IsMade (is_threaded_run run) ready recording
     → (of : AreRacesOf ready recording told)
     → ((other : OtherPick) → IsIn other (others_of (number_of_ranks ready.plan) recording.history.events)
-    → IsOtherOrder (next_of ready.program) (number_of_ranks ready.plan) recording other)
+    → IsOtherOrder (next_of (pure_program ready.program)) (number_of_ranks ready.plan) recording other)
     → IsDoneFor (run_task run (TellsRaces orders)) before (races_outcome orders (number_of_ranks ready.plan) of.0 recording)
 races_done run orders before texts ready recording told held is made of others = (
   texts,
@@ -109,13 +110,13 @@ races_done run orders before texts ready recording told held is made of others =
 pub waits_told : (n : ℕ) (ready : Ready) (recording : Recording) (graph : Graph) (text : List ℕ) (status : Status) (outcome : Outcome)
     → n ≡ number_of_ranks ready.plan → IsMade true ready recording → graph ≡ graph_of n recording.history.events
     → text ≡ waits_text n recording.history.events graph recording.ending → status ≡ of_ending recording.ending
-    → outcome ≡ run_outcome status text recording [] → StuckExactly (next_of ready.program) n → BlockedExactly (next_of ready.program) n
-    → BlockedWait (next_of ready.program) n → HasCause (next_of ready.program) n → ((events : List Event) → NoneFits events)
-    → OpensDiffer (next_of ready.program) n
-    → TellsWaits ready.program ready.plan recording outcome
+    → outcome ≡ run_outcome status text recording [] → StuckExactly (next_of (pure_program ready.program)) n → BlockedExactly (next_of (pure_program ready.program)) n
+    → BlockedWait (next_of (pure_program ready.program)) n → HasCause (next_of (pure_program ready.program)) n → ((events : List Event) → NoneFits events)
+    → OpensDiffer (next_of (pure_program ready.program)) n
+    → TellsWaits (pure_program ready.program) ready.plan recording outcome
 waits_told n ready recording graph text status outcome n_is made graph_is text_is status_is outcome_is stuck blocked waits cause none opens =
     let ranks : ℕ = number_of_ranks ready.plan in
-    let next : Next = next_of ready.program in
+    let next : Next = next_of (pure_program ready.program) in
     let events : List Event = recording.history.events in
     let ended : IsEndedRun next ranks events = record { is_run = made.is_recording.recorded.picked.run; ended = made.is_recording.recorded.ended } in
     let stuck' : StuckExactly next ranks = rw n_is at stuck in
@@ -137,13 +138,13 @@ waits_told n ready recording graph text status outcome n_is made graph_is text_i
 
 pub waits_done : (run : RunWords (List ℕ)) (before : Environment) (texts : List (List ℕ)) (ready : Ready) (recording : Recording) (outcome : Outcome)
     → AreHeld before.store.files (run_inputs run) texts → IsReady (run_texts texts) ready → IsMade (is_threaded_run run) ready recording
-    → TellsWaits ready.program ready.plan recording outcome → IsDoneFor (run_task run TellsWaits) before outcome
+    → TellsWaits (pure_program ready.program) ready.plan recording outcome → IsDoneFor (run_task run TellsWaits) before outcome
 waits_done run before texts ready recording outcome held is made tells =
     (texts, held, records (is_threaded_run run) (run_texts texts) ready recording TellsWaits outcome is made tells)
 
 pub picture_done : (run : RunWords (List ℕ)) (file : List ℕ) (is_trace : Bool) (before : Environment) (texts : List (List ℕ)) (ready : Ready) (recording : Recording)
     (picture : Option (List ℕ)) → AreHeld before.store.files (run_inputs run) texts → IsReady (run_texts texts) ready
-    → IsMade (is_threaded_run run) ready recording → IsPictureOf is_trace ready.program ready.plan recording picture
+    → IsMade (is_threaded_run run) ready recording → IsPictureOf is_trace (pure_program ready.program) ready.plan recording picture
     → IsDoneFor (run_task run (TellsPicture file is_trace)) before (picture_outcome file recording picture)
 picture_done run file is_trace before texts ready recording picture held is made of = (
   texts,
@@ -154,7 +155,7 @@ picture_done run file is_trace before texts ready recording picture held is made
 
 pub advise_done : (run : RunWords (List ℕ)) (most : ℕ) (before : Environment) (texts : List (List ℕ)) (ready : Ready) (recording : Recording) (outcome : Outcome)
     → AreHeld before.store.files (run_inputs run) texts → IsReady (run_texts texts) ready → IsMade (is_threaded_run run) ready recording
-    → TellsAdvice most ready.program ready.plan recording outcome → IsDoneFor (run_task run (TellsAdvice most)) before outcome
+    → TellsAdvice most (pure_program ready.program) ready.plan recording outcome → IsDoneFor (run_task run (TellsAdvice most)) before outcome
 advise_done run most before texts ready recording outcome held is made tells =
     (texts, held, records (is_threaded_run run) (run_texts texts) ready recording (TellsAdvice most) outcome is made tells)
 

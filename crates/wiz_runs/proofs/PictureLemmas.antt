@@ -1,6 +1,7 @@
 -- The picture of a recording.
 use Rattle.std.proofs.Common.{◌≡◌, refl, ℕ, List, [], ◌∷◌, Err, IfOk, Ok, OnErr, Result, None, Some, true}
 use Rattle.std.specs.declared.alloc.AllocError.{AllocError}
+use Rattle.c_program.specs.View.{pure_program}
 use Rattle.c_program.specs.Program.{next_of}
 use Rattle.group_plan.specs.Plans.{number_of_ranks}
 use Rattle.run_drawing.specs.Drawings.{IsDrawing}
@@ -28,9 +29,9 @@ use Rattle.wiz_task.proofs.EndLemmas.{put_same, put_short, put_told, told_text}
 
 -- in the drawing of a recording all goes right
 pub goes_right : (ready : Ready) (recording : Recording) (drawing : Drawn) → IsMade true ready recording
-    → IsDrawing ready.plan recording.history.events drawing → ColumnsRise → ArrowsGoRight → LanesRise (next_of ready.program)
-    → SpansAreDisjoint (next_of ready.program) → SameDrawing (next_of ready.program) → SameMates (next_of ready.program)
-    → IsDrawingOf ready.program ready.plan recording.history.events drawing
+    → IsDrawing ready.plan recording.history.events drawing → ColumnsRise → ArrowsGoRight → LanesRise (next_of (pure_program ready.program))
+    → SpansAreDisjoint (next_of (pure_program ready.program)) → SameDrawing (next_of (pure_program ready.program)) → SameMates (next_of (pure_program ready.program))
+    → IsDrawingOf (pure_program ready.program) ready.plan recording.history.events drawing
 goes_right ready recording drawing made is columns arrows lanes spans same mates =
     let run = made.is_recording.recorded.picked.run in
     record {

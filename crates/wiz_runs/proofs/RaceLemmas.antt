@@ -1,5 +1,6 @@
 -- Telling the races of a recording.
 use Rattle.std.proofs.Common.{◌≡◌, ℕ, List, [], Option, subst, sym, true}
+use Rattle.c_program.specs.View.{pure_program}
 use Rattle.c_program.specs.Program.{next_of}
 use Rattle.explanation_text.proofs.OrderLaws.{IsOrderText-turns}
 use Rattle.group_plan.specs.Plans.{number_of_ranks}
@@ -29,12 +30,12 @@ picks_made ready recording n made same =
 
 -- each other pick of a recording has an order, which is recorded
 pub others_made : (ready : Ready) (recording : Recording) (n : ℕ) → IsMade true ready recording → n ≡ number_of_ranks ready.plan
-    → OthersAreTaken (next_of ready.program) n → OthersAreTurns (next_of ready.program) n
+    → OthersAreTaken (next_of (pure_program ready.program)) n → OthersAreTurns (next_of (pure_program ready.program)) n
     → (other : OtherPick) → IsIn other (others_of (number_of_ranks ready.plan) recording.history.events)
-    → IsOtherOrder (next_of ready.program) (number_of_ranks ready.plan) recording other
+    → IsOtherOrder (next_of (pure_program ready.program)) (number_of_ranks ready.plan) recording other
 others_made ready recording n made same taken turns other among =
     let ranks : ℕ = number_of_ranks ready.plan in
-    let next : Next = next_of ready.program in
+    let next : Next = next_of (pure_program ready.program) in
     let events = recording.history.events in
     let picks : List Pick = recording.picks.written in
     let picked = made.is_recording.recorded.picked in

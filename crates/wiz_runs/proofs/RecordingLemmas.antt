@@ -2,6 +2,7 @@
 use Rattle.std.proofs.Common.{◌≡◌, Bool, ℕ, List, [], ◌∷◌, false, map, refl, subst, sym, true}
 use Rattle.std.specs.List.{AllByRecursion}
 use Rattle.std.proofs.lemmas.List.{length-map}
+use Rattle.c_program.specs.View.{pure_program}
 use Rattle.c_program.specs.Program.{next_of, output_of}
 use Rattle.c_program.specs.laws.ProgramLaws.{asks_in_bounds, ends_exactly, enters_in_form}
 use Rattle.causes.specs.Clocks.{AreOfRanks}
@@ -53,26 +54,26 @@ in_turns next output n text groups turns recording every fix is = record {
 }
 
 pub made_by : (ready : Ready) (recording : Recording) → CanRun ready
-    → IsRecorded (next_of ready.program) (output_of ready.program) (number_of_ranks ready.plan) ready.text ready.plan recording
-    → LogsAreInBounds (next_of ready.program) (number_of_ranks ready.plan) → LogBytesAreShort (next_of ready.program) (number_of_ranks ready.plan) → RepliesFit32 recording.history.events → PicksAreTurns (next_of ready.program) (number_of_ranks ready.plan)
-    → PicksFixRun (next_of ready.program) (number_of_ranks ready.plan) → IsPlan ready.plan
+    → IsRecorded (next_of (pure_program ready.program)) (output_of (pure_program ready.program)) (number_of_ranks ready.plan) ready.text ready.plan recording
+    → LogsAreInBounds (next_of (pure_program ready.program)) (number_of_ranks ready.plan) → LogBytesAreShort (next_of (pure_program ready.program)) (number_of_ranks ready.plan) → RepliesFit32 recording.history.events → PicksAreTurns (next_of (pure_program ready.program)) (number_of_ranks ready.plan)
+    → PicksFixRun (next_of (pure_program ready.program)) (number_of_ranks ready.plan) → IsPlan ready.plan
     → (is_threaded : Bool)
-    → (is_threaded ≡ false → IsInTurns (next_of ready.program) (number_of_ranks ready.plan) ready.turns recording.history.events)
+    → (is_threaded ≡ false → IsInTurns (next_of (pure_program ready.program)) (number_of_ranks ready.plan) ready.turns recording.history.events)
     → IsMade is_threaded ready recording
 made_by ready recording is recorded law brief words turns fix plan is_threaded in_turns =
     let readable : AllByRecursion IsReadable recording.logs =
     rw recorded.logs
-    (readable_logs (next_of ready.program) ready.text recording.picks.written recording.history.events ready.plan law brief recorded.picked words (rw is.1.text is.1.short) plan) in
+    (readable_logs (next_of (pure_program ready.program)) ready.text recording.picks.written recording.history.events ready.plan law brief recorded.picked words (rw is.1.text is.1.short) plan) in
     record {
       is_recording = record {
         recorded = recorded;
         in_turns = in_turns;
         alone = λ other picked same. fix recording.picks.written other recording.history.events picked recorded.picked same;
-        order = order_of_run (next_of ready.program) (number_of_ranks ready.plan) recording turns recorded.picked;
+        order = order_of_run (next_of (pure_program ready.program)) (number_of_ranks ready.plan) recording turns recorded.picked;
         readable = readable;
         of_the_run =
             rw recorded.logs
-            (logs_of_run (next_of ready.program) ready.text (number_of_ranks ready.plan) recording.history.events ready.plan recorded.picked.run);
+            (logs_of_run (next_of (pure_program ready.program)) ready.text (number_of_ranks ready.plan) recording.history.events ready.plan recorded.picked.run);
       };
       in_bounds = in_bounds_of recording.logs readable;
       few = rw (recorded.logs, length-map ready.plan (log_of ready.text (number_of_ranks ready.plan) recording.history.events)) plan.few_groups;
@@ -92,10 +93,10 @@ made_on_threads is_threaded ready recording made =
 pub run_made : (is_threaded : Bool) (ready : Ready) (recording : Recording) → IsMade is_threaded ready recording
     → IsRunOfAProgram (number_of_ranks ready.plan) recording.history.events
 run_made is_threaded ready recording made = record {
-  next = next_of ready.program;
-  ends = ends_exactly ready.program;
-  asks = asks_in_bounds ready.program;
-  enters = enters_in_form ready.program;
+  next = next_of (pure_program ready.program);
+  ends = ends_exactly (pure_program ready.program);
+  asks = asks_in_bounds (pure_program ready.program);
+  enters = enters_in_form (pure_program ready.program);
   run = made.is_recording.recorded.picked.run;
 }
 
@@ -103,4 +104,4 @@ run_made is_threaded ready recording made = record {
 pub ranks_below : (is_threaded : Bool) (ready : Ready) (recording : Recording) → IsMade is_threaded ready recording
     → AreOfRanks (number_of_ranks ready.plan) recording.history.events
 ranks_below is_threaded ready recording made =
-    run_ranks (next_of ready.program) (number_of_ranks ready.plan) recording.history.events made.is_recording.recorded.picked.run
+    run_ranks (next_of (pure_program ready.program)) (number_of_ranks ready.plan) recording.history.events made.is_recording.recorded.picked.run

@@ -2,7 +2,7 @@
 use Rattle.std.proofs.Common.{◌≡◌, ◌<◌, ℕ, List, [], ◌∷◌, Option, Some, None, All, inl, inr, refl}
 use Rattle.std.specs.List.{AllZip}
 use Rattle.std.proofs.lemmas.List.Elements.{All-cons, All-nil}
-use Rattle.c_program.specs.declared.program.CProgram.{CProgram}
+use Rattle.c_program.specs.Tree.{Program}
 use Rattle.c_types.specs.Checks.{IsProgramOf}
 use Rattle.group_plan.specs.OrderText.{IsTurnLine}
 use Rattle.group_plan.specs.Plans.{number_of_ranks}
@@ -22,25 +22,25 @@ pub run_texts_are : (text plan : List ℕ) (order : Option (List ℕ)) → run_t
 run_texts_are text plan None = refl
 run_texts_are text plan (Some order) = refl
 
-plan_first : (text plan : List ℕ) (order : Option (List ℕ)) (program : CProgram) → IsProgramOf text program → (refused : Refused) → IsUnmetIn (a_plan plan ∷ []) refused
+plan_first : (text plan : List ℕ) (order : Option (List ℕ)) (program : Program) → IsProgramOf text program → (refused : Refused) → IsUnmetIn (a_plan plan ∷ []) refused
     → IsUnmetIn (run_requirements (text ∷ plan ∷ listed order)) refused
 plan_first text plan None program is refused (inl here, none) = (inr ((program, is), inl here), none)
 plan_first text plan None program is refused (inr later, none) = absurd later.1
 plan_first text plan (Some order) program is refused (inl here, none) = (inr ((program, is), inl here), none)
 plan_first text plan (Some order) program is refused (inr later, none) = absurd later.1
 
-pub plan_unmet : (text plan : List ℕ) (order : Option (List ℕ)) (program : CProgram) (failure : Failure) → IsProgramOf text program → IsFailureBy (IsUnmetIn (a_plan plan ∷ [])) failure
+pub plan_unmet : (text plan : List ℕ) (order : Option (List ℕ)) (program : Program) (failure : Failure) → IsProgramOf text program → IsFailureBy (IsUnmetIn (a_plan plan ∷ [])) failure
     → IsFailureBy (IsUnmetIn (run_requirements (text ∷ plan ∷ listed order))) failure
 plan_unmet text plan order program failure is =
     weaken (IsUnmetIn (a_plan plan ∷ [])) (IsUnmetIn (run_requirements (text ∷ plan ∷ listed order))) (plan_first text plan order program is) failure
 
-order_first : (text plan : List ℕ) (order : Option (List ℕ)) (program : CProgram) (groups : List (List ℕ)) → IsProgramOf text program → IsPlanText plan groups
+order_first : (text plan : List ℕ) (order : Option (List ℕ)) (program : Program) (groups : List (List ℕ)) → IsProgramOf text program → IsPlanText plan groups
     → (refused : Refused) → AreRefusedTurns (number_of_ranks groups) order refused → IsUnmetIn (run_requirements (text ∷ plan ∷ listed order)) refused
 order_first text plan None program groups is is_plan refused none = absurd none
 order_first text plan (Some order) program groups is is_plan refused (refusal, none) =
     (inr ((program, is), inr ((groups, is_plan), inl (groups, is_plan, refusal))), none)
 
-pub order_unmet : (text plan : List ℕ) (order : Option (List ℕ)) (program : CProgram) (groups : List (List ℕ)) (failure : Failure) → IsProgramOf text program → IsPlanText plan groups
+pub order_unmet : (text plan : List ℕ) (order : Option (List ℕ)) (program : Program) (groups : List (List ℕ)) (failure : Failure) → IsProgramOf text program → IsPlanText plan groups
     → IsFailureBy (AreRefusedTurns (number_of_ranks groups) order) failure → IsFailureBy (IsUnmetIn (run_requirements (text ∷ plan ∷ listed order))) failure
 order_unmet text plan order program groups failure is is_plan =
     weaken (AreRefusedTurns (number_of_ranks groups) order) (IsUnmetIn (run_requirements (text ∷ plan ∷ listed order))) (order_first text plan order program groups is is_plan) failure

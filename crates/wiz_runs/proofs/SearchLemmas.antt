@@ -3,6 +3,7 @@ use Rattle.std.proofs.Common.{◌≡◌, ◌<◌, ◌+◌, ◌∙◌, ◌++◌, 
 use Rattle.std.specs.List.{AllByRecursion, AllZip, list_any}
 use Rattle.std.specs.declared.alloc.AllocError.{AllocError}
 use Rattle.std.proofs.lemmas.List.Elements.{All-head, All-tail}
+use Rattle.c_program.specs.View.{pure_program}
 use Rattle.c_program.specs.Program.{next_of, output_of}
 use Rattle.explanation_text.proofs.OrderLaws.{IsOrderText-turns}
 use Rattle.explanation_text.specs.WaitsTexts.{waiting_text}
@@ -58,12 +59,12 @@ read_back n turns are = IsOrderText-turns n turns (each_turn n turns are.ranks a
 
 -- each outcome that is listed is that of a recording
 pub found_of : (ready : Ready) (polls : ℕ) (explored : Explored)
-    → IsExplored (next_of ready.program) (output_of ready.program) (number_of_ranks ready.plan) polls ready.turns explored
+    → IsExplored (next_of (pure_program ready.program)) (output_of (pure_program ready.program)) (number_of_ranks ready.plan) polls ready.turns explored
     → (found : Found) → IsIn found explored.found → IsFoundOf ready found
 found_of ready polls explored is found there =
     let sound = is.sound found there in
     record {
-      run = made_by (next_of ready.program) (number_of_ranks ready.plan) ready.turns ++ sound.more;
+      run = made_by (next_of (pure_program ready.program)) (number_of_ranks ready.plan) ready.turns ++ sound.more;
       taken = sound.taken;
       ranks = sound.turns.ranks;
     }
@@ -101,11 +102,11 @@ none_waits n run (WasHalted Stuck) apart = absurd (apart refl)
 
 -- what is found is said of what is run
 pub explored_at : (ready : Ready) (polls n : ℕ) (turns : List Turn) (explored : Explored) → n ≡ number_of_ranks ready.plan → turns ≡ ready.turns
-    → IsExplored (next_of ready.program) (output_of ready.program) n polls turns explored
-    → IsExplored (next_of ready.program) (output_of ready.program) (number_of_ranks ready.plan) polls ready.turns explored
+    → IsExplored (next_of (pure_program ready.program)) (output_of (pure_program ready.program)) n polls turns explored
+    → IsExplored (next_of (pure_program ready.program)) (output_of (pure_program ready.program)) (number_of_ranks ready.plan) polls ready.turns explored
 explored_at ready polls n turns explored many same is =
-    let F : ℕ → Type 0 = λ k. IsExplored (next_of ready.program) (output_of ready.program) k polls turns explored in
-    let G : List Turn → Type 0 = λ t. IsExplored (next_of ready.program) (output_of ready.program) (number_of_ranks ready.plan) polls t explored in
+    let F : ℕ → Type 0 = λ k. IsExplored (next_of (pure_program ready.program)) (output_of (pure_program ready.program)) k polls turns explored in
+    let G : List Turn → Type 0 = λ t. IsExplored (next_of (pure_program ready.program)) (output_of (pure_program ready.program)) (number_of_ranks ready.plan) polls t explored in
     subst G same (subst F many is)
 
 -- the text of who waits in the run of a recording
@@ -119,7 +120,7 @@ stuck_waits next n found (Ok text) is (run, taken, text_is) = record { run = run
 stuck_waits next n found (Err error) is told = told
 
 pub nobody_waits : (ready : Ready) (found : Found) → IsFoundOf ready found → (found.outcome.ending ≡ WasHalted Stuck → ⊥)
-    → IsWaiting (next_of ready.program) (number_of_ranks ready.plan) found []
+    → IsWaiting (next_of (pure_program ready.program)) (number_of_ranks ready.plan) found []
 nobody_waits ready found is apart =
     record { run = is.run; taken = is.taken; text_is = sym (none_waits (number_of_ranks ready.plan) is.run found.outcome.ending apart) }
 
@@ -176,7 +177,7 @@ explore_done run prefix most polls before texts ready searched held is of =
       texts,
       held,
       record {
-        program = ready.program;
+        program = (pure_program ready.program);
         groups = ready.plan;
         turns = ready.turns;
         explored = searched.explored;
@@ -187,7 +188,7 @@ explore_done run prefix most polls before texts ready searched held is of =
         found_back = λ found there. read_back n found.turns (of.is_explored.sound found there).turns;
         left_back = λ left there. read_back n left (of.is_explored.left left there);
         is_outcome = refl;
-        finishes = λ done more whole. all_finish (next_of ready.program) (output_of ready.program) n polls ready.turns searched.explored of.is_explored done more whole;
+        finishes = λ done more whole. all_finish (next_of (pure_program ready.program)) (output_of (pure_program ready.program)) n polls ready.turns searched.explored of.is_explored done more whole;
       },
     )
 

@@ -2,7 +2,7 @@
 use Rattle.std.specs.Prelude.{◌≡◌, ℕ, suc, List, [], ◌∷◌, ◌++◌, None, Bool, true, false, not, if◌then◌else◌, codes, map}
 use Rattle.std.specs.List.{AllZip, list_any}
 use Rattle.clap.specs.Words.{Text}
-use Rattle.c_program.specs.declared.program.CProgram.{CProgram}
+use Rattle.c_program.specs.Tree.{Program}
 use Rattle.c_program.specs.Program.{next_of, output_of}
 use Rattle.explanation_text.specs.OrderTexts.{turns_text}
 use Rattle.explanation_text.specs.WaitsTexts.{waiting_text}
@@ -105,7 +105,7 @@ IsReadBack n turns = IsOrderText n (turns_text turns) turns
 -- the runs of what the texts hold are searched, those that begin with what the turns make, and the outcome tells what was found. With 0 no
 -- whole run of these is halted
 pub record Explores (prefix : Text) (most polls : ℕ) (texts : RunTexts) (outcome : Outcome) : Type 0 where
-  pub program : CProgram
+  pub program : Program
   pub groups : Plan
   pub turns : List Turn
   pub explored : Explored

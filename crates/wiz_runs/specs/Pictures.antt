@@ -1,7 +1,7 @@
 -- The picture of a run, and the file that it is written to.
 use Rattle.std.specs.Prelude.{◌≡◌, ◌<◌, ◌≤◌, ◌||◌, ℕ, List, [], ◌∷◌, ◌++◌, Option, Some, None, Bool, true, false, codes, length, nat_le, slice_get}
 use Rattle.clap.specs.Words.{Text}
-use Rattle.c_program.specs.declared.program.CProgram.{CProgram}
+use Rattle.c_program.specs.Tree.{Program}
 use Rattle.c_program.specs.Program.{next_of}
 use Rattle.causes.specs.Before.{IsBefore}
 use Rattle.group_plan.specs.Plans.{number_of_ranks}
@@ -45,7 +45,7 @@ basis_in groups events drawing is =
 -- each receive and each probe, and who entered a collective last; each call of a rank stands to the right of its earlier ones, and in trace
 -- events begins when these have ended. Each run of the program with the same views has this drawing, in whatever order its ranks ran, if the
 -- synchronous sends that were completed have the same mates; so they have where the message of each was received
-pub record IsDrawingOf (program : CProgram) (groups : Plan) (events : List Event) (drawing : Drawn) : Type 0 where
+pub record IsDrawingOf (program : Program) (groups : Plan) (events : List Event) (drawing : Drawn) : Type 0 where
   pub is_drawing : IsDrawing groups events drawing
   pub columns : (t u : ℕ) (event : Event) → slice_get events t ≡ Some event → stops event.reply ≡ false → IsBefore (number_of_ranks groups) events t u
       → column (basis_in groups events drawing is_drawing) t < column (basis_in groups events drawing is_drawing) u
@@ -60,7 +60,7 @@ pub record IsDrawingOf (program : CProgram) (groups : Plan) (events : List Event
       → HasAllReceived events → HaveSameMates events other
 
 -- the picture of a run: the text of its drawing, or none where it has too many events
-abbrev pub IsPictureOf : Bool → CProgram → Plan → Recording → Option Text → Type 0
+abbrev pub IsPictureOf : Bool → Program → Plan → Recording → Option Text → Type 0
 IsPictureOf is_trace program groups recording None = is_drawn is_trace recording ≡ false
 IsPictureOf is_trace program groups recording (Some text) =
     (is_drawn is_trace recording ≡ true)
@@ -77,7 +77,7 @@ picture_outcome file recording (Some text) =
     record (run_outcome (of_ending recording.ending) [] recording []) { files = (record { name = file; bytes = text }) ∷ [] }
 
 -- the picture of a run is written, where it has one
-pub record TellsPicture (file : Text) (is_trace : Bool) (program : CProgram) (groups : Plan) (recording : Recording) (outcome : Outcome) : Type 0 where
+pub record TellsPicture (file : Text) (is_trace : Bool) (program : Program) (groups : Plan) (recording : Recording) (outcome : Outcome) : Type 0 where
   pub picture : Option Text
   pub is_picture : IsPictureOf is_trace program groups recording picture
   pub is_outcome : outcome ≡ picture_outcome file recording picture

@@ -1,6 +1,6 @@
 -- Commands that run a program: their input files, what is required of these, and how a recording is told.
 use Rattle.c_program.specs.Program.{next_of}
-use Rattle.c_program.specs.declared.program.CProgram.{CProgram}
+use Rattle.c_program.specs.Tree.{Program}
 use Rattle.clap.specs.Words.{Text}
 use Rattle.explanation_text.specs.AdviceTexts.{advice_text}
 use Rattle.explanation_text.specs.RacesTexts.{races_text}
@@ -96,10 +96,10 @@ waits_outcome n recording =
     check_outcome (waits_text n events (graph_of n events) recording.ending) recording []
 
 -- how a recording is told: as it is, or when the log of each group is replayed
-abbrev pub TellsRecord : Text → CProgram → Plan → Recording → Outcome → Type 0
+abbrev pub TellsRecord : Text → Program → Plan → Recording → Outcome → Type 0
 TellsRecord prefix program groups recording outcome = outcome ≡ record_outcome prefix recording
 
-abbrev pub TellsCheck : (Plan → Recording → List Replayed → Text) → CProgram → Plan → Recording → Outcome → Type 0
+abbrev pub TellsCheck : (Plan → Recording → List Replayed → Text) → Program → Plan → Recording → Outcome → Type 0
 TellsCheck text program groups recording outcome =
     (replays : List Replayed) × AreChecksOf program recording.history.events recording.logs replays
     × (outcome ≡ check_outcome (text groups recording replays) recording replays)
@@ -112,7 +112,7 @@ demonstrated seed rounds groups recording replays = demo_text seed rounds record
 
 -- its message races are told: the one list of them that the run has. The order of each other pick of it, of which the first are written,
 -- is recorded into a run in which the receive has another mate
-pub record TellsRaces (orders : Option Text) (program : CProgram) (groups : Plan) (recording : Recording) (outcome : Outcome) : Type 0 where
+pub record TellsRaces (orders : Option Text) (program : Program) (groups : Plan) (recording : Recording) (outcome : Outcome) : Type 0 where
   pub receives : List Receive
   pub are_races : AreRaces (number_of_ranks groups) recording.history.events receives
   pub only : (others : List Receive) → AreRaces (number_of_ranks groups) recording.history.events others → others ≡ receives
@@ -122,7 +122,7 @@ pub record TellsRaces (orders : Option Text) (program : CProgram) (groups : Plan
 
 -- the advice on its groups is told, with blocks of at most so many ranks, or of all where these are fewer: the one advice that the run
 -- has, and no cutting into such blocks costs less
-abbrev pub TellsAdvice : ℕ → CProgram → Plan → Recording → Outcome → Type 0
+abbrev pub TellsAdvice : ℕ → Program → Plan → Recording → Outcome → Type 0
 TellsAdvice most program groups recording outcome =
     let n = number_of_ranks groups in
     let events = recording.history.events in
@@ -133,7 +133,7 @@ TellsAdvice most program groups recording outcome =
 
 -- who waits for whom is told, by the definition of it; a run that is stuck has a reason that is told, and no message that nobody has received
 -- fits a receive that waits
-pub record TellsWaits (program : CProgram) (groups : Plan) (recording : Recording) (outcome : Outcome) : Type 0 where
+pub record TellsWaits (program : Program) (groups : Plan) (recording : Recording) (outcome : Outcome) : Type 0 where
   pub is_outcome : outcome ≡ waits_outcome (number_of_ranks groups) recording
   pub stuck : IsStuckExactly (next_of program) (number_of_ranks groups) recording.history.events
   pub reason : halted recording.history.events ≡ Some Stuck → HasReason (next_of program) (number_of_ranks groups) recording.history.events
@@ -142,7 +142,7 @@ pub record TellsWaits (program : CProgram) (groups : Plan) (recording : Recordin
 -- ---- the tasks
 
 -- a run is recorded, and told
-abbrev pub run_task : RunWords Text → (CProgram → Plan → Recording → Outcome → Type 0) → Task
+abbrev pub run_task : RunWords Text → (Program → Plan → Recording → Outcome → Type 0) → Task
 run_task run Tells =
     record { inputs = run_inputs run; requirements = run_requirements; Does = λ texts. Records (is_threaded_run run) (run_texts texts) Tells }
 

@@ -1,6 +1,6 @@
 -- A requirement is never met and unmet.
 use Rattle.std.proofs.Common.{◌≡◌, ◌∙◌, sym, true, false, ℕ, List, [], ◌∷◌, inl, inr}
-use Rattle.c_program.specs.declared.program.CProgram.{CProgram}
+use Rattle.c_program.specs.Tree.{Program}
 use Rattle.c_lex.specs.declared.fault.SourceFault.{SourceFault}
 use Rattle.c_types.specs.Checks.{IsFaultOf, IsProgramOf}
 use Rattle.picked_runs.specs.declared.turn.Turn.{Turn}
@@ -26,9 +26,9 @@ use Rattle.wiz_task.specs.Requirements.{AreMet, IsCompareRefusal, IsFirstUnmet, 
 
 -- a text with a program has no fault
 abbrev pub ProgramsHaveNoFault : Type 0
-ProgramsHaveNoFault = (text : List ℕ) (program : CProgram) (fault : SourceFault) → IsProgramOf text program → IsFaultOf text fault → ⊥
+ProgramsHaveNoFault = (text : List ℕ) (program : Program) (fault : SourceFault) → IsProgramOf text program → IsFaultOf text fault → ⊥
 
-program_apart : ProgramsHaveNoFault → (text : List ℕ) (program : CProgram) (refusal : Refusal) → IsProgramOf text program → IsProgramRefusal text refusal → ⊥
+program_apart : ProgramsHaveNoFault → (text : List ℕ) (program : Program) (refusal : Refusal) → IsProgramOf text program → IsProgramRefusal text refusal → ⊥
 program_apart programs text program Words is unmet = unmet
 program_apart programs text program Missing is unmet = unmet
 program_apart programs text program ReadFault is unmet = unmet

@@ -2,7 +2,7 @@
 use Rattle.std.specs.Prelude.{◌≡◌, ◌≤◌, ℕ, List, [], Option, Some, None, Bool, false, length}
 use Rattle.std.specs.List.{AllByRecursion}
 use Rattle.clap.specs.Words.{Text}
-use Rattle.c_program.specs.declared.program.CProgram.{CProgram}
+use Rattle.c_program.specs.Tree.{Program}
 use Rattle.c_program.specs.Program.{next_of, output_of}
 use Rattle.c_types.specs.Checks.{IsProgramOf}
 use Rattle.explanation_text.specs.OrderTexts.{order_text}
@@ -42,7 +42,7 @@ AreTurns n None turns = turns ≡ []
 AreTurns n (Some text) turns = IsOrderText n text turns
 
 -- the texts hold a program, a plan, and turns of its ranks
-pub record ArePrepared (texts : RunTexts) (program : CProgram) (groups : Plan) (turns : List Turn) : Type 0 where
+pub record ArePrepared (texts : RunTexts) (program : Program) (groups : Plan) (turns : List Turn) : Type 0 where
   pub is_program : IsProgramOf texts.program program
   pub is_plan : IsPlanText texts.plan groups
   pub are_turns : AreTurns (number_of_ranks groups) texts.order turns
@@ -74,7 +74,7 @@ pub record IsReadable (log : Log) : Type 0 where
 -- a run of the program on the plan's ranks in which each has ended, with the log of each group, what each rank printed, and how it
 -- ended; on one thread it is that of the turns. Its order and what it picked fix it, and can be read back. So can each log, which is one of
 -- this run, so that what is said of its replays beside a run with the log is said beside this one
-pub record IsRecordingOf (is_threaded : Bool) (text : Text) (program : CProgram) (groups : Plan) (turns : List Turn) (recording : Recording) : Type 0 where
+pub record IsRecordingOf (is_threaded : Bool) (text : Text) (program : Program) (groups : Plan) (turns : List Turn) (recording : Recording) : Type 0 where
   pub recorded : IsRecorded (next_of program) (output_of program) (number_of_ranks groups) text groups recording
   pub in_turns : is_threaded ≡ false → IsInTurns (next_of program) (number_of_ranks groups) turns recording.history.events
   pub alone : IsAlone (next_of program) (number_of_ranks groups) recording
@@ -83,8 +83,8 @@ pub record IsRecordingOf (is_threaded : Bool) (text : Text) (program : CProgram)
   pub of_the_run : AllByRecursion (λ log. IsRunWith (next_of program) log recording.history.events) recording.logs
 
 -- a run of what the texts hold is recorded, and the outcome tells it
-pub record Records (is_threaded : Bool) (texts : RunTexts) (Tells : CProgram → Plan → Recording → Outcome → Type 0) (outcome : Outcome) : Type 0 where
-  pub program : CProgram
+pub record Records (is_threaded : Bool) (texts : RunTexts) (Tells : Program → Plan → Recording → Outcome → Type 0) (outcome : Outcome) : Type 0 where
+  pub program : Program
   pub groups : Plan
   pub turns : List Turn
   pub recording : Recording

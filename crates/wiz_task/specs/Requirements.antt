@@ -1,7 +1,7 @@
 -- What is required of the texts of input files, in order.
 use Rattle.std.specs.Prelude.{◌⊎◌, ℕ, List, [], ◌∷◌}
 use Rattle.clap.specs.Words.{Text}
-use Rattle.c_program.specs.declared.program.CProgram.{CProgram}
+use Rattle.c_program.specs.Tree.{Program as TypedProgram}
 use Rattle.c_types.specs.Checks.{IsFaultOf, IsProgramOf}
 use Rattle.group_plan.specs.OrderText.{IsOrderText, IsFault as IsOrderFault}
 use Rattle.picked_runs.specs.declared.turn.Turn.{Turn}
@@ -29,12 +29,12 @@ pub data Requirement : Type 0 where
   a_comparison : List ℕ → List ℕ → Requirement
 
 abbrev pub IsMet : Requirement → Type 0
-IsMet (a_program text) = (program : CProgram) × IsProgramOf text program
+IsMet (a_program text) = (program : TypedProgram) × IsProgramOf text program
 IsMet (a_plan text) = (groups : Plan) × IsPlanText text groups
 IsMet (an_order plan text) =
     (groups : Plan) × (turns : List Turn) × IsPlanText plan groups × IsOrderText (number_of_ranks groups) text turns
 IsMet (a_log bytes) = (log : Log) × IsTextOfLog bytes log
-IsMet (its_program bytes) = (log : Log) × (program : CProgram) × IsTextOfLog bytes log × IsProgramOf log.program program
+IsMet (its_program bytes) = (log : Log) × (program : TypedProgram) × IsTextOfLog bytes log × IsProgramOf log.program program
 IsMet (a_refinement bytes plan) = (log : Log) × (groups : Plan) × IsTextOfLog bytes log × IsPlanText plan groups × CanRefine log groups
 IsMet (a_join bytes others) = (one : Log) × (other : Log) × IsTextOfLog bytes one × IsTextOfLog others other × CanJoin one other
 IsMet (a_comparison bytes others) = (one : Log) × (other : Log) × IsTextOfLog bytes one × IsTextOfLog others other × CanCompare one other

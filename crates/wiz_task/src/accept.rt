@@ -1,5 +1,6 @@
 //! What texts hold: a program, a plan, an order, a log; or why they are refused. Whether logs can be regrouped.
 ghost use Rattle.std.specs.Prelude.{◌≡◌, ◌∷◌, ◌≤◌, [], IfErr, IfOk, OnOk, length};
+ghost use Rattle.c_program.specs.View.{pure_program};
 ghost use Rattle.c_types.specs.Checks.{IsProgramOf};
 ghost use Rattle.group_plan.specs.PlanText.{IsPlanText};
 ghost use Rattle.log_bounds.specs.RunBounds.{log_limit};
@@ -38,7 +39,7 @@ fn refused(refusal: Refusal) -> Failure<'static>
 /// The program with this text.
 pub fn program_in(alloc: Global, text: &[u8]) -> Result<CProgram, Failure<'static>>
     requires { length text.now ≤ text_limit }
-    ensures program { IfOk result (λ program. IsProgramOf text.now program) }
+    ensures program { IfOk result (λ program. IsProgramOf text.now (pure_program program)) }
     ensures refused { IfErr result (IsFailureBy (IsUnmetIn (a_program text.now ∷ []))) }
 {
     match read_program(alloc, text) {

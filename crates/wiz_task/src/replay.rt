@@ -1,4 +1,5 @@
 //! The replay of a log with the program of a text.
+ghost use Rattle.c_program.specs.View.{pure_program};
 ghost use Rattle.std.specs.Prelude.{IfOk};
 ghost use Rattle.c_types.specs.Checks.{IsProgramOf};
 ghost use Rattle.srr_replay.specs.Rounds.{IsReplayable};
@@ -21,7 +22,7 @@ pub fn replay_text<R: Runner>(
     stop: Option<(u8, u32)>,
     runner: &R,
 ) -> Result<Replayed, AllocError>
-    requires program { IsProgramOf text.now program.now }
+    requires program { IsProgramOf text.now (pure_program program.now) }
     requires log { IsReplayable log.now }
     requires runs { R.runs runner.now }
     ensures { IfOk result (IsReplayOf text.now log.now stop) }

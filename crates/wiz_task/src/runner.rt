@@ -1,4 +1,5 @@
 //! Who runs the ranks of a program.
+ghost use Rattle.c_program.specs.View.{pure_program};
 ghost use Rattle.std.specs.Prelude.{Bool, IfOk};
 ghost use Rattle.srr_replay.specs.Rounds.{IsReplayable};
 ghost use Rattle.wiz_task.specs.inside.Recording.{CanRun, IsMade};
@@ -35,5 +36,5 @@ pub trait Runner {
     ) -> Result<Replayed, AllocError>
         requires runs { runs self.now }
         requires log { IsReplayable log.now }
-        ensures { IfOk result (IsReplayBy program.now log.now stop) };
+        ensures { IfOk result (IsReplayBy (pure_program program.now) log.now stop) };
 }

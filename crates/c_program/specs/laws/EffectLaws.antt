@@ -36,9 +36,9 @@ use Rattle.c_program.specs.declared.effect.Message.{Message}
 use Rattle.c_program.specs.declared.effect.Receive.{Receive}
 use Rattle.c_program.specs.declared.effect.Start.{Start}
 use Rattle.c_program.specs.declared.effect.Start.TheVariants.{Send as StartSend, Receive as StartReceive}
-use Rattle.c_program.specs.declared.mpi.MpiCall.{MpiCall}
 use Rattle.c_program.specs.declared.state.Begun.{Begun}
 use Rattle.c_program.specs.declared.state.MadeCommunicator.{MadeCommunicator}
+use Rattle.c_program.specs.Tree.{MpiCall}
 use Rattle.c_program.specs.Cells.{Cells}
 use Rattle.c_program.specs.Courses.{Course, Asks}
 use Rattle.c_program.specs.Effects.{effect_of}

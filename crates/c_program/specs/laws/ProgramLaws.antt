@@ -9,7 +9,7 @@ use Rattle.run_model.specs.Program.{IsSeen, IsViewOf, IsRankOf, ends, EndsExactl
 use Rattle.run_model.specs.Shape.{has_shape}
 use Rattle.run_model.specs.Views.{View, Next, replies_in}
 use Rattle.run_model.proofs.Views.{test_cases}
-use Rattle.c_program.specs.declared.program.CProgram.{CProgram}
+use Rattle.c_program.specs.Tree.{Program}
 use Rattle.c_program.specs.Courses.{Course, Asks, Over, after, call_in, shaped_after, state_in}
 use Rattle.c_program.specs.laws.GoodLaws.{keeps_prefix}
 use Rattle.run_model.proofs.Prefixes.{prefix_refl, prefix_trans}
@@ -139,10 +139,10 @@ module _ (n me : ℕ) (next : Next) where
 -- ---- the laws of the program
 
 -- a view in shape leads where its replies lead
-pub after_in_shape : (program : CProgram) (n me : ℕ) (view : View) → IsViewOf (next_of program) n me view → shaped_after n me [] (course_of program (rank_of n me)) (replies_in view) ≡ after (course_of program (rank_of n me)) (replies_in view)
+pub after_in_shape : (program : Program) (n me : ℕ) (view : View) → IsViewOf (next_of program) n me view → shaped_after n me [] (course_of program (rank_of n me)) (replies_in view) ≡ after (course_of program (rank_of n me)) (replies_in view)
 after_in_shape program n me view along = same_after n me (next_of program) [] view (course_of program (rank_of n me)) (λ replies. refl) along
 
-module _ (program : CProgram) where
+module _ (program : Program) where
   stands_at : (n me : ℕ) (view : View) → IsRankOf n me → IsViewOf (next_of program) n me view → Stands n me (next_of program) view (list_any ends view) (shaped_after n me [] (course_of program (rank_of n me)) (replies_in view))
   stands_at n me view is along = stands_after n me (next_of program) [] view (course_of program (rank_of n me)) (λ replies. refl) (course_keeps program n me is) along
 

@@ -22,7 +22,7 @@ use Rattle.c_program.specs.declared.effect.Entered.{Entered}
 use Rattle.c_program.specs.declared.effect.Entered.TheVariants.{Nothing as EntersNothing, Cells as EntersCells, Pair}
 use Rattle.c_program.specs.declared.effect.Message.{Message}
 use Rattle.c_program.specs.declared.effect.Start.TheVariants.{Send as StartSend, Receive as StartReceive}
-use Rattle.c_program.specs.declared.expr.Reference.{Reference}
+use Rattle.c_program.specs.Tree.{Reference}
 use Rattle.c_program.specs.Cells.{Cells}
 use Rattle.c_program.specs.Effects.{Communicator, communicator_of, count_of, destination, first, member, source_of, tag_of, wanted_tag}
 use Rattle.c_program.specs.laws.Keeping.{Good}

@@ -25,25 +25,8 @@ use Rattle.c_program.specs.declared.effect.Into.{Into}
 use Rattle.c_program.specs.declared.effect.Into.TheVariants.{Nowhere, Cells as IntoCells, Handle}
 use Rattle.c_program.specs.declared.effect.Message.{Message}
 use Rattle.c_program.specs.declared.effect.Start.TheVariants.{Receive as StartReceive}
-use Rattle.c_program.specs.declared.expr.Expr.{Expr}
-use Rattle.c_program.specs.declared.expr.Reference.{Reference}
-use Rattle.c_program.specs.declared.mpi.Buffer.{Buffer}
-use Rattle.c_program.specs.declared.mpi.CollectiveCall.{CollectiveCall}
-use Rattle.c_program.specs.declared.mpi.CollectiveCall.TheVariants as collectives
-use Rattle.c_program.specs.declared.mpi.CommunicatorCall.{CommunicatorCall}
-use Rattle.c_program.specs.declared.mpi.CommunicatorCall.TheVariants as communicators
-use Rattle.c_program.specs.declared.mpi.CompletionCall.{CompletionCall}
-use Rattle.c_program.specs.declared.mpi.CompletionCall.TheVariants as completions
-use Rattle.c_program.specs.declared.mpi.Incoming.{Incoming}
-use Rattle.c_program.specs.declared.mpi.MessageCall.{MessageCall}
-use Rattle.c_program.specs.declared.mpi.MessageCall.TheVariants as messages
-use Rattle.c_program.specs.declared.mpi.MpiCall.{MpiCall}
-use Rattle.c_program.specs.declared.mpi.MpiCall.TheVariants as c
-use Rattle.c_program.specs.declared.mpi.Outgoing.{Outgoing}
-use Rattle.c_program.specs.declared.mpi.ProbeCall.{ProbeCall}
-use Rattle.c_program.specs.declared.mpi.ProbeCall.TheVariants as probes
-use Rattle.c_program.specs.declared.mpi.Reduction.{Reduction}
-use Rattle.c_program.specs.declared.mpi.SomeRequests.{SomeRequests}
+use Rattle.c_program.specs.Tree as t
+use Rattle.c_program.specs.Tree.{Buffer, CollectiveCall, CommunicatorCall, CompletionCall, Expr, Incoming, MessageCall, MpiCall, Outgoing, ProbeCall, Reduction, Reference, SomeRequests}
 use Rattle.c_program.specs.Cells.{Cells}
 use Rattle.c_program.specs.Effects.{Communicator, answers, at_root, cell, colour, completes_some, effect_of, enters, first, gets, handles_of, is_me, is_root, isend_effect, joins, optional, pieces, receive, same_count, send_after, send_effect, sends, sends_from, status}
 use Rattle.c_program.specs.laws.Keeping.{Good}
@@ -93,7 +76,7 @@ send_proper outgoing comm sync n me own s good =
     on_first P buffer_count buffer_cells _ (λ buffer_cells buffer_cells_first.
     sends_proper n me own comm dest tag buffer_cells sync dest_low tag_small (omega (arith, buffer_count_few, buffer_cells_first.length))))))))))))
 
-recv_proper : (incoming : Incoming) (comm : Expr) (kept : Option Reference) → IsKept (c.Message (messages.Recv incoming comm kept))
+recv_proper : (incoming : Incoming) (comm : Expr) (kept : Option Reference) → IsKept (t.message (t.recv incoming comm kept))
 recv_proper incoming comm kept n me own s good =
     let P : Effect → Type 0 = IsProper n me own in
     given_free P (range incoming.buffer.cells s) _ (λ buffer_cells. given_free P (value incoming.buffer.count s) _ (λ buffer_count. given_free P (value incoming.source s) _ (λ source.
@@ -119,7 +102,7 @@ isend_proper outgoing comm request sync n me own s good =
     given_free P (cell request) _ (λ request.
     sends_from_proper n me own comm dest tag buffer_cells sync request dest_low tag_small (omega (arith, buffer_count_few, buffer_cells_first.length))))))))))))))
 
-irecv_proper : (incoming : Incoming) (comm : Expr) (request : Reference) → IsKept (c.Message (messages.Irecv incoming comm request))
+irecv_proper : (incoming : Incoming) (comm : Expr) (request : Reference) → IsKept (t.message (t.irecv incoming comm request))
 irecv_proper incoming comm request n me own s good =
     let P : Effect → Type 0 = IsProper n me own in
     given_free P (range incoming.buffer.cells s) _ (λ buffer_cells. given_free P (value incoming.buffer.count s) _ (λ buffer_count. given_free P (value incoming.source s) _ (λ source.
@@ -132,7 +115,7 @@ irecv_proper incoming comm request n me own s good =
     given_free P (cell request) _ (λ request.
     starts_proper n me own comm source tag buffer_cells request source_low tag_small))))))))))))
 
-sendrecv_proper : (outgoing : Outgoing) (incoming : Incoming) (comm : Expr) (kept : Option Reference) → IsKept (c.Message (messages.Sendrecv outgoing incoming comm kept))
+sendrecv_proper : (outgoing : Outgoing) (incoming : Incoming) (comm : Expr) (kept : Option Reference) → IsKept (t.message (t.sendrecv outgoing incoming comm kept))
 sendrecv_proper outgoing incoming comm kept n me own s good =
     let P : Effect → Type 0 = IsProper n me own in
     given_free P (range outgoing.buffer.cells s) _ (λ out_cells. given_free P (value outgoing.buffer.count s) _ (λ out_count. given_free P (value outgoing.dest s) _ (λ dest.
@@ -151,16 +134,16 @@ sendrecv_proper outgoing incoming comm kept n me own s good =
     receives_proper n me own comm source tag buffer_cells (send_after comm dest send_tag out_cells) kept source_low tag_small
     (send_after_proper n comm dest send_tag out_cells dest_low send_tag_small (omega (arith, out_count_few, out_cells_first.length)))))))))))))))))))))))
 
-message_kept : (call : MessageCall) → IsKept (c.Message call)
-message_kept (messages.Send outgoing comm) n me own s good = send_proper outgoing comm false n me own s good
-message_kept (messages.Ssend outgoing comm) n me own s good = send_proper outgoing comm true n me own s good
-message_kept (messages.Recv incoming comm kept) n me own s good = recv_proper incoming comm kept n me own s good
-message_kept (messages.Isend outgoing comm request) n me own s good = isend_proper outgoing comm request false n me own s good
-message_kept (messages.Issend outgoing comm request) n me own s good = isend_proper outgoing comm request true n me own s good
-message_kept (messages.Irecv incoming comm request) n me own s good = irecv_proper incoming comm request n me own s good
-message_kept (messages.Sendrecv outgoing incoming comm kept) n me own s good = sendrecv_proper outgoing incoming comm kept n me own s good
+message_kept : (call : MessageCall) → IsKept (t.message call)
+message_kept (t.send outgoing comm) n me own s good = send_proper outgoing comm false n me own s good
+message_kept (t.ssend outgoing comm) n me own s good = send_proper outgoing comm true n me own s good
+message_kept (t.recv incoming comm kept) n me own s good = recv_proper incoming comm kept n me own s good
+message_kept (t.isend outgoing comm request) n me own s good = isend_proper outgoing comm request false n me own s good
+message_kept (t.issend outgoing comm request) n me own s good = isend_proper outgoing comm request true n me own s good
+message_kept (t.irecv incoming comm request) n me own s good = irecv_proper incoming comm request n me own s good
+message_kept (t.sendrecv outgoing incoming comm kept) n me own s good = sendrecv_proper outgoing incoming comm kept n me own s good
 
-probe_proper : (source tag comm : Expr) (kept : Option Reference) → IsKept (c.Probe (probes.Probe source tag comm kept))
+probe_proper : (source tag comm : Expr) (kept : Option Reference) → IsKept (t.probing (t.probe source tag comm kept))
 probe_proper source tag comm kept n me own s good =
     let P : Effect → Type 0 = IsProper n me own in
     given_free P (value source s) _ (λ source. given_free P (value tag s) _ (λ tag. given_free P (value comm s) _ (λ comm. given_free P (status kept s) _ (λ kept.
@@ -170,7 +153,7 @@ probe_proper source tag comm kept n me own s good =
     given_free P (optional cell kept) _ (λ kept.
     probes_proper n me own comm source tag true None kept source_low tag_small))))))))
 
-iprobe_proper : (source tag comm : Expr) (flag : Reference) (kept : Option Reference) → IsKept (c.Probe (probes.Iprobe source tag comm flag kept))
+iprobe_proper : (source tag comm : Expr) (flag : Reference) (kept : Option Reference) → IsKept (t.probing (t.iprobe source tag comm flag kept))
 iprobe_proper source tag comm flag kept n me own s good =
     let P : Effect → Type 0 = IsProper n me own in
     given_free P (value source s) _ (λ source. given_free P (value tag s) _ (λ tag. given_free P (value comm s) _ (λ comm. given_free P (range flag s) _ (λ flag.
@@ -181,23 +164,23 @@ iprobe_proper source tag comm flag kept n me own s good =
     given_free P (cell flag) _ (λ flag. given_free P (optional cell kept) _ (λ kept.
     probes_proper n me own comm source tag false (Some flag) kept source_low tag_small))))))))))
 
-get_count_proper : (kept : Option Reference) (into : Reference) → IsKept (c.Probe (probes.GetCount kept into))
+get_count_proper : (kept : Option Reference) (into : Reference) → IsKept (t.probing (t.get_count kept into))
 get_count_proper kept into n me own s good =
     let P : Effect → Type 0 = IsProper n me own in
     given_free P (status kept s) _ (λ kept. given_free P (range into s) _ (λ into. given_free P (optional cell kept) _ (λ kept. given_free P (cell into) _ (λ into.
     tt))))
 
-probe_kept : (call : ProbeCall) → IsKept (c.Probe call)
-probe_kept (probes.Probe source tag comm kept) n me own s good = probe_proper source tag comm kept n me own s good
-probe_kept (probes.Iprobe source tag comm flag kept) n me own s good = iprobe_proper source tag comm flag kept n me own s good
-probe_kept (probes.GetCount kept into) n me own s good = get_count_proper kept into n me own s good
+probe_kept : (call : ProbeCall) → IsKept (t.probing call)
+probe_kept (t.probe source tag comm kept) n me own s good = probe_proper source tag comm kept n me own s good
+probe_kept (t.iprobe source tag comm flag kept) n me own s good = iprobe_proper source tag comm flag kept n me own s good
+probe_kept (t.get_count kept into) n me own s good = get_count_proper kept into n me own s good
 
 -- ---- completions
 
 completes_proper : (n me : ℕ) (own : View) (requests : Cells) (mode : TakeMode) (answer : Answer) → requests.length ≤ MOST_CELLS → IsProper n me own (Completes requests mode answer)
 completes_proper n me own requests mode answer few = few
 
-wait_proper : (requests : Reference) (kept : Option Reference) → IsKept (c.Completion (completions.Wait requests kept))
+wait_proper : (requests : Reference) (kept : Option Reference) → IsKept (t.completion (t.wait requests kept))
 wait_proper requests kept n me own s good =
     let P : Effect → Type 0 = IsProper n me own in
     given_free P (range requests s) _ (λ requests. given_free P (status kept s) _ (λ kept.
@@ -205,7 +188,7 @@ wait_proper requests kept n me own s good =
     given_free P (optional (first 1) kept) _ (λ kept.
     completes_proper n me own requests All (record answers { statuses = kept }) (omega (arith, requests_first.length))))))
 
-test_proper : (requests flag : Reference) (kept : Option Reference) → IsKept (c.Completion (completions.Test requests flag kept))
+test_proper : (requests flag : Reference) (kept : Option Reference) → IsKept (t.completion (t.test requests flag kept))
 test_proper requests flag kept n me own s good =
     let P : Effect → Type 0 = IsProper n me own in
     given_free P (range requests s) _ (λ requests. given_free P (range flag s) _ (λ flag. given_free P (status kept s) _ (λ kept.
@@ -213,7 +196,7 @@ test_proper requests flag kept n me own s good =
     given_free P (cell flag) _ (λ flag. given_free P (optional (first 1) kept) _ (λ kept.
     completes_proper n me own requests TestAll (record answers { flag = Some flag; statuses = kept }) (omega (arith, requests_first.length))))))))
 
-waitany_proper : (count : Expr) (requests index : Reference) (kept : Option Reference) → IsKept (c.Completion (completions.Waitany count requests index kept))
+waitany_proper : (count : Expr) (requests index : Reference) (kept : Option Reference) → IsKept (t.completion (t.waitany count requests index kept))
 waitany_proper count requests index kept n me own s good =
     let P : Effect → Type 0 = IsProper n me own in
     given_free P (value count s) _ (λ count.
@@ -223,7 +206,7 @@ waitany_proper count requests index kept n me own s good =
     given_free P (cell index) _ (λ index. given_free P (optional (first 1) kept) _ (λ kept.
     completes_proper n me own requests AnyOne (record answers { index = Some index; statuses = kept }) (omega (arith, requests_first.length, requests_first.within, requests_few))))))))))
 
-testany_proper : (count : Expr) (requests index flag : Reference) (kept : Option Reference) → IsKept (c.Completion (completions.Testany count requests index flag kept))
+testany_proper : (count : Expr) (requests index flag : Reference) (kept : Option Reference) → IsKept (t.completion (t.testany count requests index flag kept))
 testany_proper count requests index flag kept n me own s good =
     let P : Effect → Type 0 = IsProper n me own in
     given_free P (value count s) _ (λ count.
@@ -233,7 +216,7 @@ testany_proper count requests index flag kept n me own s good =
     given_free P (cell index) _ (λ index. given_free P (cell flag) _ (λ flag. given_free P (optional (first 1) kept) _ (λ kept.
     completes_proper n me own requests TestAny (record answers { flag = Some flag; index = Some index; statuses = kept }) (omega (arith, requests_first.length, requests_first.within, requests_few))))))))))))
 
-waitall_proper : (count : Expr) (requests : Reference) (kept : Option Reference) → IsKept (c.Completion (completions.Waitall count requests kept))
+waitall_proper : (count : Expr) (requests : Reference) (kept : Option Reference) → IsKept (t.completion (t.waitall count requests kept))
 waitall_proper count requests kept n me own s good =
     let P : Effect → Type 0 = IsProper n me own in
     given_free P (value count s) _ (λ count.
@@ -243,7 +226,7 @@ waitall_proper count requests kept n me own s good =
     given_free P (optional (first count) kept) _ (λ kept.
     completes_proper n me own requests All (record answers { statuses = kept }) (omega (arith, requests_first.length, requests_first.within, requests_few))))))))
 
-testall_proper : (count : Expr) (requests flag : Reference) (kept : Option Reference) → IsKept (c.Completion (completions.Testall count requests flag kept))
+testall_proper : (count : Expr) (requests flag : Reference) (kept : Option Reference) → IsKept (t.completion (t.testall count requests flag kept))
 testall_proper count requests flag kept n me own s good =
     let P : Effect → Type 0 = IsProper n me own in
     given_free P (value count s) _ (λ count.
@@ -266,15 +249,15 @@ completes_some_proper mode several n me own s good =
     given_free P (optional (first count) kept) _ (λ kept.
     completes_proper n me own requests mode (record answers { outcount = Some outcount; indices = Some indices; statuses = kept }) (omega (arith, requests_first.length, requests_first.within, requests_few))))))))))))
 
-completion_kept : (call : CompletionCall) → IsKept (c.Completion call)
-completion_kept (completions.Wait requests kept) n me own s good = wait_proper requests kept n me own s good
-completion_kept (completions.Test requests flag kept) n me own s good = test_proper requests flag kept n me own s good
-completion_kept (completions.Waitany count requests index kept) n me own s good = waitany_proper count requests index kept n me own s good
-completion_kept (completions.Testany count requests index flag kept) n me own s good = testany_proper count requests index flag kept n me own s good
-completion_kept (completions.Waitall count requests kept) n me own s good = waitall_proper count requests kept n me own s good
-completion_kept (completions.Testall count requests flag kept) n me own s good = testall_proper count requests flag kept n me own s good
-completion_kept (completions.Waitsome several) n me own s good = completes_some_proper Several several n me own s good
-completion_kept (completions.Testsome several) n me own s good = completes_some_proper TestSeveral several n me own s good
+completion_kept : (call : CompletionCall) → IsKept (t.completion call)
+completion_kept (t.wait requests kept) n me own s good = wait_proper requests kept n me own s good
+completion_kept (t.test requests flag kept) n me own s good = test_proper requests flag kept n me own s good
+completion_kept (t.waitany count requests index kept) n me own s good = waitany_proper count requests index kept n me own s good
+completion_kept (t.testany count requests index flag kept) n me own s good = testany_proper count requests index flag kept n me own s good
+completion_kept (t.waitall count requests kept) n me own s good = waitall_proper count requests kept n me own s good
+completion_kept (t.testall count requests flag kept) n me own s good = testall_proper count requests flag kept n me own s good
+completion_kept (t.waitsome several) n me own s good = completes_some_proper Several several n me own s good
+completion_kept (t.testsome several) n me own s good = completes_some_proper TestSeveral several n me own s good
 
 -- ---- collectives and communicators
 
@@ -341,7 +324,7 @@ on_root_enters P b count cells go on =
     (at_root_holds (λ entered. entered_length entered ≡ (if b then count else 0)) b EntersNothing (enters count cells) (λ f. rw f refl)
     (λ t. on_first (λ entered. entered_length entered ≡ (if b then count else 0)) count cells _ (λ part first. rw t first.length))) on
 
-barrier_proper : (comm : Expr) → IsKept (c.Collective (collectives.Barrier comm))
+barrier_proper : (comm : Expr) → IsKept (t.collective (t.barrier comm))
 barrier_proper comm n me own s good =
     let P : Effect → Type 0 = IsProper n me own in
     given_free P (value comm s) _ (λ comm.
@@ -350,7 +333,7 @@ barrier_proper comm n me own s good =
     (λ ints. refl) (λ ints. refl)
     (λ ints. omega arith)))
 
-bcast_proper : (buffer : Buffer) (root comm : Expr) → IsKept (c.Collective (collectives.Bcast buffer root comm))
+bcast_proper : (buffer : Buffer) (root comm : Expr) → IsKept (t.collective (t.bcast buffer root comm))
 bcast_proper buffer root comm n me own s good =
     let P : Effect → Type 0 = IsProper n me own in
     given_free P (range buffer.cells s) _ (λ buffer_cells. given_free P (value buffer.count s) _ (λ buffer_count. given_free P (value root s) _ (λ root.
@@ -363,7 +346,7 @@ bcast_proper buffer root comm n me own s good =
     (λ ints. rw root_is refl) (λ ints. entered_if (root == me) buffer_cells buffer_count buffer_cells_first.length)
     (λ ints. omega (arith, buffer_count_few))))))))))
 
-gather_proper : (out buffer : Buffer) (root comm : Expr) → IsKept (c.Collective (collectives.Gather out buffer root comm))
+gather_proper : (out buffer : Buffer) (root comm : Expr) → IsKept (t.collective (t.gather out buffer root comm))
 gather_proper out buffer root comm n me own s good =
     let P : Effect → Type 0 = IsProper n me own in
     given_free P (range out.cells s) _ (λ out_cells. given_free P (value out.count s) _ (λ out_count.
@@ -379,7 +362,7 @@ gather_proper out buffer root comm n me own s good =
     (λ ints. rw root_is refl) (λ ints. sym entered_is)
     (λ ints. few_if (root == me) (pieces comm count) (λ t. let within = into_within t in omega (arith, within, buffer_cells_few)))))))))))))))
 
-scatter_proper : (out buffer : Buffer) (root comm : Expr) → IsKept (c.Collective (collectives.Scatter out buffer root comm))
+scatter_proper : (out buffer : Buffer) (root comm : Expr) → IsKept (t.collective (t.scatter out buffer root comm))
 scatter_proper out buffer root comm n me own s good =
     let P : Effect → Type 0 = IsProper n me own in
     given_free P (range out.cells s) _ (λ out_cells. given_free P (value out.count s) _ (λ out_count. given_free P (range buffer.cells s) _ (λ buffer_cells.
@@ -394,7 +377,7 @@ scatter_proper out buffer root comm n me own s good =
     (λ ints. rw root_is refl) (λ ints. sym entered_is)
     (λ ints. omega (arith, count_same, buffer_count_few))))))))))))))
 
-allgather_proper : (out buffer : Buffer) (comm : Expr) → IsKept (c.Collective (collectives.Allgather out buffer comm))
+allgather_proper : (out buffer : Buffer) (comm : Expr) → IsKept (t.collective (t.allgather out buffer comm))
 allgather_proper out buffer comm n me own s good =
     let P : Effect → Type 0 = IsProper n me own in
     given_free P (range out.cells s) _ (λ out_cells. given_free P (value out.count s) _ (λ out_count.
@@ -409,7 +392,7 @@ allgather_proper out buffer comm n me own s good =
     (λ ints. refl) (λ ints. sym entered_is)
     (λ ints. omega (arith, into_within, buffer_cells_few))))))))))))
 
-alltoall_proper : (out buffer : Buffer) (comm : Expr) → IsKept (c.Collective (collectives.Alltoall out buffer comm))
+alltoall_proper : (out buffer : Buffer) (comm : Expr) → IsKept (t.collective (t.alltoall out buffer comm))
 alltoall_proper out buffer comm n me own s good =
     let P : Effect → Type 0 = IsProper n me own in
     given_free P (range out.cells s) _ (λ out_cells. given_free P (value out.count s) _ (λ out_count.
@@ -424,7 +407,7 @@ alltoall_proper out buffer comm n me own s good =
     (λ ints. refl) (λ ints. sym entered_is)
     (λ ints. omega (arith, into_within, buffer_cells_few))))))))))))
 
-reduce_proper : (reduction : Reduction) (root comm : Expr) → IsKept (c.Collective (collectives.Reduce reduction root comm))
+reduce_proper : (reduction : Reduction) (root comm : Expr) → IsKept (t.collective (t.reduce reduction root comm))
 reduce_proper reduction root comm n me own s good =
     let P : Effect → Type 0 = IsProper n me own in
     given_free P (range reduction.send s) _ (λ out. given_free P (range reduction.receive s) _ (λ buffer. given_free P (value reduction.count s) _ (λ count. given_free P (value root s) _ (λ root.
@@ -438,7 +421,7 @@ reduce_proper reduction root comm n me own s good =
     (λ ints. rw root_is refl) (λ ints. sym entered_is)
     (λ ints. few_if (root == me) count (λ t. omega (arith, count_few)))))))))))))
 
-allreduce_proper : (reduction : Reduction) (comm : Expr) → IsKept (c.Collective (collectives.Allreduce reduction comm))
+allreduce_proper : (reduction : Reduction) (comm : Expr) → IsKept (t.collective (t.allreduce reduction comm))
 allreduce_proper reduction comm n me own s good =
     let P : Effect → Type 0 = IsProper n me own in
     given_free P (range reduction.send s) _ (λ out. given_free P (range reduction.receive s) _ (λ buffer. given_free P (value reduction.count s) _ (λ count. given_free P (value comm s) _ (λ comm.
@@ -450,7 +433,7 @@ allreduce_proper reduction comm n me own s good =
     (λ ints. refl) (λ ints. sym entered_is)
     (λ ints. omega (arith, count_few))))))))))
 
-scan_proper : (reduction : Reduction) (comm : Expr) → IsKept (c.Collective (collectives.Scan reduction comm))
+scan_proper : (reduction : Reduction) (comm : Expr) → IsKept (t.collective (t.scan reduction comm))
 scan_proper reduction comm n me own s good =
     let P : Effect → Type 0 = IsProper n me own in
     given_free P (range reduction.send s) _ (λ out. given_free P (range reduction.receive s) _ (λ buffer. given_free P (value reduction.count s) _ (λ count. given_free P (value comm s) _ (λ comm.
@@ -462,18 +445,18 @@ scan_proper reduction comm n me own s good =
     (λ ints. refl) (λ ints. sym entered_is)
     (λ ints. omega (arith, count_few))))))))))
 
-collective_kept : (call : CollectiveCall) → IsKept (c.Collective call)
-collective_kept (collectives.Barrier comm) n me own s good = barrier_proper comm n me own s good
-collective_kept (collectives.Bcast buffer root comm) n me own s good = bcast_proper buffer root comm n me own s good
-collective_kept (collectives.Gather out buffer root comm) n me own s good = gather_proper out buffer root comm n me own s good
-collective_kept (collectives.Scatter out buffer root comm) n me own s good = scatter_proper out buffer root comm n me own s good
-collective_kept (collectives.Allgather out buffer comm) n me own s good = allgather_proper out buffer comm n me own s good
-collective_kept (collectives.Alltoall out buffer comm) n me own s good = alltoall_proper out buffer comm n me own s good
-collective_kept (collectives.Reduce reduction root comm) n me own s good = reduce_proper reduction root comm n me own s good
-collective_kept (collectives.Allreduce reduction comm) n me own s good = allreduce_proper reduction comm n me own s good
-collective_kept (collectives.Scan reduction comm) n me own s good = scan_proper reduction comm n me own s good
+collective_kept : (call : CollectiveCall) → IsKept (t.collective call)
+collective_kept (t.barrier comm) n me own s good = barrier_proper comm n me own s good
+collective_kept (t.bcast buffer root comm) n me own s good = bcast_proper buffer root comm n me own s good
+collective_kept (t.gather out buffer root comm) n me own s good = gather_proper out buffer root comm n me own s good
+collective_kept (t.scatter out buffer root comm) n me own s good = scatter_proper out buffer root comm n me own s good
+collective_kept (t.allgather out buffer comm) n me own s good = allgather_proper out buffer comm n me own s good
+collective_kept (t.alltoall out buffer comm) n me own s good = alltoall_proper out buffer comm n me own s good
+collective_kept (t.reduce reduction root comm) n me own s good = reduce_proper reduction root comm n me own s good
+collective_kept (t.allreduce reduction comm) n me own s good = allreduce_proper reduction comm n me own s good
+collective_kept (t.scan reduction comm) n me own s good = scan_proper reduction comm n me own s good
 
-comm_size_proper : (comm : Expr) (into : Reference) → IsKept (c.Communicator (communicators.Size comm into))
+comm_size_proper : (comm : Expr) (into : Reference) → IsKept (t.communicator (t.comm_size comm into))
 comm_size_proper comm into n me own s good =
     let P : Effect → Type 0 = IsProper n me own in
     given_free P (value comm s) _ (λ comm. given_free P (range into s) _ (λ into.
@@ -481,7 +464,7 @@ comm_size_proper comm into n me own s good =
     given_free P (cell into) _ (λ into.
     tt))))
 
-comm_rank_proper : (comm : Expr) (into : Reference) → IsKept (c.Communicator (communicators.Rank comm into))
+comm_rank_proper : (comm : Expr) (into : Reference) → IsKept (t.communicator (t.comm_rank comm into))
 comm_rank_proper comm into n me own s good =
     let P : Effect → Type 0 = IsProper n me own in
     given_free P (value comm s) _ (λ comm. given_free P (range into s) _ (λ into.
@@ -489,7 +472,7 @@ comm_rank_proper comm into n me own s good =
     given_free P (cell into) _ (λ into.
     tt))))
 
-comm_dup_proper : (comm : Expr) (into : Reference) → IsKept (c.Communicator (communicators.Dup comm into))
+comm_dup_proper : (comm : Expr) (into : Reference) → IsKept (t.communicator (t.comm_dup comm into))
 comm_dup_proper comm into n me own s good =
     let P : Effect → Type 0 = IsProper n me own in
     given_free P (value comm s) _ (λ comm. given_free P (range into s) _ (λ into.
@@ -499,7 +482,7 @@ comm_dup_proper comm into n me own s good =
     (λ ints. refl) (λ ints. refl)
     (λ ints. omega arith)))))
 
-comm_split_proper : (comm color key : Expr) (into : Reference) → IsKept (c.Communicator (communicators.Split comm color key into))
+comm_split_proper : (comm color key : Expr) (into : Reference) → IsKept (t.communicator (t.comm_split comm color key into))
 comm_split_proper comm color key into n me own s good =
     let P : Effect → Type 0 = IsProper n me own in
     given_free P (value comm s) _ (λ comm. given_free P (value color s) _ (λ color. given_free P (value key s) _ (λ key. given_free P (range into s) _ (λ into.
@@ -509,22 +492,22 @@ comm_split_proper comm color key into n me own s good =
     (λ ints. refl) (λ ints. refl)
     (λ ints. omega arith))))))))
 
-comm_free_proper : (into : Reference) → IsKept (c.Communicator (communicators.Free into))
+comm_free_proper : (into : Reference) → IsKept (t.communicator (t.comm_free into))
 comm_free_proper into n me own s good =
     let P : Effect → Type 0 = IsProper n me own in
     given_free P (range into s) _ (λ into. given_free P (cell into) _ (λ into.
     tt))
 
-communicator_kept : (call : CommunicatorCall) → IsKept (c.Communicator call)
-communicator_kept (communicators.Size comm into) n me own s good = comm_size_proper comm into n me own s good
-communicator_kept (communicators.Rank comm into) n me own s good = comm_rank_proper comm into n me own s good
-communicator_kept (communicators.Dup comm into) n me own s good = comm_dup_proper comm into n me own s good
-communicator_kept (communicators.Split comm color key into) n me own s good = comm_split_proper comm color key into n me own s good
-communicator_kept (communicators.Free into) n me own s good = comm_free_proper into n me own s good
+communicator_kept : (call : CommunicatorCall) → IsKept (t.communicator call)
+communicator_kept (t.comm_size comm into) n me own s good = comm_size_proper comm into n me own s good
+communicator_kept (t.comm_rank comm into) n me own s good = comm_rank_proper comm into n me own s good
+communicator_kept (t.comm_dup comm into) n me own s good = comm_dup_proper comm into n me own s good
+communicator_kept (t.comm_split comm color key into) n me own s good = comm_split_proper comm color key into n me own s good
+communicator_kept (t.comm_free into) n me own s good = comm_free_proper into n me own s good
 
 -- ---- all
 
-abort_proper : (comm code : Expr) → IsKept (c.Abort comm code)
+abort_proper : (comm code : Expr) → IsKept (t.abort comm code)
 abort_proper comm code n me own s good =
     let P : Effect → Type 0 = IsProper n me own in
     given_free P (value comm s) _ (λ comm. given_free P (value code s) _ (λ code.
@@ -532,14 +515,14 @@ abort_proper comm code n me own s good =
     tt)))
 
 effect_kept : (call : MpiCall) → IsKept call
-effect_kept c.Init n me own s good = tt
-effect_kept c.Finalize n me own s good = tt
-effect_kept (c.Abort comm code) n me own s good = abort_proper comm code n me own s good
-effect_kept (c.Message call) n me own s good = message_kept call n me own s good
-effect_kept (c.Completion call) n me own s good = completion_kept call n me own s good
-effect_kept (c.Probe call) n me own s good = probe_kept call n me own s good
-effect_kept (c.Collective call) n me own s good = collective_kept call n me own s good
-effect_kept (c.Communicator call) n me own s good = communicator_kept call n me own s good
+effect_kept t.init n me own s good = tt
+effect_kept t.finalize n me own s good = tt
+effect_kept (t.abort comm code) n me own s good = abort_proper comm code n me own s good
+effect_kept (t.message call) n me own s good = message_kept call n me own s good
+effect_kept (t.completion call) n me own s good = completion_kept call n me own s good
+effect_kept (t.probing call) n me own s good = probe_kept call n me own s good
+effect_kept (t.collective call) n me own s good = collective_kept call n me own s good
+effect_kept (t.communicator call) n me own s good = communicator_kept call n me own s good
 
 pub effect_proper : (n me : ℕ) (call : MpiCall) (effect : Effect) (own : View) (s : State) → Good n me own s → effect_of (rank_of n me) call s ≡ Ok effect → IsProper n me own effect
 effect_proper n me call effect own s good is = of_holds (IsProper n me own) (effect_of (rank_of n me) call s) effect (effect_kept call n me own s good) is

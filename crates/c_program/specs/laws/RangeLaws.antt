@@ -5,12 +5,10 @@ use Rattle.std.proofs.lemmas.Option.{get_or_from_slice_get, slice_get_within}
 use Rattle.mpi_call.specs.declared.call.Fault.{Fault}
 use Rattle.mpi_call.specs.declared.call.Fault.TheVariants.{OutOfBounds}
 use Rattle.c_program.specs.declared.constants.TheConstants.{MOST_CELLS}
-use Rattle.c_program.specs.declared.expr.Argument.{Argument}
-use Rattle.c_program.specs.declared.expr.Argument.TheVariants.{Value as ValueArgument, Reference as ReferenceArgument}
-use Rattle.c_program.specs.declared.expr.Reference.{Reference}
-use Rattle.c_program.specs.declared.expr.Reference.TheVariants.{Nothing, Whole as WholeReference, From}
 use Rattle.c_program.specs.declared.state.Passed.{Passed}
 use Rattle.c_program.specs.declared.state.Passed.TheVariants.{Number, Cells as Lent}
+use Rattle.c_program.specs.Tree as t
+use Rattle.c_program.specs.Tree.{Argument, Reference}
 use Rattle.c_program.specs.Cells.{Cells}
 use Rattle.c_program.specs.laws.Keeping.{IsPassable}
 use Rattle.c_program.specs.Meaning.{passed, passed_all}
@@ -53,22 +51,22 @@ elements_from_fit whole cells (pos i) fits is =
     part_fits (nat_le i whole.length) whole (record { from = whole.from + i * whole.width; length = whole.length - i; width = whole.width }) cells (omega arith) fits is
 
 pub range_fits : (reference : Reference) (s : State) (cells : Cells) → SlotsFit s → range reference s ≡ Ok cells → cells.length ≤ MOST_CELLS
-range_fits Nothing s cells all is =
+range_fits t.nothing s cells all is =
     let same : 0 ≡ cells.length = ap (λ (o : Result Cells Fault). elim o [ Ok cells ↦ cells.length | Err fault ↦ 0 ]) is in
     omega arith
-range_fits (WholeReference variable) s cells all is = cells_of_fits variable s cells all is
-range_fits (From variable index) s cells all is =
+range_fits (t.all_of variable) s cells all is = cells_of_fits variable s cells all is
+range_fits (t.from variable index) s cells all is =
     let by_index = given_ok (value index s) (λ i. given (cells_of variable s) (λ cells. elements_from cells i)) cells is in
     let by_cells = given_ok (cells_of variable s) (λ cells. elements_from cells by_index.0) cells by_index.2 in
     elements_from_fit by_cells.0 cells by_index.0 (cells_of_fits variable s by_cells.0 all by_cells.1) by_cells.2
 
 -- so arguments may be passed on
 pub passed_is_passable : (argument : Argument) (s : State) (one : Passed) → SlotsFit s → passed argument s ≡ Ok one → IsPassable one
-passed_is_passable (ValueArgument e) s one all is =
+passed_is_passable (t.by_value e) s one all is =
     let by_value = given_ok (value e s) (λ v. Ok (Number v)) one is in
     let same : Number by_value.0 ≡ one = cc in
     subst IsPassable same tt
-passed_is_passable (ReferenceArgument reference) s one all is =
+passed_is_passable (t.by_reference reference) s one all is =
     let by_range = given_ok (range reference s) (λ cells. Ok (Lent cells)) one is in
     let same : Lent by_range.0 ≡ one = cc in
     subst IsPassable same (range_fits reference s by_range.0 all by_range.1)

@@ -10,28 +10,14 @@ use Rattle.run_model.specs.Program.{IsRankOf}
 use Rattle.run_model.specs.Views.{View}
 use Rattle.run_model.proofs.Orders.{in_order_first}
 use Rattle.c_program.specs.declared.constants.TheConstants.{MOST_CELLS, MOST_PRINTED}
-use Rattle.c_program.specs.declared.expr.FunctionCall.{FunctionCall}
-use Rattle.c_program.specs.declared.expr.Expr.{Expr}
-use Rattle.c_program.specs.declared.expr.Right.{Right}
-use Rattle.c_program.specs.declared.expr.Right.TheVariants.{Value as ValueRight, Call as CallRight}
-use Rattle.c_program.specs.declared.program.CProgram.{CProgram}
-use Rattle.c_program.specs.declared.program.Function.{Function}
 use Rattle.c_program.specs.declared.program.Parameter.{Parameter}
 use Rattle.c_program.specs.declared.program.ParameterKind.{ParameterKind}
 use Rattle.c_program.specs.declared.program.ParameterKind.TheVariants.{Int as IntParameter, Communicator as CommunicatorParameter, Array as ArrayParameter, Texts as TextsParameter}
-use Rattle.c_program.specs.declared.statement.Declaration.{Declaration}
-use Rattle.c_program.specs.declared.statement.ForStart.{ForStart}
-use Rattle.c_program.specs.declared.statement.ForStart.TheVariants.{Nothing as NoStart, Declaration as DeclaredStart, Simple as SimpleStart}
-use Rattle.c_program.specs.declared.statement.Initializer.{Initializer}
-use Rattle.c_program.specs.declared.statement.Initializer.TheVariants.{Nothing as NoInitial, Right as RightInitial, Values}
-use Rattle.c_program.specs.declared.statement.InitDeclarator.{InitDeclarator}
-use Rattle.c_program.specs.declared.statement.Simple.{Simple}
-use Rattle.c_program.specs.declared.statement.Simple.TheVariants.{Set, Update, Call as CallSimple, Mpi, Print, Flush}
-use Rattle.c_program.specs.declared.statement.Stmt.{Stmt, Block', Empty, Simple as SimpleStmt, Break, Continue, Return, If', IfElse', While', Do', For', Row_of-Part, end_of-Part, more_of-Part}
-use Rattle.c_program.specs.declared.statement.Part.{Part, Declaration as DeclarationPart, Stmt as StmtPart}
 use Rattle.c_program.specs.declared.state.StackMark.{StackMark}
 use Rattle.c_program.specs.declared.state.Passed.{Passed}
 use Rattle.c_program.specs.declared.state.Passed.TheVariants.{Number, Cells as Lent}
+use Rattle.c_program.specs.Tree as t
+use Rattle.c_program.specs.Tree.{Expr, ForStart, Function, FunctionCall, InitDeclarator, Initializer, Part, Parts, Program, Right, Simple, Stmt}
 use Rattle.c_program.specs.Courses.{Course, ended, trapped}
 use Rattle.c_program.specs.Effects.{effect_of}
 use Rattle.c_program.specs.laws.EffectLaws.{perform_keeps}
@@ -218,19 +204,19 @@ module _ (n me : ℕ) where
   module _ (calls : Calls) (calls_keep : KeepCalls n me calls) where
     invoke_keeps : (call : FunctionCall) (own : View) (s : State) (go : ℤ → Onward) → Good n me own s → ((v : ℤ) → KeepsOn n me (go v)) → Keeps n me own s.printed (m.invoke calls call s go)
     invoke_keeps call own s go good keep =
-        step_keeps own s (λ s. m.trying (m.passed_all call.arguments.items s) s (λ arguments. calls call.function arguments s go)) good (λ own s good.
-        trying_keeps own (m.passed_all call.arguments.items s) s (λ arguments. calls call.function arguments s go) (λ arguments is.
-        calls_keep call.function arguments own s go (passed_all_are_passable call.arguments.items s arguments good.slots is) good keep))
+        step_keeps own s (λ s. m.trying (m.passed_all call.arguments s) s (λ arguments. calls call.function arguments s go)) good (λ own s good.
+        trying_keeps own (m.passed_all call.arguments s) s (λ arguments. calls call.function arguments s go) (λ arguments is.
+        calls_keep call.function arguments own s go (passed_all_are_passable call.arguments s arguments good.slots is) good keep))
 
     right_keeps : (given_right : Right) (own : View) (s : State) (go : ℤ → Onward) → Good n me own s → ((v : ℤ) → KeepsOn n me (go v)) → Keeps n me own s.printed (m.right calls given_right s go)
-    right_keeps (ValueRight e) own s go good keep = trying_keeps own (value e s) s (λ v. go v s) (λ v is. keep v own s good)
-    right_keeps (CallRight call) own s go good keep = invoke_keeps call own s go good keep
+    right_keeps (t.value e) own s go good keep = trying_keeps own (value e s) s (λ v. go v s) (λ v is. keep v own s good)
+    right_keeps (t.called call) own s go good keep = invoke_keeps call own s go good keep
 
     begin_keeps : (initial : Initializer) (cell : ℕ) → KeepPassing n me (m.begin calls initial cell)
-    begin_keeps NoInitial cell own s go good keep = keep own s good
-    begin_keeps (RightInitial given_right) cell own s go good keep =
+    begin_keeps t.no_initial cell own s go good keep = keep own s good
+    begin_keeps (t.right given_right) cell own s go good keep =
         right_keeps given_right own s (λ v s. go (put cell v s)) good (λ v own s good. keep own (put cell v s) (good_put n me own cell v s good))
-    begin_keeps (Values es) cell own s go good keep = put_values_keep es.items cell own s go good keep
+    begin_keeps (t.values es) cell own s go good keep = put_values_keep es cell own s go good keep
 
     declare_keeps : (item : InitDeclarator) → KeepPassing n me (m.declare calls item)
     declare_keeps item own s go good keep =
@@ -244,32 +230,29 @@ module _ (n me : ℕ) where
     declare_all_keeps (item ∷ items) own s go good keep =
         declare_keeps item own s (λ s. m.declare_all calls items s go) good (λ own s good. declare_all_keeps items own s go good keep)
 
-    declaration_keeps : (d : Declaration) → KeepPassing n me (m.declaration calls d)
-    declaration_keeps d own s go good keep = declare_all_keeps d.items.items own s go good keep
-
     return_keeps : (given_right : Option Right) → KeepMeaning n me (m.return calls given_right)
     return_keeps None own s k good exits = exits.back (pos 0) own s good
     return_keeps (Some given_right) own s k good exits = right_keeps given_right own s (λ v s. k.back v s) good (λ v own s good. exits.back v own s good)
 
     simple_keeps : (one : Simple) → KeepPassing n me (m.simple (rank_of n me) calls one)
-    simple_keeps (Set place given_right) own s go good keep =
+    simple_keeps (t.set place given_right) own s go good keep =
         trying_keeps own (cell_of place s) s (λ cell. m.right calls given_right s (λ v s. go (put cell v s))) (λ cell is.
         right_keeps given_right own s (λ v s. go (put cell v s)) good (λ v own s good. keep own (put cell v s) (good_put n me own cell v s good)))
-    simple_keeps (Update place operator given_right) own s go good keep =
+    simple_keeps (t.update place operator given_right) own s go good keep =
         trying_keeps own (cell_of place s) s (λ cell. m.right calls given_right s (λ v s. m.trying (operated operator (cell_at s cell) v) s (λ v. go (put cell v s)))) (λ cell is.
         right_keeps given_right own s (λ v s. m.trying (operated operator (cell_at s cell) v) s (λ v. go (put cell v s))) good (λ v own s good.
         trying_keeps own (operated operator (cell_at s cell) v) s (λ v. go (put cell v s)) (λ v is. keep own (put cell v s) (good_put n me own cell v s good))))
-    simple_keeps (CallSimple call) own s go good keep = invoke_keeps call own s (λ v s. go s) good (λ v own s good. keep own s good)
-    simple_keeps (Mpi call) own s go good keep =
-        trying_keeps own (effect_of (rank_of n me) call.value s) s (λ effect. perform (rank_of n me) effect s go) (λ effect is. perform_keeps n me call.value effect own s go good is keep)
-    simple_keeps (Print format arguments) own s go good keep =
-        trying_keeps own (values arguments.items s) s (λ vs. m.print (text_of format.items vs) s go) (λ vs is. print_keeps (text_of format.items vs) own s go good keep)
-    simple_keeps Flush own s go good keep = keep own s good
+    simple_keeps (t.call call) own s go good keep = invoke_keeps call own s (λ v s. go s) good (λ v own s good. keep own s good)
+    simple_keeps (t.mpi call) own s go good keep =
+        trying_keeps own (effect_of (rank_of n me) call s) s (λ effect. perform (rank_of n me) effect s go) (λ effect is. perform_keeps n me call effect own s go good is keep)
+    simple_keeps (t.print format arguments) own s go good keep =
+        trying_keeps own (values arguments s) s (λ vs. m.print (text_of format vs) s go) (λ vs is. print_keeps (text_of format vs) own s go good keep)
+    simple_keeps t.flush own s go good keep = keep own s good
 
     for_start_keeps : (start : ForStart) → KeepPassing n me (m.for_start (rank_of n me) calls start)
-    for_start_keeps NoStart own s go good keep = keep own s good
-    for_start_keeps (DeclaredStart d) own s go good keep = step_keeps own s (λ s. m.declaration calls d s go) good (λ own s good. declaration_keeps d own s go good keep)
-    for_start_keeps (SimpleStart one) own s go good keep = simple_keeps one own s go good keep
+    for_start_keeps t.no_start own s go good keep = keep own s good
+    for_start_keeps (t.declared_start items) own s go good keep = step_keeps own s (λ s. m.declare_all calls items s go) good (λ own s good. declare_all_keeps items own s go good keep)
+    for_start_keeps (t.simple_start one) own s go good keep = simple_keeps one own s go good keep
 
     for_update_keeps : (update : Option Simple) → KeepPassing n me (m.for_update (rank_of n me) calls update)
     for_update_keeps None own s go good keep = keep own s good
@@ -277,47 +260,40 @@ module _ (n me : ℕ) where
 
     mutual
       act_keeps : (stmt : Stmt) → KeepMeaning n me (m.act (rank_of n me) calls stmt)
-      act_keeps (Block' shape row) own s k good exits = act_row_keeps row own s (m.leaving (stack_mark s) k) good (leaving_keeps (stack_mark s) k exits)
-      act_keeps Empty own s k good exits = exits.next own s good
-      act_keeps (SimpleStmt one) own s k good exits = simple_keeps one own s k.next good exits.next
-      act_keeps Break own s k good exits = exits.broke own s good
-      act_keeps Continue own s k good exits = exits.again own s good
-      act_keeps (Return given_right) own s k good exits = return_keeps given_right own s k good exits
-      act_keeps (If' e p taken) own s k good exits =
+      act_keeps (t.block parts) own s k good exits = act_parts_keeps parts own s (m.leaving (stack_mark s) k) good (leaving_keeps (stack_mark s) k exits)
+      act_keeps t.empty own s k good exits = exits.next own s good
+      act_keeps (t.simple one) own s k good exits = simple_keeps one own s k.next good exits.next
+      act_keeps t.break own s k good exits = exits.broke own s good
+      act_keeps t.continue own s k good exits = exits.again own s good
+      act_keeps (t.return given_right) own s k good exits = return_keeps given_right own s k good exits
+      act_keeps (t.if_only e taken) own s k good exits =
           trying_keeps own (m.test (Some e) s) s (λ holds. m.choose holds (m.started (m.act (rank_of n me) calls taken) s k) (k.next s)) (λ holds is.
           choose_keeps own holds s.printed (m.started (m.act (rank_of n me) calls taken) s k) (k.next s)
           (λ true_now. started_keeps (m.act (rank_of n me) calls taken) (act_keeps taken) own s k good exits)
           (exits.next own s good))
-      act_keeps (IfElse' e p taken q spared) own s k good exits =
+      act_keeps (t.if_else e taken spared) own s k good exits =
           trying_keeps own (m.test (Some e) s) s (λ holds. m.choose holds (m.started (m.act (rank_of n me) calls taken) s k) (m.started (m.act (rank_of n me) calls spared) s k)) (λ holds is.
           choose_keeps own holds s.printed (m.started (m.act (rank_of n me) calls taken) s k) (m.started (m.act (rank_of n me) calls spared) s k)
           (λ true_now. started_keeps (m.act (rank_of n me) calls taken) (act_keeps taken) own s k good exits)
           (started_keeps (m.act (rank_of n me) calls spared) (act_keeps spared) own s k good exits))
-      act_keeps (While' e p body) own s k good exits =
+      act_keeps (t.while e body) own s k good exits =
           loop_keeps (Some e) m.no_update (m.started (m.act (rank_of n me) calls body)) no_update_keeps (started_keeps (m.act (rank_of n me) calls body) (act_keeps body)) own s k good exits
-      act_keeps (Do' p body e) own s k good exits =
+      act_keeps (t.do_while body e) own s k good exits =
           loop_after_keeps e (m.started (m.act (rank_of n me) calls body)) (started_keeps (m.act (rank_of n me) calls body) (act_keeps body)) own s k good exits
-      act_keeps (For' start e update p body) own s k good exits =
+      act_keeps (t.for start e update body) own s k good exits =
           for_start_keeps start own s (λ t. m.loop e (m.for_update (rank_of n me) calls update) (m.started (m.act (rank_of n me) calls body)) t (m.leaving (stack_mark s) k)) good (λ own t good.
           loop_keeps e (m.for_update (rank_of n me) calls update) (m.started (m.act (rank_of n me) calls body)) (for_update_keeps update) (started_keeps (m.act (rank_of n me) calls body) (act_keeps body)) own t (m.leaving (stack_mark s) k) good (leaving_keeps (stack_mark s) k exits))
 
       act_part_keeps : (part : Part) → KeepMeaning n me (m.act_part (rank_of n me) calls part)
-      act_part_keeps (DeclarationPart d) own s k good exits = declaration_keeps d own s k.next good exits.next
-      act_part_keeps (StmtPart one) own s k good exits = act_keeps one own s k good exits
+      act_part_keeps (t.declare items) own s k good exits = declare_all_keeps items own s k.next good exits.next
+      act_part_keeps (t.stmt one) own s k good exits = act_keeps one own s k good exits
 
-      act_row_keeps : {i : _} (row : Row_of-Part i) → KeepMeaning n me (m.act_row (rank_of n me) calls row)
-      act_row_keeps end_of-Part own s k good exits = exits.next own s good
-      act_row_keeps (more_of-Part part parts) own s k good exits =
-          let others : Onward = λ s. m.act_row (rank_of n me) calls parts s k in
+      act_parts_keeps : (parts : Parts) → KeepMeaning n me (m.act_parts (rank_of n me) calls parts)
+      act_parts_keeps t.no_part own s k good exits = exits.next own s good
+      act_parts_keeps (t.part part parts) own s k good exits =
+          let others : Onward = λ s. m.act_parts (rank_of n me) calls parts s k in
           started_keeps (m.act_part (rank_of n me) calls part) (act_part_keeps part) own s (record k { next = others }) good
-          (record { next = λ own s good. act_row_keeps parts own s k good exits; broke = exits.broke; again = exits.again; back = exits.back })
-
-    act_list_keeps : (parts : List Part) → KeepMeaning n me (m.act_list (rank_of n me) calls parts)
-    act_list_keeps [] own s k good exits = exits.next own s good
-    act_list_keeps (part ∷ parts) own s k good exits =
-        let others : Onward = λ s. m.act_list (rank_of n me) calls parts s k in
-        started_keeps (m.act_part (rank_of n me) calls part) (act_part_keeps part) own s (record k { next = others }) good
-        (record { next = λ own s good. act_list_keeps parts own s k good exits; broke = exits.broke; again = exits.again; back = exits.back })
+          (record { next = λ own s good. act_parts_keeps parts own s k good exits; broke = exits.broke; again = exits.again; back = exits.back })
 
     exits_to_keep : (mark : StackMark) (go : ℤ → Onward) → ((v : ℤ) → KeepsOn n me (go v)) → KeepsExits n me (m.exits_to mark go)
     exits_to_keep mark go keep = record {
@@ -330,12 +306,12 @@ module _ (n me : ℕ) where
     run_function_keeps : (found : Option Function) (arguments : List Passed) (own : View) (s : State) (go : ℤ → Onward) → All IsPassable arguments → Good n me own s → ((v : ℤ) → KeepsOn n me (go v)) → Keeps n me own s.printed (m.run_function (rank_of n me) calls found arguments s go)
     run_function_keeps None arguments own s go fit good keep = keeps_trapped n me own Depth s
     run_function_keeps (Some f) arguments own s go fit good keep =
-        let inside : State = m.with_parameters f.parameters.items arguments (m.opened s) in
-        let runs : Course = m.act_list (rank_of n me) calls f.body.items inside (m.exits_to (stack_mark s) go) in
+        let inside : State = m.with_parameters f.parameters arguments (m.opened s) in
+        let runs : Course = m.act_parts (rank_of n me) calls f.body inside (m.exits_to (stack_mark s) go) in
         let keeps : Keeps n me own inside.printed runs =
-        act_list_keeps f.body.items own inside (m.exits_to (stack_mark s) go) (good_parameters own f.parameters.items arguments (m.opened s) fit (good_opened own s good)) (exits_to_keep (stack_mark s) go keep) in
-        choose_keeps own (m.has_room (m.parameter_cells f.parameters.items) s) s.printed runs (trapped CellsFault s)
-        (λ room. subst (λ printed. Keeps n me own printed runs) (printed_parameters f.parameters.items arguments (m.opened s)) keeps)
+        act_parts_keeps f.body own inside (m.exits_to (stack_mark s) go) (good_parameters own f.parameters arguments (m.opened s) fit (good_opened own s good)) (exits_to_keep (stack_mark s) go keep) in
+        choose_keeps own (m.has_room (m.parameter_cells f.parameters) s) s.printed runs (trapped CellsFault s)
+        (λ room. subst (λ printed. Keeps n me own printed runs) (printed_parameters f.parameters arguments (m.opened s)) keeps)
         (keeps_trapped n me own CellsFault s)
 
   -- ---- programs
@@ -353,7 +329,7 @@ module _ (n me : ℕ) where
     slots = All-nil Fits;
   }
 
-pub course_keeps : (program : CProgram) (n me : ℕ) → IsRankOf n me → Keeps n me [] [] (m.course_of program (rank_of n me))
+pub course_keeps : (program : Program) (n me : ℕ) → IsRankOf n me → Keeps n me [] [] (m.course_of program (rank_of n me))
 course_keeps program n me is =
-    call_at_keeps n me program.functions.items 100 program.main (Number (pos 1) ∷ []) [] m.start (λ v s. ended s)
+    call_at_keeps n me program.functions 100 program.main (Number (pos 1) ∷ []) [] m.start (λ v s. ended s)
     (All-cons IsPassable (Number (pos 1)) [] tt (All-nil IsPassable)) (good_start n me is.2) (λ v own s good. keeps_ended n me own s)

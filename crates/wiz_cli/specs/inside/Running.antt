@@ -2,6 +2,7 @@
 use Rattle.std.specs.Prelude.{Result, IfOk, Bool}
 use Rattle.std.specs.Borrow.{Bor}
 use Rattle.std.specs.declared.alloc.AllocError.{AllocError}
+use Rattle.c_program.specs.View.{pure_program}
 use Rattle.c_program.specs.declared.program.CProgram.{CProgram}
 use Rattle.replay_model.specs.declared.replayed.Replayed.{Replayed}
 use Rattle.replay_model.specs.Replays.{Breakpoint}
@@ -32,4 +33,4 @@ pub record IsRunnerBy (is_threaded : Bool) (Takes : TakesReady) (Records : Gives
   pub records : (ready : Bor Ready) (made : Result Recording AllocError) → Records ready made → IfOk made (IsMade is_threaded ready.now)
   pub takes_log : (program : Bor CProgram) (log : Bor Log) (stop : Breakpoint) → IsReplayable log.now → TakesALog program log stop
   pub replays : (program : Bor CProgram) (log : Bor Log) (stop : Breakpoint) (made : Result Replayed AllocError)
-      → Replays program log stop made → IfOk made (IsReplayBy program.now log.now stop)
+      → Replays program log stop made → IfOk made (IsReplayBy (pure_program program.now) log.now stop)

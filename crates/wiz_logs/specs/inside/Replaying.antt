@@ -1,4 +1,5 @@
 -- What is replayed.
+use Rattle.c_program.specs.View.{pure_program}
 use Rattle.std.specs.Prelude.{◌≡◌, List, Option, Some, None}
 use Rattle.clap.specs.Words.{Text}
 use Rattle.c_types.specs.Checks.{IsProgramOf}
@@ -17,4 +18,4 @@ pub record IsSubjectOf (texts : List Text) (subject : Subject) : Type 0 where
   pub is_log : IsLogOf texts subject.log
   pub replayable : IsReplayable subject.log
   pub is_text : used_text subject.log subject.text ≡ program_text texts subject.log
-  pub is_program : IsProgramOf (used_text subject.log subject.text) subject.program
+  pub is_program : IsProgramOf (used_text subject.log subject.text) (pure_program subject.program)

@@ -1,5 +1,6 @@
 //! `watch LOG R NAME`, `at LOG R:C`, `where LOG S.K`: the group of a log is replayed, and what is asked of the replay is told.
 ghost use Rattle.std.specs.Prelude.{◌≡◌, [], List, ℕ, IfOk};
+ghost use Rattle.c_program.specs.View.{pure_program};
 ghost use Rattle.c_types.specs.Checks.{IsProgramOf};
 ghost use Rattle.srr_replay.specs.Rounds.{IsReplayable};
 ghost use Rattle.wiz_task.specs.Replayings.{IsReplayOf};
@@ -74,7 +75,7 @@ fn viewed(
     asked: &View<&str>,
     replayed: Replayed,
 ) -> Result<Done, AllocError>
-    requires program { IsProgramOf text.now program.now }
+    requires program { IsProgramOf text.now (pure_program program.now) }
     requires log { IsReplayable log.now }
     requires replay { IsReplayOf text.now log.now stop replayed }
     ensures { IfOk result (λ done. TellsView text.now log.now stop (view_with_texts asked.now) (outcome_of [] done)) }

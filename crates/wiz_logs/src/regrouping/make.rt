@@ -1,6 +1,7 @@
 //! The replays that logs are made from.
 ghost use Rattle.std.specs.Prelude.{◌≡◌, ◌∷◌, [], IfOk, None};
 ghost use Rattle.std.specs.List.{AllByRecursion};
+ghost use Rattle.c_program.specs.View.{pure_program};
 ghost use Rattle.c_types.specs.Checks.{IsProgramOf};
 ghost use Rattle.group_plan.specs.Plans.{IsGroup};
 ghost use Rattle.srr_replay.specs.Rounds.{IsReplayable};
@@ -21,7 +22,7 @@ pub fn replay_own<R: Runner>(
     log: &Log,
     runner: &R,
 ) -> Result<Replayed, AllocError>
-    requires program { IsProgramOf log.now.program program.now }
+    requires program { IsProgramOf log.now.program (pure_program program.now) }
     requires log { IsReplayable log.now }
     requires runs { R.runs runner.now }
     ensures { IfOk result (IsReplayOf log.now.program log.now None) }

@@ -1,4 +1,5 @@
 //! The replay of a log.
+ghost use Rattle.c_program.specs.View.{pure_program};
 ghost use Rattle.std.specs.Prelude.{◌≡◌, ◌∷◌, [], IfOk};
 ghost use Rattle.srr_replay.specs.Rounds.{IsReplayable};
 ghost use Rattle.wiz_task.specs.inside.Replaying.{IsReplayBy};
@@ -21,7 +22,7 @@ pub fn replay_in_rounds(
     stop: Option<(u8, u32)>,
 ) -> Result<Replayed, AllocError>
     requires { IsReplayable log.now }
-    ensures { IfOk result (IsReplayBy program.now log.now stop) }
+    ensures { IfOk result (IsReplayBy (pure_program program.now) log.now stop) }
 {
     let runs = start_group(alloc, program, log)?;
     replay_serial(alloc, program, log, runs, stop)
@@ -37,7 +38,7 @@ pub fn replay_on_threads<R: Threads + Wait + Sync, G: Gate + Sync>(
     gate: &G,
 ) -> Result<Replayed, AllocError>
     requires { IsReplayable log.now }
-    ensures { IfOk result (IsReplayBy program.now log.now stop) }
+    ensures { IfOk result (IsReplayBy (pure_program program.now) log.now stop) }
 {
     let runs = start_group(alloc, program, log)?;
     replay_threads(rt, alloc, program, log, runs, stop, gate)

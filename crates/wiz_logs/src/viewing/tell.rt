@@ -1,5 +1,6 @@
 //! The text of what is asked of a replay.
 ghost use Rattle.std.specs.Prelude.{◌≡◌, ◌≤◌, ◌++◌, [], IfOk, OnOk, map, true};
+ghost use Rattle.c_program.specs.View.{pure_program};
 ghost use Rattle.c_program.specs.Program.{next_of, variables_of};
 ghost use Rattle.replay_views.specs.Snapshots.{snapshots_of};
 ghost use Rattle.run_model.specs.Lists.{are_below};
@@ -35,8 +36,8 @@ pub fn told_text(
     replayed: &Replayed,
 ) -> Result<Bytes, AllocError>
     requires log { IsReplayable log.now }
-    requires came { HaveCome (next_of program.now) log.now.ranks replayed.now.events.events }
-    ensures { IfOk result (λ text. text ≡ told_text program.now log.now (view_with_texts view.now) replayed.now.events.events replayed.now.ends) }
+    requires came { HaveCome (next_of (pure_program program.now)) log.now.ranks replayed.now.events.events }
+    ensures { IfOk result (λ text. text ≡ told_text (pure_program program.now) log.now (view_with_texts view.now) replayed.now.events.events replayed.now.ends) }
 {
     let by_rank = ByRank::new(alloc, &replayed.events)?;
     let group = log.group.as_slice();
@@ -68,8 +69,8 @@ fn changes_in(
     own: &[&Event],
 ) -> Result<Changes, AllocError>
     requires log { IsReplayable log.now }
-    requires came { IsViewOf (next_of program.now) log.now.ranks rank (map (λ event. (event.now.call, event.now.reply)) own.now) }
-    ensures { IfOk result (λ changes. changes ≡ changes_in program.now log.now rank name.now (map (λ event. (event.now.call, event.now.reply)) own.now)) }
+    requires came { IsViewOf (next_of (pure_program program.now)) log.now.ranks rank (map (λ event. (event.now.call, event.now.reply)) own.now) }
+    ensures { IfOk result (λ changes. changes ≡ changes_in (pure_program program.now) log.now rank name.now (map (λ event. (event.now.call, event.now.reply)) own.now)) }
 {
     if !is_member(log.group.as_slice(), rank) {
         return Ok(Changes::new(alloc));
@@ -87,8 +88,8 @@ fn snapshots(
     ends: &[Stand],
 ) -> Result<Snapshots, AllocError>
     requires log { IsReplayable log.now }
-    requires came { HaveCome (next_of program.now) log.now.ranks by_rank.now }
-    ensures { IfOk result (λ snapshots. snapshots ≡ snapshots_of (next_of program.now) (variables_of program.now) log.now.ranks by_rank.now log.now.group ends.now) }
+    requires came { HaveCome (next_of (pure_program program.now)) log.now.ranks by_rank.now }
+    ensures { IfOk result (λ snapshots. snapshots ≡ snapshots_of (next_of (pure_program program.now)) (variables_of (pure_program program.now)) log.now.ranks by_rank.now log.now.group ends.now) }
 {
     let mut snapshots = Snapshots::new(alloc);
     let group = log.group.as_slice();
@@ -116,8 +117,8 @@ fn add_snapshots(
 ) -> Result<(), AllocError>
     requires few { n ≤ 64 }
     requires below { are_below n group.now ≡ true }
-    requires came { HaveCome (next_of program.now) n by_rank.now }
-    ensures { OnOk result (snapshots.new ≡ snapshots.old ++ snapshots_of (next_of program.now) (variables_of program.now) n by_rank.now group.now ends.now) }
+    requires came { HaveCome (next_of (pure_program program.now)) n by_rank.now }
+    ensures { OnOk result (snapshots.new ≡ snapshots.old ++ snapshots_of (next_of (pure_program program.now)) (variables_of (pure_program program.now)) n by_rank.now group.now ends.now) }
 {
     match group {
         [] => Ok(()),

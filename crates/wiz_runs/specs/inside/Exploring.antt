@@ -1,6 +1,7 @@
 -- The search of what is run.
 use Rattle.std.specs.Prelude.{◌<◌, ℕ, List, All}
 use Rattle.std.specs.List.{AllZip}
+use Rattle.c_program.specs.View.{pure_program}
 use Rattle.c_program.specs.Program.{next_of, output_of}
 use Rattle.explore.specs.declared.found.Found.{Found}
 use Rattle.explore.specs.Explored.{IsExplored}
@@ -14,11 +15,11 @@ use Rattle.wiz_runs.specs.Explorations.{IsWaiting}
 
 -- what a search of it found, and for each outcome the text of the ranks that wait
 pub record IsSearchOf (ready : Ready) (polls : ℕ) (searched : Searched) : Type 0 where
-  pub is_explored : IsExplored (next_of ready.program) (output_of ready.program) (number_of_ranks ready.plan) polls ready.turns searched.explored
-  pub are_waiting : AllZip (IsWaiting (next_of ready.program) (number_of_ranks ready.plan)) searched.explored.found searched.waits
+  pub is_explored : IsExplored (next_of (pure_program ready.program)) (output_of (pure_program ready.program)) (number_of_ranks ready.plan) polls ready.turns searched.explored
+  pub are_waiting : AllZip (IsWaiting (next_of (pure_program ready.program)) (number_of_ranks ready.plan)) searched.explored.found searched.waits
 
 -- one of its outcomes: that of the run which the recording by its turns makes
 pub record IsFoundOf (ready : Ready) (found : Found) : Type 0 where
   pub run : List Event
-  pub taken : IsTaken (next_of ready.program) (number_of_ranks ready.plan) found.turns run
+  pub taken : IsTaken (next_of (pure_program ready.program)) (number_of_ranks ready.plan) found.turns run
   pub ranks : All (λ (turn : Turn). turn.rank < number_of_ranks ready.plan) found.turns

@@ -1,4 +1,5 @@
 //! `advise PROGRAM PLAN K [--order FILE] [--serial]`: a run is recorded, and the blocks of ranks are told whose logs keep the fewest ints.
+ghost use Rattle.c_program.specs.View.{pure_program};
 ghost use Rattle.std.specs.Prelude.{◌≡◌, ◌<◌, [], IfOk, true};
 ghost use Rattle.wiz_runs.specs.Runs.{TellsAdvice};
 ghost use Rattle.wiz_task.specs.inside.Ends.{Ends};
@@ -52,7 +53,7 @@ fn advise_on(
 ) -> Result<Done, AllocError>
     requires some { 0 < most }
     requires made { IsMade true ready.now recording }
-    ensures { IfOk result (λ done. TellsAdvice most ready.now.program ready.now.plan recording (outcome_of [] done)) }
+    ensures { IfOk result (λ done. TellsAdvice most (pure_program ready.now.program) ready.now.plan recording (outcome_of [] done)) }
 {
     // Laws: a run has one advice, and no cutting costs less, so that what is told of this run is determined and the least.
     one_advice();

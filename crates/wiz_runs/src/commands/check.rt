@@ -1,4 +1,5 @@
 //! `check PROGRAM PLAN [--serial]`: a run is recorded, and each group is replayed from the bytes of its log.
+ghost use Rattle.c_program.specs.View.{pure_program};
 ghost use Rattle.std.specs.Prelude.{◌≡◌, [], IfOk, None};
 ghost use Rattle.std.specs.List.{AllByRecursion, AllZip};
 ghost use Rattle.srr_entry.specs.declared.log.Log.{Log};
@@ -101,7 +102,7 @@ fn replay_groups<R: Runner>(
     logs: &[Log],
     runner: &R,
 ) -> Result<Replays, AllocError>
-    requires logs { AllByRecursion (IsKeptLog program.now) logs.now }
+    requires logs { AllByRecursion (IsKeptLog (pure_program program.now)) logs.now }
     requires runs { R.runs runner.now }
     ensures { IfOk result (λ replays. AllZip (λ (log : Log). IsReplayOf log.program log None) logs.now replays) }
 {
@@ -120,7 +121,7 @@ fn replay_kept<R: Runner>(
     log: &Log,
     runner: &R,
 ) -> Result<Replayed, AllocError>
-    requires log { IsKeptLog program.now log.now }
+    requires log { IsKeptLog (pure_program program.now) log.now }
     requires runs { R.runs runner.now }
     ensures { IfOk result (IsReplayOf log.now.program log.now None) }
 {

@@ -1,4 +1,5 @@
 //! `picture PROGRAM PLAN FILE [--order FILE] [--trace] [--serial]`: a run is recorded, and one picture of it is written.
+ghost use Rattle.c_program.specs.View.{pure_program};
 ghost use Rattle.std.specs.Prelude.{◌≡◌, IfOk, None, Some, true};
 ghost use Rattle.causes.specs.Clocks.{AreOfRanks};
 ghost use Rattle.clap.specs.Words.{Text};
@@ -68,7 +69,7 @@ fn picture_of(
     recording: &Recording,
 ) -> Result<Option<Bytes>, AllocError>
     requires { IsMade true ready.now recording.now }
-    ensures { IfOk result (IsPictureOf is_trace ready.now.program ready.now.plan recording.now) }
+    ensures { IfOk result (IsPictureOf is_trace (pure_program ready.now.program) ready.now.plan recording.now) }
 {
     if !is_trace && recording.history.len() > MOST_DRAWN {
         return Ok(None);
@@ -83,7 +84,7 @@ fn picture_of(
 fn all_goes_right(ready: &Ready, recording: &Recording, drawing: &Drawing)
     requires made { IsMade true ready.now recording.now }
     requires drawn { IsDrawing ready.now.plan recording.now.history.events drawing.now }
-    ensures { IsDrawingOf ready.now.program ready.now.plan recording.now.history.events drawing.now }
+    ensures { IsDrawingOf (pure_program ready.now.program) ready.now.plan recording.now.history.events drawing.now }
 {
     columns_rise();
     arrows_go_right();

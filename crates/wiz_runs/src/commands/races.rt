@@ -1,6 +1,7 @@
 //! `races PROGRAM PLAN [--order FILE] [--serial] [--orders PREFIX]`: a run is recorded, and for each wildcard receive the messages are told
 //! that it could have taken. With a prefix there is an order file for each message that could have come next there.
 ghost use Rattle.std.specs.Prelude.{◌≡◌, [], IfOk, List, option_map, true};
+ghost use Rattle.c_program.specs.View.{pure_program};
 ghost use Rattle.c_program.specs.Program.{next_of};
 ghost use Rattle.group_plan.specs.Plans.{number_of_ranks};
 ghost use Rattle.mpi_call.specs.Lists.{IsIn};
@@ -89,7 +90,7 @@ fn races_of(alloc: Global, ready: &Ready, recording: &Recording) -> Result<Races
 fn others_are_recorded(ready: &Ready, recording: &Recording)
     requires { IsMade true ready.now recording.now }
     ensures { (other : OtherPick) → IsIn other (others_of (number_of_ranks ready.now.plan) recording.now.history.events)
-        → IsOtherOrder (next_of ready.now.program) (number_of_ranks ready.now.plan) recording.now other }
+        → IsOtherOrder (next_of (pure_program ready.now.program)) (number_of_ranks ready.now.plan) recording.now other }
 {
     others_are_taken(&ready.program, ready.plan.n());
 }

@@ -1,4 +1,5 @@
 //! `waits PROGRAM PLAN [--order FILE] [--serial]`: a run is recorded, and where it is stuck it is told who waits for whom.
+ghost use Rattle.c_program.specs.View.{pure_program};
 ghost use Rattle.std.specs.Prelude.{◌≡◌, [], IfOk, true};
 ghost use Rattle.wiz_runs.specs.Runs.{TellsWaits};
 ghost use Rattle.wiz_task.specs.inside.Ends.{Ends};
@@ -45,7 +46,7 @@ pub fn waits<'a, S: Store, K: Sink, R: Runner>(
 /// Who waits for whom in a recorded run.
 fn waits_of(alloc: Global, ready: &Ready, recording: Recording) -> Result<Done, AllocError>
     requires { IsMade true ready.now recording }
-    ensures { IfOk result (λ done. TellsWaits ready.now.program ready.now.plan recording (outcome_of [] done)) }
+    ensures { IfOk result (λ done. TellsWaits (pure_program ready.now.program) ready.now.plan recording (outcome_of [] done)) }
 {
     let ranks = ready.plan.n();
     // Laws: a run is stuck where no call can go, a stuck run has a reason, and no message that would help lies about.

@@ -1,6 +1,7 @@
 //! The search of what is run.
 ghost use Rattle.std.specs.Prelude.{◌≡◌, ◌<◌, All, IfOk, List};
 ghost use Rattle.std.specs.List.{AllZip};
+ghost use Rattle.c_program.specs.View.{pure_program};
 ghost use Rattle.c_program.specs.Program.{next_of};
 ghost use Rattle.explore.specs.declared.found.Found.{Found};
 ghost use Rattle.group_plan.specs.Plans.{number_of_ranks};
@@ -66,7 +67,7 @@ pub fn search<W: Watcher>(
 fn all_waits(alloc: Global, ready: &Ready, listed: &[Found]) -> Result<Outputs, AllocError>
     requires ready { CanRun ready.now }
     requires found { (found : Found) → IsIn found listed.now → IsFoundOf ready.now found }
-    ensures { IfOk result (λ waits. AllZip (IsWaiting (next_of ready.now.program) (number_of_ranks ready.now.plan)) listed.now waits) }
+    ensures { IfOk result (λ waits. AllZip (IsWaiting (next_of (pure_program ready.now.program)) (number_of_ranks ready.now.plan)) listed.now waits) }
 {
     let mut waits = Outputs::new(alloc);
     for found in listed {
@@ -80,7 +81,7 @@ fn all_waits(alloc: Global, ready: &Ready, listed: &[Found]) -> Result<Outputs, 
 fn waits_in(alloc: Global, ready: &Ready, found: &Found) -> Result<Bytes, AllocError>
     requires ready { CanRun ready.now }
     requires found { IsFoundOf ready.now found.now }
-    ensures { IfOk result (IsWaiting (next_of ready.now.program) (number_of_ranks ready.now.plan) found.now) }
+    ensures { IfOk result (IsWaiting (next_of (pure_program ready.now.program)) (number_of_ranks ready.now.plan) found.now) }
 {
     match found.outcome.ending() {
         Ending::Halted(Halt::Stuck) => waits_after(alloc, ready, found.turns.as_slice()),
@@ -92,7 +93,7 @@ fn waits_in(alloc: Global, ready: &Ready, found: &Found) -> Result<Bytes, AllocE
 fn waits_after(alloc: Global, ready: &Ready, turns: &[Turn]) -> Result<Bytes, AllocError>
     requires ready { CanRun ready.now }
     requires turns { All (λ turn. turn.rank < number_of_ranks ready.now.plan) turns.now }
-    ensures { IfOk result (λ text. (run : List Event) × IsTaken (next_of ready.now.program) (number_of_ranks ready.now.plan) turns.now run
+    ensures { IfOk result (λ text. (run : List Event) × IsTaken (next_of (pure_program ready.now.program)) (number_of_ranks ready.now.plan) turns.now run
         × (text ≡ waits_of (number_of_ranks ready.now.plan) run (Halted Stuck))) }
 {
     let ranks = ready.plan.n();

@@ -1,5 +1,6 @@
 //! The recording of what is run.
 ghost use Rattle.std.specs.Prelude.{IfOk, false, true};
+ghost use Rattle.c_program.specs.View.{pure_program};
 ghost use Rattle.c_program.specs.Program.{next_of, output_of};
 ghost use Rattle.group_plan.specs.Plans.{number_of_ranks};
 ghost use Rattle.srr_record.specs.Recordings.{IsRecorded, IsRecording};
@@ -62,8 +63,8 @@ pub fn record_on_threads<R: Threads + Wait + Sync, G: Gate + Sync>(
 
 /// The recorded run is that of the turns: what follows of it by the laws of picked runs. The body calls them.
 fn is_in_turns(ready: &Ready, recording: &Recording)
-    requires { IsRecording (next_of ready.now.program) (output_of ready.now.program) (number_of_ranks ready.now.plan) ready.now.text ready.now.plan ready.now.turns recording.now }
-    ensures { IsInTurns (next_of ready.now.program) (number_of_ranks ready.now.plan) ready.now.turns recording.now.history.events }
+    requires { IsRecording (next_of (pure_program ready.now.program)) (output_of (pure_program ready.now.program)) (number_of_ranks ready.now.plan) ready.now.text ready.now.plan ready.now.turns recording.now }
+    ensures { IsInTurns (next_of (pure_program ready.now.program)) (number_of_ranks ready.now.plan) ready.now.turns recording.now.history.events }
 {
     every_run_is_picked(&ready.program, ready.plan.n());
     turns_fix_run(&ready.program, ready.plan.n());
@@ -72,9 +73,9 @@ fn is_in_turns(ready: &Ready, recording: &Recording)
 /// Each log of a recording has a text that a log file may have, and can be read back; so can its order.
 fn logs_can_be_read(ready: &Ready, recording: &Recording)
     requires ready { CanRun ready.now }
-    requires recorded { IsRecorded (next_of ready.now.program) (output_of ready.now.program) (number_of_ranks ready.now.plan) ready.now.text ready.now.plan recording.now }
+    requires recorded { IsRecorded (next_of (pure_program ready.now.program)) (output_of (pure_program ready.now.program)) (number_of_ranks ready.now.plan) ready.now.text ready.now.plan recording.now }
     ensures threads { IsMade true ready.now recording.now }
-    ensures serial { IsInTurns (next_of ready.now.program) (number_of_ranks ready.now.plan) ready.now.turns recording.now.history.events → IsMade false ready.now recording.now }
+    ensures serial { IsInTurns (next_of (pure_program ready.now.program)) (number_of_ranks ready.now.plan) ready.now.turns recording.now.history.events → IsMade false ready.now recording.now }
 {
     // Laws: the ints of the replies have 32 bits, and so the logs of the run are within the bounds of logs, and their texts are short. What
     // each event picked can be written down as a turn, and fixes the run with its order.

@@ -1,4 +1,5 @@
 -- What is run, and the recording of it.
+use Rattle.c_program.specs.View.{pure_program}
 use Rattle.std.specs.Prelude.{◌≡◌, ◌≤◌, List, Bool, length}
 use Rattle.std.specs.List.{AllByRecursion}
 use Rattle.srr_entry.specs.declared.log.Log.{Log}
@@ -16,13 +17,13 @@ AreInBounds logs = AllByRecursion IsInBounds logs
 pub record IsReady (texts : RunTexts) (ready : Ready) : Type 0 where
   pub text : ready.text ≡ texts.program
   pub short : length texts.program ≤ text_limit
-  pub prepared : ArePrepared texts ready.program ready.plan ready.turns
+  pub prepared : ArePrepared texts (pure_program ready.program) ready.plan ready.turns
 
 abbrev pub CanRun : Ready → Type 0
 CanRun ready = (texts : RunTexts) × IsReady texts ready
 
 -- a recording of it, with a log for each of at most 64 groups
 pub record IsMade (is_threaded : Bool) (ready : Ready) (recording : Recording) : Type 0 where
-  pub is_recording : IsRecordingOf is_threaded ready.text ready.program ready.plan ready.turns recording
+  pub is_recording : IsRecordingOf is_threaded ready.text (pure_program ready.program) ready.plan ready.turns recording
   pub in_bounds : AreInBounds recording.logs
   pub few : length recording.logs ≤ 64

@@ -1,10 +1,11 @@
-use Rattle.std.proofs.Common.{◌≡◌, ℕ, ◌+◌, ◌*◌, ◌≤◌, Option, Some, None, drop, max, option_copied}
+use Rattle.std.proofs.Common.{◌≡◌, ℕ, ◌+◌, ◌*◌, ◌≤◌, Option, Some, None, drop, map, max, option_copied, option_map}
 use denote.Param.Weighed.{most}
 use Rattle.c_program.specs.declared.statement.Stmt.{Stmt, size-Stmt}
 use Rattle.c_program.specs.declared.statement.Part.{size-Part}
 use Rattle.c_program.specs.Courses.{after}
-use Rattle.c_program.specs.Meaning.{Exits, act, act_list, declare_all, for_update, started}
+use Rattle.c_program.specs.Meaning.{Exits, act, act_parts, declare_all, for_update, started}
 use Rattle.c_program.specs.Performing.{Onward}
+use Rattle.c_program.specs.View.{pure_expr, pure_item, pure_parts, pure_simple, pure_stmt}
 use Rattle.c_eval.specs.declared.calls.Calls.{Calls}
 use Rattle.c_eval.specs.Parts.{calls_of}
 use Rattle.c_eval.proofs.Depths.{weight}
@@ -82,18 +83,18 @@ decreases-run_for l = depths l.calls.now + (16 * size-Stmt l.body.now + 34)
 
 abbrev pub invariant-declare_all-loop-item : goal.invariant-declare_all-loop-item
 invariant-declare_all-loop-item l = record {
-  comes : (k : Onward) → after (declare_all (calls_of l.calls) l.items l.initial.state k) l.initial.replies ≡ after (declare_all (calls_of l.calls) (drop l.item-index l.items) l.state k) l.replies;
+  comes : (k : Onward) → after (declare_all (calls_of l.calls) (map pure_item l.items) l.initial.state k) l.initial.replies ≡ after (declare_all (calls_of l.calls) (map pure_item (drop l.item-index l.items)) l.state k) l.replies;
   left : l.state.left ≤ l.initial.state.left;
 }
 
 abbrev pub invariant-run_list-loop-part : goal.invariant-run_list-loop-part
 invariant-run_list-loop-part l = record {
-  comes : (k : Exits) → after (act_list l.calls.rank (calls_of l.calls) l.parts l.initial.state k) l.initial.replies ≡ after (act_list l.calls.rank (calls_of l.calls) (drop l.part-index l.parts) l.state k) l.replies;
+  comes : (k : Exits) → after (act_parts l.calls.rank (calls_of l.calls) (pure_parts l.parts) l.initial.state k) l.initial.replies ≡ after (act_parts l.calls.rank (calls_of l.calls) (pure_parts (drop l.part-index l.parts)) l.state k) l.replies;
   left : l.state.left ≤ l.initial.state.left;
 }
 
 abbrev pub invariant-repeat-loop-update : goal.invariant-repeat-loop-update
-invariant-repeat-loop-update l = Turning (option_copied l.test) (for_update l.calls.rank (calls_of l.calls) (option_copied l.update)) (started (act l.calls.rank (calls_of l.calls) l.body)) l.initial.state l.state l.initial.replies l.replies
+invariant-repeat-loop-update l = Turning (option_map pure_expr (option_copied l.test)) (for_update l.calls.rank (calls_of l.calls) (option_map pure_simple (option_copied l.update))) (started (act l.calls.rank (calls_of l.calls) (pure_stmt l.body))) l.initial.state l.state l.initial.replies l.replies
 
 abbrev pub decreases-repeat-loop-update : goal.decreases-repeat-loop-update
 decreases-repeat-loop-update l = l.state.left

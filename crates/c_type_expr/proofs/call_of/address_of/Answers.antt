@@ -1,3 +1,4 @@
+use Rattle.c_program.specs.View.{pure_expr}
 use Rattle.c_type_expr.proofs.CallRules.{address_rule, address_from_rule}
 use Rattle.c_type_expr.proofs.call_of.address_of.Goals as goal
 
@@ -6,5 +7,5 @@ returns-in-Whole c = λ mark. address_rule c.args.scope.now mark c.args.place.no
 
 pub returns-in_ok-index-in-Cell : goal.returns-in_ok-index-in-Cell
 returns-in_ok-index-in-Cell c = λ mark.
-    address_from_rule c.args.scope.now mark c.args.place.now c.in-Cell.name c.in-Cell.opening c.in-Cell.index c.in-Cell.closing _ c.in_ok-index-in-Cell.index
+    address_from_rule c.args.scope.now mark c.args.place.now c.in-Cell.name c.in-Cell.opening c.in-Cell.index c.in-Cell.closing _ (pure_expr c.in_ok-index-in-Cell.index)
     c.in-Cell.is c.variable-in-Cell.ensures (rw c.deref.ensures at c.in_ok-index-in-Cell.ensures)

@@ -11,5 +11,6 @@ parts_of-requires c =
 
 pub returns-clause-typed : goal.returns-clause-typed
 returns-clause-typed c =
-    function_rule c.args.scope.now _ _ _ (head_view c.args.head.now) (parts_view c.args.parts.now) _ c.in_ok-open.ensures
+    function_rule c.args.scope.now _ _ _ (head_view c.args.head.now) (parts_view c.args.parts.now)
+    (record { parameters = c.in_ok-parameters.parameters; body = c.in_ok-body.body }) c.in_ok-open.ensures
     (first_of (search rules, grind (arith, common_steps))) c.in_ok-parameters.ensures.scope c.in_ok-parameters.ensures.typed c.in_ok-body.ensures.typed

@@ -1,5 +1,6 @@
 use Rattle.c_types.proofs.Always.{program_or_fault}
 use Rattle.c_types.proofs.CheckRules.{fault_one, never_both}
+use Rattle.c_types.proofs.OneTyping.{program_one}
 use Rattle.c_types.proofs.typing.one_program.Goals as goal
 
 pub returns-clause-one_fault : goal.returns-clause-one_fault
@@ -10,3 +11,6 @@ returns-clause-never_both c = never_both
 
 pub returns-clause-always_one : goal.returns-clause-always_one
 returns-clause-always_one c = program_or_fault
+
+pub returns-clause-one_program : goal.returns-clause-one_program
+returns-clause-one_program c = program_one

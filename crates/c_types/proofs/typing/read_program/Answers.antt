@@ -1,5 +1,6 @@
 use Rattle.std.proofs.lemmas.Result.{err_from_is_err_and}
 use Rattle.c_grammar.specs.StmtView.{tree_view}
+use Rattle.c_program.specs.View.{pure_program}
 use Rattle.c_types.proofs.CheckRules.{never_both, of_tokens, of_tree, of_types, refusal_one, refusal_only}
 use Rattle.c_types.proofs.typing.read_program.Goals as goal
 
@@ -78,7 +79,7 @@ returns-clause-program c = record {
 
 pub returns-clause-only_fault : goal.returns-clause-only_fault
 returns-clause-only_fault c = λ first is.
-    never_both c.args.text.now c.in_ok-program.program first
+    never_both c.args.text.now (pure_program c.in_ok-program.program) first
     (record {
       tokens = c.in_ok-tokens.tokens;
       tree = tree_view c.in_ok-tree.tree;

@@ -1,3 +1,4 @@
+use Rattle.c_program.specs.View.{pure_program}
 use Rattle.std.proofs.Common.{refl, subst, Ok, Err}
 use Rattle.std.proofs.lemmas.Result.{err_from_is_err_and}
 use Rattle.log_bounds.specs.RunBounds.{RepliesFit32}
@@ -18,7 +19,7 @@ replay_own-requires-clause-log g c =
 pub replay_own-requires-2-clause-program : goal.replay_own-requires-2-clause-program
 replay_own-requires-2-clause-program g c =
     let is = c.in_ok-pair.ensures.pair.2 in
-    other_program c.in_ok-pair.pair.one c.in_ok-pair.pair.other c.in_ok-pair.pair.program is.can_join is.is_program
+    other_program c.in_ok-pair.pair.one c.in_ok-pair.pair.other (pure_program c.in_ok-pair.pair.program) is.can_join is.is_program
 
 pub replay_own-requires-2-clause-log : goal.replay_own-requires-2-clause-log
 replay_own-requires-2-clause-log g c =

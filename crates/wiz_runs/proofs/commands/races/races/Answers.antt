@@ -2,7 +2,6 @@ use Rattle.std.proofs.Common.{refl, Ok, Err}
 use Rattle.std.specs.Prelude.{option_map}
 use Rattle.std.proofs.lemmas.Result.{err_from_is_err_and}
 use Rattle.group_plan.specs.Plans.{number_of_ranks}
-use Rattle.wiz_words.specs.declared.command.Command.TheVariants.{Races}
 use Rattle.wiz_words.specs.Texts.{run_with_texts}
 use Rattle.wiz_runs.specs.Runs.{races_outcome, TellsRaces, run_task}
 use Rattle.wiz_tool.specs.Environment.{environment}
@@ -24,7 +23,7 @@ pub returns-in_err-ready : goal.returns-in_err-ready
 returns-in_err-ready g c =
     let p = err_from_is_err_and c.from_residual.result c.from_residual.ensures.1 in
     rw (p.1, p.2)
-    (command_failed (Races (run_with_texts c.args.run.now) (option_map (λ text. text.now) c.args.orders)) (environment (g.S.Store.told c.args.store.now) (g.K.Sink.told c.args.out.now))
+    (command_failed (run_task (run_with_texts c.args.run.now) (TellsRaces (option_map (λ text. text.now) c.args.orders))) (environment (g.S.Store.told c.args.store.now) (g.K.Sink.told c.args.out.now))
     (environment (g.S.Store.told c.read_run.new.store) (g.K.Sink.told c.args.out.now))
     c.in_err-ready.field-0.0 (record { files = c.in_err-ready.ensures.files; out = refl }) c.in_err-ready.ensures.refused)
 
@@ -32,14 +31,14 @@ pub returns-in_err-recording : goal.returns-in_err-recording
 returns-in_err-recording g c =
     let p = err_from_is_err_and c.from_residual-in_err-recording.result c.from_residual-in_err-recording.ensures.1 in
     rw p.1
-    (command_short (Races (run_with_texts c.args.run.now) (option_map (λ text. text.now) c.args.orders)) (environment (g.S.Store.told c.args.store.now) (g.K.Sink.told c.args.out.now))
+    (command_short (run_task (run_with_texts c.args.run.now) (TellsRaces (option_map (λ text. text.now) c.args.orders))) (environment (g.S.Store.told c.args.store.now) (g.K.Sink.told c.args.out.now))
     (environment (g.S.Store.told c.read_run.new.store) (g.K.Sink.told c.args.out.now)) _ p.2 (record { files = c.in_ok-ready.ensures.files; out = refl }))
 
 pub returns-in_err-told : goal.returns-in_err-told
 returns-in_err-told g c =
     let p = err_from_is_err_and c.from_residual-in_err-told.result c.from_residual-in_err-told.ensures.1 in
     rw p.1
-    (command_short (Races (run_with_texts c.args.run.now) (option_map (λ text. text.now) c.args.orders)) (environment (g.S.Store.told c.args.store.now) (g.K.Sink.told c.args.out.now))
+    (command_short (run_task (run_with_texts c.args.run.now) (TellsRaces (option_map (λ text. text.now) c.args.orders))) (environment (g.S.Store.told c.args.store.now) (g.K.Sink.told c.args.out.now))
     (environment (g.S.Store.told c.read_run.new.store) (g.K.Sink.told c.args.out.now)) _ p.2 (record { files = c.in_ok-ready.ensures.files; out = refl }))
 
 pub returns-in_err-report : goal.returns-in_err-report

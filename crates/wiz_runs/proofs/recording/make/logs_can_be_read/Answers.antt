@@ -4,13 +4,14 @@ use Rattle.picked_runs.specs.PickLaws.{PicksAreTurns, PicksFixRun}
 use Rattle.log_bounds.specs.RunBounds.{RepliesFit32, LogsAreInBounds, LogBytesAreShort}
 use Rattle.run_model.specs.declared.event.Event.{Event}
 use Rattle.run_model.specs.Views.{Next}
+use Rattle.c_program.specs.View.{pure_program}
 use Rattle.c_program.specs.Program.{next_of}
 use Rattle.wiz_runs.proofs.RecordingLemmas.{made_by}
 use Rattle.wiz_runs.proofs.recording.make.logs_can_be_read.Goals as goal
 
 pub returns : goal.returns
 returns c =
-    let next : Next = next_of c.args.ready.now.program in
+    let next : Next = next_of (pure_program c.args.ready.now.program) in
     let n : ℕ = number_of_ranks c.args.ready.now.plan in
     let events : List Event = c.args.recording.now.history.events in
     let F : ℕ → Type 0 = λ k. LogsAreInBounds next k in
