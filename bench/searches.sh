@@ -1,7 +1,8 @@
 #!/usr/bin/env bash
 # Searches for every outcome of some programs, each as one search: hubs, in which rank 0 takes so many messages of each other rank, from any source;
-# a hub that answers each sender at the end; a master who hands out steps to three workers; and phases, in which each of 16 ranks sends to its neighbour and all meet in a barrier, and then rank 0 takes three messages from any source. Needs
-# `rt`. A row gives the wall-clock seconds, the memory at most, and the last lines of the search.
+# a hub that answers each sender at the end; the master of `examples/workers` with three workers; and phases, in which each of 16 ranks sends to its
+# neighbour and all meet in a barrier, and then rank 0 takes three messages from any source. Needs `rt`. A row gives the wall-clock seconds, the memory
+# at most, and the last lines of the search.
 . "$(dirname "$0")/idle.sh"
 . "$(dirname "$0")/begin.sh"
 
@@ -30,34 +31,7 @@ answering_hub 2
 search "a hub of two messages that answers" 4
 hub 3
 search "a hub of three messages" 4
-cat >program <<'END'
-int main(void) {
-  int rank, step = 0, done = 0, result = 0, total = 0;
-  MPI_Status status;
-  MPI_Comm_rank(MPI_COMM_WORLD, &rank);
-  if (rank == 0) {
-    while (done < 3) {
-      MPI_Recv(&result, 1, MPI_INT, MPI_ANY_SOURCE, 1, MPI_COMM_WORLD, &status);
-      total = total * 2 + result;
-      if (step < 2) {
-        step++;
-        MPI_Send(&step, 1, MPI_INT, status.MPI_SOURCE, 2, MPI_COMM_WORLD);
-      } else {
-        done++;
-        MPI_Send(NULL, 0, MPI_INT, status.MPI_SOURCE, 3, MPI_COMM_WORLD);
-      }
-    }
-    printf("total %d\n", total);
-  } else {
-    do {
-      MPI_Send(&result, 1, MPI_INT, 0, 1, MPI_COMM_WORLD);
-      MPI_Recv(&step, 1, MPI_INT, 0, MPI_ANY_TAG, MPI_COMM_WORLD, &status);
-      result = rank * 10 + step;
-    } while (status.MPI_TAG == 2);
-  }
-  return 0;
-}
-END
+sed 's/^#define WORKERS 2/#define WORKERS 3/; s/^#define STEPS 3/#define STEPS 2/' "$top/examples/workers/workers.c" >program
 search "a master and three workers" 4
 cat >program <<'END'
 int main(void) {
